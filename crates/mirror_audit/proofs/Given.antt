@@ -1,5 +1,5 @@
 -- Replies, one after the other.
-use Rattle.std.proofs.Common.{◌≡◌, ◌⊎◌, inl, inr, ℕ, ◌<◌, List, [], ◌∷◌, ◌++◌, length, map, Option, Some, None}
+use Rattle.std.proofs.Common.{◌≡◌, inl, inr, ℕ, ◌<◌, List, [], ◌∷◌, ◌++◌, Option, Some, None}
 use Rattle.std.proofs.Common.{refl, sym, ap, subst, ◌∙◌, arith, append_assoc, take, drop, option_map, Vec, Global}
 use Rattle.std.proofs.Common.{Result, Ok, Err, OnOk, IfNone, IfOk, IfSome}
 use Rattle.std.specs.List.{Contains}
@@ -10,7 +10,7 @@ use Rattle.mirror_sources.specs.Files.{full_of, width_named}
 use Rattle.mirror_sources.specs.Replies.{Reply, reply, asked_paths, MayReply}
 use Rattle.mirror_sources.specs.Source.{StaysWithin}
 use Rattle.mirror_sources.specs.Told.{AddsTold}
-use Rattle.mirror_audit.specs.Answering.{AreGiven, GaveWay, IsHad}
+use Rattle.mirror_audit.specs.Answering.{AreGiven, IsHad}
 use Rattle.mirror_audit.specs.Edges.{IsFullGiven, IsGivenAt}
 
 -- ---- what may be given

@@ -6,3 +6,5 @@ pub mod TileRows
 pub mod Levels
 pub mod Trees
 pub mod RowsGiven
+pub mod WholeLogs
+pub mod OpenNotes

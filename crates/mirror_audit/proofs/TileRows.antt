@@ -1,5 +1,5 @@
 -- A full tile of level 1 or above: its row is covered hash by hash.
-use Rattle.std.proofs.Common.{◌≡◌, ◌⊎◌, inl, inr, ℕ, ◌+◌, ◌-◌, ◌*◌, ◌^◌, ◌≤◌, ◌<◌, List, [], ◌∷◌, ◌++◌, length, take, map, get_or, Option, Some}
+use Rattle.std.proofs.Common.{◌≡◌, inl, inr, ℕ, ◌+◌, ◌-◌, ◌*◌, ◌^◌, ◌≤◌, ◌<◌, List, [], ◌∷◌, ◌++◌, length, take, map, get_or, Option, Some}
 use Rattle.std.proofs.Common.{refl, sym, ap, subst, ◌∙◌, arith}
 use Rattle.std.proofs.lemmas.Nat.{mul-le}
 use Rattle.std.proofs.lemmas.List.{take_all, take_more, map-append}
@@ -15,7 +15,7 @@ use Rattle.mirror_sources.specs.Honest.{true_bytes}
 use Rattle.mirror_sources.specs.Replies.{Reply, asked_paths, reply}
 use Rattle.mirror_sources.specs.Source.{StaysWithin}
 use Rattle.mirror_sources.specs.Told.{AddsTold}
-use Rattle.mirror_audit.specs.Answering.{AreGiven, IsHad}
+use Rattle.mirror_audit.specs.Answering.{IsHad}
 use Rattle.mirror_audit.specs.Covering.{Covers, CoversRow, CoversTile, HasAt, IsFullIn, IsRowFound}
 use Rattle.mirror_audit.proofs.Given.{first_of, given_then, had_left, had_right}
 use Rattle.mirror_audit.proofs.Covered.{covers_as, covers_none, covers_then, has_within}

@@ -1,10 +1,10 @@
 -- The whole tree: its root, and all its files.
-use Rattle.std.proofs.Common.{◌≡◌, ◌⊎◌, inl, inr, ℕ, ◌+◌, ◌*◌, ◌/◌, ◌^◌, ◌≤◌, ◌<◌, List, [], ◌∷◌, ◌++◌, length, map, Option, Some}
+use Rattle.std.proofs.Common.{◌≡◌, inl, inr, ℕ, ◌+◌, ◌*◌, ◌/◌, ◌^◌, ◌≤◌, ◌<◌, List, [], ◌∷◌, ◌++◌, length, map, Option, Some}
 use Rattle.std.proofs.Common.{refl, sym, ap, subst, ◌∙◌, arith, All, not, ◌==◌}
 use Rattle.std.proofs.lemmas.Bool.{cases_lt}
 use Rattle.std.proofs.lemmas.List.Elements.{All-cons, All-filter, All-head, All-nil, All-tail}
 use Rattle.signed_note.specs.Keys.{Key}
-use Rattle.tlog_shape.specs.Edge.{edge_index_of, width_of, IsFullTile, IsTile}
+use Rattle.tlog_shape.specs.Edge.{edge_index_of, width_of, IsFullTile}
 use Rattle.tlog_hash.specs.Rows.{level_row}
 use Rattle.tlog_hash.specs.Tree.{mth}
 use Rattle.tlog_tiles.specs.declared.paths.Path.{Path}
@@ -17,7 +17,7 @@ use Rattle.mirror_sources.specs.Honest.{true_bytes}
 use Rattle.mirror_sources.specs.Replies.{Reply, reply}
 use Rattle.mirror_audit.specs.Answering.{IsHad, IsTreeFile}
 use Rattle.mirror_audit.specs.Audits.{IsAudited, IsHeadGiven, IsTreeGiven}
-use Rattle.mirror_audit.specs.Covering.{IsBlock, IsFullIn}
+use Rattle.mirror_audit.specs.Covering.{IsBlock}
 use Rattle.mirror_audit.specs.Edges.{AreRowsGiven, CoversLog}
 use Rattle.mirror_audit.proofs.Covered.{has_all}
 use Rattle.mirror_audit.proofs.Given.{given_then, had_left, had_right}

@@ -1,5 +1,5 @@
 -- What a source answered, and which files a log has (C2SP tlog-tiles, "Merkle Tree", "Log Entries" and "Partial Tiles").
-use Rattle.std.specs.Prelude.{◌≡◌, ◌⊎◌, ℕ, ◌<◌, ◌≤◌, List, ◌++◌, Contains, Option, Some, None}
+use Rattle.std.specs.Prelude.{◌⊎◌, ℕ, ◌<◌, ◌≤◌, List, ◌++◌, Contains, Option, Some, None}
 use Rattle.tlog_shape.specs.Edge.{IsTile}
 use Rattle.tlog_tiles.specs.declared.paths.Path.{Path}
 use Rattle.tlog_tiles.specs.declared.paths.Path.TheVariants.{Checkpoint, Tile, Entries}

@@ -56,3 +56,18 @@ IsForAbsence may (NoFile path) = MayLack may path
 IsForAbsence may (FalseFile path) = ⊤
 IsForAbsence may Source = ⊤
 IsForAbsence may OutOfMemory = ⊤
+
+-- the source failed, or memory was refused
+abbrev pub IsFailure : AuditFault → Type 0
+IsFailure NoCheckpoint = ⊥
+IsFailure (Head f) = ⊥
+IsFailure NoEdge = ⊥
+IsFailure (NoFile path) = ⊥
+IsFailure (FalseFile path) = ⊥
+IsFailure Source = ⊤
+IsFailure OutOfMemory = ⊤
+
+-- a call gave what is claimed, unless the source failed or memory was refused
+abbrev pub GivesTrue : {T : Type 0} → Result T AuditFault → (T → Type 0) → Type 0
+GivesTrue (Ok x) claim = claim x
+GivesTrue (Err fault) claim = IsFailure fault

@@ -3,3 +3,4 @@ pub mod Answering
 pub mod Audits
 pub mod Covering
 pub mod Edges
+pub mod WholeLogs

@@ -1,9 +1,11 @@
 //! One file of a source.
-ghost use Rattle.std.specs.Prelude.{◌≡◌, ◌∷◌, [], IfErr, IfOk, Some};
-ghost use Rattle.mirror_sources.specs.Files.{full_of};
+ghost use Rattle.std.specs.Prelude.{◌≡◌, ◌≤◌, ◌∷◌, [], ℕ, IfErr, IfOk, List, Some, length};
+ghost use Rattle.log_reader.specs.Holding.{IsSourceOf, IsTreeFile};
+ghost use Rattle.mirror_sources.specs.Files.{full_of, width_named};
+ghost use Rattle.mirror_sources.specs.Honest.{true_bytes};
 ghost use Rattle.mirror_sources.specs.Replies.{reply};
 ghost use Rattle.mirror_audit.specs.Answering.{AreGiven};
-ghost use Rattle.mirror_audit.specs.Faults.{BlamesPlace, IsForAbsence};
+ghost use Rattle.mirror_audit.specs.Faults.{BlamesPlace, GivesTrue, IsForAbsence};
 
 use crate::fault::AuditFault;
 use mirror_sources::Source;
@@ -17,6 +19,10 @@ pub(crate) fn get_file<S: Source>(source: &mut S, path: Path) -> Result<Vec<u8>,
     ensures given { IfOk result (λ bytes. AreGiven (S.may_answer source.old)
         (S.may_answer source.new) (S.asked source.old) (S.asked source.new)
         (reply path (Some bytes.items) ∷ [])) }
+    ensures honest { (digest : List ℕ → List ℕ) (entries : List (List ℕ))
+        → IsSourceOf digest entries (S.may_answer source.old) → IsTreeFile (length entries) path
+        → 256 ≤ width_named path
+        → GivesTrue result (λ bytes. bytes.items ≡ true_bytes digest entries path) }
 {
     match source.get(&path)? {
         Some(bytes) => Ok(bytes),

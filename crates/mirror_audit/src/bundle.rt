@@ -1,11 +1,13 @@
 //! A full bundle, and its tile of level 0.
-ghost use Rattle.std.specs.Prelude.{◌≡◌, ◌↔◌, ◌∷◌, [], ◌+◌, ◌*◌, ◌<◌, ◌^◌, IfErr, IfOk, IsTrue, OnOk, Some, length};
+ghost use Rattle.std.specs.Prelude.{◌≡◌, ◌↔◌, ◌∷◌, [], ◌+◌, ◌*◌, ◌≤◌, ℕ, IfErr, IfOk, IsTrue, List, OnOk, Some, length};
+ghost use Rattle.tlog_hash.specs.Rows.{level_row};
+ghost use Rattle.log_reader.specs.Holding.{IsSourceOf, IsTileHash};
 ghost use Rattle.mirror_sources.specs.Replies.{reply};
 ghost use Rattle.tlog_tiles.specs.Row.{row_text};
 ghost use Rattle.tlog_tiles.specs.declared.paths.Path.TheVariants.{Tile};
 ghost use Rattle.mirror_audit.specs.Answering.{AreGiven};
 ghost use Rattle.mirror_audit.specs.Covering.{CoversTile};
-ghost use Rattle.mirror_audit.specs.Faults.{BlamesPlace, IsForAbsence};
+ghost use Rattle.mirror_audit.specs.Faults.{BlamesPlace, IsFailure, IsForAbsence};
 
 use crate::ask::get_file;
 use crate::fault::AuditFault;
@@ -33,6 +35,9 @@ fn audit_leaves<S: Source>(
     ensures given { OnOk result (AreGiven (S.may_answer source.old)
         (S.may_answer source.new) (S.asked source.old) (S.asked source.new)
         (reply (Tile 0 index 256) (Some (row_text row.now)) ∷ [])) }
+    ensures honest { (digest : List ℕ → List ℕ) (entries : List (List ℕ))
+        → IsSourceOf digest entries (S.may_answer source.old) → (index + 1) * 256 ≤ length entries
+        → row.now ≡ level_row digest entries 0 (256 * index) 256 → IfErr result IsFailure }
 {
     let path = Path::Tile {
         level: 0,
@@ -59,6 +64,9 @@ pub(crate) fn audit_bundle<H: TreeHash, S: Source>(
     ensures absent { IfErr result (IsForAbsence (S.may_answer source.old)) }
     ensures covers { OnOk result (CoversTile H.digest 0 index hash.now (S.may_answer source.old)
         (S.may_answer source.new) (S.asked source.old) (S.asked source.new)) }
+    ensures honest { (entries : List (List ℕ))
+        → IsSourceOf H.digest entries (S.may_answer source.old)
+        → IsTileHash H.digest entries 0 index hash.now → IfErr result IsFailure }
 {
     let path = Path::Entries { index, width: 256 };
     let bytes = get_file(source, path)?;

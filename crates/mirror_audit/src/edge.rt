@@ -1,8 +1,9 @@
 //! All that lies below the edge.
-ghost use Rattle.std.specs.Prelude.{◌^◌, ◌<◌, IfErr, OnOk};
-ghost use Rattle.log_reader.specs.EdgeRows.{HasWidths};
+ghost use Rattle.std.specs.Prelude.{◌≡◌, ◌^◌, ◌<◌, ◌≤◌, ℕ, IfErr, List, OnOk, length};
+ghost use Rattle.log_reader.specs.EdgeRows.{HasWidths, RowIsTrue};
+ghost use Rattle.log_reader.specs.Holding.{IsSourceOf};
 ghost use Rattle.mirror_audit.specs.Edges.{CoversLevels};
-ghost use Rattle.mirror_audit.specs.Faults.{BlamesPlace, IsForAbsence};
+ghost use Rattle.mirror_audit.specs.Faults.{BlamesPlace, IsFailure, IsForAbsence};
 
 use crate::fault::AuditFault;
 use crate::tiles::audit_row;
@@ -24,6 +25,11 @@ pub(crate) fn audit_levels<H: TreeHash, S: Source>(
     ensures absent { IfErr result (IsForAbsence (S.may_answer source.old)) }
     ensures covers { OnOk result (CoversLevels H.digest edge.now 1 (S.may_answer source.old)
         (S.may_answer source.new) (S.asked source.old) (S.asked source.new)) }
+    ensures honest { (entries : List (List ℕ))
+        → IsSourceOf H.digest entries (S.may_answer source.old)
+        → edge.now.size ≡ length entries
+        → ((level : ℕ) → level ≤ 7 → RowIsTrue H.digest edge.now entries level)
+        → IfErr result IsFailure }
 {
     for done in 0..7u32 {
         let level = 7 - done;

@@ -1,9 +1,10 @@
 //! The partial bundle at the edge.
-ghost use Rattle.std.specs.Prelude.{◌≡◌, ◌↔◌, ◌≤◌, IfErr, IfOk, IsTrue, OnOk, length};
-ghost use Rattle.log_reader.specs.EdgeRows.{HasWidths};
+ghost use Rattle.std.specs.Prelude.{◌≡◌, ◌↔◌, ◌≤◌, ℕ, IfErr, IfOk, IsTrue, List, OnOk, length};
+ghost use Rattle.log_reader.specs.Holding.{IsSourceOf};
+ghost use Rattle.log_reader.specs.EdgeRows.{HasWidths, RowIsTrue};
 ghost use Rattle.log_reader.specs.Verified.{HasLeaves};
 ghost use Rattle.mirror_audit.specs.Edges.{CoversEdgeBundle};
-ghost use Rattle.mirror_audit.specs.Faults.{BlamesPlace, IsForAbsence};
+ghost use Rattle.mirror_audit.specs.Faults.{BlamesPlace, IsFailure, IsForAbsence};
 
 use crate::fault::AuditFault;
 use crate::part::get_part;
@@ -23,7 +24,7 @@ fn is_same_row(first: &[Hash], second: &[Hash]) -> bool
 // Whether the bytes are a bundle with these leaf hashes.
 fn is_bundle_of<H: TreeHash>(alloc: Global, row: &[Hash], bytes: &[u8]) -> Result<bool, AllocError>
     requires { length row.now ≤ 256 }
-    ensures { IfOk result (λ b. IsTrue b → HasLeaves H.digest (length row.now) bytes.now row.now) }
+    ensures { IfOk result (λ b. IsTrue b ↔ HasLeaves H.digest (length row.now) bytes.now row.now) }
 {
     match leaves_of::<H>(alloc, row.len() as u32, bytes)? {
         Some(leaves) => Ok(is_same_row(&leaves, row)),
@@ -42,6 +43,10 @@ pub(crate) fn audit_edge_bundle<H: TreeHash, S: Source>(
     ensures absent { IfErr result (IsForAbsence (S.may_answer source.old)) }
     ensures covers { OnOk result (CoversEdgeBundle H.digest edge.now (S.may_answer source.old)
         (S.may_answer source.new) (S.asked source.old) (S.asked source.new)) }
+    ensures honest { (entries : List (List ℕ))
+        → IsSourceOf H.digest entries (S.may_answer source.old)
+        → edge.now.size ≡ length entries → RowIsTrue H.digest edge.now entries 0
+        → IfErr result IsFailure }
 {
     let row = edge.row(0);
     if row.is_empty() {

@@ -1,18 +1,21 @@
 //! The rows of the edge.
-ghost use Rattle.std.specs.Prelude.{◌≡◌, ◌≤◌, [], IfErr, IfOk, get_or, length};
+ghost use Rattle.std.specs.Prelude.{◌≡◌, ◌≤◌, [], ℕ, IfErr, IfOk, List, get_or, length};
+ghost use Rattle.tlog_hash.specs.Tree.{mth};
+ghost use Rattle.mirror_model.specs.Strings.{IsDigest};
+ghost use Rattle.log_reader.specs.Holding.{IsEdgeRowOf, IsSourceOf};
 ghost use Rattle.tlog_shape.specs.Edge.{width_of};
-ghost use Rattle.log_reader.specs.EdgeRows.{LeadsTo, IsEdgeOf, row_at};
+ghost use Rattle.log_reader.specs.EdgeRows.{LeadsTo, IsEdgeOf, RowIsTrue, row_at};
 ghost use Rattle.mirror_audit.specs.Edges.{AreRowsGiven, IsRowGivenAt};
-ghost use Rattle.mirror_audit.specs.Faults.{BlamesPlace, IsForAbsence};
+ghost use Rattle.mirror_audit.specs.Faults.{BlamesPlace, GivesTrue, IsForAbsence};
 
 use crate::fault::AuditFault;
 use crate::part::get_part;
-use log_reader::{EdgeRows, edge_path, leads_to, row_given};
+use log_reader::{EdgeRows, edge_path, leads_to};
 use mirror_sources::Source;
 use std::alloc::Global;
 use tlog_hash::{Hash, TreeHash};
 use tlog_shape::edge_width;
-use tlog_tiles::Path;
+use tlog_tiles::{Path, RowFault, read_row};
 
 // The row of a level, empty where the level has none.
 fn row_at_level<S: Source>(
@@ -27,6 +30,9 @@ fn row_at_level<S: Source>(
     ensures given { IfOk result (λ row. IsRowGivenAt size level row.items
         (S.may_answer source.old) (S.may_answer source.new) (S.asked source.old)
         (S.asked source.new)) }
+    ensures honest { (digest : List ℕ → List ℕ) (entries : List (List ℕ)) → IsDigest digest
+        → IsSourceOf digest entries (S.may_answer source.old) → length entries ≡ size
+        → GivesTrue result (λ row. IsEdgeRowOf digest size level entries row.items) }
 {
     let width = edge_width(size, level);
     if width == 0 {
@@ -37,9 +43,10 @@ fn row_at_level<S: Source>(
         Some(bytes) => bytes,
         None => return Err(AuditFault::NoEdge),
     };
-    match row_given(alloc, width, Some(bytes))? {
-        Some(row) => Ok(row),
-        None => Err(AuditFault::FalseFile(path)),
+    match read_row(alloc, width, &bytes) {
+        Ok(row) => Ok(row),
+        Err(RowFault::RowLength) => Err(AuditFault::FalseFile(path)),
+        Err(RowFault::OutOfMemory) => Err(AuditFault::OutOfMemory),
     }
 }
 
@@ -51,6 +58,10 @@ fn rows_of<S: Source>(alloc: Global, source: &mut S, size: u64) -> Result<EdgeRo
     ensures given { IfOk result (λ edge. AreRowsGiven size (row_at edge) 8
         (S.may_answer source.old) (S.may_answer source.new) (S.asked source.old)
         (S.asked source.new)) }
+    ensures honest { (digest : List ℕ → List ℕ) (entries : List (List ℕ)) → IsDigest digest
+        → IsSourceOf digest entries (S.may_answer source.old) → length entries ≡ size
+        → GivesTrue result
+        (λ edge. (level : ℕ) → level ≤ 7 → RowIsTrue digest edge entries level) }
 {
     let mut rows = Vec::new(alloc);
     for level in 0..8u32 {
@@ -83,6 +94,10 @@ pub(crate) fn read_edge<H: TreeHash, S: Source>(
     ensures given { IfOk result (λ edge. AreRowsGiven size (row_at edge) 8
         (S.may_answer source.old) (S.may_answer source.new) (S.asked source.old)
         (S.asked source.new)) }
+    ensures honest { (entries : List (List ℕ))
+        → IsSourceOf H.digest entries (S.may_answer source.old)
+        → length entries ≡ size → mth H.digest entries ≡ root.now → GivesTrue result
+        (λ edge. (level : ℕ) → level ≤ 7 → RowIsTrue H.digest edge entries level) }
 {
     let edge = rows_of(alloc, source, size)?;
     if leads_to::<H>(alloc, &edge, root)? {

@@ -1,9 +1,12 @@
 //! An audit of a whole log.
-ghost use Rattle.std.specs.Prelude.{◌^◌, ◌<◌, IfErr, IfOk, OnOk, map};
-ghost use Rattle.log_reader.specs.EdgeRows.{HasWidths};
+ghost use Rattle.std.specs.Prelude.{◌≡◌, ◌^◌, ◌<◌, ◌≤◌, ℕ, IfErr, IfOk, List, OnOk, length, map};
+ghost use Rattle.tlog_hash.specs.Tree.{mth};
+ghost use Rattle.log_reader.specs.EdgeRows.{HasWidths, RowIsTrue};
+ghost use Rattle.log_reader.specs.Holding.{IsSourceOf};
 ghost use Rattle.mirror_audit.specs.Audits.{IsAudited, IsHeadGiven, IsTreeGiven};
 ghost use Rattle.mirror_audit.specs.Edges.{CoversLog};
-ghost use Rattle.mirror_audit.specs.Faults.{BlamesPlace, IsForAbsence};
+ghost use Rattle.mirror_audit.specs.Faults.{BlamesPlace, GivesTrue, IsFailure, IsForAbsence};
+ghost use Rattle.mirror_audit.specs.WholeLogs.{HasWholeLog};
 
 use crate::edge::audit_levels;
 use crate::edge_bundle::audit_edge_bundle;
@@ -37,6 +40,10 @@ fn read_checkpoint<S: Source>(
     ensures given { IfOk result (λ a. IsHeadGiven origin.now (map (λ k. key k) keys.now)
         a.size a.root (S.may_answer source.old) (S.may_answer source.new) (S.asked source.old)
         (S.asked source.new)) }
+    ensures honest { (digest : List ℕ → List ℕ) (entries : List (List ℕ)) (note : List ℕ)
+        → HasWholeLog digest entries origin.now (map (λ k. key k) keys.now) note
+        (S.may_answer source.old) → GivesTrue result
+        (λ a. (length entries ≡ a.size) × (mth digest entries ≡ a.root)) }
 {
     let note = match source.get(&Path::Checkpoint)? {
         Some(note) => note,
@@ -62,6 +69,11 @@ fn audit_edge<H: TreeHash, S: Source>(
     ensures absent { IfErr result (IsForAbsence (S.may_answer source.old)) }
     ensures covers { OnOk result (CoversLog H.digest edge.now (S.may_answer source.old)
         (S.may_answer source.new) (S.asked source.old) (S.asked source.new)) }
+    ensures honest { (entries : List (List ℕ))
+        → IsSourceOf H.digest entries (S.may_answer source.old)
+        → edge.now.size ≡ length entries
+        → ((level : ℕ) → level ≤ 7 → RowIsTrue H.digest edge.now entries level)
+        → IfErr result IsFailure }
 {
     audit_levels::<H, S>(alloc, source, edge)?;
     audit_edge_bundle::<H, S>(alloc, source, edge)
@@ -79,6 +91,9 @@ fn audit_tree<H: TreeHash, S: Source>(
     ensures given { OnOk result (IsTreeGiven H.digest size root.now
         (S.may_answer source.old) (S.may_answer source.new) (S.asked source.old)
         (S.asked source.new)) }
+    ensures honest { (entries : List (List ℕ))
+        → IsSourceOf H.digest entries (S.may_answer source.old)
+        → length entries ≡ size → mth H.digest entries ≡ root.now → IfErr result IsFailure }
 {
     let edge = read_edge::<H, S>(alloc, source, size, root)?;
     let done = audit_edge::<H, S>(alloc, source, &edge);
@@ -117,6 +132,9 @@ pub fn audit<H: TreeHash, S: Source>(
     ensures audited { IfOk result (λ a. IsAudited H.digest origin.now (map (λ k. key k) keys.now)
         a.size a.root (S.may_answer source.old) (S.may_answer source.new) (S.asked source.old)
         (S.asked source.new)) }
+    ensures honest { (entries : List (List ℕ)) (note : List ℕ)
+        → HasWholeLog H.digest entries origin.now (map (λ k. key k) keys.now) note
+        (S.may_answer source.old) → IfErr result IsFailure }
 {
     let audited = read_checkpoint(alloc, origin, keys, source)?;
     audit_tree::<H, S>(alloc, source, audited.size, &audited.root)?;

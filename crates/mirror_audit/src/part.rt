@@ -1,8 +1,13 @@
 //! A partial file, or the part of the full one that replaces it.
-ghost use Rattle.std.specs.Prelude.{◌≡◌, ◌<◌, ◌≤◌, IfErr, IfNone, IfOk, IfSome, None, length};
+ghost use Rattle.std.specs.Prelude.{◌≡◌, ◌<◌, ◌≤◌, ◌++◌, ℕ, IfErr, IfNone, IfOk, IfSome, IsSomeAnd, List, None, length, take};
+ghost use Rattle.tlog_tiles.specs.Bundle.{bundle_text};
+ghost use Rattle.mirror_model.specs.Strings.{IsDigest};
+ghost use Rattle.mirror_model.specs.TrueLaws.{AreShort};
 ghost use Rattle.mirror_sources.specs.Files.{full_of, width_named};
+ghost use Rattle.mirror_sources.specs.Honest.{true_bytes};
+ghost use Rattle.log_reader.specs.Holding.{GivesWay, GoesOn, IsSourceOf, IsTreeFile};
 ghost use Rattle.mirror_audit.specs.Edges.{IsFullGiven, IsGivenAt};
-ghost use Rattle.mirror_audit.specs.Faults.{BlamesPlace, IsForAbsence, MayLack};
+ghost use Rattle.mirror_audit.specs.Faults.{BlamesPlace, GivesTrue, IsForAbsence, MayLack};
 
 use crate::fault::AuditFault;
 use mirror_sources::Source;
@@ -27,7 +32,10 @@ fn full_path(path: Path) -> Path
 
 // How many bytes the first entries of a bundle take; None where it has fewer.
 fn len_of_entries(bundle: &[u8], count: u32) -> Option<usize>
-    ensures { IfSome result (λ n. n ≤ length bundle.now) }
+    ensures within { IfSome result (λ n. n ≤ length bundle.now) }
+    ensures honest { (entries : List (List ℕ)) (rest : List ℕ) → length entries ≡ count
+        → AreShort entries → bundle.now ≡ bundle_text entries ++ rest
+        → IsSomeAnd result (λ n. take n bundle.now ≡ bundle_text entries) }
 {
     let mut rest = bundle;
     for _ in 0..count {
@@ -39,7 +47,11 @@ fn len_of_entries(bundle: &[u8], count: u32) -> Option<usize>
 
 // How many bytes of a full file are the partial file of that path; None if it is no full file.
 fn len_of_part(path: Path, full: &[u8]) -> Option<usize>
-    ensures { IfSome result (λ n. n ≤ length full.now) }
+    ensures within { IfSome result (λ n. n ≤ length full.now) }
+    ensures honest { (digest : List ℕ → List ℕ) (entries : List (List ℕ)) → IsDigest digest
+        → AreShort entries → IsTreeFile (length entries) path → width_named path < 256
+        → GoesOn path (true_bytes digest entries path) full.now
+        → IsSomeAnd result (λ n. take n full.now ≡ true_bytes digest entries path) }
 {
     match path {
         Path::Checkpoint => None,
@@ -63,6 +75,11 @@ fn get_full_part<S: Source>(source: &mut S, path: Path) -> Result<Option<Vec<u8>
     ensures given { IfOk result (λ found. IfSome found (λ bytes. IsFullGiven path bytes.items
         (S.may_answer source.old) (S.may_answer source.new) (S.asked source.old)
         (S.asked source.new))) }
+    ensures honest { (digest : List ℕ → List ℕ) (entries : List (List ℕ)) → IsDigest digest
+        → AreShort entries → IsTreeFile (length entries) path
+        → GivesWay digest entries (S.may_answer source.old) path
+        → GivesTrue result
+        (λ found. IsSomeAnd found (λ bytes. bytes.items ≡ true_bytes digest entries path)) }
 {
     let Some(mut full) = source.get(&full_path(path))? else {
         return Ok(None);
@@ -84,6 +101,10 @@ pub(crate) fn get_part<S: Source>(source: &mut S, path: Path) -> Result<Option<V
     ensures given { IfOk result (λ found. IfSome found (λ bytes. IsGivenAt path bytes.items
         (S.may_answer source.old) (S.may_answer source.new) (S.asked source.old)
         (S.asked source.new))) }
+    ensures honest { (digest : List ℕ → List ℕ) (entries : List (List ℕ)) → IsDigest digest
+        → IsSourceOf digest entries (S.may_answer source.old) → IsTreeFile (length entries) path
+        → GivesTrue result
+        (λ found. IsSomeAnd found (λ bytes. bytes.items ≡ true_bytes digest entries path)) }
 {
     match source.get(&path)? {
         Some(bytes) => Ok(Some(bytes)),

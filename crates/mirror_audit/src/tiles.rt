@@ -1,8 +1,12 @@
 //! Full tiles, with all that lies below them.
-ghost use Rattle.std.specs.Prelude.{◌≡◌, ◌+◌, ◌*◌, ◌^◌, ◌<◌, ◌≤◌, IfErr, IfOk, OnOk, length};
+ghost use Rattle.std.specs.Prelude.{◌≡◌, ◌+◌, ◌*◌, ◌^◌, ◌<◌, ◌≤◌, ℕ, IfErr, IfOk, List, OnOk, length};
+ghost use Rattle.tlog_hash.specs.Rows.{level_row};
+ghost use Rattle.tlog_tiles.specs.declared.paths.Path.TheVariants.{Tile};
+ghost use Rattle.log_reader.specs.Holding.{IsSourceOf, IsTileHash};
 ghost use Rattle.mirror_sources.specs.Files.{full_of};
 ghost use Rattle.mirror_audit.specs.Covering.{CoversRow, CoversTile, IsRowFound};
-ghost use Rattle.mirror_audit.specs.Faults.{BlamesPlace, IsForAbsence};
+ghost use Rattle.mirror_audit.specs.Faults.{BlamesPlace, GivesTrue, IsFailure, IsForAbsence};
+ghost use Rattle.mirror_audit.specs.WholeLogs.{IsTrueRow};
 
 use crate::ahead::expect_bundles;
 use crate::ask::get_file;
@@ -27,6 +31,10 @@ fn row_of<H: TreeHash, S: Source>(
     ensures found { IfOk result (λ row. IsRowFound H.digest path hash.now row.items
         (S.may_answer source.old) (S.may_answer source.new) (S.asked source.old)
         (S.asked source.new)) }
+    ensures honest { (entries : List (List ℕ)) (level index : ℕ) → path ≡ Tile level index 256
+        → IsSourceOf H.digest entries (S.may_answer source.old)
+        → IsTileHash H.digest entries level index hash.now → GivesTrue result
+        (λ row. row.items ≡ level_row H.digest entries level (256 * index) 256) }
 {
     let bytes = get_file(source, path)?;
     match verified::<H>(alloc, FullFile::Tile, hash, &bytes)? {
@@ -50,6 +58,9 @@ fn audit_tile<H: TreeHash, S: Source>(
     ensures absent { IfErr result (IsForAbsence (S.may_answer source.old)) }
     ensures covers { OnOk result (CoversTile H.digest level index hash.now (S.may_answer source.old)
         (S.may_answer source.new) (S.asked source.old) (S.asked source.new)) }
+    ensures honest { (entries : List (List ℕ))
+        → IsSourceOf H.digest entries (S.may_answer source.old)
+        → IsTileHash H.digest entries level index hash.now → IfErr result IsFailure }
 {
     if level == 0 {
         return audit_bundle::<H, S>(alloc, source, index, hash);
@@ -80,6 +91,9 @@ pub(crate) fn audit_row<H: TreeHash, S: Source>(
     ensures covers { OnOk result (CoversRow H.digest level index row.now (length row.now)
         (S.may_answer source.old)
         (S.may_answer source.new) (S.asked source.old) (S.asked source.new)) }
+    ensures honest { (entries : List (List ℕ))
+        → IsSourceOf H.digest entries (S.may_answer source.old)
+        → IsTrueRow H.digest entries level index row.now → IfErr result IsFailure }
 {
     let width = row.len() as u64;
     for i in 0..width {

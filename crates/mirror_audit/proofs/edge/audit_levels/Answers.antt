@@ -1,8 +1,10 @@
-use Rattle.std.proofs.Common.{◌≡◌, ◌+◌, ◌-◌, ◌*◌, ◌^◌, ◌<◌, ℕ, List, length, refl, subst, sym, ap, ◌∙◌, arith}
+use Rattle.std.proofs.Common.{◌≡◌, ◌+◌, ◌-◌, ◌*◌, ◌^◌, ◌<◌, ℕ, List, length, refl, subst, sym, ap, ◌∙◌, rules, arith}
 use Rattle.tlog_shape.specs.Edge.{edge_index_of}
 use Rattle.mirror_audit.specs.Covering.{CoversRow}
 use Rattle.mirror_audit.specs.Edges.{CoversLevels}
 use Rattle.mirror_audit.proofs.Levels.{levels_first, levels_step, row_small}
+use Rattle.log_reader.proofs.TrueReads.{source_later}
+use Rattle.mirror_audit.proofs.WholeLogs.{edge_row_true}
 use Rattle.mirror_audit.proofs.edge.audit_levels.Goals as goal
 
 pub loop-done-init : goal.loop-done-init
@@ -47,3 +49,18 @@ loop-done-preserved g c = record {
       (levels_step edge c.requires.widths digest a b d x y z low level (omega arith) (omega arith) (omega arith)
       c.loop-done.invariant.covers rowed);
 }
+
+pub returns-in_err-audit_row-clause-honest : goal.returns-in_err-audit_row-clause-honest
+returns-in_err-audit_row-clause-honest g c = λ entries s size rows.
+    let digest = g.H.TreeHash.digest in
+    let may = g.S.Source.may_answer in
+    let edge = c.args.edge.now in
+    let level = 7 - c.loop-done.done in
+    let later = source_later digest entries (may c.args.source.now) (may c.loop-done.source)
+    c.loop-done.invariant.covers.given.stays s in
+    let at : c.edge_index-index.result ≡ edge_index_of edge.size level =
+    c.edge_index-index.ensures ∙ ap (λ k. edge_index_of k level) c.size.ensures in
+    let fault = c.in_err-audit_row.ensures.honest entries later
+    (edge_row_true digest entries edge level c.edge_index-index.result c.row.result.now size (rows level (omega arith))
+    c.row.ensures (c.requires.widths level (omega arith)) at) in
+    search (rules, fault)

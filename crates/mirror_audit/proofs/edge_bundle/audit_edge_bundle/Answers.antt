@@ -1,5 +1,10 @@
-use Rattle.std.proofs.Common.{rules, ◌≡◌, ℕ, List, Vec, Global, IfSome, length, sym, subst, ap, ◌∙◌, arith}
+use Rattle.std.proofs.Common.{inr, ◌*◌, ◌<◌, rules, ◌≡◌, ℕ, List, Vec, Global, IfSome, length, sym, subst, ap, ◌∙◌, arith}
 use Rattle.tlog_shape.specs.Edge.{edge_index_of, width_of}
+use Rattle.std.proofs.lemmas.Bool.{false≢true}
+use Rattle.tlog_hash.specs.Rows.{level_row}
+use Rattle.tlog_tiles.proofs.EdgeLemmas.{hashes_of}
+use Rattle.log_reader.specs.Holding.{IsTreeFile}
+use Rattle.log_reader.proofs.TrueBundles.{end_leaves, end_row}
 use Rattle.tlog_tiles.specs.declared.paths.Path.TheVariants.{Entries}
 use Rattle.log_reader.specs.EdgeRows.{row_at}
 use Rattle.log_reader.specs.Verified.{HasLeaves}
@@ -35,3 +40,60 @@ returns-clause-covers g c =
     let found = subst (λ o. IfSome o (λ (w : Vec ℕ Global). IsGivenAt (Entries c.edge_index.result (length c.row-row.result.now)) w.items a b x y))
     c.in-Some.is c.in_ok-bytes.ensures.given in
     bundle_some edge c.requires digest a b x y bytes v (subst (λ p. IsGivenAt p bytes a b x y) path found)
+
+pub returns-in_err-bytes-clause-honest : goal.returns-in_err-bytes-clause-honest
+returns-in_err-bytes-clause-honest g c = λ entries s size true_row.
+    let digest = g.H.TreeHash.digest in
+    let edge = c.args.edge.now in
+    let n = length entries in
+    let row = c.row-row.result.now in
+    let index = c.edge_index.result in
+    let some : 0 < length row = search rules in
+    let wide : length row ≡ width_of n 0 =
+    ap length c.row-row.ensures ∙ (c.requires 0 (omega arith) ∙ ap (λ m. width_of m 0) size) in
+    let at : index ≡ edge_index_of n 0 =
+    c.edge_index.ensures ∙ ap (λ m. edge_index_of m 0) (c.size.ensures ∙ size) in
+    let file : IsTreeFile n (Entries index (length row)) =
+    inr (record { index_is = at; width_is = wide; some = some }) in
+    let fault = c.in_err-bytes.ensures.honest digest entries g.met.H.TreeHash.digest_length s file in
+    search (rules, fault)
+
+pub returns-in-None-clause-honest : goal.returns-in-None-clause-honest
+returns-in-None-clause-honest g c = λ entries s size true_row.
+    let digest = g.H.TreeHash.digest in
+    let edge = c.args.edge.now in
+    let n = length entries in
+    let row = c.row-row.result.now in
+    let index = c.edge_index.result in
+    let some : 0 < length row = search rules in
+    let wide : length row ≡ width_of n 0 =
+    ap length c.row-row.ensures ∙ (c.requires 0 (omega arith) ∙ ap (λ m. width_of m 0) size) in
+    let at : index ≡ edge_index_of n 0 =
+    c.edge_index.ensures ∙ ap (λ m. edge_index_of m 0) (c.size.ensures ∙ size) in
+    let file : IsTreeFile n (Entries index (length row)) =
+    inr (record { index_is = at; width_is = wide; some = some }) in
+    rw c.in-None.is at (c.in_ok-bytes.ensures.honest digest entries g.met.H.TreeHash.digest_length s file)
+
+pub returns-then-not-is_true-clause-honest : goal.returns-then-not-is_true-clause-honest
+returns-then-not-is_true-clause-honest g c = λ entries s size true_row.
+    let digest = g.H.TreeHash.digest in
+    let edge = c.args.edge.now in
+    let n = length entries in
+    let row = c.row-row.result.now in
+    let index = c.edge_index.result in
+    let some : 0 < length row = search rules in
+    let wide : length row ≡ width_of n 0 =
+    ap length c.row-row.ensures ∙ (c.requires 0 (omega arith) ∙ ap (λ m. width_of m 0) size) in
+    let at : index ≡ edge_index_of n 0 =
+    c.edge_index.ensures ∙ ap (λ m. edge_index_of m 0) (c.size.ensures ∙ size) in
+    let file : IsTreeFile n (Entries index (length row)) =
+    inr (record { index_is = at; width_is = wide; some = some }) in
+    let length_is = g.met.H.TreeHash.digest_length in
+    let is = rw c.in-Some.is at (c.in_ok-bytes.ensures.honest digest entries length_is s file) in
+    let row_is : row ≡ level_row digest entries 0 (256 * edge_index_of n 0) (width_of n 0) =
+    c.row-row.ensures ∙ (true_row
+    ∙ ap (λ m. level_row digest entries 0 (256 * edge_index_of m 0) (width_of m 0)) size) in
+    let before : 256 * index < n = omega (arith, at, wide, some, hashes_of n 0) in
+    let e = end_row digest length_is entries index row before at row_is in
+    absurd (false≢true (sym c.if-not-is_true.true ∙ c.in_ok-is_true.ensures.1
+    (end_leaves digest length_is entries index row e c.deref.result.now s.short (c.deref.ensures.value ∙ is))))

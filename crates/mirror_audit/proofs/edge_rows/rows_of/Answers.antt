@@ -1,9 +1,21 @@
-use Rattle.std.proofs.Common.{◌≡◌, [], length, get_or, sym, subst, ◌∙◌, arith}
+use Rattle.std.proofs.Common.{◌≡◌, ◌<◌, ℕ, [], length, get_or, ap, refl, rules, sym, subst, ◌∙◌, arith}
 use Rattle.tlog_shape.specs.Edge.{width_of}
 use Rattle.mirror_audit.specs.Edges.{AreRowsGiven}
+use Rattle.log_reader.specs.Holding.{IsEdgeRowOf}
+use Rattle.log_reader.proofs.TrueReads.{rows_true, source_later}
 use Rattle.log_reader.proofs.RowLists.{count_more, items_of, rows_more}
-use Rattle.mirror_audit.proofs.RowsGiven.{one_more}
+use Rattle.mirror_audit.proofs.RowsGiven.{no_rows, one_more}
 use Rattle.mirror_audit.proofs.edge_rows.rows_of.Goals as goal
+
+pub loop-level-init : goal.loop-level-init
+loop-level-init g c = record {
+  counted = refl;
+  count = ap length c.new-rows.ensures.items;
+  widths = λ k lt. absurd (omega (arith, lt));
+  given = no_rows c.args.size c.new-rows.result.items (g.S.Source.may_answer c.args.source.now)
+      (g.S.Source.asked c.args.source.now);
+  honest = λ digest entries hash s same k lt. absurd (omega (arith, lt));
+}
 
 pub loop-level-preserved : goal.loop-level-preserved
 loop-level-preserved g c =
@@ -24,7 +36,27 @@ loop-level-preserved g c =
       given = one_more size vs more v n (may c.args.source.now) (may c.loop-level.source) (may c.row_at_level.new.source)
           (asked c.args.source.now) (asked c.loop-level.source) (asked c.row_at_level.new.source) is i.count i.given
           c.in_ok-row.ensures.given;
+      honest = λ digest entries hash s same.
+          rows_more (λ k row. IsEdgeRowOf digest size k entries row) vs more v n is i.count (i.honest digest entries hash s same)
+          (c.in_ok-row.ensures.honest digest entries hash
+          (source_later digest entries (may c.args.source.now) (may c.loop-level.source) i.given.given.stays s) same);
     }
+
+pub returns-in_err-row-clause-honest : goal.returns-in_err-row-clause-honest
+returns-in_err-row-clause-honest g c = λ digest entries hash s same.
+    let may = g.S.Source.may_answer in
+    let fault = c.in_err-row.ensures.honest digest entries hash
+    (source_later digest entries (may c.args.source.now) (may c.loop-level.source) c.loop-level.invariant.given.given.stays s) same in
+    search (rules, fault)
+
+pub returns-clause-honest : goal.returns-clause-honest
+returns-clause-honest g c = λ digest entries hash s same level low.
+    let vs = c.loop-level.rows.items in
+    let size = c.args.size in
+    let all : c.loop-level.level ≡ 8 = omega arith in
+    rows_true digest hash entries size vs c.new.result c.new.ensures.size c.new.ensures.rows
+    (subst (λ m. (k : ℕ) → k < m → IsEdgeRowOf digest size k entries (get_or (items_of vs) k [])) all
+    (c.loop-level.invariant.honest digest entries hash s same)) level low
 
 pub returns-clause-given : goal.returns-clause-given
 returns-clause-given g c =

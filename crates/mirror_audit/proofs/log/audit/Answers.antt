@@ -1,3 +1,5 @@
+use Rattle.std.proofs.Common.{rules}
+use Rattle.log_reader.proofs.TrueReads.{source_later}
 use Rattle.mirror_audit.proofs.Trees.{log_audited}
 use Rattle.mirror_audit.proofs.log.audit.Goals as goal
 
@@ -9,3 +11,17 @@ returns-clause-audited g c =
     (may c.args.source.now) (may c.read_checkpoint.new.source) (may c.audit_tree.new.source) (asked c.args.source.now)
     (asked c.read_checkpoint.new.source) (asked c.audit_tree.new.source) c.in_ok-audited.ensures.given
     c.in_ok-audit_tree.ensures.given
+
+pub returns-in_err-audited-clause-honest : goal.returns-in_err-audited-clause-honest
+returns-in_err-audited-clause-honest g c = λ entries note log.
+    let fault = c.in_err-audited.ensures.honest g.H.TreeHash.digest entries note log in
+    search (rules, fault)
+
+pub returns-in_err-audit_tree-clause-honest : goal.returns-in_err-audit_tree-clause-honest
+returns-in_err-audit_tree-clause-honest g c = λ entries note log.
+    let may = g.S.Source.may_answer in
+    let head = c.in_ok-audited.ensures.honest g.H.TreeHash.digest entries note log in
+    let fault = c.in_err-audit_tree.ensures.honest entries
+    (source_later g.H.TreeHash.digest entries (may c.args.source.now) (may c.read_checkpoint.new.source)
+    c.in_ok-audited.ensures.given.given.stays log.files) head.0 head.1 in
+    search (rules, fault)

@@ -1,4 +1,5 @@
-use Rattle.std.proofs.Common.{◌<◌, arith}
+use Rattle.std.proofs.Common.{◌<◌, sym, ◌∙◌, rules, arith}
+use Rattle.log_reader.proofs.TrueReads.{source_later}
 use Rattle.mirror_audit.proofs.Given.{on_ok}
 use Rattle.mirror_audit.proofs.Trees.{tree_given}
 use Rattle.mirror_audit.proofs.log.audit_tree.Goals as goal
@@ -15,3 +16,16 @@ returns-clause-given g c =
     (λ all. tree_given g.H.TreeHash.digest c.args.size c.args.root.now edge leads small (may c.args.source.now)
     (may c.read_edge.new.source) (may c.audit_edge-done.new.source) (asked c.args.source.now) (asked c.read_edge.new.source)
     (asked c.audit_edge-done.new.source) c.in_ok-edge.ensures.given all)
+
+pub returns-in_err-edge-clause-honest : goal.returns-in_err-edge-clause-honest
+returns-in_err-edge-clause-honest g c = λ entries s same root.
+    let fault = c.in_err-edge.ensures.honest entries s same root in
+    search (rules, fault)
+
+pub returns-clause-honest : goal.returns-clause-honest
+returns-clause-honest g c = λ entries s same root.
+    let may = g.S.Source.may_answer in
+    c.audit_edge-done.ensures.honest entries
+    (source_later g.H.TreeHash.digest entries (may c.args.source.now) (may c.read_edge.new.source)
+    c.in_ok-edge.ensures.given.given.stays s) (c.in_ok-edge.ensures.leads.is_edge.size_is ∙ sym same)
+    (c.in_ok-edge.ensures.honest entries s same root)

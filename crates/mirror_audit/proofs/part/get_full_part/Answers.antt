@@ -1,5 +1,7 @@
-use Rattle.std.proofs.Common.{Some}
-use Rattle.mirror_audit.proofs.Given.{cut_full, given_one, may_some}
+use Rattle.std.proofs.Common.{None, Some, take, sym, subst, ◌≡◌, ◌∙◌, ap}
+use Rattle.mirror_sources.specs.Honest.{true_bytes}
+use Rattle.log_reader.specs.Holding.{GoesOn}
+use Rattle.mirror_audit.proofs.Given.{cut_full, given_one, may_none, may_some}
 use Rattle.mirror_audit.proofs.part.get_full_part.Goals as goal
 
 pub returns-clause-given : goal.returns-clause-given
@@ -14,3 +16,31 @@ returns-clause-given g c =
     c.truncate.ensures.items
     (given_one a b x y full (Some whole) c.in_ok-full.ensures.later
     (may_some a full c.in_ok-full.field-0 c.in-Some.full c.in-Some.is c.in_ok-full.ensures.answer) c.in_ok-full.ensures.told)
+
+pub returns-in_default-clause-honest : goal.returns-in_default-clause-honest
+returns-in_default-clause-honest g c = λ digest entries hash short file way.
+    let a = g.S.Source.may_answer c.args.source.now in
+    absurd (way.full None (subst (λ p. a p None) c.full_path.ensures
+    (may_none a c.full_path.result c.in_ok-full.field-0 c.in_default.is c.in_ok-full.ensures.answer)))
+
+pub returns-in_default-len_of_part-clause-honest : goal.returns-in_default-len_of_part-clause-honest
+returns-in_default-len_of_part-clause-honest g c = λ digest entries hash short file way.
+    let a = g.S.Source.may_answer c.args.source.now in
+    let whole = c.in-Some.full.items in
+    let goes = way.full (Some whole) (subst (λ p. a p (Some whole)) c.full_path.ensures
+    (may_some a c.full_path.result c.in_ok-full.field-0 c.in-Some.full c.in-Some.is c.in_ok-full.ensures.answer)) in
+    let there = c.len_of_part.ensures.honest digest entries hash short file way.partial
+    (subst (GoesOn c.args.path (true_bytes digest entries c.args.path)) (sym c.deref.ensures.value) goes) in
+    rw c.in_default-len_of_part.is at there
+
+pub returns-clause-honest : goal.returns-clause-honest
+returns-clause-honest g c = λ digest entries hash short file way.
+    let a = g.S.Source.may_answer c.args.source.now in
+    let whole = c.in-Some.full.items in
+    let goes = way.full (Some whole) (subst (λ p. a p (Some whole)) c.full_path.ensures
+    (may_some a c.full_path.result c.in_ok-full.field-0 c.in-Some.full c.in-Some.is c.in_ok-full.ensures.answer)) in
+    let there = c.len_of_part.ensures.honest digest entries hash short file way.partial
+    (subst (GoesOn c.args.path (true_bytes digest entries c.args.path)) (sym c.deref.ensures.value) goes) in
+    let len = c.in-Some-len_of_part.len in
+    let cut : take len c.deref.result.now ≡ true_bytes digest entries c.args.path = rw c.in-Some-len_of_part.is at there in
+    c.truncate.ensures.items ∙ (ap (take len) (sym c.deref.ensures.value) ∙ cut)

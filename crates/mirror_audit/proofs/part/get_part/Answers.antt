@@ -2,6 +2,7 @@ use Rattle.std.proofs.Common.{Some, None, Vec, Global, ℕ}
 use Rattle.mirror_sources.specs.Files.{full_of}
 use Rattle.mirror_audit.specs.Edges.{IsFullGiven, IsGivenAt}
 use Rattle.mirror_audit.proofs.Given.{given_one, if_found, if_none, in_its_place, may_none, may_some, there}
+use Rattle.log_reader.proofs.TrueReads.{way_later}
 use Rattle.mirror_audit.proofs.part.get_part.Goals as goal
 
 pub returns-in-Some-clause-given : goal.returns-in-Some-clause-given
@@ -41,3 +42,18 @@ returns-in-None-clause-none g c =
       full = c.in_ok-bytes.ensures.later.stays (full_of path) None full;
     })
     c.get_full_part.ensures.none
+
+pub returns-in-Some-clause-honest : goal.returns-in-Some-clause-honest
+returns-in-Some-clause-honest g c = λ digest entries hash s file.
+    s.files c.args.path file (Some c.in-Some.bytes.items)
+    (may_some (g.S.Source.may_answer c.args.source.now) c.args.path c.in_ok-bytes.field-0 c.in-Some.bytes c.in-Some.is
+    c.in_ok-bytes.ensures.answer)
+
+pub returns-in-None-clause-honest : goal.returns-in-None-clause-honest
+returns-in-None-clause-honest g c = λ digest entries hash s file.
+    let a = g.S.Source.may_answer c.args.source.now in
+    let b = g.S.Source.may_answer c.get.new.self in
+    let way = s.files c.args.path file None
+    (may_none a c.args.path c.in_ok-bytes.field-0 c.in-None.is c.in_ok-bytes.ensures.answer) in
+    c.get_full_part.ensures.honest digest entries hash s.short file
+    (way_later digest entries a b c.in_ok-bytes.ensures.later c.args.path way)

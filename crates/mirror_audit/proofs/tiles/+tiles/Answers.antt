@@ -1,8 +1,12 @@
-use Rattle.std.proofs.Common.{rules, ◌≡◌, ◌+◌, ◌*◌, ◌<◌, ◌≤◌, [], length, get_or, OnOk, refl, sym, ap, subst, ◌∙◌, arith}
+use Rattle.std.proofs.Common.{rules, ◌≡◌, ◌<◌, ◌≤◌, [], length, get_or, OnOk, refl, sym, ap, subst, ◌∙◌, arith}
 use Rattle.std.proofs.lemmas.List.{get_or_default}
+use Rattle.log_reader.specs.Holding.{IsTileHash}
+use Rattle.log_reader.proofs.TrueReads.{source_later}
 use Rattle.mirror_audit.specs.Covering.{CoversRow, CoversTile}
 use Rattle.mirror_audit.proofs.Given.{on_ok}
-use Rattle.mirror_audit.proofs.TileRows.{child_fits, child_small, row_first, row_fits, row_hinted, row_more, row_small, tile_covers}
+use Rattle.mirror_audit.proofs.TileRows.{child_small, row_first, row_fits, row_hinted, row_more, row_small, tile_covers}
+use Rattle.mirror_audit.proofs.WholeLogs.{child_hash, tile_row_true}
+use Rattle.mirror_audit.specs.WholeLogs.{IsTrueRow}
 use Rattle.mirror_audit.proofs.tiles.+tiles.Goals as goal
 
 pub audit_row-loop-i-init : goal.audit_row-loop-i-init
@@ -77,3 +81,37 @@ audit_tile-returns-clause-covers g t c =
     (λ below. tile_covers digest level index row (may c.args.source.now) (may m) (may n) (asked c.args.source.now) (asked m)
     (asked n) c.args.hash.now some c.in_ok-row.ensures.found
     (subst (λ r. CoversRow digest level index r (length r) (may m) (may n) (asked m) (asked n)) c.deref.ensures.value below))
+
+pub audit_row-returns-in_err-audit_tile-clause-honest : goal.audit_row-returns-in_err-audit_tile-clause-honest
+audit_row-returns-in_err-audit_tile-clause-honest g t c = λ entries s row.
+    let digest = g.H.TreeHash.digest in
+    let may = g.S.Source.may_answer in
+    let now = source_later digest entries (may c.args.source.now) (may c.loop-i.source) c.loop-i.invariant.covers.given.stays s in
+    let later = source_later digest entries (may c.loop-i.source) (may c.expect_bundles.new.source)
+    c.expect_bundles.ensures.later now in
+    let fault = c.in_err-audit_tile.ensures.honest entries later
+    (child_hash digest entries c.args.level c.args.index c.args.row.now row c.requires.above c.requires.level c.loop-i.i
+    c.loop-i-test.true) in
+    search (rules, fault)
+
+pub audit_tile-returns-then-level-eq0-clause-honest : goal.audit_tile-returns-then-level-eq0-clause-honest
+audit_tile-returns-then-level-eq0-clause-honest g t c = λ entries s hash.
+    let zero : c.args.level ≡ 0 = omega arith in
+    c.audit_bundle.ensures.honest entries s
+    (subst (λ l. IsTileHash g.H.TreeHash.digest entries l c.args.index c.args.hash.now) zero hash)
+
+pub audit_tile-returns-in_err-row-clause-honest : goal.audit_tile-returns-in_err-row-clause-honest
+audit_tile-returns-in_err-row-clause-honest g t c = λ entries s hash.
+    let fault = c.in_err-row.ensures.honest entries c.args.level c.args.index refl s hash in
+    search (rules, fault)
+
+pub audit_tile-returns-clause-honest : goal.audit_tile-returns-clause-honest
+audit_tile-returns-clause-honest g t c = λ entries s hash.
+    let digest = g.H.TreeHash.digest in
+    let may = g.S.Source.may_answer in
+    let found = c.in_ok-row.ensures in
+    let row = tile_row_true digest entries c.args.level c.args.index c.args.hash.now c.in_ok-row.row.items hash
+    (found.honest entries c.args.level c.args.index refl s hash) found.found.is_row.count in
+    c.audit_row.ensures.honest entries
+    (source_later digest entries (may c.args.source.now) (may c.row_of.new.source) found.found.given.stays s)
+    (subst (IsTrueRow digest entries c.args.level c.args.index) (sym c.deref.ensures.value) row)

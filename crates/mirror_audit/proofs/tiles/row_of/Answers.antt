@@ -1,0 +1,32 @@
+use Rattle.std.proofs.Common.{◌≤◌, length, sym, ap, subst, ◌∙◌, rules, arith}
+use Rattle.mirror_sources.specs.Files.{width_named}
+use Rattle.mirror_sources.specs.Honest.{true_bytes}
+use Rattle.log_reader.specs.Holding.{IsTreeFile}
+use Rattle.log_reader.proofs.TrueReads.{full_tile, row_is_true, tile_verifies}
+use Rattle.mirror_audit.proofs.tiles.row_of.Goals as goal
+
+pub returns-in_err-bytes-clause-honest : goal.returns-in_err-bytes-clause-honest
+returns-in_err-bytes-clause-honest g c = λ entries level index at s t.
+    let file = subst (IsTreeFile (length entries)) (sym at) (full_tile (length entries) level index t.low t.fits) in
+    let wide = subst (λ p. 256 ≤ width_named p) (sym at) (omega arith) in
+    let fault = c.in_err-bytes.ensures.honest g.H.TreeHash.digest entries s file wide in
+    search (rules, fault)
+
+pub returns-in-Some-clause-honest : goal.returns-in-Some-clause-honest
+returns-in-Some-clause-honest g c = λ entries level index at s t.
+    let digest = g.H.TreeHash.digest in
+    let file = subst (IsTreeFile (length entries)) (sym at) (full_tile (length entries) level index t.low t.fits) in
+    let wide = subst (λ p. 256 ≤ width_named p) (sym at) (omega arith) in
+    let is = c.in_ok-bytes.ensures.honest digest entries s file wide ∙ ap (true_bytes digest entries) at in
+    row_is_true digest g.met.H.TreeHash.digest_length entries level index 256 c.deref.result.now c.in-Some.row.items
+    (c.deref.ensures.value ∙ is) (rw c.in-Some.is at c.in_ok-row.ensures.found).is_row
+
+pub returns-clause-honest : goal.returns-clause-honest
+returns-clause-honest g c = λ entries level index at s t.
+    let digest = g.H.TreeHash.digest in
+    let file = subst (IsTreeFile (length entries)) (sym at) (full_tile (length entries) level index t.low t.fits) in
+    let wide = subst (λ p. 256 ≤ width_named p) (sym at) (omega arith) in
+    let is = c.in_ok-bytes.ensures.honest digest entries s file wide ∙ ap (true_bytes digest entries) at in
+    absurd ((rw c.in-None.is at c.in_ok-row.ensures.none) _
+    (tile_verifies digest g.met.H.TreeHash.digest_length entries level index c.args.hash.now c.deref.result.now t
+    (c.deref.ensures.value ∙ is)))
