@@ -1,10 +1,12 @@
 -- A bringing from its beginning.
-use Rattle.std.proofs.Common.{◌≡◌, ◌⊎◌, inl, inr, ℕ, ◌<◌, List, length, get_or, Option, IsFalse, sym, subst, ap, ◌∙◌}
+use Rattle.std.proofs.Common.{◌≡◌, ◌⊎◌, inl, inr, ℕ, ◌<◌, List, length, get_or, Option, IsFalse, sym, subst, ap, ◌∙◌, arith}
 use Rattle.tlog_tiles.specs.declared.paths.Path.{Path}
 use Rattle.mirror_model.specs.Heads.{IsHead}
-use Rattle.mirror_folders.specs.Shelf.{Put}
+use Rattle.tlog_tiles.specs.declared.paths.Path.TheVariants.{Checkpoint}
+use Rattle.mirror_folders.specs.Shelf.{Put, TellsRead}
 use Rattle.mirror_copy.specs.AskedForCopy.{BlamesFailed, RefusesNote}
 use Rattle.mirror_copy.specs.Faults.{BlamesFrom, BlamesPlaces, IsOfNoPlace}
+use Rattle.mirror_copy.specs.Found.{IsTipRead}
 use Rattle.mirror_copy.specs.Growing.{Tip}
 use Rattle.mirror_copy.specs.Moments.{HadSize}
 use Rattle.mirror_copy.specs.PlaceGets.{APlaceFailed, AsksEach, AsksPlaces, IsAskedFor}
@@ -14,6 +16,7 @@ use Rattle.mirror_copy.specs.declared.fault.BringFault.{BringFault}
 use Rattle.mirror_copy.specs.declared.fault.BringFault.TheVariants.{BadCheckpoint, CopyDamaged, NotLarger, Contradiction}
 use Rattle.mirror_copy.specs.declared.fault.BringFault.TheVariants.{Collision, NoFile, Source, CopyInUse, ShelfFault, OutOfMemory}
 use Rattle.mirror_copy.proofs.Asking.{asked_same}
+use Rattle.mirror_copy.proofs.WholeMoments.{none_found}
 
 module _ {S : Type 0} (may : S → Path → Option (List ℕ) → Type 0) (failed : S → ℕ) (asked : S → Option (List Path)) where
   pub asks_begun : (so : Path → Type 0) (x y : Places S) → y.list.items ≡ x.list.items → AsksEach may failed asked so x y
@@ -115,9 +118,9 @@ module _ (digest : List ℕ → List ℕ) (origin note : List ℕ) (puts : Optio
   refuses_places places OutOfMemory h = tt
 
   pub refuses_from : {S : Type 0} (places : Places S) (tip : Tip) (old : Option (List Put)) (size : ℕ) (root : List ℕ)
-      (e : BringFault) → HadSize digest origin puts tip.size → IsHead note origin size root →
-      BlamesFrom digest places size tip old e → RefusesNote digest origin note puts e
-  refuses_from places tip old size root e had_is head (inl h) =
+      (e : BringFault) → IsTipRead digest origin puts tip → HadSize digest origin puts tip.size →
+      IsHead note origin size root → BlamesFrom digest places size tip old e → RefusesNote digest origin note puts e
+  refuses_from places tip old size root e t had_is head (inl h) =
       subst (λ (f : BringFault). RefusesNote digest origin note puts f) (sym h.0) (record {
         had = tip.size;
         size = size;
@@ -125,7 +128,11 @@ module _ (digest : List ℕ → List ℕ) (origin note : List ℕ) (puts : Optio
         had_is = had_is;
         is_head = head;
         upto = h.1;
+        not_none = λ held is none.
+            let gone = none_found held tip.checkpoint (subst (λ o. TellsRead o Checkpoint tip.checkpoint) is t.checkpoint) none in
+            let upto = h.1 in
+            h.2 (omega (arith, upto, t.empty gone)) gone;
       })
-  refuses_from places tip old size root e had_is head (inr (inl h)) =
+  refuses_from places tip old size root e t had_is head (inr (inl h)) =
       subst (λ (f : BringFault). RefusesNote digest origin note puts f) (sym h.0) tt
-  refuses_from places tip old size root e had_is head (inr (inr h)) = refuses_places places e h
+  refuses_from places tip old size root e t had_is head (inr (inr h)) = refuses_places places e h

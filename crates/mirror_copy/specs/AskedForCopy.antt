@@ -44,7 +44,7 @@ module _ {S : Type 0} (may : S → Path → Option (List ℕ) → Type 0) (faile
   BlamesFailed old new OutOfMemory = Unit {0}
 
 module _ (digest : List ℕ → List ℕ) (origin note : List ℕ) (puts : Option (List Put)) where
-  -- a note that is not larger than the copy that stood
+  -- a note that is not larger than the copy that stood. The shelf did not record that it had no checkpoint
   pub record IsNotLarger : Type 0 where
     pub had : ℕ
     pub size : ℕ
@@ -52,6 +52,7 @@ module _ (digest : List ℕ → List ℕ) (origin note : List ℕ) (puts : Optio
     pub had_is : HadSize digest origin puts had
     pub is_head : IsHead note origin size root
     pub upto : size ≤ had
+    pub not_none : (held : List Put) → puts ≡ Some held → ¬ ¬ HasPut held Checkpoint
 
   -- BadCheckpoint says that the bytes are no note of a checkpoint of the origin, and NotLarger that it is not larger
   abbrev pub RefusesNote : BringFault → Type 0

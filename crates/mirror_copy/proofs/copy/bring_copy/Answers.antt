@@ -104,6 +104,7 @@ returns-in_err-done-clause-refuses g c =
     let head = c.in-Some.head in
     rw (p.1, p.2) (refuses_from g.H.TreeHash.digest c.args.origin.now c.args.note.now (g.D.Shelf.puts c.args.shelf.now)
     c.bring_from-done.new.places tip (g.D.Shelf.puts c.read_tip.new.shelf) head.0 head.1 c.in_err-done.field-0.0
+    c.in_ok-tip.ensures.tip
     (had_size g.H.TreeHash.digest c.args.origin.now tip (g.D.Shelf.puts c.args.shelf.now) c.in_ok-tip.ensures.tip)
     (rw c.in-Some.is at c.in_ok-head.ensures.found) c.in_err-done.ensures.blames)
 
