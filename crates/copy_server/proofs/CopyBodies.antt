@@ -1,5 +1,5 @@
 -- What a copy has of each resource that is no proof is what the mirror of its view has.
-use Rattle.std.proofs.Common.{◌≡◌, ℕ, ◌≤◌, ◌^◌, List, [], ◌∷◌, length, Option, Some, None, refl, sym, ap, subst, ◌∙◌, inl, inr, arith}
+use Rattle.std.proofs.Common.{◌≡◌, ℕ, ◌≤◌, ◌^◌, List, [], length, Option, Some, None, refl, sym, subst, inl, inr, arith}
 use Rattle.std.specs.FinSet as set
 use Rattle.tlog_hash.specs.Tree.{mth, strings}
 use Rattle.tlog_tiles.specs.declared.paths.Path.{Path}
@@ -7,7 +7,7 @@ use Rattle.tlog_tiles.specs.declared.paths.Path.TheVariants.{Checkpoint, Tile, E
 use Rattle.tlog_tiles.specs.Tiles.{bundle_bytes, IsTileWithin, tile_bytes}
 use Rattle.node_store.specs.Strings.{NoClash}
 use Rattle.mirror_model.specs.Heads.{IsHead}
-use Rattle.mirror_model.specs.Served.{IsServedBundle, IsServedNote, IsServedTile, Served}
+use Rattle.mirror_model.specs.Served.{IsServedBundle, IsServedTile, Served}
 use Rattle.mirror_model.specs.Strings.{IsDigest}
 use Rattle.mirror_model.specs.TrueLaws.{AreShort}
 use Rattle.mirror_model.specs.View.{nothing, View}

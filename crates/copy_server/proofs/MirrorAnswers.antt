@@ -1,17 +1,14 @@
 -- What is answered from a copy is what a mirror of its view answers.
-use Rattle.std.proofs.Common.{◌≡◌, ℕ, List, Some, refl}
+use Rattle.std.proofs.Common.{ℕ, List, Some, refl}
 use Rattle.httparse.specs.Grammar.{RequestHead}
 use Rattle.tlog_proof.specs.declared.proof.Ask.{Ask}
-use Rattle.mirror_folders.specs.Shelf.{Put}
-use Rattle.mirror_model.specs.Strings.{IsDigest}
-use Rattle.mirror_model.specs.View.{View}
 use Rattle.mirror_server.specs.Resource.{Names}
-use Rattle.mirror_server.specs.Response.{found, HasRequest, IsBody, IsFoundBy, IsReplyBy, media_type, ResponseBy}
+use Rattle.mirror_server.specs.Response.{found, IsBody, IsReplyBy, media_type, ResponseBy}
 use Rattle.mirror_server.specs.Response.{other_method, not_there, is_there, silent, refused, replied}
 use Rattle.mirror_server.specs.declared.resource.Resource.{Resource}
 use Rattle.mirror_server.specs.declared.resource.Resource.TheVariants.{File, Status, Forks, Missing, Proof}
 use Rattle.copy_server.specs.Bodies.{IsCopyBody, IsNoProof}
-use Rattle.copy_server.specs.CopyLaws.{CopiesAnswerAsMirrors, empty, IsViewOf, whole}
+use Rattle.copy_server.specs.CopyLaws.{CopiesAnswerAsMirrors, empty, whole}
 use Rattle.copy_server.specs.Asking.{AsksNoProof}
 use Rattle.copy_server.proofs.CopyBodies.{from_copy, from_empty, to_copy, to_empty}
 

@@ -1,12 +1,12 @@
 -- What a view of one note serves, and one of none.
-use Rattle.std.proofs.Common.{◌≡◌, ◌≢◌, ℕ, ◌^◌, ◌≤◌, List, [], ◌∷◌, length, All, Option, Some, None, true, refl, sym, ap, subst, arith}
+use Rattle.std.proofs.Common.{◌≡◌, ℕ, ◌^◌, ◌≤◌, List, [], ◌∷◌, length, Some, None, true, refl, sym, ap, subst, arith}
 use Rattle.std.proofs.Common.{◌∙◌}
 use Rattle.std.specs.FinSet as set
 use Rattle.std.specs.List.{Contains}
 use Rattle.std.specs.List.Sorted.{IsStrictlySortedBy}
-use Rattle.std.specs.Ordering.{is_le, nat_cmp}
+use Rattle.std.specs.Ordering.{is_le}
 use Rattle.std.specs.declared.cmp.Ordering.{Ordering}
-use Rattle.std.specs.Cmp.Lexicographic.{nat_list_cmp_total, slice_cmp}
+use Rattle.std.specs.Cmp.Lexicographic.{nat_list_cmp_total}
 use Rattle.std.specs.Cmp.{tied_itself}
 use Rattle.std.proofs.lemmas.List.Elements.{All-contains_itself, All-cons, All-contains, All-nil, All-weaker, recursion_from_All}
 use Rattle.tlog_hash.specs.Tree.{mth, strings}
@@ -18,13 +18,12 @@ use Rattle.mirror_model.specs.Forks.{IsFork, Point, point_cmp}
 use Rattle.mirror_model.specs.Front.{path_cmp}
 use Rattle.mirror_model.specs.HeadLaws.{IsSameHead}
 use Rattle.mirror_model.specs.Heads.{HasHead, HoldsHead, IsHead}
-use Rattle.mirror_model.specs.Listed.{ListsForks, ListsHeads, ListsMissing, pair_cmp, PointPair}
-use Rattle.mirror_model.specs.Reports.{IsFlagged, ReportsHeads, SaysServed}
+use Rattle.mirror_model.specs.Listed.{ListsForks, ListsHeads, ListsMissing, pair_cmp}
+use Rattle.mirror_model.specs.Reports.{IsFlagged, ReportsHeads}
 use Rattle.mirror_model.specs.Served.{IsAtMost, IsCompleteNote, IsServedList, Replies, Served}
 use Rattle.mirror_model.specs.Strings.{IsDigest}
 use Rattle.mirror_model.specs.Texts.{IsForksText, IsMissingText, IsStatusText}
 use Rattle.mirror_model.specs.View.{nothing, View}
-use Rattle.mirror_model.specs.Walk.{IsMissing}
 use Rattle.mirror_model.proofs.HeadNotes.{head_once}
 use Rattle.mirror_model.proofs.Missing.{built_none}
 use Rattle.mirror_model.proofs.StringSets.{has_empty, has_from_listed, held_from_all, only_listed}

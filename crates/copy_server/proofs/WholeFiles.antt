@@ -1,5 +1,5 @@
 -- Files of a log that the shelf has whole: what is wanted stands, or the full file of its place does.
-use Rattle.std.proofs.Common.{◌≡◌, ◌≢◌, ◌⊎◌, ℕ, ◌≤◌, List, [], ◌++◌, length, Option, Some, None, refl, sym, ap, subst, ◌∙◌, inl, inr, arith}
+use Rattle.std.proofs.Common.{◌≡◌, ◌≢◌, ◌⊎◌, ℕ, List, [], ◌++◌, length, Option, Some, None, sym, ap, subst, ◌∙◌, inl, inr, arith}
 use Rattle.std.proofs.Common.{append_assoc}
 use Rattle.std.proofs.lemmas.Bool.{cases_lt}
 use Rattle.std.proofs.lemmas.List.{append-nil}
@@ -13,7 +13,7 @@ use Rattle.mirror_folders.specs.Shelf.{Put, TellsRead}
 use Rattle.mirror_export.specs.Since.{width_at}
 use Rattle.mirror_export.proofs.AllFiles.{widest_last}
 use Rattle.mirror_export.proofs.PlaceWidths.{width_full}
-use Rattle.log_reader.specs.Holding.{GoesOn, IsTreeFile}
+use Rattle.log_reader.specs.Holding.{IsTreeFile}
 use Rattle.log_reader.proofs.TrueReads.{full_fits}
 use Rattle.copy_reader.specs.WholeCopies.{HasFilesOf}
 use Rattle.copy_server.specs.GivenFiles.{IsFileRead, IsFirstOf, of_width, path_width, widest_of}

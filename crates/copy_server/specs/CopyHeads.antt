@@ -1,5 +1,5 @@
 -- The checkpoint of a copy, as it stands on a shelf. No signature is looked at.
-use Rattle.std.specs.Prelude.{◌≡◌, ℕ, List, Option, Some, None}
+use Rattle.std.specs.Prelude.{ℕ, List, Option, Some, None}
 use Rattle.tlog_tiles.specs.declared.paths.Path.TheVariants.{Checkpoint}
 use Rattle.mirror_folders.specs.Shelf.{Put, TellsRead}
 use Rattle.mirror_model.specs.Heads.{IsHead}

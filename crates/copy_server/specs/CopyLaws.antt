@@ -1,5 +1,5 @@
 -- What is answered from a copy is what a mirror answers that holds the copy's checkpoint, complete, and no other.
-use Rattle.std.specs.Prelude.{◌≡◌, ℕ, List, [], ◌∷◌, length, Some, ⊤}
+use Rattle.std.specs.Prelude.{ℕ, List, [], ◌∷◌, length, Some}
 use Rattle.std.specs.FinSet as set
 use Rattle.tlog_hash.specs.Tree.{mth, strings}
 use Rattle.tlog_tiles.specs.declared.paths.Path.TheVariants.{Checkpoint}

@@ -1,6 +1,6 @@
 -- Which bytes a copy gives for a tile or a bundle: those of a file as they stand, or the first of a wider file.
 use Rattle.std.specs.Prelude.{◌≡◌, ◌⊎◌, ℕ, ◌*◌, List, ◌++◌, length, Option, Some, None}
-use Rattle.tlog_tiles.specs.Bundle.{HasBundle, IsBundle}
+use Rattle.tlog_tiles.specs.Bundle.{IsBundle}
 use Rattle.tlog_tiles.specs.Tiles.{IsWithin}
 use Rattle.tlog_tiles.specs.declared.paths.Path.{Path}
 use Rattle.tlog_tiles.specs.declared.paths.Path.TheVariants.{Checkpoint, Tile, Entries}

@@ -1,7 +1,6 @@
 -- What a copy answers is what a mirror with its checkpoint does.
-use Rattle.std.proofs.Common.{◌≡◌, ℕ, ◌<◌, List, length, Err, refl, arith}
+use Rattle.std.proofs.Common.{◌≡◌, ℕ, ◌<◌, length, refl, arith}
 use Rattle.std.proofs.lemmas.Bool.{lt-ltb, le-ltb, le-leb, eq-eqb, ne_eqb}
-use Rattle.tlog_proof.specs.declared.make.ProofFault.{ProofFault}
 use Rattle.tlog_proof.specs.declared.make.ProofFault.TheVariants.{NoSuchSize, NoSuchIndex, FirstIsZero, Backwards, OutOfMemory}
 use Rattle.tlog_proof.specs.declared.proof.Ask.TheVariants.{Inclusion, Consistency}
 use Rattle.program_copies.specs.Laws.{RefusesAsMirror, TellsAsMirror}

@@ -4,7 +4,6 @@ use Rattle.std.specs.Io.KnownBytes.{Appends, Keeps}
 use Rattle.byte_streams.specs.Streams.{AppendsPrefix}
 use Rattle.program_reports.specs.Reports.{printed}
 use Rattle.program_reports.specs.declared.reports.Report.{Report as Printout}
-use Rattle.program_reports.specs.declared.fault.AskFault.{AskFault}
 use Rattle.program_reports.specs.declared.fault.AskFault.TheVariants.{Report, WriteFault}
 use Rattle.copy_reader.specs.Faults.{CountsFault}
 use Rattle.program_copies.specs.declared.fault.CopyAskFault.{CopyAskFault}

@@ -1,5 +1,5 @@
 -- What `prove` reports of a copy.
-use Rattle.std.specs.Prelude.{◌≡◌, ◌⊎◌, ℕ, ◌<◌, ◌≤◌, List, Option, Result, Ok, Err, ⊤}
+use Rattle.std.specs.Prelude.{◌≡◌, ◌⊎◌, ℕ, ◌<◌, ◌≤◌, List, Option, Result, Ok, Err}
 use Rattle.signed_note.specs.Keys.{Key}
 use Rattle.tlog_proof.specs.declared.make.ProofFault.{ProofFault}
 use Rattle.tlog_proof.specs.declared.make.ProofFault.TheVariants as proving

@@ -1,5 +1,5 @@
 -- What faults of a copy are to `entries`.
-use Rattle.std.proofs.Common.{◌≡◌, ℕ, List, Option, Result, Err}
+use Rattle.std.proofs.Common.{◌≡◌, ℕ, List, Option, Err}
 use Rattle.signed_note.specs.Keys.{Key}
 use Rattle.mirror_folders.specs.Shelf.{Put}
 use Rattle.copy_reader.specs.Copies.{IsRefused}

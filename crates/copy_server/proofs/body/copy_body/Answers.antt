@@ -1,4 +1,4 @@
-use Rattle.std.proofs.Common.{Option, Some, None}
+use Rattle.std.proofs.Common.{Some}
 use Rattle.copy_server.specs.CopyHeads.{copy_head}
 use Rattle.copy_server.proofs.Answering.{copy_body_at, copy_body_empty}
 use Rattle.copy_server.proofs.Blaming.{blames_by, body_blames}

@@ -1,4 +1,3 @@
-use Rattle.std.proofs.Common.{map}
 use Rattle.std.specs.Prelude.{option_map, ⊤}
 use Rattle.program_reports.specs.declared.reports.Report.{Report as Printout}
 use Rattle.program_copies.proofs.Given.{given_fault, given_counts}
