@@ -67,7 +67,7 @@ fn is_same(first: &Hash, second: &Hash) -> bool
     first == second
 }
 
-// The size of the checkpoint, where it is a note of the origin, and its root is that of the first so many entries.
+// The size of the checkpoint, where it is a note of the origin, and its root is that of the first entries, as many as its size.
 fn size_before<H: TreeHash>(
     alloc: Global,
     origin: &str,

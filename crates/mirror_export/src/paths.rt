@@ -25,7 +25,7 @@ fn push_kind(paths: &mut Vec<Path>, size: u64, kind: FileKind) -> Result<(), All
     Ok(())
 }
 
-/// The paths of a log of so many entries (C2SP tlog-tiles), in the order in which `export` puts them: its tiles by rising
+/// The paths of a log of that many entries (C2SP tlog-tiles), in the order in which `export` puts them: its tiles by rising
 /// level and index, its bundles, and last the checkpoint.
 ///
 /// ```text

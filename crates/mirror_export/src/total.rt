@@ -6,7 +6,7 @@ ghost use Rattle.mirror_export.specs.Total.{new_at, new_partial};
 use crate::files::place_width;
 use tlog_shape::{edge_index, edge_width};
 
-/// How many files an export puts of a log of so many entries, the checkpoint among them; where the folder has those of the
+/// How many files an export puts of a log of `size` entries, the checkpoint among them; where the folder has those of the
 /// first entries, as many as `since`, how many an update puts. A folder that is empty has those of no entries.
 ///
 /// ```text

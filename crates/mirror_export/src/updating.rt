@@ -93,7 +93,7 @@ fn update_to<H: TreeHash, S: ReadableShelf>(
 /// as another update may have put it, the new one is not put.
 ///
 /// No signature is looked at: what is served has to go on from the checkpoint, which is a note of the mirror's origin,
-/// of a size of at most what is served, with the root of the first so many entries. Where it is the note that is served,
+/// of a size of at most what is served, with the root of the first entries, as many as that size. Where it is the note that is served,
 /// byte for byte, nothing is put.
 ///
 /// ```text

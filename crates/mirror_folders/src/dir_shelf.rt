@@ -138,7 +138,7 @@ impl<'a, R: Files> Model for DirShelf<'a, R> {
 }
 
 impl<'a, R: Files> DirShelf<'a, R> {
-    /// The folder of that path, of which no call failed. It need not be there yet. It takes no memory.
+    /// The folder of that path. No call has failed. It need not be there yet. It takes no memory.
     pub fn new(files: &'a R, alloc: Global, folder: &'a str) -> Self
         ensures { result ≡ 0 }
     {

@@ -42,7 +42,7 @@ impl<'a, R: Files> Model for DirSource<'a, R> {
 }
 
 impl<'a, R: Files> DirSource<'a, R> {
-    /// The folder of that path, of which no get failed. It takes no memory.
+    /// The folder of that path. No get has failed. It takes no memory.
     pub fn new(files: &'a R, alloc: Global, folder: &'a str) -> Self
         ensures { result ≡ 0 }
     {

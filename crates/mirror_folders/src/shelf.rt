@@ -33,7 +33,7 @@ pub trait Shelf {
     ghost use Rattle.mirror_sources.specs.Told.{KeepsTold};
     ghost use Rattle.mirror_folders.specs.Shelf.{Put, TellsPut, TellsHas, CountsFailures};
 
-    /// What was put, the oldest first, where the shelf tells it. What was put last at a path stands there.
+    /// What was put, the oldest first, if the shelf records it. What was put last at a path stands there.
     ghost puts: { Self → Option (List Put) } = { λ _. None };
 
     /// How many calls failed.

@@ -26,7 +26,7 @@ impl Counts {
         Counts { files: 0, bytes: 0 }
     }
 
-    /// Counts a file of so many bytes.
+    /// Counts a file of that many bytes.
     pub fn add(&mut self, len: usize)
         ensures { self.new ≡ with_file self.old len }
     {

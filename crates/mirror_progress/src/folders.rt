@@ -1,4 +1,4 @@
-//! Folders into which long work may be told.
+//! Folders that may report the progress of long work.
 use crate::task::Task;
 use mirror_folders::{DirShelf, MemShelf, NamedFolders};
 use std::fs::Files;
@@ -16,7 +16,7 @@ use std::fs::Files;
 pub trait ToldFolders: NamedFolders {
     ghost use Rattle.std.specs.Prelude.{◌≡◌};
 
-    /// From now on it is told how many files are put, by a line now and then, under the name of that command.
+    /// From now on a line now and then reports how many files were put, under the name of that command.
     fn begin(&mut self, _task: Task)
         ensures puts { Self.puts self.new ≡ Self.puts self.old }
         ensures held { Self.held self.new ≡ Self.held self.old }
@@ -38,7 +38,7 @@ pub trait ToldFolders: NamedFolders {
     {}
 }
 
-// Of a folder that is not counted nothing is told.
+// A folder that is not counted reports nothing.
 impl<'a, R: Files> ToldFolders for DirShelf<'a, R> {}
 
 impl ToldFolders for MemShelf {}

@@ -12,7 +12,7 @@ use std::io::Write;
 use std::time::Clock;
 
 /// A source that is counted is honest for a log of some entries exactly where the one that it counts is; what it was asked
-/// for, and how many gets failed, are told by that one.
+/// for, and how many gets failed, are recorded by that one.
 pub fn counted_source_law<S: Source + Drop, C: Clock + Drop, W: Write + Drop>()
     ensures honest { (counted : _)
         → AreHonestAlike (⟦<CountingSource<S, C, W> as Source>⟧.may_answer counted)
@@ -23,7 +23,7 @@ pub fn counted_source_law<S: Source + Drop, C: Clock + Drop, W: Write + Drop>()
         ≡ S.failed counted.source }
 {}
 
-/// What was put onto a shelf that is counted, and how many calls failed, are told by the one that it counts.
+/// What was put onto a shelf that is counted, and how many calls failed, are recorded by the one that it counts.
 pub fn counted_shelf_law<S: Shelf + Drop, C: Clock + Drop, W: Write + Drop>()
     ensures puts { (counted : _) → ⟦<CountingShelf<S, C, W> as Shelf>⟧.puts counted
         ≡ S.puts counted.shelf }

@@ -1,4 +1,4 @@
-//! Long work is told: how many files were fetched or put so far, by a line now and then.
+//! Progress of long work: a line now and then reports how many files were fetched or put so far.
 //!
 //! A `CountingSource` and a `CountingShelf` stand round any source and any shelf. They give and take what those do, with
 //! the same contract, and count; so a pull and an export know nothing of it.

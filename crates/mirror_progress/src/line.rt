@@ -1,4 +1,4 @@
-//! The lines that tell how far the work is.
+//! The lines that say how far the work is.
 ghost use Rattle.std.specs.Prelude.{◌≡◌, ◌∷◌, ◌++◌, IfOk, OnOk};
 ghost use Rattle.mirror_progress.specs.Text.{comma_before, with_commas, count_text, files_text, size_text, task_text, counts_text, bytes_text, share_text, progress_text, older_text, grown_text, pulled_text, line_of, IsLine};
 
@@ -37,8 +37,8 @@ pub fn progress_line(
     Ok(line)
 }
 
-/// What a pull came to, as such a line, where the largest checkpoint that was held before it had so many entries, none
-/// being held as one of no entries, and the one that was pulled has so many.
+/// What a pull came to, as such a line: `held` entries of the largest checkpoint that was held before (0 if none was), and
+/// `size` of the one that was pulled.
 ///
 /// ```text
 /// pulled_line(alloc, 5_000, 5_300, counts)  // pull: 5,000 to 5,300 entries, 4 files, 91 kB
@@ -218,7 +218,7 @@ fn push_files(alloc: Global, text: &mut Vec<u8>, n: u64) -> Result<(), AllocErro
     }
 }
 
-// So many bytes, in the largest unit of which there is one.
+// A number of bytes, in the largest unit that it has one of.
 fn push_size(alloc: Global, text: &mut Vec<u8>, n: u64) -> Result<(), AllocError>
     ensures { OnOk result (text.new.items ≡ text.old.items ++ size_text n) }
 {
@@ -264,7 +264,7 @@ fn push_with_commas(text: &mut Vec<u8>, digits: &[u8]) -> Result<(), AllocError>
     Ok(())
 }
 
-// A digit that so many others follow, and the comma behind it.
+// A digit that `left` others follow, and the comma behind it.
 fn push_digit(text: &mut Vec<u8>, digit: u8, left: usize) -> Result<(), AllocError>
     ensures { OnOk result (text.new.items ≡ text.old.items ++ digit ∷ comma_before left) }
 {

@@ -1,4 +1,4 @@
-//! What is told of long work, and when.
+//! What is reported of long work, and when.
 ghost use Rattle.std.specs.Prelude.{◌≡◌, ◌↔◌, None, Some, IfOk, IsTrue, OnErr, is_some, option_map};
 ghost use Rattle.std.specs.Time.{instant_nanos};
 ghost use Rattle.byte_streams.specs.Streams.{AppendsPrefix};
@@ -19,12 +19,12 @@ use std::time::{Clock, Duration, Instant};
 use tlog_checkpoint::read;
 use tlog_tiles::Path;
 
-// A line may be written so many seconds after the last, or after the work began.
+// A line may be written this many seconds after the last, or after the work began.
 const SECONDS: u64 = 1;
 
 /// Tells how far long work is, by a line now and then: none in the first second, and at most one a second.
 ///
-/// It tells nothing until `begin`. Where the clock cannot be read, memory for a line is refused or the writer does not take
+/// It reports nothing until `begin`. Where the clock cannot be read, memory for a line is refused or the writer does not take
 /// it, the line is passed over.
 ///
 /// ```text
@@ -106,7 +106,7 @@ fn log_size(alloc: Global, note: &[u8]) -> Option<u64> {
 }
 
 impl<C: Clock + Drop, W: Write + Drop> Progress<C, W> {
-    /// It tells nothing yet. It takes no memory.
+    /// It reports nothing yet. It takes no memory.
     pub fn new(alloc: Global, clock: C, writer: W) -> Self
         ensures writer { result.writer ≡ writer }
         ensures silent { result.due ≡ None }
@@ -125,7 +125,7 @@ impl<C: Clock + Drop, W: Write + Drop> Progress<C, W> {
         }
     }
 
-    /// Begins to tell of the work of a command, of which nothing is done yet.
+    /// Begins to report the work of a command. Nothing of it is done yet.
     pub fn begin(&mut self, task: Task)
         ensures task { self.new.task ≡ task }
         ensures all { self.new.all ≡ None }
@@ -140,7 +140,7 @@ impl<C: Clock + Drop, W: Write + Drop> Progress<C, W> {
         self.is_told_now = false;
     }
 
-    /// Whether anything is told: from `begin` on, where the clock can be read.
+    /// Whether anything is reported: from `begin` on, if the clock can be read.
     pub fn is_told(&self) -> bool
         ensures { result ≡ is_some self.now.due }
     {
@@ -179,7 +179,7 @@ impl<C: Clock + Drop, W: Write + Drop> Progress<C, W> {
         self.counts
     }
 
-    /// Counts a file of so many bytes, and tells of it, if it is time.
+    /// Counts a file of that many bytes, and writes a line if it is time.
     pub fn count(&mut self, len: usize)
         ensures counted { self.new.counts ≡ with_file self.old.counts len }
         ensures told { TellsOnce W.contents self.old self.new }

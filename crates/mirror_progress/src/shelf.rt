@@ -24,12 +24,12 @@ use tlog_tiles::Path;
 pub struct CountingShelf<S: Shelf + Drop, C: Clock + Drop, W: Write + Drop> {
     /// The shelf that is counted.
     pub shelf: S,
-    /// What is counted, and where it is told.
+    /// What is counted, and where it is reported.
     pub progress: Progress<C, W>,
 }
 
 impl<S: Shelf + Drop, C: Clock + Drop, W: Write + Drop> CountingShelf<S, C, W> {
-    /// That shelf, and what is told of it.
+    /// That shelf, and its progress.
     pub fn new(shelf: S, progress: Progress<C, W>) -> Self
         ensures shelf { result.shelf ≡ shelf }
         ensures progress { result.progress ≡ progress }

@@ -22,12 +22,12 @@ use tlog_tiles::Path;
 pub struct CountingSource<S: Source + Drop, C: Clock + Drop, W: Write + Drop> {
     /// The source that is counted.
     pub source: S,
-    /// What is counted, and where it is told.
+    /// What is counted, and where it is reported.
     pub progress: Progress<C, W>,
 }
 
 impl<S: Source + Drop, C: Clock + Drop, W: Write + Drop> CountingSource<S, C, W> {
-    /// That source, and what is told of it.
+    /// That source, and its progress.
     pub fn new(source: S, progress: Progress<C, W>) -> Self
         ensures source { result.source ≡ source }
         ensures progress { result.progress ≡ progress }

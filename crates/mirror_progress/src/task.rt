@@ -1,7 +1,7 @@
-//! The commands whose work is told.
+//! The commands that report their progress.
 
-/// A command whose work is told.
-/// `Task::Pull`, for example, tells of the files that it fetched.
+/// A command that reports its progress.
+/// `Task::Pull`, for example, reports the files that it fetched.
 #[derive(Debug, Drop, PartialEq, Eq, Clone, Copy)]
 pub enum Task {
     /// A log is built, and its files are put.

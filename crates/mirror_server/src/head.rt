@@ -12,7 +12,7 @@ use httparse::spans::{EMPTY_HEADER_SPAN, Span, parse_request};
 use std::alloc::Global;
 use std::io::{ErrorKind, Read};
 
-/// One read asks for so many bytes at most.
+/// How many bytes one read asks for at most.
 const CHUNK: usize = 1_024;
 
 /// What the bytes so far are.

@@ -28,7 +28,7 @@ pub enum Resource {
     Proof(Ask),
 }
 
-// The two texts behind the prefix, of which the first has no slash.
+// The two texts behind the prefix. The first has no slash.
 fn two_behind<'a>(target: &'a str, front: &str) -> Option<(&'a str, &'a str)>
     ensures found { IfSome result (λ x. HasTwo front.now target.now x.0.now x.1.now) }
     ensures complete { FindsTwo (λ x. x.0.now) (λ x. x.1.now) front.now target.now result }

@@ -83,7 +83,7 @@ impl<H: TreeHash> ListSource<H> {
         &self.asked
     }
 
-    /// The bytes at a path, lent: what `get` copies. It takes no memory, and is not told among what was asked for.
+    /// The bytes at a path, lent: what `get` copies. It takes no memory, and is not recorded among what was asked for.
     ///
     /// ```text
     /// source.file_at(Path::Checkpoint)  // Some of the note

@@ -42,10 +42,10 @@ pub trait Source {
     ghost use Rattle.mirror_sources.specs.Source.{File, TellsGet, CountsGet, StaysWithin};
     ghost use Rattle.mirror_sources.specs.Told.{KeepsTold};
 
-    /// Which answers may still come. A source of which nothing is known may give any.
+    /// Which answers may still come. A source that nothing is known of may give any.
     ghost may_answer: { Self → Path → Option (List ℕ) → Type 0 } = { λ _ _ _. ⊤ };
 
-    /// The paths that were asked for, the oldest first, where the source tells them.
+    /// The paths that were asked for, the oldest first, if the source records them.
     ghost asked: { Self → Option (List Path) } = { λ _. None };
 
     /// The files that were put where it reads, the oldest first, where they are known. Neither a get nor a hint changes them.

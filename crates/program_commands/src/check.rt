@@ -16,7 +16,7 @@ use tlog_proof::{MAX_TEXT_LEN, TextFault, holds, read_text};
 /// How many bytes `check` takes at most: one more than the text of a proof may have.
 pub const MAX_READ_LEN: usize = MAX_TEXT_LEN + 1;
 
-/// Why `check` told no verdict.
+/// Why `check` printed no verdict.
 #[derive(Debug, Drop, PartialEq, Eq, Clone, Copy, Error)]
 pub enum CheckFault {
     /// The input is not the text of a proof.

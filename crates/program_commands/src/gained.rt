@@ -27,7 +27,7 @@ fn count_notes<H: TreeHash>(mirror: &Mirror<H>) -> Result<usize, AllocError>
             return Ok(i);
         };
     }
-    // No memory holds so many.
+    // No memory holds that many.
     Err(AllocError)
 }
 
@@ -41,7 +41,7 @@ fn count_notes<H: TreeHash>(mirror: &Mirror<H>) -> Result<usize, AllocError>
 ///
 /// # Errors
 ///
-/// More notes than a `usize` counts, of which no memory holds so many.
+/// More notes than a `usize` counts, which no memory holds.
 pub fn holding_of<H: TreeHash>(mirror: &Mirror<H>) -> Result<Holding, AllocError>
     ensures holds { IfOk result (IsHolding mirror.now.view) }
     ensures lawful { IsLawful H.digest mirror.now.view }

@@ -21,7 +21,7 @@ use tlog_mirror::{Mirror, TakeFault};
 /// # Errors
 ///
 /// In this order: `File`, where one of the files is not read; `Head`, with the fault of `Mirror::check_head` at the first
-/// note that has one, whose file's name is told to the files.
+/// note that has one, whose file's name the files are given.
 pub fn read_heads<H: TreeHash, F: NamedFiles>(
     files: &F,
     alloc: Global,

@@ -14,14 +14,14 @@ pub enum ItemFiles<'a> {
         /// The files of the rows.
         rows: &'a [&'a str],
     },
-    /// A tile of so many hashes.
+    /// A tile of `width` hashes.
     Tile {
         /// How many, 1 to 256.
         width: u32,
         /// The file of its row.
         file: &'a str,
     },
-    /// A bundle of so many entries.
+    /// A bundle of `width` entries.
     Bundle {
         /// How many, 1 to 256.
         width: u32,

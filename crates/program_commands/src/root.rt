@@ -19,7 +19,7 @@ use tlog_tiles::{BundleFault, MAX_BUNDLE_LEN, read_bundle};
 /// 65,535 bytes, each after its length of two bytes. So many are no bundle of any width.
 pub const MAX_READ_LEN: usize = MAX_BUNDLE_LEN + 1;
 
-/// Why `root` told no root.
+/// Why `root` printed no root.
 #[derive(Debug, Drop, PartialEq, Eq, Clone, Copy, Error)]
 pub enum RootFault {
     /// No prefix of the input is a bundle of that width.

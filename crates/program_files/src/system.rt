@@ -36,7 +36,7 @@ pub struct FailedName {
 ///
 /// A file is replaced as `mirror_folders::replace_file` does. What is there and is no plain file, as a device, is
 /// written to as it is. A folder cannot be read or written, and an empty name is one of no file and of no folder.
-/// What the last `FileFault` came of is told by `take_failed`, and what is wrong with bytes that were read by `take_reason`.
+/// `take_failed` has the cause of the last `FileFault`, and `take_reason` what is wrong with bytes that were read.
 ///
 /// ```text
 /// let files = SystemFiles::new(&rt, alloc);

@@ -1,4 +1,4 @@
-//! The line that tells why a command failed.
+//! The line that says why a command failed.
 ghost use Rattle.std.specs.Prelude.{IfOk, false, string_bytes};
 ghost use Rattle.std.specs.Char.{is_control};
 ghost use Rattle.program_files.specs.Why.{IsWhyFront, IsWhyLine};
@@ -6,10 +6,10 @@ ghost use Rattle.program_files.specs.Why.{IsWhyFront, IsWhyLine};
 use std::alloc::{AllocError, Global};
 use std::io;
 
-/// How many bytes a line that tells why a command failed has at most, with its newline.
+/// The greatest length of a line that says why a command failed, in bytes, with its newline.
 pub const MAX_WHY_LEN: usize = 200;
 
-// Of a thing whose name is longer than both together only so many bytes are told, of its front and of its end.
+// A name that is longer than both together is cut: only these many bytes of its front and of its end are printed.
 const FRONT_LEN: usize = 36;
 
 const END_LEN: usize = 72;

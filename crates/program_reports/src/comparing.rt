@@ -66,7 +66,7 @@ fn is_other(one: &Compared) -> bool
     }
 }
 
-/// Writes what `compare` tells of these heads, or where none are given of those that are held, and answers the exit
+/// Writes what `compare` says of these heads, or where none are given of those that are held, and answers the exit
 /// status: 0, or 3 where one is a fork or larger. What is held of each head is noted first, so that no tree is walked twice.
 ///
 /// ```text

@@ -1,4 +1,4 @@
-//! What is told of a pull.
+//! What is printed of a pull.
 ghost use Rattle.std.specs.Prelude.{◌≡◌, IfOk, string_bytes};
 ghost use Rattle.program_reports.specs.Pulling.{IsPulledStatus, rounds_text, head_text, pulled_lines};
 

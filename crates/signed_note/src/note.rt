@@ -25,7 +25,7 @@ use std::marker::Model;
 #[derive(Debug, Drop)]
 pub struct Note {
     whole: String,
-    // The first so many bytes are the text.
+    // How many of the first bytes are the text.
     text_len: usize,
     lines: Vec<SignatureLine>,
 }

@@ -48,7 +48,7 @@ fn put_paths<H: TreeHash, S: Shelf>(
     Ok(())
 }
 
-// Puts all files of the log, which has so many entries, onto a shelf that has no checkpoint.
+// Puts all files of the log, which has `size` entries, onto a shelf that has no checkpoint.
 pub(crate) fn put_files<H: TreeHash, S: Shelf>(
     alloc: Global,
     source: &ListSource<H>,

@@ -1,7 +1,7 @@
 //! How long paths and texts of proofs may be.
 
-/// The path of a proof's text has at most so many hashes.
+/// The most hashes that the path of a proof's text has.
 pub(crate) const MAX_PATH: usize = 64;
 
-/// The text of a proof has at most so many bytes, so a reader may stop there. The longest has 3,365.
+/// The greatest length of the text of a proof, in bytes, where a reader may stop. The longest has 3,365.
 pub const MAX_TEXT_LEN: usize = 8192;

@@ -1,4 +1,4 @@
-//! Paths of a list of which only the hashes of ranges are known.
+//! Paths of a list, by the hashes of its ranges alone.
 ghost use Rattle.std.specs.Prelude.{◌≡◌, ◌+◌, ◌<◌, ◌≤◌, ◌^◌, ℕ, List, IfOk, IfErr, OnOk};
 ghost use Rattle.tlog_proof.specs.Answers.{AnswersAs};
 ghost use Rattle.tlog_proof.specs.Inclusion.{path_of};

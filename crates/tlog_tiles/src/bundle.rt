@@ -38,7 +38,7 @@ impl<T: Drop> From<AllocFailed<T>> for BundleFault {
     }
 }
 
-/// A bundle has at most so many bytes: 256 entries of 65,535 bytes, each after its length.
+/// The greatest length of a bundle, in bytes: 256 entries of 65,535 bytes, each after its length.
 pub const MAX_BUNDLE_LEN: usize = 16_777_472;
 
 /// The entry that the bytes begin with, after its length of two bytes, big-endian, and the bytes behind it

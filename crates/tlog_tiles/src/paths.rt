@@ -43,7 +43,7 @@ pub enum Path {
 /// `tile/8/000` has a bad level, `tile/0/0` a bad index, and `tile/0/000.p/256` a bad width.
 #[derive(Debug, Drop, PartialEq, Eq, Clone, Copy, Error)]
 pub enum PathFault {
-    /// The text is neither `checkpoint` nor three segments or more of which the first is `tile`.
+    /// The text is neither `checkpoint` nor three segments or more that begin with `tile`.
     #[error("Unknown")]
     Unknown,
     /// The second segment is neither `entries` nor one digit from 0 to 7.

@@ -1,4 +1,4 @@
-//! The headline: what mirrors agree on, and what they tell.
+//! The headline: what mirrors agree on, and what they answer.
 ghost use Rattle.mirror_model.specs.RunLaws.{ForMirrors};
 ghost use Rattle.mirror_model.specs.Headline.{MirrorsAgree, NoPlayClashes, NoPlayToRetry, PartIsPlayed, PartIsRetried, PlaysAreOneRun, PlaysBring, PlaysGrow, PlaysKeepEntries, PlaysTellTruth, RetriedInEachPlay, RetriedRunLeaves, RunIsOnePlay, SameReachedSameView};
 
