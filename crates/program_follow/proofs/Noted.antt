@@ -13,7 +13,6 @@ use Rattle.mirror_follow.specs.Runs.{FollowsCandidates}
 use Rattle.mirror_follow.specs.GatheredFrom.{AreCandidates}
 use Rattle.mirror_follow.specs.Gathering.{note_of}
 use Rattle.mirror_follow.specs.Says.{Says}
-use Rattle.mirror_follow.specs.declared.candidate.Candidate.{Candidate}
 use Rattle.mirror_follow.specs.declared.fault.FollowFault.{FollowFault}
 use Rattle.mirror_follow.specs.declared.fault.FollowFault.TheVariants as following
 use Rattle.mirror_follow.specs.declared.report.Followed.{Followed}

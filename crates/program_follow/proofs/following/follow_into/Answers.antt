@@ -1,5 +1,4 @@
-use Rattle.std.proofs.Common.{◌≡◌, option_map, subst}
-use Rattle.mirror_follow.specs.Ending.{EndsFor}
+use Rattle.std.proofs.Common.{◌≡◌}
 use Rattle.program_follow.proofs.following.follow_into.Goals as goal
 
 pub returns-in-Ok-follow_told-clause-follows : goal.returns-in-Ok-follow_told-clause-follows
