@@ -13,6 +13,7 @@ use Rattle.mirror_folders.specs.declared.shelf.ShelfError.{ShelfError}
 use Rattle.mirror_folders.specs.declared.shelf.ShelfError.TheVariants as shelf
 use Rattle.mirror_copy.proofs.WholeMoments.{copy_found}
 use Rattle.mirror_copy.specs.AskedForCopy.{BlamesFailed, IsInUse, RefusesNote}
+use Rattle.mirror_copy.specs.Damaged.{IsDamaged}
 use Rattle.mirror_copy.specs.Faults.{IsOtherFound}
 use Rattle.mirror_copy.specs.declared.places.Places.{Places}
 use Rattle.mirror_copy.specs.declared.fault.BringFault.{BringFault}
@@ -20,7 +21,7 @@ use Rattle.mirror_copy.specs.declared.fault.BringFault.TheVariants as bring
 use Rattle.mirror_follow.specs.Asking.{option_or}
 use Rattle.mirror_follow.specs.Blame.{AsksAny, CountsFollow, CountsFollowFault, PlaceFails, by_shelf, of_candidates}
 use Rattle.mirror_follow.specs.Candidates.{turn_cmp}
-use Rattle.mirror_follow.specs.Ending.{BlamesPlace, EndsFor, EndsRun, GivesNoneBy, HadNone, HasFalseRoot, IsFaultOf, IsFirstFault, IsOfEmpty, IsOfOtherRun, KeepsFault, LacksCandidates, RefusesGiven, fault_after, or_fault}
+use Rattle.mirror_follow.specs.Ending.{BlamesPlace, EndsAt, EndsFor, EndsRun, GivesNoneBy, HadNone, HasFalseRoot, IsFaultOf, IsFirstFault, IsOfEmpty, IsOfOtherRun, KeepsFault, LacksCandidates, RefusesGiven, fault_after, or_fault}
 use Rattle.mirror_follow.specs.GatheredFrom.{AreCandidates, GiveNoneFor}
 use Rattle.mirror_follow.specs.Gathering.{note_of}
 use Rattle.mirror_follow.specs.Shown.{ShowsTurn}
@@ -178,6 +179,11 @@ pub ends_shelf : (A B : Type 0) (e : ShelfError) → EndsRun A B (by_shelf e)
 ends_shelf A B shelf.Failed = tt
 ends_shelf A B shelf.OutOfMemory = tt
 
+-- a bringing that is damaged says so of its shelf
+pub brought_damaged : (digest : List ℕ → List ℕ) (origin : List ℕ) (x : Option (List Put)) (e : BringFault) →
+    (e ≡ bring.CopyDamaged → IsDamaged digest origin x) → e ≡ bring.CopyDamaged → HoldsNoCopy digest origin x
+brought_damaged digest origin x e damaged is = (damaged is).no_copy
+
 -- what such a fault says, said otherwise
 pub ends_so : (A B C D : Type 0) (e : FollowFault) → (A → C) → (B → D) → EndsRun A B e → EndsRun C D e
 ends_so A B C D fault.NoCheckpoint f g is = is
@@ -224,7 +230,12 @@ module _ (digest : List ℕ → List ℕ) (origin : List ℕ) where
       none s.held s.puts_are (note_of copy) (s.entries ++ s.under.more) s.under.copy in
       let size : copy.size.0 ≡ length (s.entries ++ s.under.more) = s.under.size_is in omega (arith, le, size, lt)
 
-  -- nor does it where another checkpoint was read
+  -- nor does it where no copy does
+  pub none_at_all : (copy : Candidate) (x : Option (List Put)) → HoldsNoCopy digest origin x →
+      HasStanding digest origin (Some copy) x → ⊥
+  none_at_all copy x none s = none s.held s.puts_are (note_of copy) (s.entries ++ s.under.more) s.under.copy
+
+  -- nor where another checkpoint was read
   pub none_found : (copy : Candidate) (x : Option (List Put)) → IsOtherFound (Some (note_of copy)) x →
       HasStanding digest origin (Some copy) x → ⊥
   none_found copy x o s =
@@ -294,11 +305,11 @@ module _ (digest : List ℕ → List ℕ) {S : Type 0} (may : S → Path → Opt
   abbrev Ends : Option (List ℕ) → FollowFault → Type 0
   Ends given e = EndsFor digest may origin keys puts x y given e
 
-  pub ends_run : (given : Option (List ℕ)) (e : FollowFault) → EndsRun ⊤ (HoldsNoCopy digest origin puts) e → Ends given e
+  pub ends_run : (given : Option (List ℕ)) (e : FollowFault) → EndsAt (HoldsNoCopy digest origin puts) e → Ends given e
   ends_run given fault.NoCheckpoint is = absurd is
   ends_run given (fault.Head f) is = absurd is
-  ends_run None fault.CopyDamaged is = tt
-  ends_run (Some note) fault.CopyDamaged is = tt
+  ends_run None fault.CopyDamaged is = is
+  ends_run (Some note) fault.CopyDamaged is = is
   ends_run None fault.CopyInUse is = is
   ends_run (Some note) fault.CopyInUse is = is
   ends_run None fault.ShelfFault is = tt
@@ -314,7 +325,7 @@ module _ (digest : List ℕ → List ℕ) {S : Type 0} (may : S → Path → Opt
   none_given : (e : FollowFault) → GivesNoneBy may origin keys x y e → Ends None e
   none_given fault.NoCheckpoint h = h
   none_given (fault.Head f) h = h
-  none_given fault.CopyDamaged h = tt
+  none_given fault.CopyDamaged h = absurd h
   none_given fault.CopyInUse h = absurd h
   none_given fault.ShelfFault h = tt
   none_given fault.Contradiction h = absurd h
@@ -326,7 +337,7 @@ module _ (digest : List ℕ → List ℕ) {S : Type 0} (may : S → Path → Opt
   one_given : (note : List ℕ) (e : FollowFault) → RefusesGiven origin keys note e → Ends (Some note) e
   one_given note fault.NoCheckpoint h = h
   one_given note (fault.Head f) h = h
-  one_given note fault.CopyDamaged h = tt
+  one_given note fault.CopyDamaged h = absurd h
   one_given note fault.CopyInUse h = absurd h
   one_given note fault.ShelfFault h = tt
   one_given note fault.Contradiction h = absurd h

@@ -8,6 +8,7 @@ pub mod Checked
 pub mod Standing
 pub mod Blame
 pub mod GatheredFrom
+pub mod CopyReads
 pub mod Renoted
 pub mod Ending
 pub mod Shown

@@ -5,6 +5,8 @@ use Rattle.tlog_tiles.specs.declared.paths.Path.TheVariants.{Checkpoint}
 use Rattle.mirror_sources.specs.Told.{one_more}
 use Rattle.mirror_folders.specs.declared.shelf.ShelfError.{ShelfError}
 use Rattle.mirror_folders.specs.declared.shelf.ShelfError.TheVariants as shelf
+use Rattle.copy_reader.specs.declared.fault.CopyFault.{CopyFault}
+use Rattle.copy_reader.specs.declared.fault.CopyFault.TheVariants as reading
 use Rattle.mirror_copy.specs.PlaceGets.{AsksEach}
 use Rattle.mirror_copy.specs.declared.place.Place.{Place}
 use Rattle.mirror_copy.specs.declared.places.Places.{Places}
@@ -19,6 +21,14 @@ use Rattle.mirror_follow.specs.declared.fault.FollowFault.TheVariants.{Source, O
 abbrev pub by_shelf : ShelfError → FollowFault
 by_shelf shelf.Failed = ShelfFault
 by_shelf shelf.OutOfMemory = OutOfMemory
+
+-- the fault of a run that one of reading a copy is
+abbrev pub by_copy : CopyFault → FollowFault
+by_copy (reading.Origin fault) = CopyDamaged
+by_copy (reading.Head fault) = CopyDamaged
+by_copy (reading.CopyDamaged path) = CopyDamaged
+by_copy reading.ShelfFault = ShelfFault
+by_copy reading.OutOfMemory = OutOfMemory
 
 -- the fault of a run that ends since there is no candidate
 abbrev pub of_candidates : CandidateFault → FollowFault

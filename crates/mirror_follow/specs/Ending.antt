@@ -40,6 +40,10 @@ EndsRun damaged in_use NoFile = ⊥
 EndsRun damaged in_use Source = ⊥
 EndsRun damaged in_use OutOfMemory = ⊤
 
+-- likewise, and both say this
+abbrev pub EndsAt : Type 0 → FollowFault → Type 0
+EndsAt so fault = EndsRun so so fault
+
 -- a bringing ended since the copy is another than the one that was found
 abbrev pub IsOfOtherRun : BringFault → Type 0
 IsOfOtherRun bring.BadCheckpoint = ⊤
@@ -156,14 +160,15 @@ module _ (digest : List ℕ → List ℕ) {S : Type 0} (may : S → Path → Opt
     pub empty : TellsRead puts Checkpoint None
 
   -- what a fault says, where that note was given, or none was. NoCheckpoint and Head: the given note is no candidate, or
-  -- no place gives one, for the reason of the first. CopyInUse: the shelf recorded no copy. Contradiction, NoFile and
-  -- Source: the copy was empty, and this is the fault of the greatest candidate. Collision never comes
+  -- no place gives one, for the reason of the first. CopyDamaged and CopyInUse: the shelf recorded no copy.
+  -- Contradiction, NoFile and Source: the copy was empty, and this is the fault of the greatest candidate. Collision
+  -- never comes
   abbrev pub EndsFor : Option (List ℕ) → FollowFault → Type 0
   EndsFor None NoCheckpoint = GiveNone may origin keys old new candidate.NoCheckpoint
   EndsFor None (Head fault) = GiveNone may origin keys old new (candidate.Head fault)
   EndsFor (Some note) NoCheckpoint = ⊥
   EndsFor (Some note) (Head fault) = IsRefused origin keys note fault
-  EndsFor given CopyDamaged = ⊤
+  EndsFor given CopyDamaged = HoldsNoCopy digest origin puts
   EndsFor given CopyInUse = HoldsNoCopy digest origin puts
   EndsFor given ShelfFault = ⊤
   EndsFor given Contradiction = HadNone given (HasFalseRoot digest)

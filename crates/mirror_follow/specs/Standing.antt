@@ -4,6 +4,7 @@ use Rattle.tlog_hash.specs.Tree.{mth}
 use Rattle.tlog_tiles.specs.declared.paths.Path.TheVariants.{Checkpoint}
 use Rattle.mirror_folders.specs.Shelf.{Put, HasPut, TellsRead}
 use Rattle.mirror_model.specs.Heads.{IsHead}
+use Rattle.copy_reader.specs.WholeCopies.{HasFilesOf}
 use Rattle.mirror_copy.specs.Copies.{IsCopy}
 use Rattle.mirror_copy.specs.Moments.{CopyStays, HadSize, InTheEnd, IsBroughtTo}
 use Rattle.mirror_follow.specs.Gathering.{note_of}
@@ -30,6 +31,12 @@ IsFoundCopy origin puts (Some copy) = TellsRead puts Checkpoint (Some (note_of c
 abbrev pub IsCopyRead : List ℕ → ℕ → Option Candidate → Type 0
 IsCopyRead note size None = ⊥
 IsCopyRead note size (Some copy) = (note_of copy ≡ note) × (copy.size.0 ≡ size)
+
+-- the shelf has the files of no log of the size and root of the copy
+abbrev pub LacksLog : (List ℕ → List ℕ) → Candidate → Option (List Put) → Type 0
+LacksLog digest copy puts =
+    (entries : List (List ℕ)) → length entries ≡ copy.size.0 → mth digest entries ≡ copy.root →
+    ¬ HasFilesOf digest entries puts
 
 module _ (digest : List ℕ → List ℕ) (origin : List ℕ) where
   -- a copy stands under the note of the candidate, of entries that begin with those, with its size and root

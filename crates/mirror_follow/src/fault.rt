@@ -1,9 +1,10 @@
 //! Why there is no candidate, and why following ends early.
 ghost use Rattle.std.specs.Prelude.{◌≡◌};
-ghost use Rattle.mirror_follow.specs.Blame.{by_shelf, of_candidates};
+ghost use Rattle.mirror_follow.specs.Blame.{by_copy, by_shelf, of_candidates};
 ghost use Rattle.mirror_follow.specs.declared.fault.CandidateFault.TheVariants.{OutOfMemory};
 ghost use Rattle.mirror_follow.specs.declared.fault.FollowFault.TheVariants as follow;
 
+use copy_reader::CopyFault;
 use mirror_folders::ShelfError;
 use mirror_model::TakeFault;
 use std::alloc::{AllocError, AllocFailed};
@@ -84,6 +85,21 @@ impl From<ShelfError> for FollowFault {
         match e {
             ShelfError::Failed => FollowFault::ShelfFault,
             ShelfError::OutOfMemory => FollowFault::OutOfMemory,
+        }
+    }
+}
+
+// Of a shelf whose checkpoint was read only the last three come.
+impl From<CopyFault> for FollowFault {
+    ghost from_gives = { λ e f. f ≡ by_copy e };
+
+    fn from(e: CopyFault) -> FollowFault {
+        match e {
+            CopyFault::Origin(_) => FollowFault::CopyDamaged,
+            CopyFault::Head(_) => FollowFault::CopyDamaged,
+            CopyFault::CopyDamaged(_) => FollowFault::CopyDamaged,
+            CopyFault::ShelfFault => FollowFault::ShelfFault,
+            CopyFault::OutOfMemory => FollowFault::OutOfMemory,
         }
     }
 }

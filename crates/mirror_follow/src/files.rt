@@ -1,12 +1,8 @@
 //! Files of a log, read into memory for a proof.
-ghost use Rattle.std.specs.Prelude.{◌<◌, IfErr, length, ⊤};
-ghost use Rattle.mirror_sources.specs.Told.{KeepsTold};
-ghost use Rattle.mirror_follow.specs.Blame.{AsksAny, CountsFollow};
-ghost use Rattle.mirror_follow.specs.Ending.{EndsRun};
+ghost use Rattle.std.specs.Prelude.{◌<◌, length};
+ghost use Rattle.mirror_follow.specs.Blame.{AsksAny};
 
-use crate::fault::FollowFault;
 use mirror_copy::{PlaceAnswer, Places};
-use mirror_folders::ReadableShelf;
 use mirror_sources::{Source, SourceFault};
 use std::alloc::{AllocError, Global};
 use tlog_shape::{edge_index, edge_width};
@@ -74,9 +70,10 @@ fn full_of(path: &Path) -> Path {
 }
 
 /// The paths of the files for the proof from the first entries to all: the edge of all, and the full tiles in which the
-/// first entries end.
+/// first entries end, with those above them.
 pub(crate) fn proof_paths(alloc: Global, first: u64, size: u64) -> Result<Vec<Path>, AllocError> {
     let mut paths = Vec::new(alloc);
+    let mut has_ended = false;
     for level in 0..8u32 {
         let width = edge_width(size, level);
         if width > 0 {
@@ -86,8 +83,9 @@ pub(crate) fn proof_paths(alloc: Global, first: u64, size: u64) -> Result<Vec<Pa
                 width,
             })?;
         }
+        has_ended = has_ended || edge_width(first, level) > 0;
         let index = edge_index(first, level);
-        if edge_width(first, level) > 0 && index < edge_index(size, level) {
+        if has_ended && index < edge_index(size, level) {
             paths.push(Path::Tile {
                 level,
                 index,
@@ -96,48 +94,6 @@ pub(crate) fn proof_paths(alloc: Global, first: u64, size: u64) -> Result<Vec<Pa
         }
     }
     Ok(paths)
-}
-
-// Reads the file at a path from the shelf, or the full one that it gave way to.
-#[tactic(auto, using(log_reader::proofs::Kept::kept_twice))]
-fn read_file<D: ReadableShelf>(
-    shelf: &mut D,
-    path: &Path,
-) -> Result<Option<(Path, Vec<u8>)>, FollowFault>
-    ensures same { KeepsTold (D.puts shelf.old) (D.puts shelf.new) }
-    ensures counted { CountsFollow (D.failed shelf.old) (D.failed shelf.new) result }
-    ensures ends { IfErr result (EndsRun ⊤ ⊥) }
-{
-    match shelf.read(path)? {
-        Some(bytes) => return Ok(Some((*path, bytes))),
-        None => {}
-    }
-    let full = full_of(path);
-    match shelf.read(&full)? {
-        Some(bytes) => Ok(Some((full, bytes))),
-        None => Ok(None),
-    }
-}
-
-/// Reads those of the files that the shelf has.
-#[tactic(auto, using(log_reader::proofs::Kept::kept_twice, log_reader::proofs::Kept::kept_once))]
-pub(crate) fn read_files<D: ReadableShelf>(
-    alloc: Global,
-    shelf: &mut D,
-    paths: &[Path],
-) -> Result<ReadFiles, FollowFault>
-    ensures same { KeepsTold (D.puts shelf.old) (D.puts shelf.new) }
-    ensures counted { CountsFollow (D.failed shelf.old) (D.failed shelf.new) result }
-    ensures ends { IfErr result (EndsRun ⊤ ⊥) }
-{
-    let mut read = ReadFiles::new(alloc);
-    for path in paths {
-        match read_file(shelf, path)? {
-            Some(file) => read.files.push(file)?,
-            None => {}
-        }
-    }
-    Ok(read)
 }
 
 // The bytes that a place answers, if it has the file.

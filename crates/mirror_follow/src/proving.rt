@@ -3,17 +3,23 @@ ghost use Rattle.std.specs.Prelude.{◌≡◌, ◌↔◌, ◌<◌, IfErr, IfOk, 
 ghost use Rattle.std.specs.List.{AllByRecursion};
 ghost use Rattle.tlog_text.specs.Hash.{Is32Bytes};
 ghost use Rattle.tlog_proof.specs.Text.{HasHashes};
+ghost use Rattle.mirror_sources.specs.Source.{StaysWithin};
 ghost use Rattle.mirror_sources.specs.Told.{KeepsTold};
+ghost use Rattle.log_reader.specs.Faults.{CountsFailure};
+ghost use Rattle.log_reader.specs.Holding.{ReadsLog};
+ghost use Rattle.copy_reader.specs.Faults.{CountsRead};
+ghost use Rattle.copy_reader.specs.WholeCopies.{ReadsCopyLog};
 ghost use Rattle.mirror_follow.specs.Agreeing.{Agrees};
-ghost use Rattle.mirror_follow.specs.Blame.{AsksAny, CountsFollow, IsOfTheRun};
+ghost use Rattle.mirror_follow.specs.Blame.{AsksAny, CountsFollow};
 ghost use Rattle.mirror_follow.specs.Checked.{HasFirstRoot, IsCheckedFork};
 ghost use Rattle.mirror_follow.specs.Ending.{EndsRun};
 ghost use Rattle.mirror_follow.specs.Shown.{ShowsLarger, point_of};
-ghost use Rattle.mirror_follow.specs.Standing.{IsFoundCopy, IsHeadOf};
+ghost use Rattle.mirror_follow.specs.Standing.{HoldsNoCopy, IsFoundCopy, IsHeadOf};
 
 use crate::candidate::Candidate;
 use crate::fault::FollowFault;
-use crate::files::{ReadFiles, ask_files, proof_paths, read_files};
+use crate::files::{ReadFiles, ask_files, proof_paths};
+use copy_reader::{CopyFault, ShelfSource, open_reader, read_bundle};
 use log_reader::{LogReader, ReadFault, head_of};
 use mirror_copy::Places;
 use mirror_folders::ReadableShelf;
@@ -22,7 +28,6 @@ use std::alloc::{AllocError, Global};
 use std::cmp::Reverse;
 use tlog_hash::{Hash, TreeHash};
 use tlog_proof::Proof;
-use tlog_shape::edge_width;
 use tlog_tiles::Path;
 
 // Whether the first root of a proof is that hash.
@@ -80,15 +85,20 @@ fn see_hashes(proof: &Proof)
 }
 
 // The proof from the smaller point into the log of the larger one, where its first root is another than the smaller one's.
-#[tactic(auto, using(crate::proofs::Checked::checked_fork, crate::proofs::Checked::checked_agree))]
-fn checked_proof<H: TreeHash>(
+#[tactic(auto, using(crate::proofs::Checked::checked_fork, crate::proofs::Checked::checked_agree, log_reader::proofs::Kept::kept_twice))]
+fn checked_proof<H: TreeHash, S: Source>(
     alloc: Global,
-    files: &mut ReadFiles,
+    files: &mut S,
     small: &Candidate,
     large: &Candidate,
 ) -> Result<Option<Proof>, ReadFault>
     requires some { 0 < small.now.size.0 }
     requires less { small.now.size.0 < large.now.size.0 }
+    ensures later { StaysWithin (S.may_answer files.old) (S.may_answer files.new) }
+    ensures kept { KeepsTold (S.files files.old) (S.files files.new) }
+    ensures counted { CountsFailure (S.failed files.old) (S.failed files.new) result }
+    ensures honest { ReadsLog H.digest large.now.size.0 large.now.root (S.may_answer files.old)
+        result (λ _ _. ⊤) }
     ensures fork { IfOk result (λ found. IfSome found
         (IsCheckedFork H.digest small.now large.now)) }
     ensures agrees { IfOk result (λ found. found ≡ None
@@ -105,14 +115,20 @@ fn checked_proof<H: TreeHash>(
     }
 }
 
-/// The proof that a log of the larger point does not begin with the smaller one, made of files that lead to the larger root; None
-/// where it does, where the smaller one is of no entries, and where it is not smaller.
-pub(crate) fn fork_proof<H: TreeHash>(
+// The proof that a log of the larger point does not begin with the smaller one, made of files that lead to the larger root; None
+// where it does, where the smaller one is of no entries, and where it is not smaller.
+#[tactic(auto, using(log_reader::proofs::Kept::kept_once))]
+fn fork_proof<H: TreeHash, S: Source>(
     alloc: Global,
-    files: &mut ReadFiles,
+    files: &mut S,
     small: &Candidate,
     large: &Candidate,
 ) -> Result<Option<Proof>, ReadFault>
+    ensures later { StaysWithin (S.may_answer files.old) (S.may_answer files.new) }
+    ensures kept { KeepsTold (S.files files.old) (S.files files.new) }
+    ensures counted { CountsFailure (S.failed files.old) (S.failed files.new) result }
+    ensures honest { ReadsLog H.digest large.now.size.0 large.now.root (S.may_answer files.old)
+        result (λ _ _. ⊤) }
     ensures fork { IfOk result (λ found. IfSome found
         (λ proof. ShowsLarger H.digest small.now large.now (Some proof))) }
     ensures agrees { IfOk result (λ found. found ≡ None → 0 < small.now.size.0
@@ -122,7 +138,7 @@ pub(crate) fn fork_proof<H: TreeHash>(
     if small.size.0 == 0 || small.size.0 >= large.size.0 {
         return Ok(None);
     }
-    match checked_proof::<H>(alloc, files, small, large)? {
+    match checked_proof::<H, S>(alloc, files, small, large)? {
         Some(proof) => {
             see_hashes(&proof);
             Ok(Some(proof))
@@ -145,7 +161,7 @@ pub(crate) fn ask_proof<H: TreeHash, S: Source + Drop>(
     let paths = proof_paths(alloc, copy.size.0, larger.size.0)?;
     for i in 0..places.list().len() {
         let mut files = ask_files(alloc, places, i, &paths)?;
-        match fork_proof::<H>(alloc, &mut files, copy, larger) {
+        match fork_proof::<H, ReadFiles>(alloc, &mut files, copy, larger) {
             Ok(Some(proof)) => return Ok(Some(proof)),
             Ok(None) => {}
             Err(ReadFault::OutOfMemory) => return Err(AllocError),
@@ -155,87 +171,47 @@ pub(crate) fn ask_proof<H: TreeHash, S: Source + Drop>(
     Ok(None)
 }
 
-// The fault that a read of the shelf's files ends by.
-fn of_copy(fault: ReadFault) -> FollowFault
-    ensures run { IsOfTheRun result }
-    ensures ends { EndsRun ⊤ ⊥ result }
-{
-    match fault {
-        ReadFault::OutOfMemory => FollowFault::OutOfMemory,
-        _ => FollowFault::CopyDamaged,
-    }
-}
-
 /// The proof that the copy does not begin with a smaller candidate; None where it does, and where that has no entries.
+#[tactic(auto, using(copy_reader::proofs::ShelfSources::same_shelf))]
 pub(crate) fn read_proof<H: TreeHash, D: ReadableShelf>(
     alloc: Global,
     shelf: &mut D,
     smaller: &Candidate,
     copy: &Candidate,
-) -> Result<Option<Proof>, FollowFault>
+) -> Result<Option<Proof>, CopyFault>
     ensures same { KeepsTold (D.puts shelf.old) (D.puts shelf.new) }
-    ensures counted { CountsFollow (D.failed shelf.old) (D.failed shelf.new) result }
-    ensures ends { IfErr result (EndsRun ⊤ ⊥) }
+    ensures counted { CountsRead (D.failed shelf.old) (D.failed shelf.new) result }
+    ensures honest { ReadsCopyLog H.digest copy.now.size.0 copy.now.root (D.puts shelf.old) result
+        (λ _ _. ⊤) }
     ensures proof { IfOk result (λ found. IfSome found
         (λ proof. ShowsLarger H.digest smaller.now copy.now (Some proof))) }
     ensures agrees { IfOk result (λ found. found ≡ None → 0 < smaller.now.size.0
         → smaller.now.size.0 < copy.now.size.0
         → Agrees H.digest (point_of smaller.now) (point_of copy.now)) }
 {
-    let paths = proof_paths(alloc, smaller.size.0, copy.size.0)?;
-    let mut files = read_files::<D>(alloc, shelf, &paths)?;
-    match fork_proof::<H>(alloc, &mut files, smaller, copy) {
-        Ok(proof) => Ok(proof),
-        Err(fault) => Err(of_copy(fault)),
-    }
+    let mut files = ShelfSource::new(shelf);
+    Ok(fork_proof::<H, ShelfSource<D>>(alloc, &mut files, smaller, copy)?)
 }
 
-// Judges the edge of a copy: its rows lead to the root, and the partial bundle has the leaf hashes of the lowest row.
-fn judge_edge<H: TreeHash>(
-    alloc: Global,
-    files: &mut ReadFiles,
-    size: u64,
-    root: &Hash,
-) -> Result<(), ReadFault> {
-    let mut reader: LogReader<H> = LogReader::open(alloc, files, size, root)?;
-    if size % 256 > 0 {
-        let bundle = reader.bundle(alloc, files, size / 256)?;
-        drop(bundle);
-    }
-    Ok(())
-}
-
-// The paths of the edge of a copy.
-fn edge_files(alloc: Global, size: u64) -> Result<Vec<Path>, AllocError> {
-    let mut paths = proof_paths(alloc, size, size)?;
-    let width = edge_width(size, 0);
-    if width > 0 {
-        paths.push(Path::Entries {
-            index: size / 256,
-            width,
-        })?;
-    }
-    Ok(paths)
-}
-
-// Whether the edge of a copy of that size and root is on the shelf.
+// Reads the edge of a copy of that size and root: its rows lead to the root, and the partial bundle has the leaf hashes of the
+// lowest row.
 #[tactic(auto, using(log_reader::proofs::Kept::kept_twice))]
 fn judge_files<H: TreeHash, D: ReadableShelf>(
     alloc: Global,
     shelf: &mut D,
     size: u64,
     root: &Hash,
-) -> Result<(), FollowFault>
+) -> Result<(), CopyFault>
     ensures same { KeepsTold (D.puts shelf.old) (D.puts shelf.new) }
-    ensures counted { CountsFollow (D.failed shelf.old) (D.failed shelf.new) result }
-    ensures ends { IfErr result (EndsRun ⊤ ⊥) }
+    ensures counted { CountsRead (D.failed shelf.old) (D.failed shelf.new) result }
+    ensures honest { ReadsCopyLog H.digest size root.now (D.puts shelf.old) result (λ _ _. ⊤) }
 {
-    let paths = edge_files(alloc, size)?;
-    let mut files = read_files::<D>(alloc, shelf, &paths)?;
-    match judge_edge::<H>(alloc, &mut files, size, root) {
-        Ok(()) => Ok(()),
-        Err(fault) => Err(of_copy(fault)),
+    let mut reader = open_reader::<H, D>(alloc, shelf, size, root)?;
+    if size % 256 > 0 {
+        let bundle = read_bundle::<H, D>(alloc, shelf, &mut reader, size / 256)?;
+        drop(bundle);
     }
+    Ok(())
 }
 
 /// The checkpoint of the copy on the shelf, if any. Its edge rows lead to its root, and the partial bundle at the edge has
@@ -248,7 +224,8 @@ pub(crate) fn judge_copy<H: TreeHash, D: ReadableShelf>(
 ) -> Result<Option<Candidate>, FollowFault>
     ensures same { KeepsTold (D.puts shelf.old) (D.puts shelf.new) }
     ensures counted { CountsFollow (D.failed shelf.old) (D.failed shelf.new) result }
-    ensures ends { IfErr result (EndsRun ⊤ ⊥) }
+    ensures ends { IfErr result
+        (EndsRun (HoldsNoCopy H.digest origin.now (D.puts shelf.old)) ⊥) }
     ensures head { IfOk result (λ copy. IfSome copy (IsHeadOf origin.now)) }
     ensures found { IfOk result (IsFoundCopy origin.now (D.puts shelf.old)) }
 {

@@ -7,14 +7,14 @@ ghost use Rattle.mirror_copy.specs.Faults.{CountsFault, IsOtherFound};
 ghost use Rattle.mirror_copy.specs.Moments.{CopyStays, KeepsCopy};
 ghost use Rattle.mirror_follow.specs.Blame.{AsksAny, CountsFollow, IsGivenOrMayGive, PlaceFails};
 ghost use Rattle.mirror_follow.specs.Candidates.{IsCandidate, turn_cmp};
-ghost use Rattle.mirror_follow.specs.Ending.{BlamesPlace, EndsFor, EndsRun, HasFalseRoot, IsOfEmpty, IsOfOtherRun, KeepsFault, LacksCandidates, RefusesGiven};
+ghost use Rattle.mirror_follow.specs.Ending.{BlamesPlace, EndsAt, EndsFor, EndsRun, HasFalseRoot, IsOfEmpty, IsOfOtherRun, KeepsFault, LacksCandidates, RefusesGiven};
 ghost use Rattle.mirror_follow.specs.Gathering.{note_of};
 ghost use Rattle.mirror_follow.specs.GatheredFrom.{AreCandidates, IsOnly};
 ghost use Rattle.mirror_follow.specs.Runs.{FollowsCandidates, KeepsCopies};
 ghost use Rattle.mirror_follow.specs.Says.{IsNoteUpTo, IsOnePoint, Says};
 ghost use Rattle.mirror_follow.specs.Shown.{ShowsLine, ShowsTurn};
 ghost use Rattle.mirror_follow.specs.Renoting.{PutsNoteOver};
-ghost use Rattle.mirror_follow.specs.Standing.{HasStanding, HoldsNoCopy, HoldsNoSmaller, IsCopyOfRun, IsFollowed, IsHeadOf, StandsAfter};
+ghost use Rattle.mirror_follow.specs.Standing.{HasStanding, HoldsNoCopy, HoldsNoSmaller, IsCopyOfRun, IsFollowed, IsHeadOf, LacksLog, StandsAfter};
 ghost use Rattle.mirror_follow.specs.Taken.{HasTakenRun, IsLargerThan, IsNextOf, IsNoted, IsRepeat, SaysTurn};
 ghost use Rattle.mirror_follow.specs.Turning.{ContinuesRun, IsRunFrom};
 ghost use Rattle.mirror_follow.specs.declared.candidate.Candidate.{Candidate};
@@ -41,7 +41,8 @@ fn turn_of(fault: BringFault) -> Result<Turn, FollowFault>
     ensures counted { (old new : ℕ) → CountsFault old new fault → CountsFollow old new result }
     ensures source { IfOk result (λ turn. turn ≡ Turn.NotHad FollowFault.Source
         → fault ≡ BringFault.Source) }
-    ensures ends { IfErr result (EndsRun ⊤ (IsOfOtherRun fault)) }
+    ensures ends { IfErr result
+        (EndsRun (fault ≡ BringFault.CopyDamaged) (IsOfOtherRun fault)) }
     ensures shows { IfOk result (λ turn. (digest : List ℕ → List ℕ) (copy : Option Candidate)
         (candidate : Candidate) → ShowsTurn digest copy candidate turn) }
     ensures says { IfOk result (λ turn. (digest : List ℕ → List ℕ) (copy : Option Candidate)
@@ -80,8 +81,8 @@ fn bring<H: TreeHash, D: ReadableShelf, S: Source + Drop>(
     ensures asks { AsksAny S.may_answer S.failed S.asked places.old places.new }
     ensures source { IfOk result (λ turn. turn ≡ Turn.NotHad FollowFault.Source
         → PlaceFails places.old places.new) }
-    ensures ends { IfErr result (EndsRun ⊤ (HoldsNoSmaller H.digest origin.now
-        candidate.now.size.0 (D.puts shelf.old))) }
+    ensures ends { IfErr result (EndsRun (HoldsNoCopy H.digest origin.now (D.puts shelf.old))
+        (HoldsNoSmaller H.digest origin.now candidate.now.size.0 (D.puts shelf.old))) }
     ensures shows { IfOk result (λ turn. (digest : List ℕ → List ℕ) (copy : Option Candidate)
         (candidate : Candidate) → ShowsTurn digest copy candidate turn) }
     ensures says { IfOk result (λ turn. (digest : List ℕ → List ℕ) (copy : Option Candidate)
@@ -135,8 +136,8 @@ fn take_larger<H: TreeHash, D: ReadableShelf, S: Source + Drop>(
     ensures asks { AsksAny S.may_answer S.failed S.asked places.old places.new }
     ensures source { IfOk result (λ turn. turn ≡ Turn.NotHad FollowFault.Source
         → PlaceFails places.old places.new) }
-    ensures ends { IfErr result (EndsRun ⊤ (¬ HasStanding H.digest origin.now (Some copy.now)
-        (D.puts shelf.old))) }
+    ensures ends { IfErr result
+        (EndsAt (¬ HasStanding H.digest origin.now (Some copy.now) (D.puts shelf.old))) }
     ensures shows { IfOk result (ShowsTurn H.digest (Some copy.now) candidate.now) }
     ensures says { IfOk result (SaysTurn H.digest (Some copy.now) candidate.now) }
 {
@@ -187,8 +188,8 @@ fn take_first<H: TreeHash, D: ReadableShelf, S: Source + Drop>(
     ensures asks { AsksAny S.may_answer S.failed S.asked places.old places.new }
     ensures source { IfOk result (λ turn. turn ≡ Turn.NotHad FollowFault.Source
         → PlaceFails places.old places.new) }
-    ensures ends { IfErr result (EndsRun ⊤ (¬ HasStanding H.digest origin.now None
-        (D.puts shelf.old))) }
+    ensures ends { IfErr result
+        (EndsAt (¬ HasStanding H.digest origin.now None (D.puts shelf.old))) }
     ensures empty { IfOk result (IsOfEmpty H.digest candidate.now) }
 {
     if has_false_root::<H>(candidate) {
@@ -253,7 +254,8 @@ fn take_smaller<H: TreeHash, D: ReadableShelf>(
         → StandsAfter digest origin candidate.now old new turn) }
     ensures shows { IfOk result (ShowsTurn H.digest (Some copy.now) candidate.now) }
     ensures source { IfOk result (λ turn. turn ≢ Turn.NotHad FollowFault.Source) }
-    ensures ends { IfErr result (EndsRun ⊤ ⊥) }
+    ensures ends { IfErr result
+        (EndsRun (LacksLog H.digest copy.now (D.puts shelf.old)) ⊥) }
     ensures says { IfOk result (λ turn. IsNoted (Some copy.now) candidate.now
         → SaysTurn H.digest (Some copy.now) candidate.now turn) }
 {
@@ -298,8 +300,8 @@ fn put_note<D: ReadableShelf>(
     ensures puts { PutsNoteOver (D.puts shelf.old) (D.puts shelf.new) (note_of copy.now)
         (note_of candidate.now) result }
     ensures counted { CountsFollow (D.failed shelf.old) (D.failed shelf.new) result }
-    ensures ends { IfErr result (EndsRun ⊤ (IsOtherFound (Some (note_of copy.now))
-        (D.puts shelf.old))) }
+    ensures ends { IfErr result
+        (EndsRun ⊥ (IsOtherFound (Some (note_of copy.now)) (D.puts shelf.old))) }
 {
     let Some(there) = shelf.read(&Path::Checkpoint)? else {
         return Err(FollowFault::CopyInUse);
@@ -331,8 +333,8 @@ fn renote<H: TreeHash, D: ReadableShelf>(
     ensures source { IfOk result (λ turn. turn ≢ Turn.NotHad FollowFault.Source) }
     ensures shows { IfOk result (ShowsTurn H.digest (Some copy.now) candidate.now) }
     ensures says { IfOk result (SaysTurn H.digest (Some copy.now) candidate.now) }
-    ensures ends { IfErr result (EndsRun ⊤ (¬ HasStanding H.digest origin.now (Some copy.now)
-        (D.puts shelf.old))) }
+    ensures ends { IfErr result
+        (EndsAt (¬ HasStanding H.digest origin.now (Some copy.now) (D.puts shelf.old))) }
 {
     put_note(shelf, copy, candidate)?;
     Ok(Turn::Brought)
@@ -354,8 +356,8 @@ fn compare<H: TreeHash, D: ReadableShelf>(
         (D.puts shelf.old) (D.puts shelf.new) turn) }
     ensures shows { IfOk result (ShowsTurn H.digest (Some copy.now) candidate.now) }
     ensures source { IfOk result (λ turn. turn ≢ Turn.NotHad FollowFault.Source) }
-    ensures ends { IfErr result (EndsRun ⊤ (¬ HasStanding H.digest origin.now (Some copy.now)
-        (D.puts shelf.old))) }
+    ensures ends { IfErr result
+        (EndsAt (¬ HasStanding H.digest origin.now (Some copy.now) (D.puts shelf.old))) }
     ensures says { IfOk result (λ turn. IsNoted (Some copy.now) candidate.now
         → SaysTurn H.digest (Some copy.now) candidate.now turn) }
 {
@@ -382,8 +384,8 @@ fn turn_for<H: TreeHash, D: ReadableShelf, S: Source + Drop>(
     ensures asks { AsksAny S.may_answer S.failed S.asked places.old places.new }
     ensures source { IfOk result (λ turn. turn ≡ Turn.NotHad FollowFault.Source
         → PlaceFails places.old places.new) }
-    ensures ends { IfErr result (EndsRun ⊤ (¬ HasStanding H.digest origin.now run.now.copy
-        (D.puts shelf.old))) }
+    ensures ends { IfErr result
+        (EndsAt (¬ HasStanding H.digest origin.now run.now.copy (D.puts shelf.old))) }
     ensures empty { run.now.copy ≡ None → IfOk result (IsOfEmpty H.digest candidate.now) }
     ensures says { IfOk result (SaysTurn H.digest run.now.copy candidate.now) }
 {
@@ -418,8 +420,8 @@ fn take_turn<H: TreeHash, D: ReadableShelf, S: Source + Drop>(
     ensures asks { AsksAny S.may_answer S.failed S.asked places.old places.new }
     ensures source { OnOk result (BlamesPlace places.old places.new run.old.first_fault
         run.new.first_fault) }
-    ensures ends { IfErr result (EndsRun ⊤ (¬ HasStanding H.digest origin.now run.old.copy
-        (D.puts shelf.old))) }
+    ensures ends { IfErr result
+        (EndsAt (¬ HasStanding H.digest origin.now run.old.copy (D.puts shelf.old))) }
     ensures fault { OnOk result ((done : List Candidate) → KeepsFault H.digest done run.old
         → KeepsFault H.digest (done ++ candidate.now ∷ []) run.new) }
     ensures taken { OnOk result ((first : Option Candidate) (done : List Candidate)
@@ -465,8 +467,8 @@ fn take_turn_at<H: TreeHash, D: ReadableShelf, S: Source + Drop>(
     ensures asks { AsksAny S.may_answer S.failed S.asked places.old places.new }
     ensures source { OnOk result (BlamesPlace places.old places.new run.old.first_fault
         run.new.first_fault) }
-    ensures ends { IfErr result (EndsRun ⊤ (¬ HasStanding H.digest origin.now run.old.copy
-        (D.puts shelf.old))) }
+    ensures ends { IfErr result
+        (EndsAt (¬ HasStanding H.digest origin.now run.old.copy (D.puts shelf.old))) }
     ensures fault { OnOk result (KeepsFault H.digest (take i candidates.now) run.old
         → KeepsFault H.digest (take (i + 1) candidates.now) run.new) }
     ensures taken { OnOk result ((first : Option Candidate) → IsSorted turn_cmp candidates.now
@@ -498,7 +500,7 @@ fn take_turns<H: TreeHash, D: ReadableShelf, S: Source + Drop>(
     ensures asks { AsksAny S.may_answer S.failed S.asked places.old places.new }
     ensures source { IfOk result (λ run. run.first_fault ≡ Some FollowFault.Source
         → PlaceFails places.old places.new) }
-    ensures ends { IfErr result (EndsRun ⊤ ((first : Option (List Put))
+    ensures ends { IfErr result (EndsAt ((first : Option (List Put))
         → IsCopyOfRun H.digest origin.now first (D.puts shelf.old) copy
         → HoldsNoCopy H.digest origin.now first)) }
     ensures fault { IfOk result (KeepsFault H.digest candidates.now) }

@@ -1,10 +1,10 @@
-use Rattle.std.proofs.Common.{subst}
-use Rattle.std.specs.Prelude.{⊤}
+use Rattle.std.proofs.Common.{◌≡◌, subst}
 use Rattle.mirror_copy.specs.AskedForCopy.{RefusesNote}
+use Rattle.mirror_copy.specs.declared.fault.BringFault.TheVariants.{CopyDamaged}
 use Rattle.mirror_follow.specs.Ending.{IsOfOtherRun}
-use Rattle.mirror_follow.specs.Standing.{HoldsNoSmaller}
+use Rattle.mirror_follow.specs.Standing.{HoldsNoCopy, HoldsNoSmaller}
 use Rattle.mirror_follow.proofs.Blame.{any_copied}
-use Rattle.mirror_follow.proofs.Ending.{ends_if, no_smaller, turned_fails}
+use Rattle.mirror_follow.proofs.Ending.{brought_damaged, ends_if, no_smaller, turned_fails}
 use Rattle.mirror_follow.proofs.Taken.{larger_above}
 use Rattle.mirror_follow.proofs.turns.bring.Goals as goal
 
@@ -37,7 +37,8 @@ returns-in-Err-clause-ends g c =
     let origin = c.args.origin.now in
     let candidate = c.args.candidate.now in
     let x = g.D.Shelf.puts c.args.shelf.now in
-    ends_if c.turn_of.result ⊤ (IsOfOtherRun c.in-Err.fault) ⊤ (HoldsNoSmaller digest origin candidate.size.0 x) (λ t. t)
+    ends_if c.turn_of.result (c.in-Err.fault ≡ CopyDamaged) (IsOfOtherRun c.in-Err.fault) (HoldsNoCopy digest origin x)
+    (HoldsNoSmaller digest origin candidate.size.0 x) (brought_damaged digest origin x c.in-Err.fault c.in-Err.ensures.damaged)
     (no_smaller digest origin candidate.note.items candidate.size.0 candidate.root x c.in-Err.fault c.requires
     (subst (λ note. RefusesNote digest origin note x c.in-Err.fault) c.deref.ensures.value c.in-Err.ensures.refuses)
     c.in-Err.ensures.in_use)

@@ -1,6 +1,5 @@
 use Rattle.mirror_follow.proofs.Kept.{follows_candidates, follows_none}
 use Rattle.std.proofs.Common.{◌∙◌, ℕ, List, Option, IfOk, option_map, subst, sym}
-use Rattle.std.specs.Prelude.{⊤}
 use Rattle.std.specs.List.Sorted.{IsSorted}
 use Rattle.std.proofs.lemmas.Result.{err_from_is_err_and}
 use Rattle.mirror_copy.specs.Moments.{HadSize}
@@ -98,7 +97,8 @@ returns-in_err-copy-clause-ends g c =
     let e = c.in_err-copy.field-0.0 in
     let p = err_from_is_err_and c.from_residual.result c.from_residual.ensures.1 in
     rw (p.1, p.2) (ends_run digest g.S.Source.may_answer origin _ x c.args.places.now c.args.places.now _ e
-    (ends_so ⊤ ⊥ ⊤ (HoldsNoCopy digest origin x) e (λ t. t) (λ b. absurd b) c.in_err-copy.ensures.ends))
+    (ends_so (HoldsNoCopy digest origin x) ⊥ (HoldsNoCopy digest origin x) (HoldsNoCopy digest origin x) e (λ none. none)
+    (λ b. absurd b) c.in_err-copy.ensures.ends))
 
 pub returns-in_err-candidates-clause-ends : goal.returns-in_err-candidates-clause-ends
 returns-in_err-candidates-clause-ends g c =
@@ -116,11 +116,11 @@ returns-in_err-run-clause-ends g c =
     let copy = c.in_ok-copy.copy in
     let e = c.in_err-run.field-0.0 in
     let p = err_from_is_err_and c.from_residual-in_err-run.result c.from_residual-in_err-run.ensures.1 in
+    let Lacked = (first : Option (List Put)) → IsCopyOfRun digest origin first y copy → HoldsNoCopy digest origin first in
+    let so : Lacked → HoldsNoCopy digest origin x =
+    λ none. none x (known_found digest origin x y copy c.in_ok-copy.ensures.found c.judge_copy.ensures.same) in
     rw (p.1, p.2) (ends_run digest g.S.Source.may_answer origin _ x c.args.places.now c.take_turns.new.places _ e
-    (ends_so ⊤ ((first : Option (List Put)) → IsCopyOfRun digest origin first y copy → HoldsNoCopy digest origin first)
-    ⊤ (HoldsNoCopy digest origin x) e (λ t. t)
-    (λ none. none x (known_found digest origin x y copy c.in_ok-copy.ensures.found c.judge_copy.ensures.same))
-    c.in_err-run.ensures.ends))
+    (ends_so Lacked Lacked (HoldsNoCopy digest origin x) (HoldsNoCopy digest origin x) e so so c.in_err-run.ensures.ends))
 
 pub returns-clause-forks : goal.returns-clause-forks
 returns-clause-forks g c =

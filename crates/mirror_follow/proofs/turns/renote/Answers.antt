@@ -1,5 +1,4 @@
 use Rattle.std.proofs.Common.{Some, inr, sym}
-use Rattle.std.specs.Prelude.{⊤}
 use Rattle.std.proofs.lemmas.Result.{err_from_is_err_and}
 use Rattle.mirror_copy.specs.Faults.{IsOtherFound}
 use Rattle.mirror_follow.specs.Standing.{HasStanding}
@@ -37,5 +36,6 @@ returns-in_err-put_note-clause-ends g c =
     let copy = c.args.copy.now in
     let x = g.D.Shelf.puts c.args.shelf.now in
     let p = err_from_is_err_and c.from_residual.result c.from_residual.ensures.1 in
-    rw (p.1, p.2) (ends_so ⊤ (IsOtherFound (Some copy.note.items) x) ⊤ (HasStanding digest origin (Some copy) x → ⊥)
-    c.in_err-put_note.field-0.0 (λ t. t) (none_found digest origin copy x) c.in_err-put_note.ensures.ends)
+    let Lost = HasStanding digest origin (Some copy) x → ⊥ in
+    rw (p.1, p.2) (ends_so ⊥ (IsOtherFound (Some copy.note.items) x) Lost Lost c.in_err-put_note.field-0.0
+    (λ no. absurd no) (none_found digest origin copy x) c.in_err-put_note.ensures.ends)

@@ -1,9 +1,8 @@
 use Rattle.std.proofs.Common.{Some}
-use Rattle.std.specs.Prelude.{⊤}
 use Rattle.std.proofs.lemmas.Result.{err_from_is_err_and}
-use Rattle.mirror_follow.specs.Standing.{HasStanding, HoldsNoSmaller}
+use Rattle.mirror_follow.specs.Standing.{HasStanding, HoldsNoCopy, HoldsNoSmaller}
 use Rattle.mirror_follow.proofs.Blame.{any_then}
-use Rattle.mirror_follow.proofs.Ending.{ends_so, none_stands}
+use Rattle.mirror_follow.proofs.Ending.{ends_so, none_at_all, none_stands}
 use Rattle.mirror_follow.proofs.turns.take_larger.Goals as goal
 
 pub returns-in_err-contradict-in-Contradicts-clause-asks : goal.returns-in_err-contradict-in-Contradicts-clause-asks
@@ -24,8 +23,10 @@ returns-in_err-turn-clause-ends g c =
     let n = c.args.candidate.now.size.0 in
     let x = g.D.Shelf.puts c.args.shelf.now in
     let p = err_from_is_err_and c.from_residual.result c.from_residual.ensures.1 in
-    rw (p.1, p.2) (ends_so ⊤ (HoldsNoSmaller digest origin n x) ⊤ (HasStanding digest origin (Some copy) x → ⊥)
-    c.in_err-turn.field-0.0 (λ t. t) (none_stands digest origin copy n x c.requires.larger) c.in_err-turn.ensures.ends)
+    let Lost = HasStanding digest origin (Some copy) x → ⊥ in
+    rw (p.1, p.2) (ends_so (HoldsNoCopy digest origin x) (HoldsNoSmaller digest origin n x) Lost Lost
+    c.in_err-turn.field-0.0 (none_at_all digest origin copy x) (none_stands digest origin copy n x c.requires.larger)
+    c.in_err-turn.ensures.ends)
 
 pub returns-in_default-clause-shows : goal.returns-in_default-clause-shows
 returns-in_default-clause-shows g c =

@@ -1,5 +1,4 @@
 use Rattle.std.proofs.Common.{arith, map, refl, List, Option, ◌∙◌}
-use Rattle.std.specs.Prelude.{⊤}
 use Rattle.log_reader.proofs.Kept.{kept_once}
 use Rattle.mirror_follow.proofs.Blame.{any_same, any_then}
 use Rattle.std.proofs.lemmas.Result.{err_from_is_err_and}
@@ -73,8 +72,10 @@ returns-in_err-take_turn_at-clause-ends g c =
     let y = g.D.Shelf.puts c.loop-i.shelf in
     let run = c.loop-i.run in
     let p = err_from_is_err_and c.from_residual.result c.from_residual.ensures.1 in
-    rw (p.1, p.2) (ends_so ⊤ (HasStanding digest origin run.copy y → ⊥) ⊤
-    ((first : Option (List Put)) → IsCopyOfRun digest origin first x c.args.copy → HoldsNoCopy digest origin first)
-    c.in_err-take_turn_at.field-0.0 (λ t. t)
-    (λ none first known. none_first digest origin first y run.copy none (c.loop-i.invariant.run.known first known))
+    let Lost = HasStanding digest origin run.copy y → ⊥ in
+    let Lacked = (first : Option (List Put)) → IsCopyOfRun digest origin first x c.args.copy →
+    HoldsNoCopy digest origin first in
+    let so : Lost → Lacked =
+    λ none first known. none_first digest origin first y run.copy none (c.loop-i.invariant.run.known first known) in
+    rw (p.1, p.2) (ends_so Lost Lost Lacked Lacked c.in_err-take_turn_at.field-0.0 so so
     c.in_err-take_turn_at.ensures.ends)

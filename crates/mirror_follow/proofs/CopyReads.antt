@@ -1,0 +1,122 @@
+-- Reads of a copy: where one stands, none of its files is called damaged.
+use Rattle.std.proofs.Common.{◌≡◌, ℕ, ◌++◌, List, length, Option, Some, Result, Ok, Err, IsErr, IsErrAnd, IfErr, sym, subst}
+use Rattle.std.specs.Prelude.{⊤}
+use Rattle.std.proofs.lemmas.Bool.{false≢true}
+use Rattle.tlog_hash.specs.Tree.{mth}
+use Rattle.tlog_tiles.specs.declared.paths.Path.{Path}
+use Rattle.tlog_tiles.specs.declared.paths.Path.TheVariants.{Checkpoint}
+use Rattle.mirror_sources.specs.Source.{StaysWithin}
+use Rattle.mirror_sources.specs.Told.{KeepsTold}
+use Rattle.mirror_folders.specs.Shelf.{Put, TellsRead}
+use Rattle.mirror_model.specs.Heads.{IsHead}
+use Rattle.log_reader.specs.Holding.{IsReaderOf, ReadsLog, ReadsOf}
+use Rattle.log_reader.specs.Ways.{Reader}
+use Rattle.log_reader.specs.declared.fault.ReadFault.{ReadFault}
+use Rattle.log_reader.proofs.TrueReads.{source_later}
+use Rattle.copy_reader.specs.Faults.{CountsRead}
+use Rattle.copy_reader.specs.WholeCopies.{HasFilesOf, IsShelfFailure, IsWholeCopy, ReadsCopyLog, ReadsCopyOf}
+use Rattle.copy_reader.specs.declared.fault.CopyFault.{CopyFault}
+use Rattle.copy_reader.specs.declared.fault.CopyFault.TheVariants as reading
+use Rattle.copy_reader.proofs.WholeCopies.{files_later, whole_read}
+use Rattle.copy_reader.proofs.WholeLaws.{copies_are_whole}
+use Rattle.mirror_copy.specs.Copies.{IsCopy}
+use Rattle.mirror_follow.specs.Blame.{CountsFollow, CountsFollowFault, by_copy}
+use Rattle.mirror_follow.specs.Ending.{EndsRun}
+use Rattle.mirror_follow.specs.Gathering.{note_of}
+use Rattle.mirror_follow.specs.Standing.{HasStanding, HoldsNoCopy, LacksLog}
+use Rattle.mirror_follow.specs.declared.candidate.Candidate.{Candidate}
+use Rattle.mirror_follow.specs.declared.fault.FollowFault.{FollowFault}
+use Rattle.mirror_follow.proofs.Standing.{checkpoint_one}
+
+-- ---- faults of a read
+
+-- the answer has the fault of a run that one of reading a copy is
+abbrev IsBy : {U : Type 0} → CopyFault → Result U FollowFault → Type 0
+IsBy e r = IsErr r × IsErrAnd r (λ f. f ≡ by_copy e)
+
+fault_counts : (T : Type 0) (a b : ℕ) (e : CopyFault) → CountsRead {T = T} a b (Err e) → CountsFollowFault a b (by_copy e)
+fault_counts T a b (reading.Origin f) h = absurd h
+fault_counts T a b (reading.Head f) h = absurd h
+fault_counts T a b (reading.CopyDamaged path) h = h
+fault_counts T a b reading.ShelfFault h = h
+fault_counts T a b reading.OutOfMemory h = h
+
+pub read_counts : (T : Type 0) {U : Type 0} (a b : ℕ) (e : CopyFault) (r : Result U FollowFault) → IsBy e r →
+    CountsRead {T = T} a b (Err e) → CountsFollow a b r
+read_counts T a b e (Ok x) is h = absurd (false≢true is.0)
+read_counts T a b e (Err f) is h = subst (CountsFollowFault a b) (sym is.1) (fault_counts T a b e h)
+
+fault_ends : (T : Type 0) (A : Type 0) (a b : ℕ) (e : CopyFault) → CountsRead {T = T} a b (Err e) →
+    ((IsShelfFailure e → ⊥) → A) → EndsRun A ⊥ (by_copy e)
+fault_ends T A a b (reading.Origin f) h so = absurd h
+fault_ends T A a b (reading.Head f) h so = absurd h
+fault_ends T A a b (reading.CopyDamaged path) h so = so (λ no. no)
+fault_ends T A a b reading.ShelfFault h so = tt
+fault_ends T A a b reading.OutOfMemory h so = tt
+
+-- a read that ends a run as damaged is no failure of the shelf
+pub read_ends : (T : Type 0) {U : Type 0} (A : Type 0) (a b : ℕ) (e : CopyFault) (r : Result U FollowFault) → IsBy e r →
+    CountsRead {T = T} a b (Err e) → ((IsShelfFailure e → ⊥) → A) → IfErr r (EndsRun A ⊥)
+read_ends T A a b e (Ok x) is h so = tt
+read_ends T A a b e (Err f) is h so = subst (EndsRun A ⊥) (sym is.1) (fault_ends T A a b e h so)
+
+module _ (digest : List ℕ → List ℕ) where
+  -- then the shelf has the files of no such log
+  pub lacks_log : (T : Type 0) (copy : Candidate) (x : Option (List Put)) (e : CopyFault) →
+      ReadsCopyLog {T = T} digest copy.size.0 copy.root x (Err e) (λ _ _. ⊤) → (IsShelfFailure e → ⊥) →
+      LacksLog digest copy x
+  lacks_log T copy x e reads other = λ entries size root files. other (reads entries size root files)
+
+-- ---- a second read
+
+module _ (T U : Type 0) (digest : List ℕ → List ℕ) (size : ℕ) (root : List ℕ) (reader new : Reader)
+    (claim : List (List ℕ) → T → Type 0) where
+  abbrev Opened : List (List ℕ) → Reader → Type 0
+  Opened entries r = IsReaderOf digest entries r
+
+  -- of a source
+  pub read_log : (may later : Path → Option (List ℕ) → Type 0) → StaysWithin may later → (e : ReadFault) →
+      ReadsLog digest size root may (Ok reader) Opened → ReadsOf digest reader new later (Err e) claim →
+      ReadsLog {T = U} digest size root may (Err e) (λ _ _. ⊤)
+  read_log may later stays e opened reads entries size_is root_is source =
+      (reads entries (opened entries size_is root_is source) (source_later digest entries may later stays source)).answer
+
+  -- of a shelf
+  pub read_copy : (x y : Option (List Put)) → KeepsTold x y → (e : CopyFault) →
+      ReadsCopyLog digest size root x (Ok reader) Opened → ReadsCopyOf IsShelfFailure digest reader new y (Err e) claim →
+      ReadsCopyLog {T = U} digest size root x (Err e) (λ _ _. ⊤)
+  read_copy x y kept e opened reads entries size_is root_is files =
+      (reads entries (opened entries size_is root_is files) (files_later digest x y kept entries files)).answer
+
+-- ---- copies
+
+module _ (digest : List ℕ → List ℕ) (origin : List ℕ) where
+  whole : (note : List ℕ) (entries : List (List ℕ)) (held : List Put) → IsCopy digest origin note entries held →
+      IsWholeCopy digest origin note entries (Some held)
+  whole note entries held copy = (copies_are_whole digest origin note entries held copy.short copy.is_head).all copy.holds
+
+  -- the copy that a run knows does not stand, where the shelf has not its files
+  pub none_lacks : (copy : Candidate) (x : Option (List Put)) → LacksLog digest copy x →
+      HasStanding digest origin (Some copy) x → ⊥
+  none_lacks copy x lacks s =
+      let entries = s.entries ++ s.under.more in
+      let w = whole (note_of copy) entries s.held s.under.copy in
+      lacks entries (sym s.under.size_is) (sym s.under.root_is)
+      (subst (λ p. HasFilesOf digest entries p) (sym s.puts_are) w.files)
+
+  module _ (x y : Option (List Put)) (found : List ℕ) (stands : TellsRead x Checkpoint (Some found)) where
+    -- the checkpoint of a copy that stands is one of the origin
+    pub no_head : ((size : ℕ) (root : List ℕ) → IsHead found origin size root → ⊥) → HoldsNoCopy digest origin x
+    no_head none held is note entries copy =
+        let one : found ≡ note =
+        checkpoint_one digest origin note entries held copy found (subst (λ p. TellsRead p Checkpoint (Some found)) is stands) in
+        none (length entries) (mth digest entries)
+        (subst (λ b. IsHead b origin (length entries) (mth digest entries)) (sym one) copy.is_head)
+
+    -- and its edge is read
+    pub no_edge : (T : Type 0) (size : ℕ) (root : List ℕ) → IsHead found origin size root → KeepsTold x y →
+        (e : CopyFault) → ReadsCopyLog {T = T} digest size root y (Err e) (λ _ _. ⊤) → (IsShelfFailure e → ⊥) →
+        HoldsNoCopy digest origin x
+    no_edge T size root head kept e reads other held is note entries copy =
+        other (whole_read digest origin x y kept found size root stands head {T = T} (Err e) (λ _ _. ⊤) reads note entries
+        (subst (λ p. IsWholeCopy digest origin note entries p) (sym is) (whole note entries held copy)))
