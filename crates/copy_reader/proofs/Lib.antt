@@ -1,4 +1,5 @@
 pub mod HeadNotes
+pub mod MadeProofs
 pub mod ShelfSources
 pub mod WholeCopies
 pub mod WholeLaws

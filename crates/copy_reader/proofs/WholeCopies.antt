@@ -10,17 +10,17 @@ use Rattle.mirror_sources.specs.Files.{full_of, width_named}
 use Rattle.mirror_sources.specs.Source.{StaysWithin}
 use Rattle.mirror_sources.specs.Told.{KeepsTold}
 use Rattle.mirror_folders.specs.Shelf.{Put, TellsRead}
-use Rattle.mirror_model.specs.Heads.{IsHead, IsOpenHead}
-use Rattle.mirror_model.proofs.HeadNotes.{head_of, head_once}
+use Rattle.mirror_model.specs.Heads.{IsHead}
+use Rattle.mirror_model.proofs.HeadNotes.{head_once}
 use Rattle.log_reader.specs.Faults.{IsFailure}
-use Rattle.log_reader.specs.Holding.{IsHeldAnswer, IsReaderOf, IsSourceOf, IsTreeFile, ReadsLog, ReadsOf}
+use Rattle.log_reader.specs.Holding.{IsHeldAnswer, IsSourceOf, IsTreeFile, ReadsLog, ReadsOf}
 use Rattle.log_reader.specs.Ways.{Reader}
 use Rattle.log_reader.specs.declared.fault.ReadFault.{ReadFault}
 use Rattle.log_reader.specs.declared.fault.ReadFault.TheVariants as reading
 use Rattle.log_reader.proofs.TrueReads.{source_later}
 use Rattle.copy_reader.specs.Copies.{IsRefused, OpensCopy}
 use Rattle.copy_reader.specs.Faults.{by_read, CountsRead}
-use Rattle.copy_reader.specs.ShelfSources.{MayGive, NamesShelf}
+use Rattle.copy_reader.specs.ShelfSources.{MayGive}
 use Rattle.copy_reader.specs.WholeCopies.{GivesOr, HasFilesOf, IsDamaged, IsOfShelf, IsShelfFailure, IsWholeCopy, ReadsCopyLog, ReadsCopyOf}
 use Rattle.copy_reader.specs.declared.fault.CopyFault.{CopyFault}
 use Rattle.copy_reader.specs.declared.fault.CopyFault.TheVariants as copy

@@ -1,6 +1,6 @@
 -- Which proof is made of a copy: the one that is asked for, which holds against the root of its checkpoint.
-use Rattle.std.specs.Prelude.{◌≡◌, ℕ, ◌<◌, ◌≤◌, List}
-use Rattle.tlog_proof.specs.Made.{Holds}
+use Rattle.std.specs.Prelude.{◌≡◌, ℕ, ◌<◌, ◌≤◌, List, Ok}
+use Rattle.tlog_proof.specs.Made.{Holds, asked_proof}
 use Rattle.tlog_proof.specs.Text.{IsProofText}
 use Rattle.tlog_proof.specs.declared.proof.Ask.{Ask}
 use Rattle.tlog_proof.specs.declared.proof.Ask.TheVariants.{Inclusion as AskInclusion}
@@ -13,6 +13,22 @@ use Rattle.copy_reader.specs.Shown.{IsRootOf}
 abbrev pub IsWithin : Ask → ℕ → Type 0
 IsWithin (AskInclusion n i) size = (n ≤ size) × (i < n)
 IsWithin (AskConsistency m n) size = (n ≤ size) × (0 < m) × (m ≤ n)
+
+-- the size of the tree of the proof: the greater one of two
+abbrev pub size_asked : Ask → ℕ
+size_asked (AskInclusion n i) = n
+size_asked (AskConsistency m n) = n
+
+module _ (digest : List ℕ → List ℕ) (ask : Ask) (entries : List (List ℕ)) where
+  -- the proof is the one that the definitions make of the entries
+  abbrev pub IsMadeOf : Proof → Type 0
+  IsMadeOf proof = asked_proof digest entries ask ≡ Ok proof
+
+  -- the text is that of this proof
+  pub record IsTrueText (text : List ℕ) : Type 0 where
+    pub proof : Proof
+    pub made : IsMadeOf proof
+    pub text_is : IsProofText text proof
 
 module _ (digest : List ℕ → List ℕ) (size : ℕ) (root : List ℕ) where
   -- the proof is the one that was asked for: of these sizes and this index, in the tree of the root of as many entries

@@ -1,9 +1,11 @@
 //! The texts of proofs.
-ghost use Rattle.std.specs.Prelude.{IfOk, IfSome, IsTrue, string_bytes};
+ghost use Rattle.std.specs.Prelude.{◌≡◌, ◌≤◌, ◌↔◌, IfNone, IfOk, IfSome, IsTrue, string_bytes};
+ghost use Rattle.tlog_shape.specs.declared.TheConstants.{MAX_SIZE};
 ghost use Rattle.tlog_proof.specs.Text.{IsProofText, IsWritableProof};
 ghost use Rattle.mirror_sources.specs.Told.{KeepsTold};
 ghost use Rattle.copy_reader.specs.Faults.{CountsRead};
-ghost use Rattle.copy_reader.specs.Proofs.{IsProofOf, IsWithin};
+ghost use Rattle.copy_reader.specs.Proofs.{IsProofOf, IsTrueText, IsWithin, size_asked};
+ghost use Rattle.copy_reader.specs.WholeCopies.{IsShelfFailure, ReadsCopyOf};
 
 use crate::fault::CopyFault;
 use crate::proving::read_proof;
@@ -17,7 +19,7 @@ use tlog_tiles::Path;
 
 // Whether a proof can be written as text.
 fn is_writable(proof: &Proof) -> bool
-    ensures { IsTrue result → IsWritableProof proof.now }
+    ensures { IsTrue result ↔ IsWritableProof proof.now }
 {
     match proof {
         Proof::Inclusion {
@@ -37,7 +39,9 @@ fn is_writable(proof: &Proof) -> bool
 
 // The text of a proof; None where it cannot be written.
 fn proof_text(alloc: Global, proof: &Proof) -> Result<Option<String>, AllocError>
-    ensures { IfOk result (λ o. IfSome o (λ text. IsProofText (string_bytes text) proof.now)) }
+    ensures text { IfOk result
+        (λ o. IfSome o (λ text. IsProofText (string_bytes text) proof.now)) }
+    ensures none { IfOk result (λ o. IfNone o (¬ IsWritableProof proof.now)) }
 {
     if !is_writable(proof) {
         return Ok(None);
@@ -69,6 +73,9 @@ pub fn read_proof_text<H: TreeHash, D: ReadableShelf>(
         ask (string_bytes text)) }
     ensures same { KeepsTold (D.puts shelf.old) (D.puts shelf.new) }
     ensures counted { CountsRead (D.failed shelf.old) (D.failed shelf.new) result }
+    ensures honest { size_asked ask ≡ reader.old.edge.size → reader.old.edge.size ≤ MAX_SIZE
+        → ReadsCopyOf IsShelfFailure H.digest reader.old reader.new (D.puts shelf.old) result
+        (λ entries text. IsTrueText H.digest ask entries (string_bytes text)) }
 {
     let proof = read_proof::<H, D>(alloc, shelf, reader, ask)?;
     match proof_text(alloc, &proof)? {

@@ -5,7 +5,9 @@ ghost use Rattle.mirror_sources.specs.Source.{StaysWithin};
 ghost use Rattle.mirror_sources.specs.Told.{KeepsTold};
 ghost use Rattle.log_reader.specs.Faults.{CountsFailure};
 ghost use Rattle.copy_reader.specs.Faults.{CountsRead};
-ghost use Rattle.copy_reader.specs.Proofs.{IsAsked, IsWithin};
+ghost use Rattle.log_reader.specs.Holding.{ReadsOf};
+ghost use Rattle.copy_reader.specs.Proofs.{IsAsked, IsMadeOf, IsWithin, size_asked};
+ghost use Rattle.copy_reader.specs.WholeCopies.{IsShelfFailure, ReadsCopyOf};
 
 use crate::fault::CopyFault;
 use crate::shelf_source::ShelfSource;
@@ -33,6 +35,8 @@ fn inclusion_of<H: TreeHash, S: Source>(
     ensures later { StaysWithin (S.may_answer files.old) (S.may_answer files.new) }
     ensures kept { KeepsTold (S.files files.old) (S.files files.new) }
     ensures counted { CountsFailure (S.failed files.old) (S.failed files.new) result }
+    ensures honest { size ≡ reader.old.edge.size → ReadsOf H.digest reader.old reader.new
+        (S.may_answer files.old) result (IsMadeOf H.digest (Ask.Inclusion size index)) }
 {
     let root = reader.root();
     if size == reader.size() {
@@ -61,6 +65,8 @@ fn consistency_of<H: TreeHash, S: Source>(
     ensures later { StaysWithin (S.may_answer files.old) (S.may_answer files.new) }
     ensures kept { KeepsTold (S.files files.old) (S.files files.new) }
     ensures counted { CountsFailure (S.failed files.old) (S.failed files.new) result }
+    ensures honest { second ≡ reader.old.edge.size → ReadsOf H.digest reader.old reader.new
+        (S.may_answer files.old) result (IsMadeOf H.digest (Ask.Consistency first second)) }
 {
     let root = reader.root();
     if second == reader.size() {
@@ -84,6 +90,8 @@ fn proof_of<H: TreeHash, S: Source>(
     ensures later { StaysWithin (S.may_answer files.old) (S.may_answer files.new) }
     ensures kept { KeepsTold (S.files files.old) (S.files files.new) }
     ensures counted { CountsFailure (S.failed files.old) (S.failed files.new) result }
+    ensures honest { size_asked ask ≡ reader.old.edge.size → ReadsOf H.digest reader.old reader.new
+        (S.may_answer files.old) result (IsMadeOf H.digest ask) }
 {
     match ask {
         Ask::Inclusion { size, index } => inclusion_of(alloc, reader, files, size, index),
@@ -104,6 +112,9 @@ pub(crate) fn read_proof<H: TreeHash, D: ReadableShelf>(
     ensures holds { IfOk result (Holds H.digest) }
     ensures same { KeepsTold (D.puts shelf.old) (D.puts shelf.new) }
     ensures counted { CountsRead (D.failed shelf.old) (D.failed shelf.new) result }
+    ensures honest { size_asked ask ≡ reader.old.edge.size
+        → ReadsCopyOf IsShelfFailure H.digest reader.old reader.new (D.puts shelf.old) result
+        (IsMadeOf H.digest ask) }
 {
     let mut files = ShelfSource::new(shelf);
     Ok(proof_of(alloc, reader, &mut files, ask)?)
