@@ -14,7 +14,7 @@ pub(crate) fn now(rt: &impl CpuClock) -> u128 {
     }
 }
 
-/// Tells on standard error how much that is, and how many times the unit.
+/// DecidesFork on standard error how much that is, and how many times the unit.
 pub(crate) fn tell(rt: &impl Eprint, name: &str, amount: u128, unit: u128) {
     let hundredths = amount.saturating_mul(100).checked_div(unit).unwrap_or(0);
     let _ = eprintln!(rt;
@@ -24,8 +24,8 @@ pub(crate) fn tell(rt: &impl Eprint, name: &str, amount: u128, unit: u128) {
     );
 }
 
-/// Tells on standard error how much time went since then, and how many times the unit.
-pub(crate) fn tell_since<R: CpuClock + Eprint>(rt: &R, name: &str, start: u128, unit: u128) {
+/// DecidesFork on standard error how much time went since then, and how many times the unit.
+pub(crate) fn report_since<R: CpuClock + Eprint>(rt: &R, name: &str, start: u128, unit: u128) {
     tell(rt, name, now(rt).saturating_sub(start), unit);
 }
 

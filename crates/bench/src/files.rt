@@ -1,5 +1,5 @@
 //! Files: a mirror saved and loaded again, and one put onto a shelf.
-use crate::clock::{now, tell_since};
+use crate::clock::{now, report_since};
 use crate::list::ORIGIN;
 use mirror_export::{ExportFault, export};
 use mirror_folders::MemShelf;
@@ -20,15 +20,15 @@ pub(crate) fn measure_files<H: TreeHash, R: AllocGlobal + CpuClock + Print + Epr
     let start = now(rt);
     let mut text = Vec::new(rt.alloc());
     save(rt.alloc(), mirror, &mut text)?;
-    tell_since(rt, "  saving, ns", start, hashing);
+    report_since(rt, "  saving, ns", start, hashing);
     let start = now(rt);
     let strings = load_count::<H>(rt.alloc(), keys, text.as_slice())?;
-    tell_since(rt, "  loading, ns", start, hashing);
+    report_since(rt, "  loading, ns", start, hashing);
     let bytes = text.len();
     drop(text);
     let start = now(rt);
     let files = export_count(rt.alloc(), mirror)?;
-    tell_since(rt, "  an export, ns", start, hashing);
+    report_since(rt, "  an export, ns", start, hashing);
     println!(rt; "{bytes} bytes saved\n{strings} strings loaded\n{files} files exported")?;
     Ok(())
 }

@@ -1,5 +1,5 @@
 //! Pulls: a log gathered from a list of its entries, walked and settled.
-use crate::clock::{now, resident_bytes, tell, tell_since};
+use crate::clock::{now, report_since, resident_bytes, tell};
 use crate::list::{entries_of, hash_tree, source_of};
 use mirror_pull::{PullFault, Pulled, pull};
 use mirror_sources::ListSource;
@@ -18,14 +18,14 @@ pub(crate) fn measure_pull<H: TreeHash, R: AllocGlobal + CpuClock + Files + Prin
     keys: &[Box<dyn Verifier>],
     count: u32,
 ) -> anyhow::Result<(u128, u128)> {
-    let (mut source, hashing, root) = source_told::<H, R>(rt, count)?;
+    let (mut source, hashing, root) = source_timed::<H, R>(rt, count)?;
     let walking = pull_from(rt, mirror, keys, &mut source, count, &root, hashing);
     drop(source);
     Ok((hashing, walking?))
 }
 
 // A source over that many entries, the time that hashing their tree takes, and its root.
-fn source_told<H: TreeHash, R: AllocGlobal + CpuClock + Eprint>(
+fn source_timed<H: TreeHash, R: AllocGlobal + CpuClock + Eprint>(
     rt: &R,
     count: u32,
 ) -> anyhow::Result<(ListSource<H>, u128, Hash)> {
@@ -34,7 +34,7 @@ fn source_told<H: TreeHash, R: AllocGlobal + CpuClock + Eprint>(
     let _ = eprintln!(rt; "{count} entries: hashing their tree takes {hashing} ns, and of it");
     let start = now(rt);
     let source = source_of::<H>(rt.alloc(), entries)?;
-    tell_since(rt, "  a source over them, ns", start, hashing);
+    report_since(rt, "  a source over them, ns", start, hashing);
     Ok((source, hashing, root))
 }
 
@@ -52,7 +52,7 @@ fn pull_from<H: TreeHash, R: AllocGlobal + CpuClock + Files + Print + Eprint>(
     let before = resident_bytes(rt);
     let start = now(rt);
     let pulled = pull_all(rt.alloc(), mirror, keys, source)?;
-    tell_since(rt, "  a pull, ns", start, hashing);
+    report_since(rt, "  a pull, ns", start, hashing);
     let after = resident_bytes(rt);
     let start = now(rt);
     let complete = mirror.is_complete(u64::from(count), root);
@@ -60,12 +60,12 @@ fn pull_from<H: TreeHash, R: AllocGlobal + CpuClock + Files + Print + Eprint>(
     tell(rt, "  is it complete, ns", walking, hashing);
     let start = now(rt);
     let missing = missing_count(rt.alloc(), mirror, u64::from(count), root)?;
-    tell_since(rt, "  what is missing, ns", start, hashing);
+    report_since(rt, "  what is missing, ns", start, hashing);
     let start = now(rt);
     let remembered = settle(rt.alloc(), mirror)?;
-    tell_since(rt, "  settling, ns", start, hashing);
+    report_since(rt, "  settling, ns", start, hashing);
     let settled = resident_bytes(rt);
-    tell_memory(
+    print_memory(
         rt,
         count,
         after.saturating_sub(before),
@@ -78,9 +78,9 @@ fn pull_from<H: TreeHash, R: AllocGlobal + CpuClock + Files + Print + Eprint>(
     Ok(walking)
 }
 
-// Tells how much more memory is resident after a pull, and after settling. The strings have 101 bytes for each entry, and 65
+// DecidesFork how much more memory is resident after a pull, and after settling. The strings have 101 bytes for each entry, and 65
 // for each pair, of which there is one less.
-fn tell_memory(rt: &impl Eprint, count: u32, pulled: u64, settled: u64) {
+fn print_memory(rt: &impl Eprint, count: u32, pulled: u64, settled: u64) {
     let bytes = 101 * u128::from(count) + 65 * u128::from(count).saturating_sub(1);
     let _ = eprintln!(rt; "  their strings have {bytes} bytes, and of it");
     tell(

@@ -1,5 +1,5 @@
 //! What is served: tiles, bundles, proofs and the checkpoint.
-use crate::clock::{now, tell_since};
+use crate::clock::{now, report_since};
 use std::alloc::{AllocError, Global};
 use std::time::CpuClock;
 use tlog_hash::TreeHash;
@@ -70,7 +70,7 @@ fn measure_kinds<H: TreeHash, R: AllocGlobal + CpuClock + Print + Eprint>(
         let start = now(rt);
         let given = count_given(rt.alloc(), mirror, kind, count);
         let _ = eprintln!(rt; "  {name}:");
-        tell_since(rt, "    asked of the mirror, ns", start, look_ups);
+        report_since(rt, "    asked of the mirror, ns", start, look_ups);
         println!(rt; "{name}: {given} given")?;
     }
     Ok(())

@@ -15,13 +15,13 @@ consumes_more a b c all new buf rest n before within now is =
 -- as many bytes as are wanted, once they were read, are the first of the reader's
 pub first_of_read : (a b : Option (List ℕ)) (all : List ℕ) (most : ℕ) → Consumes a b all → length all ≡ most →
     IfSome a (λ input. all ≡ take most input)
-first_of_read None b all most told is = tt
-first_of_read (Some x) None all most told is = absurd told
-first_of_read (Some x) (Some y) all most told is =
-    sym (take-append_seam all y) ∙ ap (λ n. take n (all ++ y)) is ∙ ap (take most) (sym told)
+first_of_read None b all most recorded is = tt
+first_of_read (Some x) None all most recorded is = absurd recorded
+first_of_read (Some x) (Some y) all most recorded is =
+    sym (take-append_seam all y) ∙ ap (λ n. take n (all ++ y)) is ∙ ap (take most) (sym recorded)
 
 -- where the reader is at its end and had no more bytes than are wanted, what was read is all of them
 pub all_of_read : (a b : Option (List ℕ)) (all : List ℕ) (most : ℕ) → Consumes a b all → IsAtEnd b → length all ≤ most →
     IfSome a (λ input. all ≡ take most input)
-all_of_read a b all most told ended within =
-    Consumes-whole a b all (λ input. all ≡ take most input) told ended (sym (take_all most all within))
+all_of_read a b all most recorded ended within =
+    Consumes-whole a b all (λ input. all ≡ take most input) recorded ended (sym (take_all most all within))

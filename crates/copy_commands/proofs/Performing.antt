@@ -35,7 +35,7 @@ use Rattle.program_env.specs.Done.{AuditsSource, DoesAskCopy, Executes, FollowsO
 use Rattle.program_env.specs.Done.{ServesCopy, WritesCopyEntries}
 use Rattle.program_env.specs.Moment.{Moment}
 use Rattle.program_env.specs.Performing.{Performs}
-use Rattle.program_env.specs.Works.{IsStatus, TellsPort}
+use Rattle.program_env.specs.Works.{IsStatus, PrintsPort}
 use Rattle.program_env.proofs.Performing.{performs, performs_done}
 
 -- -- status, compare, prove
@@ -98,11 +98,11 @@ module _ (digest : List ℕ → List ℕ) (keys : List Key) (key_bytes : List �
       (quiet_follow fault h) h)
 
 -- a note that a place, or the file, may give is one that may be followed
-pub may_follow : {S : Type 0} (may : S → Path → Option (List ℕ) → Type 0) (told : Option (List NamedFile))
-    (name : Option (List ℕ)) (places : Places S) (note : List ℕ) → IsNoteOf may told name places note →
-    MayFollow told name note
-may_follow may told None places note h = tt
-may_follow may told (Some name) places note h = h
+pub may_follow : {S : Type 0} (may : S → Path → Option (List ℕ) → Type 0) (recorded : Option (List NamedFile))
+    (name : Option (List ℕ)) (places : Places S) (note : List ℕ) → IsNoteOf may recorded name places note →
+    MayFollow recorded name note
+may_follow may recorded None places note h = tt
+may_follow may recorded (Some name) places note h = h
 
 -- -- audit
 
@@ -153,7 +153,7 @@ module _ (digest : List ℕ → List ℕ) (keys : List Key) (key_bytes : List �
 
 module _ (digest : List ℕ → List ℕ) (keys : List Key) (key_bytes : List ℕ) (old new : Moment) (c : CopyServeWords)
     (files : new.files ≡ old.files) where
-  quiet_serve : (fault : RunFault) → TellsPort {T = Unit {0}} c.port old.output new.output (Err fault) →
+  quiet_serve : (fault : RunFault) → PrintsPort {T = Unit {0}} c.port old.output new.output (Err fault) →
       (¬ IsWriteFault fault) → Keeps old.output new.output
   quiet_serve WriteFault h other = absurd (other tt)
   quiet_serve PortFault h other = absurd (other tt)

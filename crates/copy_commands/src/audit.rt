@@ -149,7 +149,7 @@ fn audit_counted<S: Source + Drop, R: Clock + Eprint, W: Write>(
     let mut source = CountingSource::new(source, progress);
     let answer = run_audit::<Sha256Tree, _, W>(alloc, origin, keys, &mut source, output);
     if answer.is_ok() {
-        source.progress.tell_done();
+        source.progress.report_done();
     }
     (answer, source.into_source())
 }

@@ -2,10 +2,10 @@
 ghost use Rattle.std.specs.Prelude.{◌≡◌, map};
 ghost use Rattle.std.specs.Result.{result_map_both};
 ghost use Rattle.sha2.specs.Sha256.{sha256};
-ghost use Rattle.mirror_sources.specs.Told.{KeepsTold};
+ghost use Rattle.mirror_sources.specs.Recorded.{KeepsRecord};
 ghost use Rattle.program_env.specs.Envs.{IsSameEnv, moment};
 ghost use Rattle.program_env.specs.Performing.{Performs};
-ghost use Rattle.program_env.specs.Works.{TellsPort};
+ghost use Rattle.program_env.specs.Works.{PrintsPort};
 
 use byte_streams::TimedStream;
 use copy_server::{CopyAnswerFault, answer_from_copy};
@@ -94,8 +94,9 @@ fn serve_copy<D: RunFolders, R, O: Write, E: Write>(
 ) -> Result<(), Error>
 where
     R: Clock + Net<Stream = TcpStream, Listener = TcpListener>,
-    ensures line { TellsPort serve.now.port (O.contents output.old) (O.contents output.new) result }
-    ensures same { KeepsTold (D.puts folders.old) (D.puts folders.new) }
+    ensures line { PrintsPort serve.now.port (O.contents output.old) (O.contents output.new)
+        result }
+    ensures same { KeepsRecord (D.puts folders.old) (D.puts folders.new) }
 {
     let mut listener = match TcpListener::bind(rt, (Ipv4Addr::LOCALHOST, serve.port)) {
         Ok(listener) => listener,
@@ -117,7 +118,7 @@ fn answer_all<D: RunFolders, C: Clock, E: Write>(
     listener: &mut TcpListener,
     errors: &mut E,
 ) -> io::Result<()>
-    ensures { KeepsTold (D.puts folders.old) (D.puts folders.new) }
+    ensures { KeepsRecord (D.puts folders.old) (D.puts folders.new) }
 {
     for _ in 0..serve.requests {
         let (stream, _) = listener.accept()?;
@@ -138,7 +139,7 @@ fn answer_one<D: RunFolders, C: Clock>(
     origin: &str,
     stream: &TcpStream,
 ) -> Result<(), CopyAnswerFault>
-    ensures { KeepsTold (D.puts folders.old) (D.puts folders.new) }
+    ensures { KeepsRecord (D.puts folders.old) (D.puts folders.new) }
 {
     let Ok(mut reader) = TimedStream::new(stream, clock, Duration::from_secs(HEAD_SECONDS)) else {
         return Err(CopyAnswerFault::Http(HttpFault::ReadFault));

@@ -8,8 +8,8 @@ use Rattle.tlog_tiles.specs.declared.paths.Path.{Path}
 use Rattle.tlog_tiles.specs.declared.paths.Path.TheVariants.{Checkpoint, Tile, Entries}
 use Rattle.mirror_sources.specs.Files.{full_of, width_named}
 use Rattle.mirror_sources.specs.Source.{StaysWithin}
-use Rattle.mirror_sources.specs.Told.{KeepsTold}
-use Rattle.mirror_folders.specs.Shelf.{Put, TellsRead}
+use Rattle.mirror_sources.specs.Recorded.{KeepsRecord}
+use Rattle.mirror_folders.specs.Shelf.{Put, RecordsRead}
 use Rattle.mirror_model.specs.Heads.{IsHead}
 use Rattle.mirror_model.proofs.HeadNotes.{head_once}
 use Rattle.log_reader.specs.Faults.{IsFailure}
@@ -24,7 +24,7 @@ use Rattle.copy_reader.specs.ShelfSources.{MayGive}
 use Rattle.copy_reader.specs.WholeCopies.{GivesOr, HasFilesOf, IsDamaged, IsOfShelf, IsShelfFailure, IsWholeCopy, ReadsCopyLog, ReadsCopyOf}
 use Rattle.copy_reader.specs.declared.fault.CopyFault.{CopyFault}
 use Rattle.copy_reader.specs.declared.fault.CopyFault.TheVariants as copy
-use Rattle.copy_reader.proofs.ShelfSources.{told_before}
+use Rattle.copy_reader.proofs.ShelfSources.{recorded_before}
 
 -- ---- a source over a shelf
 
@@ -43,27 +43,27 @@ no_full_of_none n (Tile level index width) file e =
 no_full_of_none n (Entries index width) file e = absurd cc
 
 module _ (digest : List ℕ → List ℕ) (entries : List (List ℕ)) (name : ℕ) (held : Option (List Put)) where
-  full_told : (path : Path) (answer : Option (List ℕ)) → IsTreeFile (length entries) path →
-      MayGive name held (full_of path) answer → TellsRead held (full_of path) answer
-  full_told path answer file (inl told) = told.1
-  full_told path answer file (inr named) = absurd (no_full_of_none (length entries) path file named.0)
+  full_recorded : (path : Path) (answer : Option (List ℕ)) → IsTreeFile (length entries) path →
+      MayGive name held (full_of path) answer → RecordsRead held (full_of path) answer
+  full_recorded path answer file (inl recorded) = recorded.1
+  full_recorded path answer file (inr named) = absurd (no_full_of_none (length entries) path file named.0)
 
-  told : (path : Path) (answer : Option (List ℕ)) → IsTreeFile (length entries) path → MayGive name held path answer →
-      TellsRead held path answer
-  told path answer file (inl t) = t.1
-  told path answer file (inr named) = absurd (no_tile_of_none (length entries) path file named.0)
+  recorded : (path : Path) (answer : Option (List ℕ)) → IsTreeFile (length entries) path → MayGive name held path answer →
+      RecordsRead held path answer
+  recorded path answer file (inl t) = t.1
+  recorded path answer file (inr named) = absurd (no_tile_of_none (length entries) path file named.0)
 
   held_answer : (path : Path) (answer : Option (List ℕ)) → IsTreeFile (length entries) path →
-      IsHeldAnswer digest entries (TellsRead held) path answer → IsHeldAnswer digest entries (MayGive name held) path answer
+      IsHeldAnswer digest entries (RecordsRead held) path answer → IsHeldAnswer digest entries (MayGive name held) path answer
   held_answer path (Some bytes) file h = h
   held_answer path None file h =
-      record { partial = h.partial; full = λ answer may. h.full answer (full_told path answer file may) }
+      record { partial = h.partial; full = λ answer may. h.full answer (full_recorded path answer file may) }
 
   -- it holds the files of the log that the shelf has
   pub shelf_is_source : HasFilesOf digest entries held → IsSourceOf digest entries (MayGive name held)
   shelf_is_source s = record {
     short = s.short;
-    files = λ path file answer may. held_answer path answer file (s.files path file answer (told path answer file may));
+    files = λ path file answer may. held_answer path answer file (s.files path file answer (recorded path answer file may));
   }
 
 -- ---- reads
@@ -113,20 +113,20 @@ of_shelf T a b copy.OutOfMemory counts = tt
 
 -- ---- later
 
-module _ (digest : List ℕ → List ℕ) (x y : Option (List Put)) (kept : KeepsTold x y) where
+module _ (digest : List ℕ → List ℕ) (x y : Option (List Put)) (kept : KeepsRecord x y) where
   -- while what was put is kept, the files stay
   pub files_later : (entries : List (List ℕ)) → HasFilesOf digest entries x → HasFilesOf digest entries y
   files_later entries =
-      let within : StaysWithin (TellsRead x) (TellsRead y) =
-      record { stays = λ path answer. told_before x y path answer kept } in
-      source_later digest entries (TellsRead x) (TellsRead y) within
+      let within : StaysWithin (RecordsRead x) (RecordsRead y) =
+      record { stays = λ path answer. recorded_before x y path answer kept } in
+      source_later digest entries (RecordsRead x) (RecordsRead y) within
 
   -- so does a whole copy
   pub whole_later : (origin note : List ℕ) (entries : List (List ℕ)) → IsWholeCopy digest origin note entries x →
       IsWholeCopy digest origin note entries y
   whole_later origin note entries w = record {
     is_head = w.is_head;
-    checkpoint = λ answer t. w.checkpoint answer (told_before x y Checkpoint answer kept t);
+    checkpoint = λ answer t. w.checkpoint answer (recorded_before x y Checkpoint answer kept t);
     files = files_later entries w.files;
   }
 
@@ -135,8 +135,8 @@ module _ (digest : List ℕ → List ℕ) (x y : Option (List Put)) (kept : Keep
 
 -- ---- the checkpoint that was opened
 
-module _ (digest : List ℕ → List ℕ) (origin : List ℕ) (held after : Option (List Put)) (kept : KeepsTold held after)
-    (found : List ℕ) (size : ℕ) (root : List ℕ) (stands : TellsRead held Checkpoint (Some found))
+module _ (digest : List ℕ → List ℕ) (origin : List ℕ) (held after : Option (List Put)) (kept : KeepsRecord held after)
+    (found : List ℕ) (size : ℕ) (root : List ℕ) (stands : RecordsRead held Checkpoint (Some found))
     (head : IsHead found origin size root) where
   -- of each whole copy the log was opened, unless the shelf failed or memory was refused
   pub whole_read : {T : Type 0} (result : Result T CopyFault) (claim : List (List ℕ) → T → Type 0) →

@@ -11,7 +11,7 @@ use Rattle.mirror_model.specs.Heads.{IsHead}
 use Rattle.mirror_model.specs.TrueLaws.{AreShort}
 use Rattle.mirror_sources.specs.Files.{full_of}
 use Rattle.mirror_sources.specs.Honest.{true_bytes}
-use Rattle.mirror_folders.specs.Shelf.{Put, Stands, TellsRead}
+use Rattle.mirror_folders.specs.Shelf.{Put, Stands, RecordsRead}
 use Rattle.mirror_export.specs.FileLaws.{IsWidestIn}
 use Rattle.mirror_export.specs.SinceLaws.{HoldsLog}
 use Rattle.mirror_export.proofs.AllFiles.{files_are_all, full_widest, partial_widest}
@@ -59,39 +59,39 @@ module _ (digest : List ℕ → List ℕ) (note : List ℕ) (entries : List (Lis
 
 module _ (digest : List ℕ → List ℕ) (entries : List (List ℕ)) (puts : List Put) where
   full_answer : (path : Path) (answer : Option (List ℕ)) → HasGivenWay digest entries puts path →
-      TellsRead (Some puts) (full_of path) answer → IsFullAnswer digest entries path answer
-  full_answer path None g told =
-      let e : None ≡ Some g.full = read_once puts (full_of path) None (Some g.full) told g.stands in absurd cc
-  full_answer path (Some bytes) g told =
-      let e : Some bytes ≡ Some g.full = read_once puts (full_of path) (Some bytes) (Some g.full) told g.stands in
+      RecordsRead (Some puts) (full_of path) answer → IsFullAnswer digest entries path answer
+  full_answer path None g recorded =
+      let e : None ≡ Some g.full = read_once puts (full_of path) None (Some g.full) recorded g.stands in absurd cc
+  full_answer path (Some bytes) g recorded =
+      let e : Some bytes ≡ Some g.full = read_once puts (full_of path) (Some bytes) (Some g.full) recorded g.stands in
       let same : g.full ≡ bytes = cc in
       subst (λ b. GoesOn path (true_bytes digest entries path) b) same g.begins
 
   file_answer : (path : Path) (answer : Option (List ℕ)) →
       Stands puts path (true_bytes digest entries path) ⊎ HasGivenWay digest entries puts path →
-      TellsRead (Some puts) path answer → IsHeldAnswer digest entries (TellsRead (Some puts)) path answer
-  file_answer path None (inl s) told =
+      RecordsRead (Some puts) path answer → IsHeldAnswer digest entries (RecordsRead (Some puts)) path answer
+  file_answer path None (inl s) recorded =
       let e : None ≡ Some (true_bytes digest entries path) =
-      read_once puts path None (Some (true_bytes digest entries path)) told s in absurd cc
-  file_answer path (Some bytes) (inl s) told =
+      read_once puts path None (Some (true_bytes digest entries path)) recorded s in absurd cc
+  file_answer path (Some bytes) (inl s) recorded =
       let e : Some bytes ≡ Some (true_bytes digest entries path) =
-      read_once puts path (Some bytes) (Some (true_bytes digest entries path)) told s in cc
-  file_answer path None (inr g) told =
+      read_once puts path (Some bytes) (Some (true_bytes digest entries path)) recorded s in cc
+  file_answer path None (inr g) recorded =
       record { partial = g.partial; full = λ answer may. full_answer path answer g may }
-  file_answer path (Some bytes) (inr g) told =
-      let e : Some bytes ≡ None = read_once puts path (Some bytes) None told g.gone in absurd cc
+  file_answer path (Some bytes) (inr g) recorded =
+      let e : Some bytes ≡ None = read_once puts path (Some bytes) None recorded g.gone in absurd cc
 
   files_of : AreShort entries → EachFileStands digest entries puts → HasFilesOf digest entries (Some puts)
   files_of short each = record {
     short = short;
-    files = λ path file answer told. file_answer path answer (each path file) told;
+    files = λ path file answer recorded. file_answer path answer (each path file) recorded;
   }
 
   whole_of : (origin note : List ℕ) → AreShort entries → IsHead note origin (length entries) (mth digest entries) →
       Stands puts Checkpoint note → EachFileStands digest entries puts → IsWholeCopy digest origin note entries (Some puts)
   whole_of origin note short head stands each = record {
     is_head = head;
-    checkpoint = λ answer told. read_once puts Checkpoint answer (Some note) told stands;
+    checkpoint = λ answer recorded. read_once puts Checkpoint answer (Some note) recorded stands;
     files = files_of short each;
   }
 

@@ -2,8 +2,8 @@
 use Rattle.std.specs.Prelude.{◌≡◌, ◌⊎◌, ℕ, List, Option, Some, None, Result, Ok, Err, ⊤}
 use Rattle.signed_note.specs.Keys.{Key}
 use Rattle.tlog_tiles.specs.declared.paths.Path.TheVariants.{Checkpoint}
-use Rattle.mirror_sources.specs.Told.{KeepsTold}
-use Rattle.mirror_folders.specs.Shelf.{Put, TellsRead}
+use Rattle.mirror_sources.specs.Recorded.{KeepsRecord}
+use Rattle.mirror_folders.specs.Shelf.{Put, RecordsRead}
 use Rattle.mirror_model.specs.Heads.{IsOpenHead}
 use Rattle.mirror_model.specs.Origin.{IsOrigin}
 use Rattle.mirror_model.specs.Refusals.{ReadsHead}
@@ -15,24 +15,24 @@ use Rattle.copy_reader.specs.declared.fault.CopyFault.TheVariants.{Origin, Head,
 
 -- nothing was put: the folder was not opened, or what was put into it stayed
 abbrev pub LeavesPuts : (held old new : Option (List Put)) → Type 0
-LeavesPuts held old new = (new ≡ old) ⊎ KeepsTold held new
+LeavesPuts held old new = (new ≡ old) ⊎ KeepsRecord held new
 
 module _ (origin : List ℕ) (keys : List Key) (held : Option (List Put)) where
   -- the checkpoint is a note that opens under the keys, of that origin, size and root
   pub record HasCheckpoint (size : ℕ) (root : List ℕ) : Type 0 where
     pub note : List ℕ
-    pub stands : TellsRead held Checkpoint (Some note)
+    pub stands : RecordsRead held Checkpoint (Some note)
     pub opens : IsOpenHead note origin keys size root
 
   -- the checkpoint is refused, for that reason
   pub record RefusesCheckpoint (fault : TakeFault) : Type 0 where
     pub note : List ℕ
-    pub stands : TellsRead held Checkpoint (Some note)
+    pub stands : RecordsRead held Checkpoint (Some note)
     pub refused : ReadsHead note origin keys (Err fault)
 
   -- there is no checkpoint
   abbrev pub IsEmptyCopy : Type 0
-  IsEmptyCopy = TellsRead held Checkpoint None
+  IsEmptyCopy = RecordsRead held Checkpoint None
 
 module _ (digest : List ℕ → List ℕ) (origin : List ℕ) (keys : List Key) (held : Option (List Put)) where
   -- why a copy is not read

@@ -1,6 +1,6 @@
 -- What faults of a shelf and of a read are to a copy, and how a shelf counts them.
 use Rattle.std.specs.Prelude.{◌≡◌, ℕ, Result, Ok, Err, ⊤}
-use Rattle.mirror_sources.specs.Told.{one_more}
+use Rattle.mirror_sources.specs.Recorded.{one_more}
 use Rattle.mirror_folders.specs.declared.shelf.ShelfError.{ShelfError}
 use Rattle.mirror_folders.specs.declared.shelf.ShelfError.TheVariants as shelf
 use Rattle.log_reader.specs.declared.fault.ReadFault.{ReadFault}

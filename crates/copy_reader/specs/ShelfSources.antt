@@ -2,7 +2,7 @@
 use Rattle.std.specs.Prelude.{◌≡◌, ◌⊎◌, ℕ, ◌+◌, ◌<◌, All, List, [], ◌∷◌, Option, Some, None, ⊤}
 use Rattle.tlog_tiles.specs.declared.paths.Path.{Path}
 use Rattle.tlog_tiles.specs.declared.paths.Path.TheVariants.{Tile}
-use Rattle.mirror_folders.specs.Shelf.{Put, TellsRead}
+use Rattle.mirror_folders.specs.Shelf.{Put, RecordsRead}
 
 -- the answer has bytes alone
 abbrev pub HasBytes : Option (List ℕ) → Type 0
@@ -17,4 +17,4 @@ NamesShelf name path answer = (path ≡ Tile 0 0 0) × (answer ≡ Some ((256 + 
 -- a call that takes any source says nothing else of the reference that this one holds
 abbrev pub MayGive : ℕ → Option (List Put) → Path → Option (List ℕ) → Type 0
 MayGive name held path answer =
-    (HasBytes answer × TellsRead held path answer) ⊎ NamesShelf name path answer
+    (HasBytes answer × RecordsRead held path answer) ⊎ NamesShelf name path answer

@@ -4,7 +4,7 @@ use Rattle.std.specs.Prelude.{◌≡◌, ◌⊎◌, ℕ, ◌<◌, List, length, 
 use Rattle.tlog_hash.specs.Tree.{mth}
 use Rattle.tlog_tiles.specs.declared.paths.Path.{Path}
 use Rattle.tlog_tiles.specs.declared.paths.Path.TheVariants.{Checkpoint}
-use Rattle.mirror_folders.specs.Shelf.{HasPut, Put, Stands, TellsRead}
+use Rattle.mirror_folders.specs.Shelf.{HasPut, Put, Stands, RecordsRead}
 use Rattle.mirror_model.specs.Heads.{IsHead}
 use Rattle.mirror_model.specs.TrueLaws.{AreShort}
 use Rattle.mirror_sources.specs.Files.{full_of, width_named}
@@ -18,12 +18,12 @@ use Rattle.copy_reader.specs.declared.fault.CopyFault.TheVariants.{Origin, Head,
 module _ (digest : List ℕ → List ℕ) where
   -- the shelf has each tile and bundle of a log of these entries, or of a partial one the full one
   abbrev pub HasFilesOf : List (List ℕ) → Option (List Put) → Type 0
-  HasFilesOf entries held = IsSourceOf digest entries (TellsRead held)
+  HasFilesOf entries held = IsSourceOf digest entries (RecordsRead held)
 
   -- the shelf holds a whole copy of the entries under the note
   pub record IsWholeCopy (origin note : List ℕ) (entries : List (List ℕ)) (held : Option (List Put)) : Type 0 where
     pub is_head : IsHead note origin (length entries) (mth digest entries)
-    pub checkpoint : (answer : Option (List ℕ)) → TellsRead held Checkpoint answer → answer ≡ Some note
+    pub checkpoint : (answer : Option (List ℕ)) → RecordsRead held Checkpoint answer → answer ≡ Some note
     pub files : HasFilesOf entries held
 
   -- the shelf holds no whole copy: a file is missing or false

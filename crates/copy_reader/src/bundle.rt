@@ -1,7 +1,7 @@
 //! A bundle of a copy.
 ghost use Rattle.std.specs.Prelude.{◌≡◌, ◌*◌, ◌<◌, IfOk, length};
 ghost use Rattle.tlog_tiles.specs.Tiles.{bundle_bytes};
-ghost use Rattle.mirror_sources.specs.Told.{KeepsTold};
+ghost use Rattle.mirror_sources.specs.Recorded.{KeepsRecord};
 ghost use Rattle.log_reader.specs.Holding.{row_width};
 ghost use Rattle.log_reader.specs.Ways.{IsShownBundle};
 ghost use Rattle.copy_reader.specs.Faults.{CountsRead};
@@ -36,7 +36,7 @@ pub fn read_bundle<H: TreeHash, D: ReadableShelf>(
     ensures root { reader.new.root ≡ reader.old.root }
     ensures shown { IfOk result
         (λ bytes. IsShownBundle H.digest reader.old.edge index bytes.items) }
-    ensures same { KeepsTold (D.puts shelf.old) (D.puts shelf.new) }
+    ensures same { KeepsRecord (D.puts shelf.old) (D.puts shelf.new) }
     ensures counted { CountsRead (D.failed shelf.old) (D.failed shelf.new) result }
     ensures honest { ReadsCopyOf IsShelfFailure H.digest reader.old reader.new
         (D.puts shelf.old) result

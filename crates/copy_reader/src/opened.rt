@@ -1,6 +1,6 @@
 //! A copy opened: its checkpoint, and a reader of its log.
 ghost use Rattle.std.specs.Prelude.{◌≡◌, IfErr, IfOk, map};
-ghost use Rattle.mirror_sources.specs.Told.{KeepsTold};
+ghost use Rattle.mirror_sources.specs.Recorded.{KeepsRecord};
 ghost use Rattle.copy_reader.specs.Copies.{OpensCopy};
 ghost use Rattle.copy_reader.specs.Faults.{CountsCopy, CountsRead};
 ghost use Rattle.copy_reader.specs.WholeCopies.{IsOfShelf, OpensWhole, ReadsCopyLog};
@@ -35,7 +35,7 @@ pub fn open_reader<H: TreeHash, D: ReadableShelf>(
 ) -> Result<LogReader<H>, CopyFault>
     ensures size { IfOk result (λ reader. reader.edge.size ≡ size) }
     ensures root { IfOk result (λ reader. reader.root ≡ root.now) }
-    ensures same { KeepsTold (D.puts shelf.old) (D.puts shelf.new) }
+    ensures same { KeepsRecord (D.puts shelf.old) (D.puts shelf.new) }
     ensures counted { CountsRead (D.failed shelf.old) (D.failed shelf.new) result }
     ensures honest { ReadsCopyLog H.digest size root.now (D.puts shelf.old) result
         (λ entries reader. IsReaderOf H.digest entries reader) }
@@ -65,7 +65,7 @@ pub fn open_shelf<H: TreeHash, D: ReadableShelf>(
 ) -> Result<Option<LogReader<H>>, CopyFault>
     ensures answer { OpensCopy H.digest origin.now (map (λ k. key k) keys.now)
         (D.puts shelf.old) result }
-    ensures same { KeepsTold (D.puts shelf.old) (D.puts shelf.new) }
+    ensures same { KeepsRecord (D.puts shelf.old) (D.puts shelf.new) }
     ensures counted { CountsCopy (D.failed shelf.old) (D.failed shelf.new) result }
     ensures fault { IfErr result IsOfShelf }
     ensures honest { IfOk result (OpensWhole H.digest origin.now (D.puts shelf.old)) }

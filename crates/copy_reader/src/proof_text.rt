@@ -2,7 +2,7 @@
 ghost use Rattle.std.specs.Prelude.{◌≡◌, ◌≤◌, ◌↔◌, IfNone, IfOk, IfSome, IsTrue, string_bytes};
 ghost use Rattle.tlog_shape.specs.declared.TheConstants.{MAX_SIZE};
 ghost use Rattle.tlog_proof.specs.Text.{IsProofText, IsWritableProof};
-ghost use Rattle.mirror_sources.specs.Told.{KeepsTold};
+ghost use Rattle.mirror_sources.specs.Recorded.{KeepsRecord};
 ghost use Rattle.copy_reader.specs.Faults.{CountsRead};
 ghost use Rattle.copy_reader.specs.Proofs.{IsProofOf, IsTrueText, IsWithin, size_asked};
 ghost use Rattle.copy_reader.specs.WholeCopies.{IsShelfFailure, ReadsCopyOf};
@@ -71,7 +71,7 @@ pub fn read_proof_text<H: TreeHash, D: ReadableShelf>(
     requires { IsWithin ask reader.old.edge.size }
     ensures text { IfOk result (λ text. IsProofOf H.digest reader.old.edge.size reader.old.root
         ask (string_bytes text)) }
-    ensures same { KeepsTold (D.puts shelf.old) (D.puts shelf.new) }
+    ensures same { KeepsRecord (D.puts shelf.old) (D.puts shelf.new) }
     ensures counted { CountsRead (D.failed shelf.old) (D.failed shelf.new) result }
     ensures honest { size_asked ask ≡ reader.old.edge.size → reader.old.edge.size ≤ MAX_SIZE
         → ReadsCopyOf IsShelfFailure H.digest reader.old reader.new (D.puts shelf.old) result

@@ -2,7 +2,7 @@
 ghost use Rattle.std.specs.Prelude.{◌≡◌, ◌<◌, ◌≤◌, IfOk};
 ghost use Rattle.tlog_proof.specs.Made.{Holds};
 ghost use Rattle.mirror_sources.specs.Source.{StaysWithin};
-ghost use Rattle.mirror_sources.specs.Told.{KeepsTold};
+ghost use Rattle.mirror_sources.specs.Recorded.{KeepsRecord};
 ghost use Rattle.log_reader.specs.Faults.{CountsFailure};
 ghost use Rattle.copy_reader.specs.Faults.{CountsRead};
 ghost use Rattle.log_reader.specs.Holding.{ReadsOf};
@@ -33,7 +33,7 @@ fn inclusion_of<H: TreeHash, S: Source>(
         (Ask.Inclusion size index)) }
     ensures holds { IfOk result (Holds H.digest) }
     ensures later { StaysWithin (S.may_answer files.old) (S.may_answer files.new) }
-    ensures kept { KeepsTold (S.files files.old) (S.files files.new) }
+    ensures kept { KeepsRecord (S.files files.old) (S.files files.new) }
     ensures counted { CountsFailure (S.failed files.old) (S.failed files.new) result }
     ensures honest { size ≡ reader.old.edge.size → ReadsOf H.digest reader.old reader.new
         (S.may_answer files.old) result (IsMadeOf H.digest (Ask.Inclusion size index)) }
@@ -63,7 +63,7 @@ fn consistency_of<H: TreeHash, S: Source>(
         (Ask.Consistency first second)) }
     ensures holds { IfOk result (Holds H.digest) }
     ensures later { StaysWithin (S.may_answer files.old) (S.may_answer files.new) }
-    ensures kept { KeepsTold (S.files files.old) (S.files files.new) }
+    ensures kept { KeepsRecord (S.files files.old) (S.files files.new) }
     ensures counted { CountsFailure (S.failed files.old) (S.failed files.new) result }
     ensures honest { second ≡ reader.old.edge.size → ReadsOf H.digest reader.old reader.new
         (S.may_answer files.old) result (IsMadeOf H.digest (Ask.Consistency first second)) }
@@ -88,7 +88,7 @@ fn proof_of<H: TreeHash, S: Source>(
     ensures asked { IfOk result (IsAsked H.digest reader.old.edge.size reader.old.root ask) }
     ensures holds { IfOk result (Holds H.digest) }
     ensures later { StaysWithin (S.may_answer files.old) (S.may_answer files.new) }
-    ensures kept { KeepsTold (S.files files.old) (S.files files.new) }
+    ensures kept { KeepsRecord (S.files files.old) (S.files files.new) }
     ensures counted { CountsFailure (S.failed files.old) (S.failed files.new) result }
     ensures honest { size_asked ask ≡ reader.old.edge.size → ReadsOf H.digest reader.old reader.new
         (S.may_answer files.old) result (IsMadeOf H.digest ask) }
@@ -110,7 +110,7 @@ pub(crate) fn read_proof<H: TreeHash, D: ReadableShelf>(
     requires { IsWithin ask reader.old.edge.size }
     ensures asked { IfOk result (IsAsked H.digest reader.old.edge.size reader.old.root ask) }
     ensures holds { IfOk result (Holds H.digest) }
-    ensures same { KeepsTold (D.puts shelf.old) (D.puts shelf.new) }
+    ensures same { KeepsRecord (D.puts shelf.old) (D.puts shelf.new) }
     ensures counted { CountsRead (D.failed shelf.old) (D.failed shelf.new) result }
     ensures honest { size_asked ask ≡ reader.old.edge.size
         → ReadsCopyOf IsShelfFailure H.digest reader.old reader.new (D.puts shelf.old) result

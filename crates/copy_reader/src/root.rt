@@ -2,7 +2,7 @@
 ghost use Rattle.std.specs.Prelude.{◌≡◌, ◌≤◌, IfOk, take};
 ghost use Rattle.tlog_hash.specs.Tree.{mth};
 ghost use Rattle.mirror_sources.specs.Source.{StaysWithin};
-ghost use Rattle.mirror_sources.specs.Told.{KeepsTold};
+ghost use Rattle.mirror_sources.specs.Recorded.{KeepsRecord};
 ghost use Rattle.log_reader.specs.Faults.{CountsFailure};
 ghost use Rattle.log_reader.specs.Holding.{ReadsOf};
 ghost use Rattle.copy_reader.specs.Faults.{CountsRead};
@@ -30,7 +30,7 @@ fn root_of<H: TreeHash, S: Source>(
     ensures edge { reader.new.edge ≡ reader.old.edge }
     ensures root { reader.new.root ≡ reader.old.root }
     ensures later { StaysWithin (S.may_answer files.old) (S.may_answer files.new) }
-    ensures kept { KeepsTold (S.files files.old) (S.files files.new) }
+    ensures kept { KeepsRecord (S.files files.old) (S.files files.new) }
     ensures counted { CountsFailure (S.failed files.old) (S.failed files.new) result }
     ensures honest { ReadsOf H.digest reader.old reader.new (S.may_answer files.old) result
         (λ entries root. root ≡ mth H.digest (take size entries)) }
@@ -64,7 +64,7 @@ pub fn read_root<H: TreeHash, D: ReadableShelf>(
     ensures shown { IfOk result (IsRootOf H.digest reader.old.edge.size reader.old.root size) }
     ensures edge { reader.new.edge ≡ reader.old.edge }
     ensures root { reader.new.root ≡ reader.old.root }
-    ensures same { KeepsTold (D.puts shelf.old) (D.puts shelf.new) }
+    ensures same { KeepsRecord (D.puts shelf.old) (D.puts shelf.new) }
     ensures counted { CountsRead (D.failed shelf.old) (D.failed shelf.new) result }
     ensures honest { ReadsCopyOf IsShelfFailure H.digest reader.old reader.new
         (D.puts shelf.old) result

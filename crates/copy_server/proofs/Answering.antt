@@ -11,7 +11,7 @@ use Rattle.mirror_server.specs.declared.request.Request.{Request}
 use Rattle.mirror_server.specs.declared.request.Request.TheVariants.{Get}
 use Rattle.mirror_server.specs.declared.resource.Resource.{Resource}
 use Rattle.mirror_server.proofs.Replying.{responds}
-use Rattle.mirror_sources.specs.Told.{KeepsTold, one_more}
+use Rattle.mirror_sources.specs.Recorded.{KeepsRecord, one_more}
 use Rattle.copy_server.specs.Bodies.{IsBodyAt, IsCopyBody}
 use Rattle.copy_server.specs.CopyAnswers.{AnswersFromCopy, CountsAnswer, IsCopyReply, IsQuiet, WritesError, WritesReply}
 use Rattle.copy_server.specs.CopyAnswers.{WritesServerError}
@@ -30,7 +30,7 @@ use Rattle.copy_server.proofs.CopyBodies.{one_copy_head}
 -- the bytes under the checkpoint that was read, or that there are none, are those of the copy, while what was put is kept
 module _ {V E : Type 0} (items : V → List ℕ) (digest : List ℕ → List ℕ) (origin : List ℕ) (head : Option CopyHead)
     (r : Resource) where
-  pub copy_body_at : (before after : Option (List Put)) (answer : Result (Option V) E) → KeepsTold before after →
+  pub copy_body_at : (before after : Option (List Put)) (answer : Result (Option V) E) → KeepsRecord before after →
       IsCopyHead origin before head →
       IfOk answer (λ o. IfSome o (λ body. IsBodyAt digest origin after head r (items body))) →
       IfOk answer (λ o. IfNone o ((body : List ℕ) → IsBodyAt digest origin after head r body → ⊥)) →

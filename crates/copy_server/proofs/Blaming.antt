@@ -7,8 +7,8 @@ use Rattle.tlog_tiles.specs.declared.paths.Path.{Path}
 use Rattle.tlog_tiles.specs.declared.paths.Path.TheVariants.{Checkpoint}
 use Rattle.mirror_model.specs.Heads.{IsHead}
 use Rattle.mirror_model.proofs.HeadNotes.{head_once}
-use Rattle.mirror_sources.specs.Told.{KeepsTold}
-use Rattle.mirror_folders.specs.Shelf.{Put, TellsRead}
+use Rattle.mirror_sources.specs.Recorded.{KeepsRecord}
+use Rattle.mirror_folders.specs.Shelf.{Put, RecordsRead}
 use Rattle.mirror_server.specs.Answered.{IsRequestOf}
 use Rattle.mirror_server.specs.declared.request.Request.{Request}
 use Rattle.mirror_server.specs.declared.request.Request.TheVariants.{Nothing, Unreadable, OtherMethod, Unknown, Get}
@@ -26,7 +26,7 @@ use Rattle.copy_server.proofs.MirrorAnswers.{no_proof}
 
 -- a checkpoint that is none of the origin is that of no whole copy
 pub bad_head : (digest : List ℕ → List ℕ) (origin : List ℕ) (held : Option (List Put)) (found : List ℕ) →
-    TellsRead held Checkpoint (Some found) → ((size : ℕ) (root : List ℕ) → IsHead found origin size root → ⊥) →
+    RecordsRead held Checkpoint (Some found) → ((size : ℕ) (root : List ℕ) → IsHead found origin size root → ⊥) →
     IsDamaged digest origin held
 bad_head digest origin held found stands none note entries w =
     let same : Some found ≡ Some note = w.checkpoint (Some found) stands in
@@ -37,7 +37,7 @@ bad_head digest origin held found stands none note entries w =
 module _ (digest : List ℕ → List ℕ) (origin : List ℕ) where
   -- what is wanted of a whole copy is there, unless the shelf failed or memory was refused
   pub body_blames : {T : Type 0} (held after : Option (List Put)) (head : CopyHead) (a b : ℕ) (result : Result T CopyFault) →
-      KeepsTold held after → IsCopyHead origin held (Some head) → CountsRead a b result →
+      KeepsRecord held after → IsCopyHead origin held (Some head) → CountsRead a b result →
       ((entries : List (List ℕ)) → length entries ≡ head.size → HasFilesOf digest entries after →
       IfErr result IsShelfFailure) → IfErr result (BlamesCopy digest origin held)
   body_blames held after head a b (Ok x) kept is counts honest = tt

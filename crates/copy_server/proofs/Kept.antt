@@ -1,12 +1,12 @@
 -- Reads of a shelf that kept what was put.
 use Rattle.std.proofs.Common.{ℕ, List, Option, Some, None, sym, subst}
 use Rattle.tlog_tiles.specs.declared.paths.Path.{Path}
-use Rattle.mirror_sources.specs.Told.{KeepsTold}
-use Rattle.mirror_folders.specs.Shelf.{HasPut, Put, Stands, TellsRead}
+use Rattle.mirror_sources.specs.Recorded.{KeepsRecord}
+use Rattle.mirror_folders.specs.Shelf.{HasPut, Put, Stands, RecordsRead}
 
 -- what is read of a shelf that kept what was put was there before
-pub read_before : (x y : Option (List Put)) (path : Path) (answer : Option (List ℕ)) → KeepsTold x y →
-    TellsRead y path answer → TellsRead x path answer
+pub read_before : (x y : Option (List Put)) (path : Path) (answer : Option (List ℕ)) → KeepsRecord x y →
+    RecordsRead y path answer → RecordsRead x path answer
 read_before None y path (Some bytes) k h = tt
 read_before None y path None k h = tt
 read_before (Some xs) None path (Some bytes) k h = absurd k

@@ -9,7 +9,7 @@ use Rattle.tlog_tiles.specs.declared.paths.Path.{Path}
 use Rattle.tlog_tiles.specs.declared.paths.Path.TheVariants.{Checkpoint, Tile, Entries}
 use Rattle.mirror_model.specs.Strings.{IsDigest}
 use Rattle.mirror_sources.specs.Honest.{true_bytes}
-use Rattle.mirror_folders.specs.Shelf.{Put, TellsRead}
+use Rattle.mirror_folders.specs.Shelf.{Put, RecordsRead}
 use Rattle.mirror_export.specs.Since.{width_at}
 use Rattle.mirror_export.proofs.AllFiles.{widest_last}
 use Rattle.mirror_export.proofs.PlaceWidths.{width_full}
@@ -80,28 +80,28 @@ module _ (digest : List ℕ → List ℕ) (hash : IsDigest digest) (entries : Li
 
   -- so does the widest itself
   widest_begins : (path : Path) → IsWithin n path → (file : List ℕ) →
-      TellsRead held (of_width path (widest_of n path)) (Some file) → (part : List ℕ) × IsFirstOf path file part
-  widest_begins path within file told =
-      let is = files.files (of_width path (widest_of n path)) (widest_file path within) (Some file) told in
+      RecordsRead held (of_width path (widest_of n path)) (Some file) → (part : List ℕ) × IsFirstOf path file part
+  widest_begins path within file recorded =
+      let is = files.files (of_width path (widest_of n path)) (widest_file path within) (Some file) recorded in
       begins path within file [] (is ∙ sym (append-nil (true_bytes digest entries (of_width path (widest_of n path)))))
 
   -- and the full one, where the widest has given way
   full_begins : (path : Path) → IsWithin n path → (file : List ℕ) →
-      TellsRead held (of_width path (widest_of n path)) None → TellsRead held (of_width path 256) (Some file) →
+      RecordsRead held (of_width path (widest_of n path)) None → RecordsRead held (of_width path 256) (Some file) →
       (part : List ℕ) × IsFirstOf path file part
-  full_begins Checkpoint within file gone told = absurd within
-  full_begins (Tile level index width) within file gone told =
+  full_begins Checkpoint within file gone recorded = absurd within
+  full_begins (Tile level index width) within file gone recorded =
       let path = Tile level index width in
       let way = files.files (of_width path (widest_of n path)) (widest_file path within) None gone in
-      let on = way.full (Some file) told in begins path within file on.rest on.bytes_are
-  full_begins (Entries index width) within file gone told =
+      let on = way.full (Some file) recorded in begins path within file on.rest on.bytes_are
+  full_begins (Entries index width) within file gone recorded =
       let path = Entries index width in
       let way = files.files (of_width path (widest_of n path)) (widest_file path within) None gone in
-      let on = way.full (Some file) told in begins path within file on.rest on.bytes_are
+      let on = way.full (Some file) recorded in begins path within file on.rest on.bytes_are
 
   -- one of the two stands
-  pub some_stands : (path : Path) → IsWithin n path → TellsRead held (of_width path (widest_of n path)) None →
-      TellsRead held (of_width path 256) None → ⊥
+  pub some_stands : (path : Path) → IsWithin n path → RecordsRead held (of_width path (widest_of n path)) None →
+      RecordsRead held (of_width path 256) None → ⊥
   some_stands Checkpoint within gone none = within
   some_stands (Tile level index width) within gone none =
       let path = Tile level index width in
@@ -111,13 +111,13 @@ module _ (digest : List ℕ → List ℕ) (hash : IsDigest digest) (entries : Li
       (files.files (of_width path (widest_of n path)) (widest_file path within) None gone).full None none
 
   -- and it has what is wanted
-  pub has_part : (path : Path) → IsWithin n path → (width : ℕ) (file : List ℕ) → TellsRead held (of_width path width) (Some file) →
-      (width ≡ widest_of n path) ⊎ (TellsRead held (of_width path (widest_of n path)) None × (width ≡ 256)) →
+  pub has_part : (path : Path) → IsWithin n path → (width : ℕ) (file : List ℕ) → RecordsRead held (of_width path width) (Some file) →
+      (width ≡ widest_of n path) ⊎ (RecordsRead held (of_width path (widest_of n path)) None × (width ≡ 256)) →
       (part : List ℕ) × IsFirstOf path file part
-  has_part path within width file told (inl same) =
-      widest_begins path within file (subst (λ w. TellsRead held (of_width path w) (Some file)) same told)
-  has_part path within width file told (inr other) =
-      full_begins path within file other.0 (subst (λ w. TellsRead held (of_width path w) (Some file)) other.1 told)
+  has_part path within width file recorded (inl same) =
+      widest_begins path within file (subst (λ w. RecordsRead held (of_width path w) (Some file)) same recorded)
+  has_part path within width file recorded (inr other) =
+      full_begins path within file other.0 (subst (λ w. RecordsRead held (of_width path w) (Some file)) other.1 recorded)
 
   module _ (size : ℕ) (len : n ≡ size) (path : Path) (widest : ℕ) (inside : IsWithin size path) (is : widest ≡ widest_of size path) where
     within : IsWithin n path
@@ -127,19 +127,19 @@ module _ (digest : List ℕ → List ℕ) (hash : IsDigest digest) (entries : Li
     widest_is = is ∙ ap (λ m. widest_of m path) (sym len)
 
     -- a file of the place is found
-    pub not_gone : TellsRead held (of_width path widest) None × TellsRead held (of_width path 256) None → ⊥
+    pub not_gone : RecordsRead held (of_width path widest) None × RecordsRead held (of_width path 256) None → ⊥
     not_gone gone =
-        some_stands path within (subst (λ w. TellsRead held (of_width path w) None) widest_is gone.0) gone.1
+        some_stands path within (subst (λ w. RecordsRead held (of_width path w) None) widest_is gone.0) gone.1
 
-    preferred_part : (width : ℕ) (file : List ℕ) → TellsRead held (of_width path width) (Some file) → width ≢ path_width path →
+    preferred_part : (width : ℕ) (file : List ℕ) → RecordsRead held (of_width path width) (Some file) → width ≢ path_width path →
         (width ≡ widest)
-        ⊎ (TellsRead held (of_width path widest) None × ((width ≡ path_width path) ⊎ (width ≡ 256))) →
+        ⊎ (RecordsRead held (of_width path widest) None × ((width ≡ path_width path) ⊎ (width ≡ 256))) →
         (part : List ℕ) × IsFirstOf path file part
     preferred_part width file stands other (inl same) = has_part path within width file stands (inl (same ∙ widest_is))
     preferred_part width file stands other (inr (gone, inl own)) = absurd (other own)
     preferred_part width file stands other (inr (gone, inr full)) =
         has_part path within width file stands
-        (inr (subst (λ w. TellsRead held (of_width path w) None) widest_is gone, full))
+        (inr (subst (λ w. RecordsRead held (of_width path w) None) widest_is gone, full))
 
     -- and it is not too short
     pub not_short : (width : ℕ) (file : List ℕ) → IsFileRead held path widest width file → width ≢ path_width path →

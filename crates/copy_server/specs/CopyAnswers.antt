@@ -5,7 +5,7 @@ use Rattle.byte_streams.specs.Streams.{AppendsPrefix}
 use Rattle.mirror_folders.specs.Shelf.{Put}
 use Rattle.mirror_server.specs.Response.{ResponseBy, server_error}
 use Rattle.mirror_server.specs.declared.fault.HttpFault.TheVariants.{ReadFault, WriteFault, OutOfMemory}
-use Rattle.mirror_sources.specs.Told.{one_more}
+use Rattle.mirror_sources.specs.Recorded.{one_more}
 use Rattle.copy_reader.specs.WholeCopies.{IsDamaged}
 use Rattle.copy_server.specs.Asking.{AsksNoProof}
 use Rattle.copy_server.specs.Bodies.{IsCopyBody}

@@ -1,7 +1,7 @@
 -- The checkpoint of a copy, as it stands on a shelf. No signature is looked at.
 use Rattle.std.specs.Prelude.{ℕ, List, Option, Some, None}
 use Rattle.tlog_tiles.specs.declared.paths.Path.TheVariants.{Checkpoint}
-use Rattle.mirror_folders.specs.Shelf.{Put, TellsRead}
+use Rattle.mirror_folders.specs.Shelf.{Put, RecordsRead}
 use Rattle.mirror_model.specs.Heads.{IsHead}
 
 -- a note, and the size and root that its text says
@@ -15,6 +15,6 @@ copy_head note size root = record { note = note; size = size; root = root }
 
 -- what stands at the checkpoint's path: a note of that origin, size and root, or nothing
 abbrev pub IsCopyHead : List ℕ → Option (List Put) → Option CopyHead → Type 0
-IsCopyHead origin held None = TellsRead held Checkpoint None
+IsCopyHead origin held None = RecordsRead held Checkpoint None
 IsCopyHead origin held (Some head) =
-    TellsRead held Checkpoint (Some head.note) × IsHead head.note origin head.size head.root
+    RecordsRead held Checkpoint (Some head.note) × IsHead head.note origin head.size head.root

@@ -5,7 +5,7 @@ use Rattle.tlog_tiles.specs.Tiles.{IsWithin}
 use Rattle.tlog_tiles.specs.declared.paths.Path.{Path}
 use Rattle.tlog_tiles.specs.declared.paths.Path.TheVariants.{Checkpoint, Tile, Entries}
 use Rattle.mirror_export.specs.Since.{width_at}
-use Rattle.mirror_folders.specs.Shelf.{Put, TellsRead}
+use Rattle.mirror_folders.specs.Shelf.{Put, RecordsRead}
 
 -- how many hashes or entries the file at a path has
 abbrev pub path_width : Path → ℕ
@@ -51,10 +51,10 @@ IsTaken path width file bytes = ((width ≡ path_width path) × (bytes ≡ file)
 -- the file of that width stands at the place. It is the widest that the log has there; where that does not stand, the path's
 -- own, or the full one
 pub record IsFileRead (held : Option (List Put)) (path : Path) (widest width : ℕ) (file : List ℕ) : Type 0 where
-  pub stands : TellsRead held (of_width path width) (Some file)
+  pub stands : RecordsRead held (of_width path width) (Some file)
   pub preferred :
       (width ≡ widest)
-      ⊎ (TellsRead held (of_width path widest) None × ((width ≡ path_width path) ⊎ (width ≡ 256)))
+      ⊎ (RecordsRead held (of_width path widest) None × ((width ≡ path_width path) ⊎ (width ≡ 256)))
 
 -- the bytes that a copy of n entries gives for a path
 pub record IsFileGiven (held : Option (List Put)) (n : ℕ) (path : Path) (bytes : List ℕ) : Type 0 where

@@ -3,7 +3,7 @@ ghost use Rattle.std.specs.Prelude.{◌≡◌, ℕ, List, IfErr, IfOk, IfSome};
 ghost use Rattle.std.specs.Io.KnownBytes.{Keeps};
 ghost use Rattle.byte_streams.specs.Streams.{TakesAtMost};
 ghost use Rattle.mirror_server.specs.Answered.{FailsBeforeHead, IsRequestOf};
-ghost use Rattle.mirror_sources.specs.Told.{KeepsTold};
+ghost use Rattle.mirror_sources.specs.Recorded.{KeepsRecord};
 ghost use Rattle.copy_server.specs.CopyAnswers.{AnswersFromCopy, CountsAnswer, IsCopyReply, IsQuiet, WritesError, WritesReply, WritesServerError};
 ghost use Rattle.copy_reader.specs.Faults.{CountsRead};
 ghost use Rattle.copy_server.specs.Asking.{AsksNoProof};
@@ -32,7 +32,7 @@ fn reply_from_copy<H: TreeHash, D: ReadableShelf>(
         → IsCopyReply H.digest origin.now puts bytes reply.items)) }
     ensures blames { IfErr result (λ fault. (bytes : List ℕ) → IsRequestOf bytes request.now
         → AsksNoProof bytes → BlamesCopy H.digest origin.now (D.puts shelf.old) fault) }
-    ensures same { KeepsTold (D.puts shelf.old) (D.puts shelf.new) }
+    ensures same { KeepsRecord (D.puts shelf.old) (D.puts shelf.new) }
     ensures counted { CountsRead (D.failed shelf.old) (D.failed shelf.new) result }
 {
     let body = requested_body::<H, D>(alloc, shelf, origin, request)?;
@@ -115,7 +115,7 @@ pub fn answer_from_copy<H: TreeHash, D: ReadableShelf, R: Read, W: Write>(
     ensures limit { TakesAtMost MAX_HEAD_LEN (R.remaining reader.old) (R.remaining reader.new) }
     ensures fault { IfErr result (λ e. e ≡ CopyAnswerFault.Http HttpFault.ReadFault
         → FailsBeforeHead (R.remaining reader.old) (R.remaining reader.new)) }
-    ensures same { KeepsTold (D.puts shelf.old) (D.puts shelf.new) }
+    ensures same { KeepsRecord (D.puts shelf.old) (D.puts shelf.new) }
     ensures counted { CountsAnswer (D.failed shelf.old) (D.failed shelf.new) result }
 {
     let request = match read_request(alloc, reader) {

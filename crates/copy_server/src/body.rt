@@ -3,7 +3,7 @@ ghost use Rattle.std.specs.Prelude.{◌≡◌, ◌↔◌, ℕ, List, [], IfErr, 
 ghost use Rattle.mirror_folders.specs.Shelf.{Put};
 ghost use Rattle.mirror_server.specs.Answered.{IsBodyFor};
 ghost use Rattle.mirror_server.specs.declared.request.Request.TheVariants as Request;
-ghost use Rattle.mirror_sources.specs.Told.{KeepsTold};
+ghost use Rattle.mirror_sources.specs.Recorded.{KeepsRecord};
 ghost use Rattle.copy_server.specs.Bodies.{IsBodyAt, IsCopyBody, IsNoProof, WantsNoProof};
 ghost use Rattle.copy_server.specs.CopyHeads.{copy_head};
 ghost use Rattle.copy_reader.specs.Faults.{CountsRead};
@@ -55,7 +55,7 @@ fn held_body<H: TreeHash, D: ReadableShelf>(
     ensures none { IfOk result (λ o. IfNone o ((body : List ℕ) → ¬ IsBodyAt H.digest origin.now
         (D.puts shelf.old) (Some (copy_head head.0.items head.1 head.2))
         resource.now body)) }
-    ensures same { KeepsTold (D.puts shelf.old) (D.puts shelf.new) }
+    ensures same { KeepsRecord (D.puts shelf.old) (D.puts shelf.new) }
     ensures counted { CountsRead (D.failed shelf.old) (D.failed shelf.new) result }
     ensures honest { IsNoProof resource.now → (entries : List (List ℕ)) → length entries ≡ head.1
         → HasFilesOf H.digest entries (D.puts shelf.old) → IfErr result IsShelfFailure }
@@ -112,7 +112,7 @@ fn copy_body<H: TreeHash, D: ReadableShelf>(
     ensures body { IfSome (D.puts shelf.old) (λ puts. IfOk result (λ o. IsBodyFor
         (IsCopyBody H.digest origin.now (Some puts)) (Request.Get resource.now)
         (option_map (λ body. body.items) o))) }
-    ensures same { KeepsTold (D.puts shelf.old) (D.puts shelf.new) }
+    ensures same { KeepsRecord (D.puts shelf.old) (D.puts shelf.new) }
     ensures counted { CountsRead (D.failed shelf.old) (D.failed shelf.new) result }
     ensures blames { IsNoProof resource.now
         → IfErr result (BlamesCopy H.digest origin.now (D.puts shelf.old)) }
@@ -137,7 +137,7 @@ pub(crate) fn requested_body<H: TreeHash, D: ReadableShelf>(
     ensures body { IfSome (D.puts shelf.old) (λ puts. IfOk result (λ o. IsBodyFor
         (IsCopyBody H.digest origin.now (Some puts)) request.now
         (option_map (λ body. body.items) o))) }
-    ensures same { KeepsTold (D.puts shelf.old) (D.puts shelf.new) }
+    ensures same { KeepsRecord (D.puts shelf.old) (D.puts shelf.new) }
     ensures counted { CountsRead (D.failed shelf.old) (D.failed shelf.new) result }
     ensures blames { WantsNoProof request.now
         → IfErr result (BlamesCopy H.digest origin.now (D.puts shelf.old)) }

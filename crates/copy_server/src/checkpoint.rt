@@ -1,6 +1,6 @@
 //! The checkpoint of a copy.
 ghost use Rattle.std.specs.Prelude.{◌≡◌, ℕ, IfErr, IfOk, List, option_map};
-ghost use Rattle.mirror_sources.specs.Told.{KeepsTold};
+ghost use Rattle.mirror_sources.specs.Recorded.{KeepsRecord};
 ghost use Rattle.copy_server.specs.CopyHeads.{IsCopyHead, copy_head};
 ghost use Rattle.copy_reader.specs.Faults.{CountsRead};
 ghost use Rattle.copy_server.specs.Faults.{BlamesCopy};
@@ -21,7 +21,7 @@ pub(crate) fn read_checkpoint<D: ReadableShelf>(
 ) -> Result<Option<(Vec<u8>, u64, Hash)>, CopyFault>
     ensures head { IfOk result (λ found. IsCopyHead origin.now (D.puts shelf.old)
         (option_map (λ head. copy_head head.0.items head.1 head.2) found)) }
-    ensures same { KeepsTold (D.puts shelf.old) (D.puts shelf.new) }
+    ensures same { KeepsRecord (D.puts shelf.old) (D.puts shelf.new) }
     ensures counted { CountsRead (D.failed shelf.old) (D.failed shelf.new) result }
     ensures blames { (digest : List ℕ → List ℕ)
         → IfErr result (BlamesCopy digest origin.now (D.puts shelf.old)) }

@@ -1,8 +1,8 @@
 //! A tile or a bundle of a copy.
 ghost use Rattle.std.specs.Prelude.{◌≡◌, ◌⊎◌, IfErr, IfNone, IfOk, IfSome, List, None, Some, length, option_map, ℕ};
 ghost use Rattle.tlog_tiles.specs.Tiles.{IsWithin};
-ghost use Rattle.mirror_folders.specs.Shelf.{TellsRead};
-ghost use Rattle.mirror_sources.specs.Told.{KeepsTold};
+ghost use Rattle.mirror_folders.specs.Shelf.{RecordsRead};
+ghost use Rattle.mirror_sources.specs.Recorded.{KeepsRecord};
 ghost use Rattle.copy_reader.specs.Faults.{CountsRead};
 ghost use Rattle.copy_reader.specs.WholeCopies.{HasFilesOf, IsShelfFailure};
 ghost use Rattle.copy_server.specs.GivenFiles.{IsFileGiven, IsFileRead, of_width, path_width};
@@ -21,11 +21,11 @@ fn read_width<D: ReadableShelf>(
     path: &Path,
     width: u32,
 ) -> Result<Option<(u32, Vec<u8>)>, CopyFault>
-    ensures told { IfOk result (λ o. TellsRead (D.puts shelf.old) (of_width path.now width)
+    ensures recorded { IfOk result (λ o. RecordsRead (D.puts shelf.old) (of_width path.now width)
         (option_map (λ found. found.1.items) o)) }
     ensures width { IfOk result (λ o. IfSome o (λ found. found.0 ≡ width)) }
     ensures fault { IfErr result IsShelfFailure }
-    ensures same { KeepsTold (D.puts shelf.old) (D.puts shelf.new) }
+    ensures same { KeepsRecord (D.puts shelf.old) (D.puts shelf.new) }
     ensures counted { CountsRead (D.failed shelf.old) (D.failed shelf.new) result }
 {
     match shelf.read(&with_width(path, width))? {
@@ -40,14 +40,14 @@ fn read_other<D: ReadableShelf>(
     shelf: &mut D,
     path: &Path,
 ) -> Result<Option<(u32, Vec<u8>)>, CopyFault>
-    ensures told { IfOk result (λ o. IfSome o (λ found. TellsRead (D.puts shelf.old)
+    ensures recorded { IfOk result (λ o. IfSome o (λ found. RecordsRead (D.puts shelf.old)
         (of_width path.now found.0) (Some found.1.items))) }
     ensures width { IfOk result (λ o. IfSome o
         (λ found. (found.0 ≡ path_width path.now) ⊎ (found.0 ≡ 256))) }
     ensures none { IfOk result
-        (λ o. IfNone o (TellsRead (D.puts shelf.old) (of_width path.now 256) None)) }
+        (λ o. IfNone o (RecordsRead (D.puts shelf.old) (of_width path.now 256) None)) }
     ensures fault { IfErr result IsShelfFailure }
-    ensures same { KeepsTold (D.puts shelf.old) (D.puts shelf.new) }
+    ensures same { KeepsRecord (D.puts shelf.old) (D.puts shelf.new) }
     ensures counted { CountsRead (D.failed shelf.old) (D.failed shelf.new) result }
 {
     match read_width::<D>(shelf, path, own_width(path))? {
@@ -65,10 +65,10 @@ fn read_widest<D: ReadableShelf>(
     ensures read { IfOk result (λ o. IfSome o (λ found. IsFileRead (D.puts shelf.old)
         path.now widest found.0 found.1.items)) }
     ensures none { IfOk result
-        (λ o. IfNone o (TellsRead (D.puts shelf.old) (of_width path.now widest) None
-        × TellsRead (D.puts shelf.old) (of_width path.now 256) None)) }
+        (λ o. IfNone o (RecordsRead (D.puts shelf.old) (of_width path.now widest) None
+        × RecordsRead (D.puts shelf.old) (of_width path.now 256) None)) }
     ensures fault { IfErr result IsShelfFailure }
-    ensures same { KeepsTold (D.puts shelf.old) (D.puts shelf.new) }
+    ensures same { KeepsRecord (D.puts shelf.old) (D.puts shelf.new) }
     ensures counted { CountsRead (D.failed shelf.old) (D.failed shelf.new) result }
 {
     match read_width::<D>(shelf, path, widest)? {
@@ -92,7 +92,7 @@ pub(crate) fn read_file<H: TreeHash, D: ReadableShelf>(
     ensures given { IfOk result (λ o. IfSome o
         (λ bytes. IsFileGiven (D.puts shelf.old) size path.now bytes.items)) }
     ensures none { IfOk result (λ o. IfNone o (¬ IsWithin size path.now)) }
-    ensures same { KeepsTold (D.puts shelf.old) (D.puts shelf.new) }
+    ensures same { KeepsRecord (D.puts shelf.old) (D.puts shelf.new) }
     ensures counted { CountsRead (D.failed shelf.old) (D.failed shelf.new) result }
     ensures honest { (entries : List (List ℕ)) → length entries ≡ size
         → HasFilesOf H.digest entries (D.puts shelf.old) → IfErr result IsShelfFailure }

@@ -1,6 +1,6 @@
 //! Proofs of a copy's entries, made of its files.
 ghost use Rattle.std.specs.Prelude.{◌↔◌, List, ℕ, IfNone, IfOk, IfSome, IsTrue};
-ghost use Rattle.mirror_sources.specs.Told.{KeepsTold};
+ghost use Rattle.mirror_sources.specs.Recorded.{KeepsRecord};
 ghost use Rattle.copy_reader.specs.Faults.{CountsRead};
 ghost use Rattle.copy_reader.specs.Proofs.{IsWithin};
 ghost use Rattle.copy_server.specs.GivenProofs.{IsProofGiven};
@@ -39,7 +39,7 @@ pub(crate) fn asked_proof<H: TreeHash, D: ReadableShelf>(
         (λ text. IsProofGiven H.digest size root.now ask text.items)) }
     ensures none { IfOk result (λ o. IfNone o ((text : List ℕ)
         → ¬ IsProofGiven H.digest size root.now ask text)) }
-    ensures same { KeepsTold (D.puts shelf.old) (D.puts shelf.new) }
+    ensures same { KeepsRecord (D.puts shelf.old) (D.puts shelf.new) }
     ensures counted { CountsRead (D.failed shelf.old) (D.failed shelf.new) result }
 {
     if !is_within(ask, size) {

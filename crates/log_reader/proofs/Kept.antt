@@ -1,12 +1,12 @@
 -- What is known of a source's files, call after call.
 use Rattle.std.proofs.Common.{List, Option, Some, None, refl, ◌∙◌}
-use Rattle.mirror_sources.specs.Told.{KeepsTold}
+use Rattle.mirror_sources.specs.Recorded.{KeepsRecord}
 
-pub kept_once : {X : Type 0} (x : Option (List X)) → KeepsTold x x
+pub kept_once : {X : Type 0} (x : Option (List X)) → KeepsRecord x x
 kept_once None = tt
 kept_once (Some xs) = refl
 
-pub kept_twice : {X : Type 0} (x y z : Option (List X)) → KeepsTold x y → KeepsTold y z → KeepsTold x z
+pub kept_twice : {X : Type 0} (x y z : Option (List X)) → KeepsRecord x y → KeepsRecord y z → KeepsRecord x z
 kept_twice None y z p q = tt
 kept_twice (Some xs) None z p q = absurd p
 kept_twice (Some xs) (Some ys) None p q = q

@@ -1,6 +1,6 @@
 -- What faults of a source are to a read.
 use Rattle.std.specs.Prelude.{◌≡◌, ℕ, Result, Ok, Err, ⊤}
-use Rattle.mirror_sources.specs.Told.{one_more}
+use Rattle.mirror_sources.specs.Recorded.{one_more}
 use Rattle.mirror_sources.specs.declared.source.SourceFault.{SourceFault}
 use Rattle.mirror_sources.specs.declared.source.SourceFault.TheVariants as source
 use Rattle.log_reader.specs.declared.fault.ReadFault.{ReadFault}

@@ -5,7 +5,7 @@ ghost use Rattle.tlog_tiles.specs.Tiles.{bundle_bytes};
 ghost use Rattle.tlog_tiles.specs.declared.paths.Path.TheVariants.{Entries};
 ghost use Rattle.mirror_model.specs.TrueLaws.{AreShort};
 ghost use Rattle.mirror_sources.specs.Source.{StaysWithin};
-ghost use Rattle.mirror_sources.specs.Told.{KeepsTold};
+ghost use Rattle.mirror_sources.specs.Recorded.{KeepsRecord};
 ghost use Rattle.log_reader.specs.Faults.{CountsFailure};
 ghost use Rattle.log_reader.specs.Holding.{GivesWay, IsEnd, IsEndRow, IsSourceOf, IsTileHash, ReadsOf, ReadsTrue, row_width};
 ghost use Rattle.log_reader.specs.Verified.{HasLeaves, IsVerifiedBundle};
@@ -29,7 +29,7 @@ fn read_full<H: TreeHash, S: Source>(
 ) -> Result<Vec<u8>, ReadFault>
     ensures bytes { IfOk result (λ bytes. IsVerifiedBundle H.digest hash.now bytes.items) }
     ensures later { StaysWithin (S.may_answer source.old) (S.may_answer source.new) }
-    ensures kept { KeepsTold (S.files source.old) (S.files source.new) }
+    ensures kept { KeepsRecord (S.files source.old) (S.files source.new) }
     ensures counted { CountsFailure (S.failed source.old) (S.failed source.new) result }
     ensures honest { (entries : List (List ℕ)) → IsTileHash H.digest entries 0 index hash.now
         → IsSourceOf H.digest entries (S.may_answer source.old) → ReadsTrue result
@@ -88,7 +88,7 @@ fn read_part<H: TreeHash, S: Source>(
     count: usize,
 ) -> Result<Vec<u8>, ReadFault>
     ensures later { StaysWithin (S.may_answer source.old) (S.may_answer source.new) }
-    ensures kept { KeepsTold (S.files source.old) (S.files source.new) }
+    ensures kept { KeepsRecord (S.files source.old) (S.files source.new) }
     ensures counted { CountsFailure (S.failed source.old) (S.failed source.new) result }
     ensures honest { (entries : List (List ℕ)) → AreShort entries
         → 256 * index + count ≤ length entries
@@ -115,7 +115,7 @@ fn get_end<H: TreeHash, S: Source>(
 ) -> Result<Vec<u8>, ReadFault>
     requires { count ≤ 256 }
     ensures later { StaysWithin (S.may_answer source.old) (S.may_answer source.new) }
-    ensures kept { KeepsTold (S.files source.old) (S.files source.new) }
+    ensures kept { KeepsRecord (S.files source.old) (S.files source.new) }
     ensures counted { CountsFailure (S.failed source.old) (S.failed source.new) result }
     ensures honest { (entries : List (List ℕ)) → IsEnd (length entries) index count
         → IsSourceOf H.digest entries (S.may_answer source.old)
@@ -141,7 +141,7 @@ fn read_end<H: TreeHash, S: Source>(
     requires { length row.now ≤ 256 }
     ensures bytes { IfOk result (λ bytes. HasLeaves H.digest (length row.now) bytes.items row.now) }
     ensures later { StaysWithin (S.may_answer source.old) (S.may_answer source.new) }
-    ensures kept { KeepsTold (S.files source.old) (S.files source.new) }
+    ensures kept { KeepsRecord (S.files source.old) (S.files source.new) }
     ensures counted { CountsFailure (S.failed source.old) (S.failed source.new) result }
     ensures honest { (entries : List (List ℕ)) → IsEndRow H.digest entries index row.now
         → IsSourceOf H.digest entries (S.may_answer source.old) → ReadsTrue result
@@ -182,7 +182,7 @@ impl<H: TreeHash> LogReader<H> {
         ensures shown { IfOk result
             (λ bytes. IsShownBundle H.digest self.old.edge index bytes.items) }
         ensures later { StaysWithin (S.may_answer source.old) (S.may_answer source.new) }
-        ensures kept { KeepsTold (S.files source.old) (S.files source.new) }
+        ensures kept { KeepsRecord (S.files source.old) (S.files source.new) }
         ensures counted { CountsFailure (S.failed source.old) (S.failed source.new) result }
         ensures honest { ReadsOf H.digest self.old self.new (S.may_answer source.old) result
             (λ entries bytes. bytes.items

@@ -5,7 +5,7 @@ ghost use Rattle.tlog_proof.specs.Consistency.{subproof_of};
 ghost use Rattle.tlog_proof.specs.Made.{Holds, asked_proof};
 ghost use Rattle.tlog_proof.specs.declared.proof.Ask.TheVariants.{Consistency};
 ghost use Rattle.mirror_sources.specs.Source.{StaysWithin};
-ghost use Rattle.mirror_sources.specs.Told.{KeepsTold};
+ghost use Rattle.mirror_sources.specs.Recorded.{KeepsRecord};
 ghost use Rattle.log_reader.specs.Faults.{CountsFailure};
 ghost use Rattle.log_reader.specs.Holding.{ReadsOf};
 ghost use Rattle.log_reader.specs.Nodes.{IsNodeRange};
@@ -39,7 +39,7 @@ fn add_subproof<H: TreeHash, S: Source>(
     ensures edge { reader.new.edge ≡ reader.old.edge }
     ensures root { reader.new.root ≡ reader.old.root }
     ensures later { StaysWithin (S.may_answer source.old) (S.may_answer source.new) }
-    ensures kept { KeepsTold (S.files source.old) (S.files source.new) }
+    ensures kept { KeepsRecord (S.files source.old) (S.files source.new) }
     ensures counted { CountsFailure (S.failed source.old) (S.failed source.new) result }
     ensures honest { ReadsOf H.digest reader.old reader.new (S.may_answer source.old) result
         (λ entries _. path.new.items
@@ -91,7 +91,7 @@ impl<H: TreeHash> LogReader<H> {
         ensures asked { IfOk result (IsConsistencyTo first self.old.edge.size self.old.root) }
         ensures holds { IfOk result (Holds H.digest) }
         ensures later { StaysWithin (S.may_answer source.old) (S.may_answer source.new) }
-        ensures kept { KeepsTold (S.files source.old) (S.files source.new) }
+        ensures kept { KeepsRecord (S.files source.old) (S.files source.new) }
         ensures counted { CountsFailure (S.failed source.old) (S.failed source.new) result }
         ensures honest { ReadsOf H.digest self.old self.new (S.may_answer source.old) result
             (λ entries proof. asked_proof H.digest entries (Consistency first (length entries))

@@ -4,7 +4,7 @@ ghost use Rattle.tlog_shape.specs.Edge.{edge_index_of, width_of};
 ghost use Rattle.tlog_tiles.specs.Row.{IsRow};
 ghost use Rattle.tlog_tiles.specs.declared.paths.Path.TheVariants.{Tile};
 ghost use Rattle.mirror_sources.specs.Source.{StaysWithin};
-ghost use Rattle.mirror_sources.specs.Told.{KeepsTold};
+ghost use Rattle.mirror_sources.specs.Recorded.{KeepsRecord};
 ghost use Rattle.log_reader.specs.Faults.{CountsFailure};
 ghost use Rattle.log_reader.specs.EdgeRows.{RowIsTrue, hash_of_edge};
 ghost use Rattle.log_reader.specs.Holding.{GivesWay, IsEdgeRowOf, IsSourceOf, ReadsLog, ReadsTrue};
@@ -43,7 +43,7 @@ fn read_part<H: TreeHash, S: Source>(
     requires { level ≤ 7 }
     ensures row { IfOk result (λ row. AreHashesOf (width_of size level) row.items) }
     ensures later { StaysWithin (S.may_answer source.old) (S.may_answer source.new) }
-    ensures kept { KeepsTold (S.files source.old) (S.files source.new) }
+    ensures kept { KeepsRecord (S.files source.old) (S.files source.new) }
     ensures counted { CountsFailure (S.failed source.old) (S.failed source.new) result }
     ensures honest { (entries : List (List ℕ)) → GivesWay H.digest entries
         (S.may_answer source.old) (Tile level (edge_index_of size level) (width_of size level))
@@ -78,7 +78,7 @@ fn read_edge_row<H: TreeHash, S: Source>(
     requires { level ≤ 7 }
     ensures row { IfOk result (λ row. AreHashesOf (width_of size level) row.items) }
     ensures later { StaysWithin (S.may_answer source.old) (S.may_answer source.new) }
-    ensures kept { KeepsTold (S.files source.old) (S.files source.new) }
+    ensures kept { KeepsRecord (S.files source.old) (S.files source.new) }
     ensures counted { CountsFailure (S.failed source.old) (S.failed source.new) result }
     ensures honest { (entries : List (List ℕ)) → length entries ≡ size
         → IsSourceOf H.digest entries (S.may_answer source.old)
@@ -118,7 +118,7 @@ fn read_rows<H: TreeHash, S: Source>(
     ensures size { IfOk result (λ edge. edge.size ≡ size) }
     ensures rows { IfOk result (λ edge. HasEdgeHashes edge) }
     ensures later { StaysWithin (S.may_answer source.old) (S.may_answer source.new) }
-    ensures kept { KeepsTold (S.files source.old) (S.files source.new) }
+    ensures kept { KeepsRecord (S.files source.old) (S.files source.new) }
     ensures counted { CountsFailure (S.failed source.old) (S.failed source.new) result }
     ensures honest { (entries : List (List ℕ)) → length entries ≡ size
         → IsSourceOf H.digest entries (S.may_answer source.old) → ReadsTrue result
@@ -142,7 +142,7 @@ pub(crate) fn read_edge<H: TreeHash, S: Source>(
     ensures rows { IfOk result (λ edge. HasEdgeHashes edge) }
     ensures root { IfOk result (λ edge. hash_of_edge H.digest edge ≡ root.now) }
     ensures later { StaysWithin (S.may_answer source.old) (S.may_answer source.new) }
-    ensures kept { KeepsTold (S.files source.old) (S.files source.new) }
+    ensures kept { KeepsRecord (S.files source.old) (S.files source.new) }
     ensures counted { CountsFailure (S.failed source.old) (S.failed source.new) result }
     ensures honest { ReadsLog H.digest size root.now (S.may_answer source.old) result
         (λ entries edge. (level : ℕ) → level ≤ 7 → RowIsTrue H.digest edge entries level) }

@@ -6,7 +6,7 @@ ghost use Rattle.tlog_proof.specs.Inclusion.{path_of};
 ghost use Rattle.tlog_proof.specs.Made.{Holds, asked_proof};
 ghost use Rattle.tlog_proof.specs.declared.proof.Ask.TheVariants.{Inclusion};
 ghost use Rattle.mirror_sources.specs.Source.{StaysWithin};
-ghost use Rattle.mirror_sources.specs.Told.{KeepsTold};
+ghost use Rattle.mirror_sources.specs.Recorded.{KeepsRecord};
 ghost use Rattle.log_reader.specs.Faults.{CountsFailure};
 ghost use Rattle.log_reader.specs.Holding.{ReadsOf};
 ghost use Rattle.log_reader.specs.Nodes.{IsNodeRange};
@@ -39,7 +39,7 @@ fn add_path<H: TreeHash, S: Source>(
     ensures edge { reader.new.edge ≡ reader.old.edge }
     ensures root { reader.new.root ≡ reader.old.root }
     ensures later { StaysWithin (S.may_answer source.old) (S.may_answer source.new) }
-    ensures kept { KeepsTold (S.files source.old) (S.files source.new) }
+    ensures kept { KeepsRecord (S.files source.old) (S.files source.new) }
     ensures counted { CountsFailure (S.failed source.old) (S.failed source.new) result }
     ensures honest { ReadsOf H.digest reader.old reader.new (S.may_answer source.old) result
         (λ entries _. path.new.items
@@ -82,7 +82,7 @@ impl<H: TreeHash> LogReader<H> {
         ensures root { self.new.root ≡ self.old.root }
         ensures shown { IfOk result (IsShownLeaf H.digest self.old.edge index) }
         ensures later { StaysWithin (S.may_answer source.old) (S.may_answer source.new) }
-        ensures kept { KeepsTold (S.files source.old) (S.files source.new) }
+        ensures kept { KeepsRecord (S.files source.old) (S.files source.new) }
         ensures counted { CountsFailure (S.failed source.old) (S.failed source.new) result }
         ensures honest { ReadsOf H.digest self.old self.new (S.may_answer source.old) result
             (λ entries hash. hash ≡ leaf_hash H.digest (get_or entries index [])) }
@@ -123,7 +123,7 @@ impl<H: TreeHash> LogReader<H> {
         ensures asked { IfOk result (IsInclusionIn self.old.edge.size index self.old.root) }
         ensures holds { IfOk result (Holds H.digest) }
         ensures later { StaysWithin (S.may_answer source.old) (S.may_answer source.new) }
-        ensures kept { KeepsTold (S.files source.old) (S.files source.new) }
+        ensures kept { KeepsRecord (S.files source.old) (S.files source.new) }
         ensures counted { CountsFailure (S.failed source.old) (S.failed source.new) result }
         ensures honest { ReadsOf H.digest self.old self.new (S.may_answer source.old) result
             (λ entries proof. asked_proof H.digest entries (Inclusion (length entries) index)

@@ -2,7 +2,7 @@
 ghost use Rattle.std.specs.Prelude.{◌≡◌, ◌≤◌, ℕ, All, IfOk, length, take};
 ghost use Rattle.tlog_shape.specs.Edge.{edge_index_of, width_of};
 ghost use Rattle.mirror_sources.specs.Source.{StaysWithin};
-ghost use Rattle.mirror_sources.specs.Told.{KeepsTold};
+ghost use Rattle.mirror_sources.specs.Recorded.{KeepsRecord};
 ghost use Rattle.log_reader.specs.Faults.{CountsFailure};
 ghost use Rattle.log_reader.specs.EdgeRows.{RowIsTrue};
 ghost use Rattle.log_reader.specs.Holding.{IsEdgeRowOf, IsReaderOf, ReadsOf};
@@ -46,7 +46,7 @@ fn first_row<H: TreeHash, S: Source>(
     ensures shown { IfOk result (λ row. IsShownStart H.digest reader.old.edge level
         (edge_index_of size level) (width_of size level) row.items) }
     ensures later { StaysWithin (S.may_answer source.old) (S.may_answer source.new) }
-    ensures kept { KeepsTold (S.files source.old) (S.files source.new) }
+    ensures kept { KeepsRecord (S.files source.old) (S.files source.new) }
     ensures counted { CountsFailure (S.failed source.old) (S.failed source.new) result }
     ensures honest { ReadsOf H.digest reader.old reader.new (S.may_answer source.old) result
         (λ entries row. IsEdgeRowOf H.digest size level (take size entries) row.items) }
@@ -75,7 +75,7 @@ fn first_row_if_any<H: TreeHash, S: Source>(
     ensures root { reader.new.root ≡ reader.old.root }
     ensures row { IfOk result (λ row. IsShownPart H.digest reader.old.edge size level row.items) }
     ensures later { StaysWithin (S.may_answer source.old) (S.may_answer source.new) }
-    ensures kept { KeepsTold (S.files source.old) (S.files source.new) }
+    ensures kept { KeepsRecord (S.files source.old) (S.files source.new) }
     ensures counted { CountsFailure (S.failed source.old) (S.failed source.new) result }
     ensures honest { ReadsOf H.digest reader.old reader.new (S.may_answer source.old) result
         (λ entries row. IsEdgeRowOf H.digest size level (take size entries) row.items) }
@@ -101,7 +101,7 @@ fn first_edge<H: TreeHash, S: Source>(
     ensures hashes { IfOk result (λ first. HasEdgeHashes first) }
     ensures shown { IfOk result (λ first. IsShownEdge H.digest reader.old.edge first) }
     ensures later { StaysWithin (S.may_answer source.old) (S.may_answer source.new) }
-    ensures kept { KeepsTold (S.files source.old) (S.files source.new) }
+    ensures kept { KeepsRecord (S.files source.old) (S.files source.new) }
     ensures counted { CountsFailure (S.failed source.old) (S.failed source.new) result }
     ensures honest { ReadsOf H.digest reader.old reader.new (S.may_answer source.old) result
         (λ entries first. (level : ℕ) → level ≤ 7
@@ -137,7 +137,7 @@ impl<H: TreeHash> LogReader<H> {
         ensures size { IfOk result (λ reader. reader.edge.size ≡ size) }
         ensures shown { IfOk result (λ reader. IsShownEdge H.digest self.old.edge reader.edge) }
         ensures later { StaysWithin (S.may_answer source.old) (S.may_answer source.new) }
-        ensures kept { KeepsTold (S.files source.old) (S.files source.new) }
+        ensures kept { KeepsRecord (S.files source.old) (S.files source.new) }
         ensures counted { CountsFailure (S.failed source.old) (S.failed source.new) result }
         ensures honest { ReadsOf H.digest self.old self.new (S.may_answer source.old) result
             (λ entries reader. IsReaderOf H.digest (take size entries) reader) }

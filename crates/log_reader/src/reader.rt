@@ -2,7 +2,7 @@
 ghost use Rattle.std.specs.Prelude.{◌≡◌, ◌≢◌, ◌↔◌, ◌+◌, ◌-◌, ◌/◌, ◌%◌, ◌<◌, ◌≤◌, [], ◌∷◌, IfOk, IfErr, IsTrue, OnOk, drop, map};
 ghost use Rattle.tlog_shape.specs.Edge.{edge_index_of};
 ghost use Rattle.mirror_sources.specs.Source.{StaysWithin};
-ghost use Rattle.mirror_sources.specs.Told.{KeepsTold};
+ghost use Rattle.mirror_sources.specs.Recorded.{KeepsRecord};
 ghost use Rattle.log_reader.specs.Faults.{CountsFailure};
 ghost use Rattle.log_reader.specs.Holding.{IsReaderOf, ReadsLog};
 ghost use Rattle.log_reader.specs.EdgeRows.{hash_of_edge};
@@ -88,7 +88,7 @@ impl<H: TreeHash> LogReader<H> {
         ensures size { IfOk result (λ reader. reader.edge.size ≡ size) }
         ensures root { IfOk result (λ reader. reader.root ≡ root.now) }
         ensures later { StaysWithin (S.may_answer source.old) (S.may_answer source.new) }
-        ensures kept { KeepsTold (S.files source.old) (S.files source.new) }
+        ensures kept { KeepsRecord (S.files source.old) (S.files source.new) }
         ensures counted { CountsFailure (S.failed source.old) (S.failed source.new) result }
         ensures honest { ReadsLog H.digest size root.now (S.may_answer source.old) result
             (λ entries reader. IsReaderOf H.digest entries reader) }

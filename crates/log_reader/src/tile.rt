@@ -2,7 +2,7 @@
 ghost use Rattle.std.specs.Prelude.{◌≡◌, ◌*◌, ℕ, IfOk, List};
 ghost use Rattle.tlog_hash.specs.Rows.{level_row};
 ghost use Rattle.mirror_sources.specs.Source.{StaysWithin};
-ghost use Rattle.mirror_sources.specs.Told.{KeepsTold};
+ghost use Rattle.mirror_sources.specs.Recorded.{KeepsRecord};
 ghost use Rattle.log_reader.specs.Faults.{CountsFailure};
 ghost use Rattle.log_reader.specs.Holding.{IsSourceOf, IsTileHash, ReadsTrue};
 ghost use Rattle.log_reader.specs.Verified.{IsVerifiedRow};
@@ -24,7 +24,7 @@ pub(crate) fn read_tile<H: TreeHash, S: Source>(
 ) -> Result<Vec<Hash>, ReadFault>
     ensures row { IfOk result (λ row. IsVerifiedRow H.digest hash.now row.items) }
     ensures later { StaysWithin (S.may_answer source.old) (S.may_answer source.new) }
-    ensures kept { KeepsTold (S.files source.old) (S.files source.new) }
+    ensures kept { KeepsRecord (S.files source.old) (S.files source.new) }
     ensures counted { CountsFailure (S.failed source.old) (S.failed source.new) result }
     ensures honest { (entries : List (List ℕ)) → IsTileHash H.digest entries level index hash.now
         → IsSourceOf H.digest entries (S.may_answer source.old) → ReadsTrue result

@@ -3,7 +3,7 @@ ghost use Rattle.std.specs.Prelude.{◌≡◌, ◌*◌, ◌%◌, ◌≤◌, ⊤,
 ghost use Rattle.tlog_shape.specs.Edge.{edge_index_of};
 ghost use Rattle.tlog_hash.specs.Rows.{level_row};
 ghost use Rattle.mirror_sources.specs.Source.{StaysWithin};
-ghost use Rattle.mirror_sources.specs.Told.{KeepsTold};
+ghost use Rattle.mirror_sources.specs.Recorded.{KeepsRecord};
 ghost use Rattle.log_reader.specs.Faults.{CountsFailure};
 ghost use Rattle.log_reader.specs.Holding.{IsBelow, IsReaderOf, IsSourceOf, ReadsOf, ReadsTrue, true_row};
 ghost use Rattle.log_reader.specs.Ways.{IsRowUnder, IsShownRow, row_of_way};
@@ -41,7 +41,7 @@ fn read_below<H: TreeHash, S: Source>(
     ensures row { IfOk result (λ row. IsRowUnder H.digest
         (row_of_way reader.now.edge reader.now.level reader.now.way) (index % 256) row.items) }
     ensures later { StaysWithin (S.may_answer source.old) (S.may_answer source.new) }
-    ensures kept { KeepsTold (S.files source.old) (S.files source.new) }
+    ensures kept { KeepsRecord (S.files source.old) (S.files source.new) }
     ensures counted { CountsFailure (S.failed source.old) (S.failed source.new) result }
     ensures honest { (entries : List (List ℕ)) → IsReaderOf H.digest entries reader.now
         → IsSourceOf H.digest entries (S.may_answer source.old) → IsBelow reader.now level index
@@ -74,7 +74,7 @@ pub(crate) fn go_to<H: TreeHash, S: Source>(
     ensures root { reader.new.root ≡ reader.old.root }
     ensures there { OnOk result ((reader.new.level ≡ level) × (reader.new.index ≡ index)) }
     ensures later { StaysWithin (S.may_answer source.old) (S.may_answer source.new) }
-    ensures kept { KeepsTold (S.files source.old) (S.files source.new) }
+    ensures kept { KeepsRecord (S.files source.old) (S.files source.new) }
     ensures counted { CountsFailure (S.failed source.old) (S.failed source.new) result }
     ensures honest { ReadsOf H.digest reader.old reader.new (S.may_answer source.old) result
         (λ entries _. ⊤) }
@@ -128,7 +128,7 @@ impl<H: TreeHash> LogReader<H> {
         ensures shown { IfOk result
             (λ row. IsShownRow H.digest self.old.edge level index row.items) }
         ensures later { StaysWithin (S.may_answer source.old) (S.may_answer source.new) }
-        ensures kept { KeepsTold (S.files source.old) (S.files source.new) }
+        ensures kept { KeepsRecord (S.files source.old) (S.files source.new) }
         ensures counted { CountsFailure (S.failed source.old) (S.failed source.new) result }
         ensures honest { ReadsOf H.digest self.old self.new (S.may_answer source.old) result
             (λ entries row. row.items ≡ true_row H.digest entries level index) }

@@ -28,8 +28,8 @@ fn main(rt: HostRuntime) -> anyhow::Result<ExitCode> {
         eprintln!(&rt; "usage: look ORIGIN KEYS FOLDER..")?;
         return Ok(ExitCode::from(2));
     }
-    let bytes = told(&rt, &words[1], fs::read(&rt, words[1].as_str()))?;
-    let lines = told(&rt, &words[1], read_keys(rt.alloc(), &bytes))?;
+    let bytes = printed(&rt, &words[1], fs::read(&rt, words[1].as_str()))?;
+    let lines = printed(&rt, &words[1], read_keys(rt.alloc(), &bytes))?;
     let mut output = rt.stdout();
     let status = look::<Sha256Tree, HostRuntime, _>(
         &rt,
@@ -42,7 +42,7 @@ fn main(rt: HostRuntime) -> anyhow::Result<ExitCode> {
 }
 
 // The answer; where it is a fault, the name of the file or folder is written to standard error first.
-fn told<T, E>(rt: &impl Eprint, name: &str, answer: Result<T, E>) -> Result<T, E> {
+fn printed<T, E>(rt: &impl Eprint, name: &str, answer: Result<T, E>) -> Result<T, E> {
     if answer.is_err() {
         let _ = eprintln!(rt; "look: {name}");
     }
@@ -79,7 +79,7 @@ fn look_under<H: TreeHash, R: AllocGlobal + Files + Eprint, W: Write>(
     let mut mirror = Mirror::<H>::new(rt.alloc(), origin)?;
     for folder in folders {
         let pulled = pull_folder(rt, &mut mirror, keys, folder, output);
-        told(rt, folder, pulled)?;
+        printed(rt, folder, pulled)?;
     }
     report(rt.alloc(), &mut mirror, output)
 }

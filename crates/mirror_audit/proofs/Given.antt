@@ -9,7 +9,7 @@ use Rattle.tlog_tiles.specs.declared.paths.Path.{Path}
 use Rattle.mirror_sources.specs.Files.{full_of, width_named}
 use Rattle.mirror_sources.specs.Replies.{Reply, reply, asked_paths, MayReply}
 use Rattle.mirror_sources.specs.Source.{StaysWithin}
-use Rattle.mirror_sources.specs.Told.{AddsTold}
+use Rattle.mirror_sources.specs.Recorded.{AddsToRecord}
 use Rattle.mirror_audit.specs.Answering.{AreGiven, IsHad}
 use Rattle.mirror_audit.specs.Edges.{IsFullGiven, IsGivenAt}
 
@@ -25,36 +25,36 @@ may_before : (may later : Path → Option (List ℕ) → Type 0) (xs : List Repl
 may_before may later [] s h = tt
 may_before may later (x ∷ xs) s h = (s.stays x.path x.found h.0, may_before may later xs s h.1)
 
-adds_then : (a b c : Option (List Path)) (xs ys : List Path) → AddsTold a b xs → AddsTold b c ys →
-    AddsTold a c (xs ++ ys)
+adds_then : (a b c : Option (List Path)) (xs ys : List Path) → AddsToRecord a b xs → AddsToRecord b c ys →
+    AddsToRecord a c (xs ++ ys)
 adds_then None b c xs ys p q = tt
 adds_then (Some us) None c xs ys p q = absurd p
 adds_then (Some us) (Some vs) None xs ys p q = absurd q
 adds_then (Some us) (Some vs) (Some ws) xs ys p q = q ∙ (ap (λ (l : List Path). l ++ ys) p ∙ append_assoc us xs ys)
 
-told_same : (x : Option (List Path)) → AddsTold x x []
-told_same None = tt
-told_same (Some xs) = sym (append-nil xs)
+recorded_same : (x : Option (List Path)) → AddsToRecord x x []
+recorded_same None = tt
+recorded_same (Some xs) = sym (append-nil xs)
 
 pub given_none : (may : Path → Option (List ℕ) → Type 0) (x : Option (List Path)) → AreGiven may may x x []
 given_none may x = record {
   stays = record { stays = λ path answer h. h };
   may_reply = tt;
-  told = told_same x;
+  recorded = recorded_same x;
 }
 
 pub given_one : (may later : Path → Option (List ℕ) → Type 0) (x y : Option (List Path)) (path : Path)
-    (found : Option (List ℕ)) → StaysWithin may later → may path found → AddsTold x y (path ∷ []) →
+    (found : Option (List ℕ)) → StaysWithin may later → may path found → AddsToRecord x y (path ∷ []) →
     AreGiven may later x y (reply path found ∷ [])
-given_one may later x y path found stays h told = record { stays = stays; may_reply = (h, tt); told = told }
+given_one may later x y path found stays h recorded = record { stays = stays; may_reply = (h, tt); recorded = recorded }
 
 pub given_then : (a b c : Path → Option (List ℕ) → Type 0) (x y z : Option (List Path)) (p q : List Reply) →
     AreGiven a b x y p → AreGiven b c y z q → AreGiven a c x z (p ++ q)
 given_then a b c x y z p q f g = record {
   stays = record { stays = λ path answer h. f.stays.stays path answer (g.stays.stays path answer h) };
   may_reply = may_append a p q f.may_reply (may_before a b q f.stays g.may_reply);
-  told = subst (λ l. AddsTold x z l) (sym (map-append (λ (r : Reply). r.path) p q))
-      (adds_then x y z (asked_paths p) (asked_paths q) f.told g.told);
+  recorded = subst (λ l. AddsToRecord x z l) (sym (map-append (λ (r : Reply). r.path) p q))
+      (adds_then x y z (asked_paths p) (asked_paths q) f.recorded g.recorded);
 }
 
 -- ---- what was given

@@ -14,7 +14,7 @@ use Rattle.tlog_tiles.proofs.TileLemmas.{row_folds}
 use Rattle.mirror_sources.specs.Honest.{true_bytes}
 use Rattle.mirror_sources.specs.Replies.{Reply, asked_paths, reply}
 use Rattle.mirror_sources.specs.Source.{StaysWithin}
-use Rattle.mirror_sources.specs.Told.{AddsTold}
+use Rattle.mirror_sources.specs.Recorded.{AddsToRecord}
 use Rattle.mirror_audit.specs.Answering.{IsHad}
 use Rattle.mirror_audit.specs.Covering.{Covers, CoversRow, CoversTile, HasAt, IsFullIn, IsRowFound}
 use Rattle.mirror_audit.proofs.Given.{first_of, given_then, had_left, had_right}
@@ -68,7 +68,7 @@ module _ (digest : List ℕ → List ℕ) (level index : ℕ) (row : List (List 
     given = record {
       stays = record { stays = λ path answer h. p.given.stays.stays path answer (stays.stays path answer h) };
       may_reply = p.given.may_reply;
-      told = subst (λ w. AddsTold x w (asked_paths p.replies)) (sym same) p.given.told;
+      recorded = subst (λ w. AddsToRecord x w (asked_paths p.replies)) (sym same) p.given.recorded;
     };
     size_is = p.size_is;
     short = p.short;

@@ -6,7 +6,7 @@ use Rattle.tlog_tiles.specs.declared.paths.Path.TheVariants.{Checkpoint, Tile, E
 use Rattle.mirror_sources.specs.Files.{full_of, width_named}
 use Rattle.mirror_sources.specs.Replies.{Reply, reply, asked_paths, MayReply}
 use Rattle.mirror_sources.specs.Source.{StaysWithin}
-use Rattle.mirror_sources.specs.Told.{AddsTold}
+use Rattle.mirror_sources.specs.Recorded.{AddsToRecord}
 
 -- a tree of n entries has the tile or the bundle: a full one, or the partial one of its level
 abbrev pub IsTreeFile : ℕ → Path → Type 0
@@ -30,4 +30,4 @@ pub record AreGiven (may later : Path → Option (List ℕ) → Type 0) (old new
     : Type 0 where
   pub stays : StaysWithin may later
   pub may_reply : MayReply may replies
-  pub told : AddsTold old new (asked_paths replies)
+  pub recorded : AddsToRecord old new (asked_paths replies)

@@ -5,7 +5,7 @@ use Rattle.tlog_tiles.specs.declared.paths.Path.TheVariants.{Checkpoint}
 use Rattle.mirror_model.specs.declared.fault.TakeFault.{TakeFault}
 use Rattle.mirror_model.specs.declared.fault.TakeFault.TheVariants as take
 use Rattle.mirror_sources.specs.Files.{full_of}
-use Rattle.mirror_sources.specs.Told.{Rose}
+use Rattle.mirror_sources.specs.Recorded.{Rose}
 use Rattle.mirror_sources.specs.declared.source.SourceFault.{SourceFault}
 use Rattle.mirror_sources.specs.declared.source.SourceFault.TheVariants as source
 use Rattle.mirror_audit.specs.declared.fault.AuditFault.{AuditFault}

@@ -37,7 +37,7 @@ pub(crate) fn expect_bundles<S: Source>(
 )
     requires { next + left < 2 ^ 64 }
     ensures later { StaysWithin (S.may_answer source.old) (S.may_answer source.new) }
-    ensures told { S.asked source.new ≡ S.asked source.old }
+    ensures recorded { S.asked source.new ≡ S.asked source.old }
     ensures counted { S.failed source.new ≡ S.failed source.old }
 {
     if level != 1 {

@@ -59,7 +59,7 @@ fn send_one<S: Read + Write + Drop>(
 }
 
 // The place of the request for that path, if it is out.
-fn place_of<S: Drop>(sent: &[Sent<S>], path: &Path) -> Option<usize>
+fn find_sent<S: Drop>(sent: &[Sent<S>], path: &Path) -> Option<usize>
     ensures within { IfSome result (λ i. i < length sent.now) }
     ensures found { IfSome result
         (λ i. (one : _) → (slice_index_or sent.now i one).path ≡ path.now) }
@@ -105,7 +105,7 @@ impl<S: Read + Write + Drop> Ahead<S> {
             if self.sent.len() >= self.room {
                 return;
             }
-            if place_of(&self.sent, path).is_none()
+            if find_sent(&self.sent, path).is_none()
                 && !self.keep(send_one(alloc, dial.dial(), site, path))
             {
                 self.room = self.sent.len();
@@ -131,7 +131,7 @@ impl<S: Read + Write + Drop> Ahead<S> {
             (record { path = path.now; stream = stream })) }
         ensures most { self.new.most ≡ self.old.most }
     {
-        let i = place_of(&self.sent, path)?;
+        let i = find_sent(&self.sent, path)?;
         let Sent { path: _, stream } = self.sent.remove(i);
         Some(stream)
     }

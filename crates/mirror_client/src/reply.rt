@@ -25,7 +25,7 @@ fn framing_of(buf: &[u8], headers: &[HeaderSpan]) -> Framing
 }
 
 // The status of the head at the start, what it says of the body, and where what follows it begins.
-fn head_of(front: &[u8]) -> Option<(u16, Framing, usize)>
+fn parse_front(front: &[u8]) -> Option<(u16, Framing, usize)>
     ensures found { IfSome result (λ r. (h : ResponseHead)
         × ReadsResponse front.now h (drop r.2 front.now) × (length h.fields ≤ MAX_FIELDS)
         × (r.0 ≡ status_code h) × FramingIs (fields_of h) r.1 × (r.2 ≤ length front.now)) }
@@ -102,7 +102,7 @@ pub fn read_reply(bytes: &[u8]) -> Result<Option<&[u8]>, ReplyFault>
     ensures { ReadsReply bytes.now (seen option_copied result) }
 {
     let front = &bytes[..bytes.len().min(MAX_HEAD_LEN)];
-    let Some((status, framing, len)) = head_of(front) else {
+    let Some((status, framing, len)) = parse_front(front) else {
         return Err(ReplyFault::BadReply);
     };
     body_after_head(status, framing, &bytes[len..])

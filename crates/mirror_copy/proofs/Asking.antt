@@ -7,22 +7,22 @@ use Rattle.std.proofs.lemmas.List.{append-nil, get_or_default, length-set, get_o
 use Rattle.std.proofs.lemmas.List.Elements.{All-nil, All-append, All-weaker}
 use Rattle.tlog_tiles.specs.declared.paths.Path.{Path}
 use Rattle.mirror_sources.specs.Source.{StaysWithin}
-use Rattle.mirror_sources.specs.Told.{AddsTold}
+use Rattle.mirror_sources.specs.Recorded.{AddsToRecord}
 use Rattle.mirror_copy.specs.declared.place.Place.{Place}
 use Rattle.mirror_copy.specs.declared.places.Places.{Places}
 use Rattle.mirror_copy.specs.Asked.{IsAskedInVain, IsAskedInTurn, IsEdgeBundle, IsEdgeBundleOrNew, IsEdgeTile, IsNewFull, MayBeAsked}
 use Rattle.mirror_copy.specs.PlaceGets.{RoseTimes, IsAskedFor, APlaceFailed, AsksPlaces}
 
-told_same : {X : Type 0} (a : Option (List X)) → AddsTold a a []
-told_same None = tt
-told_same (Some xs) = sym (append-nil xs)
+recorded_same : {X : Type 0} (a : Option (List X)) → AddsToRecord a a []
+recorded_same None = tt
+recorded_same (Some xs) = sym (append-nil xs)
 
-told_then : {X : Type 0} (a b c : Option (List X)) (xs ys : List X) → AddsTold a b xs → AddsTold b c ys →
-    AddsTold a c (xs ++ ys)
-told_then None b c xs ys p q = tt
-told_then (Some us) None c xs ys p q = absurd p
-told_then (Some us) (Some vs) None xs ys p q = absurd q
-told_then {X} (Some us) (Some vs) (Some ws) xs ys p q = q ∙ (ap (λ (l : List X). l ++ ys) p ∙ append_assoc us xs ys)
+recorded_then : {X : Type 0} (a b c : Option (List X)) (xs ys : List X) → AddsToRecord a b xs → AddsToRecord b c ys →
+    AddsToRecord a c (xs ++ ys)
+recorded_then None b c xs ys p q = tt
+recorded_then (Some us) None c xs ys p q = absurd p
+recorded_then (Some us) (Some vs) None xs ys p q = absurd q
+recorded_then {X} (Some us) (Some vs) (Some ws) xs ys p q = q ∙ (ap (λ (l : List X). l ++ ys) p ∙ append_assoc us xs ys)
 
 some_same : {X : Type 0} (a b : Option X) → b ≡ a → IsSome a → IsSome b
 some_same a b e h = subst (λ o. IsSome o) (sym e) h
@@ -40,7 +40,7 @@ module _ {S : Type 0} (may : S → Path → Option (List ℕ) → Type 0) (faile
   asked_same so a = record {
     later = record { stays = λ path answer h. h };
     paths = [];
-    told = told_same (asked a.source);
+    recorded = recorded_same (asked a.source);
     are_so = All-nil so;
     more = omega arith;
     counted = (λ none. refl, λ some. absurd (omega arith));
@@ -53,7 +53,7 @@ module _ {S : Type 0} (may : S → Path → Option (List ℕ) → Type 0) (faile
   asked_then so a b c p q = record {
     later = record { stays = λ path answer h. p.later.stays path answer (q.later.stays path answer h) };
     paths = p.paths ++ q.paths;
-    told = told_then (asked a.source) (asked b.source) (asked c.source) p.paths q.paths p.told q.told;
+    recorded = recorded_then (asked a.source) (asked b.source) (asked c.source) p.paths q.paths p.recorded q.recorded;
     are_so = All-append so p.paths q.paths p.are_so q.are_so;
     more = let m = p.more in let n = q.more in omega arith;
     counted = subst (λ (n : ℕ). RoseTimes n (failed a.source) (failed c.source))
@@ -70,7 +70,7 @@ module _ {S : Type 0} (may : S → Path → Option (List ℕ) → Type 0) (faile
   asked_weaker so also f a b p = record {
     later = p.later;
     paths = p.paths;
-    told = p.told;
+    recorded = p.recorded;
     are_so = All-weaker so also f p.paths p.are_so;
     more = p.more;
     counted = p.counted;
@@ -82,10 +82,10 @@ module _ {S : Type 0} (may : S → Path → Option (List ℕ) → Type 0) (faile
   pub asked_hint : (so : Path → Type 0) (a b : Place S) → StaysWithin (may a.source) (may b.source) →
       asked b.source ≡ asked a.source → failed b.source ≡ failed a.source → b.failures ≡ a.failures →
       b.first_wrong ≡ a.first_wrong → (8 ≤ a.failures → b.source ≡ a.source) → IsAskedFor may failed asked so a b
-  asked_hint so a b later told counted same first given = record {
+  asked_hint so a b later recorded counted same first given = record {
     later = later;
     paths = [];
-    told = subst (λ o. AddsTold (asked a.source) o []) (sym told) (told_same (asked a.source));
+    recorded = subst (λ o. AddsToRecord (asked a.source) o []) (sym recorded) (recorded_same (asked a.source));
     are_so = All-nil so;
     more = omega (arith, same);
     counted = (λ none. counted, λ some. absurd (omega (arith, same, some)));

@@ -3,7 +3,7 @@ use Rattle.std.proofs.Common.{◌≡◌, ◌⊎◌, inl, inr, ℕ, ◌<◌, List
 use Rattle.tlog_tiles.specs.declared.paths.Path.{Path}
 use Rattle.mirror_model.specs.Heads.{IsHead}
 use Rattle.tlog_tiles.specs.declared.paths.Path.TheVariants.{Checkpoint}
-use Rattle.mirror_folders.specs.Shelf.{Put, TellsRead}
+use Rattle.mirror_folders.specs.Shelf.{Put, RecordsRead}
 use Rattle.mirror_copy.specs.AskedForCopy.{BlamesFailed, RefusesNote}
 use Rattle.mirror_copy.specs.Faults.{BlamesFrom, BlamesPlaces, IsOfNoPlace}
 use Rattle.mirror_copy.specs.Found.{IsTipRead}
@@ -129,7 +129,7 @@ module _ (digest : List ℕ → List ℕ) (origin note : List ℕ) (puts : Optio
         is_head = head;
         upto = h.1;
         not_none = λ held is none.
-            let gone = none_found held tip.checkpoint (subst (λ o. TellsRead o Checkpoint tip.checkpoint) is t.checkpoint) none in
+            let gone = none_found held tip.checkpoint (subst (λ o. RecordsRead o Checkpoint tip.checkpoint) is t.checkpoint) none in
             let upto = h.1 in
             h.2 (omega (arith, upto, t.empty gone)) gone;
       })

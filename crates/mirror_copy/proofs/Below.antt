@@ -10,12 +10,12 @@ use Rattle.tlog_shape.proofs.Levels.{level_positive, level_next, shift_level}
 use Rattle.tlog_tiles.specs.declared.paths.Path.{Path}
 use Rattle.tlog_tiles.specs.declared.paths.Path.TheVariants.{Checkpoint, Tile, Entries}
 use Rattle.tlog_tiles.specs.Tiles.{IsWithin, IsTileWithin}
-use Rattle.mirror_sources.specs.Told.{KeepsTold, AddsTold}
+use Rattle.mirror_sources.specs.Recorded.{KeepsRecord, AddsToRecord}
 use Rattle.mirror_sources.specs.Honest.{true_bytes}
 use Rattle.mirror_folders.specs.Shelf.{Put, Stands}
 use Rattle.mirror_export.proofs.Standing.{stands_more}
-use Rattle.mirror_folders.specs.Shelf.{TellsRead}
-use Rattle.mirror_copy.specs.Standing.{TellsStands}
+use Rattle.mirror_folders.specs.Shelf.{RecordsRead}
+use Rattle.mirror_copy.specs.Standing.{RecordsStands}
 use Rattle.mirror_copy.specs.Growing.{IsBelow, IsNewFile, Obtains, HoldsBelow}
 use Rattle.mirror_copy.proofs.Prefixes.{bytes_front}
 
@@ -105,19 +105,19 @@ below_bundle index (Entries i width) h =
 -- ---- what stands
 
 -- a file that is read, and kept
-pub tells_read : (x y : Option (List Put)) (path : Path) (bytes : List ℕ) → KeepsTold x y →
-    TellsRead x path (Some bytes) → TellsStands x y path bytes
-tells_read None y path bytes k h = tt
-tells_read (Some xs) None path bytes k h = k
-tells_read (Some xs) (Some ys) path bytes k h = subst (λ (l : List Put). Stands l path bytes) (sym k) h
+pub records_read : (x y : Option (List Put)) (path : Path) (bytes : List ℕ) → KeepsRecord x y →
+    RecordsRead x path (Some bytes) → RecordsStands x y path bytes
+records_read None y path bytes k h = tt
+records_read (Some xs) None path bytes k h = k
+records_read (Some xs) (Some ys) path bytes k h = subst (λ (l : List Put). Stands l path bytes) (sym k) h
 
 -- a file that is put
-pub tells_put : (x y z : Option (List Put)) (path : Path) (bytes : List ℕ) → KeepsTold x y →
-    AddsTold y z ((path, bytes) ∷ []) → TellsStands x z path bytes
-tells_put None y z path bytes k h = tt
-tells_put (Some xs) None z path bytes k h = absurd k
-tells_put (Some xs) (Some ys) None path bytes k h = h
-tells_put (Some xs) (Some ys) (Some zs) path bytes k h = record {
+pub records_put : (x y z : Option (List Put)) (path : Path) (bytes : List ℕ) → KeepsRecord x y →
+    AddsToRecord y z ((path, bytes) ∷ []) → RecordsStands x z path bytes
+records_put None y z path bytes k h = tt
+records_put (Some xs) None z path bytes k h = absurd k
+records_put (Some xs) (Some ys) None path bytes k h = h
+records_put (Some xs) (Some ys) (Some zs) path bytes k h = record {
   before = ys;
   after = [];
   puts_are = h;
@@ -125,34 +125,34 @@ tells_put (Some xs) (Some ys) (Some zs) path bytes k h = record {
 }
 
 -- what stood after a later beginning
-pub tells_earlier : (x y z : Option (List Put)) (puts : List Put) (path : Path) (bytes : List ℕ) → AddsTold x y puts →
-    TellsStands y z path bytes → TellsStands x z path bytes
-tells_earlier None y z puts path bytes t h = tt
-tells_earlier (Some xs) None z puts path bytes t h = absurd t
-tells_earlier (Some xs) (Some ys) None puts path bytes t h = h
-tells_earlier (Some xs) (Some ys) (Some zs) puts path bytes t h = h
+pub records_earlier : (x y z : Option (List Put)) (puts : List Put) (path : Path) (bytes : List ℕ) → AddsToRecord x y puts →
+    RecordsStands y z path bytes → RecordsStands x z path bytes
+records_earlier None y z puts path bytes t h = tt
+records_earlier (Some xs) None z puts path bytes t h = absurd t
+records_earlier (Some xs) (Some ys) None puts path bytes t h = h
+records_earlier (Some xs) (Some ys) (Some zs) puts path bytes t h = h
 
 -- what stands stays, where new files are put
-pub tells_later : (x y z : Option (List Put)) (path : Path) (bytes : List ℕ) (puts : List Put) → AddsTold y z puts →
-    ((other : List ℕ) → Contains puts (path, other) → other ≡ bytes) → TellsStands x y path bytes →
-    TellsStands x z path bytes
-tells_later None y z path bytes puts t same h = tt
-tells_later (Some xs) None z path bytes puts t same h = absurd h
-tells_later (Some xs) (Some ys) None path bytes puts t same h = t
-tells_later (Some xs) (Some ys) (Some zs) path bytes puts t same h =
+pub records_later : (x y z : Option (List Put)) (path : Path) (bytes : List ℕ) (puts : List Put) → AddsToRecord y z puts →
+    ((other : List ℕ) → Contains puts (path, other) → other ≡ bytes) → RecordsStands x y path bytes →
+    RecordsStands x z path bytes
+records_later None y z path bytes puts t same h = tt
+records_later (Some xs) None z path bytes puts t same h = absurd h
+records_later (Some xs) (Some ys) None path bytes puts t same h = t
+records_later (Some xs) (Some ys) (Some zs) path bytes puts t same h =
     subst (λ (l : List Put). Stands l path bytes) (sym t) (stands_more ys puts path bytes h same)
 
 module _ (digest : List ℕ → List ℕ) (m : ℕ) where
   -- a file of the entries known stays true and stands, as more is gathered
   pub stands_gathered : (known next : List (List ℕ)) (x y z : Option (List Put)) (path : Path) →
       Obtains digest m known next y z → IsWithin (length known) path →
-      TellsStands x y path (true_bytes digest known path) → TellsStands x z path (true_bytes digest next path)
+      RecordsStands x y path (true_bytes digest known path) → RecordsStands x z path (true_bytes digest next path)
   stands_gathered known next x y z path g within h =
       let same : true_bytes digest next path ≡ true_bytes digest known path =
       ap (λ l. true_bytes digest l path) g.next_is ∙ bytes_front digest known g.more path within in
-      tells_later x y z path (true_bytes digest next path) g.puts g.told
+      records_later x y z path (true_bytes digest next path) g.puts g.recorded
       (λ other has. (All-contains (IsNewFile digest m next) g.puts (path, other) g.are_new has).bytes_are)
-      (subst (λ bytes. TellsStands x y path bytes) (sym same) h)
+      (subst (λ bytes. RecordsStands x y path bytes) (sym same) h)
 
   -- the same of all files below a tile
   pub holds_gathered : (level index : ℕ) (known next : List (List ℕ)) (x y z : Option (List Put)) → level ≤ 7 →

@@ -18,12 +18,12 @@ use Rattle.tlog_tiles.proofs.BundleLemmas.{bundle_one}
 use Rattle.tlog_tiles.proofs.EdgeLemmas.{hashes_of}
 use Rattle.tlog_tiles.proofs.TileLemmas.{row_folds}
 use Rattle.mirror_model.specs.TrueLaws.{AreShort}
-use Rattle.mirror_sources.specs.Told.{KeepsTold, AddsTold}
+use Rattle.mirror_sources.specs.Recorded.{KeepsRecord, AddsToRecord}
 use Rattle.mirror_folders.specs.Shelf.{Put}
 use Rattle.log_reader.specs.Verified.{HasLeaves}
 use Rattle.mirror_copy.proofs.Growth.{gathers_keep, gathers_more, gathers_then, kept_adds}
-use Rattle.mirror_copy.proofs.Below.{below_bundle, stands_gathered, tells_earlier}
-use Rattle.mirror_copy.specs.Standing.{TellsStands}
+use Rattle.mirror_copy.proofs.Below.{below_bundle, stands_gathered, records_earlier}
+use Rattle.mirror_copy.specs.Standing.{RecordsStands}
 use Rattle.mirror_sources.specs.Honest.{true_bytes}
 use Rattle.mirror_copy.specs.Growing.{IsNewFile, Obtains, HoldsBelow, IsKnown, IsBrought, IsCutShort, Tip}
 
@@ -145,8 +145,8 @@ module _ (digest : List ℕ → List ℕ) (tip : Tip) (index width : ℕ) (some_
     bytes_are = h ∙ ap row_text row_is;
   }
 
-  module _ (x y z : Option (List Put)) (kept : KeepsTold x y)
-      (puts : (KeepsTold y z) ⊎ (AddsTold y z ((Entries index width, bytes) ∷ []))) where
+  module _ (x y z : Option (List Put)) (kept : KeepsRecord x y)
+      (puts : (KeepsRecord y z) ⊎ (AddsToRecord y z ((Entries index width, bytes) ∷ []))) where
     pub gathers_bundle : Obtains digest tip.size known next x z
     gathers_bundle = gathers_then digest tip.size known next next x y z
         (gathers_more digest tip.size known more x y short_more kept)
@@ -155,13 +155,13 @@ module _ (digest : List ℕ → List ℕ) (tip : Tip) (index width : ℕ) (some_
     pub bundle_left : IsCutShort digest tip.size known x z
     bundle_left = record { next = next; gathers = gathers_bundle }
 
-    pub bundle_there : TellsStands y z (Entries index width) bytes →
-        TellsStands x z (Entries index width) (true_bytes digest next (Entries index width))
-    bundle_there there = subst (λ b. TellsStands x z (Entries index width) b) new_bundle.bytes_are
-        (tells_earlier x y z [] (Entries index width) bytes (kept_adds x y kept) there)
+    pub bundle_there : RecordsStands y z (Entries index width) bytes →
+        RecordsStands x z (Entries index width) (true_bytes digest next (Entries index width))
+    bundle_there there = subst (λ b. RecordsStands x z (Entries index width) b) new_bundle.bytes_are
+        (records_earlier x y z [] (Entries index width) bytes (kept_adds x y kept) there)
 
     module _ (w : Option (List Put)) (text : List ℕ) (text_is : text ≡ row_text row)
-        (more_puts : (KeepsTold z w) ⊎ (AddsTold z w ((Tile 0 index width, text) ∷ []))) where
+        (more_puts : (KeepsRecord z w) ⊎ (AddsToRecord z w ((Tile 0 index width, text) ∷ []))) where
       gathers_tile : Obtains digest tip.size next next z w
       gathers_tile = gathers_keep digest tip.size next z w (Tile 0 index width, text) more_puts (new_tile text text_is)
 
@@ -171,32 +171,32 @@ module _ (digest : List ℕ → List ℕ) (tip : Tip) (index width : ℕ) (some_
       pub tile_left : IsCutShort digest tip.size known x w
       tile_left = record { next = next; gathers = gathers_all }
 
-      pub bundle_stands : TellsStands y z (Entries index width) bytes →
-          TellsStands x w (Entries index width) (true_bytes digest next (Entries index width))
+      pub bundle_stands : RecordsStands y z (Entries index width) bytes →
+          RecordsStands x w (Entries index width) (true_bytes digest next (Entries index width))
       bundle_stands there =
           stands_gathered digest tip.size next next x z w (Entries index width) gathers_tile within_next
           (bundle_there there)
 
-      pub tile_stands : TellsStands z w (Tile 0 index width) text →
-          TellsStands x w (Tile 0 index width) (true_bytes digest next (Tile 0 index width))
+      pub tile_stands : RecordsStands z w (Tile 0 index width) text →
+          RecordsStands x w (Tile 0 index width) (true_bytes digest next (Tile 0 index width))
       tile_stands there =
-          subst (λ b. TellsStands x w (Tile 0 index width) b) (new_tile text text_is).bytes_are
-          (tells_earlier x z w gathers_bundle.puts (Tile 0 index width) text gathers_bundle.told there)
+          subst (λ b. RecordsStands x w (Tile 0 index width) b) (new_tile text text_is).bytes_are
+          (records_earlier x z w gathers_bundle.puts (Tile 0 index width) text gathers_bundle.recorded there)
 
-      holds : width ≡ 256 → TellsStands y z (Entries index width) bytes → TellsStands z w (Tile 0 index width) text →
+      holds : width ≡ 256 → RecordsStands y z (Entries index width) bytes → RecordsStands z w (Tile 0 index width) text →
           HoldsBelow digest tip.size 0 index next x w
       holds full there row_there path below new =
           elim (below_bundle index path below) [
             | inl tile ↦
                 let at : path ≡ Tile 0 index width = tile ∙ ap (λ n. Tile 0 index n) (sym full) in
-                subst (λ p. TellsStands x w p (true_bytes digest next p)) (sym at) (tile_stands row_there)
+                subst (λ p. RecordsStands x w p (true_bytes digest next p)) (sym at) (tile_stands row_there)
             | inr bundle ↦
                 let at : path ≡ Entries index width = bundle ∙ ap (λ n. Entries index n) (sym full) in
-                subst (λ p. TellsStands x w p (true_bytes digest next p)) (sym at) (bundle_stands there)
+                subst (λ p. RecordsStands x w p (true_bytes digest next p)) (sym at) (bundle_stands there)
           ]
 
       pub bundle_brought : width ≡ 256 → (hash : List ℕ) → fold_of digest row ≡ hash →
-          TellsStands y z (Entries index width) bytes → TellsStands z w (Tile 0 index width) text →
+          RecordsStands y z (Entries index width) bytes → RecordsStands z w (Tile 0 index width) text →
           IsBrought digest tip 0 index hash known x w
       bundle_brought full hash folds there row_there = record {
         next = next;

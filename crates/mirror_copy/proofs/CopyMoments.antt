@@ -22,11 +22,11 @@ use Rattle.mirror_sources.specs.Honest.{true_bytes}
 use Rattle.mirror_copy.specs.Growing.{IsNewFile, Obtains, Tip}
 use Rattle.log_reader.specs.EdgeRows.{Edge}
 use Rattle.mirror_copy.specs.Edges.{IsCopyBrought}
-use Rattle.mirror_copy.specs.Standing.{TellsStands}
+use Rattle.mirror_copy.specs.Standing.{RecordsStands}
 use Rattle.mirror_copy.proofs.Prefixes.{within_more}
-use Rattle.mirror_copy.proofs.Below.{stands_gathered, tells_earlier, tells_later, tells_put}
+use Rattle.mirror_copy.proofs.Below.{stands_gathered, records_earlier, records_later, records_put}
 use Rattle.mirror_copy.proofs.Growth.{kept_same}
-use Rattle.mirror_sources.specs.Told.{AddsTold}
+use Rattle.mirror_sources.specs.Recorded.{AddsToRecord}
 use Rattle.std.proofs.lemmas.List.{append-nil, get_or_append_left, nil_from_length, length-append}
 use Rattle.std.proofs.lemmas.List.Elements.{All-append, All-cons, All-nil}
 use Rattle.mirror_copy.specs.Copies.{IsCopy, NewFilesKeepCopies, BringingMakesCopy, BringingStaysCopy}
@@ -44,7 +44,7 @@ module _ (digest : List ℕ → List ℕ) (origin note : List ℕ) (entries next
   cut : at.so_far ++ at.later ≡ g.puts
   cut = append_cancel_left old (at.so_far ++ at.later) g.puts
       (sym (append_assoc old at.so_far at.later)
-      ∙ (ap (λ (l : List Put). l ++ at.later) (sym at.now_is) ∙ (sym at.new_is ∙ g.told)))
+      ∙ (ap (λ (l : List Put). l ++ at.later) (sym at.now_is) ∙ (sym at.new_is ∙ g.recorded)))
 
   put_new : (put : Put) → Contains at.so_far put → IsNewFile digest (length entries) next put
   put_new put h = All-contains (IsNewFile digest (length entries) next) g.puts put g.are_new
@@ -99,17 +99,17 @@ module _ (digest : List ℕ → List ℕ) (origin note : List ℕ) (tip : Tip) (
   last = (Checkpoint, note) ∷ []
 
   -- what stood before the note was put stands behind it
-  behind : (path : Path) (bytes : List ℕ) → path ≢ Checkpoint → TellsStands (Some old) b.before path bytes →
+  behind : (path : Path) (bytes : List ℕ) → path ≢ Checkpoint → RecordsStands (Some old) b.before path bytes →
       Stands new path bytes
   behind path bytes other h =
-      tells_later (Some old) b.before (Some new) path bytes last b.last
+      records_later (Some old) b.before (Some new) path bytes last b.last
       (λ there has. absurd (other (All-contains (λ (put : Put). put.0 ≡ Checkpoint) last (path, there)
       (All-cons (λ (put : Put). put.0 ≡ Checkpoint) (Checkpoint, note) [] refl (All-nil (λ (put : Put). put.0 ≡ Checkpoint)))
       has))) h
 
   -- a file of the copy before
   of_old : (path : Path) → IsFileOf edge.size path → IsWithin tip.size path →
-      Stands old path (true_bytes digest known path) → TellsStands (Some old) b.before path (true_bytes digest b.next path)
+      Stands old path (true_bytes digest known path) → RecordsStands (Some old) b.before path (true_bytes digest b.next path)
   of_old path file within stands =
       stands_gathered digest tip.size known b.next (Some old) (Some old) b.before path b.gathers
       (subst (λ k. IsWithin k path) (sym long) within) stands
@@ -142,8 +142,8 @@ module _ (digest : List ℕ → List ℕ) (origin note : List ℕ) (tip : Tip) (
 
   by_path : (path : Path) → IsFileOf edge.size path → Stands new path (served_bytes digest note b.next path)
   by_path Checkpoint file =
-      tells_earlier (Some old) b.before (Some new) b.gathers.puts Checkpoint note b.gathers.told
-      (tells_put b.before b.before (Some new) Checkpoint note (kept_same b.before) b.last)
+      records_earlier (Some old) b.before (Some new) b.gathers.puts Checkpoint note b.gathers.recorded
+      (records_put b.before b.before (Some new) Checkpoint note (kept_same b.before) b.last)
   by_path (Tile level index width) file = tile_holds level index width file
   by_path (Entries index width) file = bundle_holds index width file
 
@@ -157,17 +157,17 @@ module _ (digest : List ℕ → List ℕ) (origin note : List ℕ) (tip : Tip) (
   }
 
   -- all that was put
-  all_puts : (before : Option (List Put)) (puts : List Put) → AddsTold (Some old) before puts →
-      AddsTold before (Some new) last → new ≡ old ++ (puts ++ last)
-  all_puts None puts told put = absurd told
-  all_puts (Some ys) puts told put = put ∙ (ap (λ (l : List Put). l ++ last) told ∙ append_assoc old puts last)
+  all_puts : (before : Option (List Put)) (puts : List Put) → AddsToRecord (Some old) before puts →
+      AddsToRecord before (Some new) last → new ≡ old ++ (puts ++ last)
+  all_puts None puts recorded put = absurd recorded
+  all_puts (Some ys) puts recorded put = put ∙ (ap (λ (l : List Put). l ++ last) recorded ∙ append_assoc old puts last)
 
   module _ (old_note : List ℕ) (copy : IsCopy digest origin old_note known old) (now : List Put) (at : IsMoment old new now) where
     split : at.so_far ++ at.later ≡ b.gathers.puts ++ last
     split = append_cancel_left old (at.so_far ++ at.later) (b.gathers.puts ++ last)
         (sym (append_assoc old at.so_far at.later)
         ∙ (ap (λ (l : List Put). l ++ at.later) (sym at.now_is)
-        ∙ (sym at.new_is ∙ all_puts b.before b.gathers.puts b.gathers.told b.last)))
+        ∙ (sym at.new_is ∙ all_puts b.before b.gathers.puts b.gathers.recorded b.last)))
 
     so_far_new : length at.so_far ≤ length b.gathers.puts → (put : Put) → Contains at.so_far put →
         IsNewFile digest tip.size b.next put

@@ -14,8 +14,8 @@ use Rattle.tlog_tiles.proofs.TileLemmas.{served_is_read}
 use Rattle.mirror_model.specs.Heads.{IsHead}
 use Rattle.mirror_model.specs.Strings.{IsDigest}
 use Rattle.mirror_model.proofs.HeadNotes.{head_once}
-use Rattle.mirror_sources.specs.Told.{KeepsTold}
-use Rattle.mirror_folders.specs.Shelf.{HasPut, Put, Stands, TellsRead}
+use Rattle.mirror_sources.specs.Recorded.{KeepsRecord}
+use Rattle.mirror_folders.specs.Shelf.{HasPut, Put, Stands, RecordsRead}
 use Rattle.mirror_export.proofs.AllFiles.{files_are_all, partial_widest}
 use Rattle.log_reader.specs.EdgeRows.{Edge, LeadsTo, RowIsTrue, hash_of_edge, row_at}
 use Rattle.log_reader.specs.Verified.{HasLeaves}
@@ -23,7 +23,7 @@ use Rattle.log_reader.proofs.Prefixes.{true_rows_lead}
 use Rattle.mirror_copy.specs.Copies.{IsCopy}
 use Rattle.mirror_copy.specs.Damaged.{HasOtherRoot, HasWrongBundle, HasWrongEdge, HasWrongRow, IsBundleWrong, IsDamaged, IsEdgeWrong, IsNoHead, IsRowWrong, IsTipWrong}
 use Rattle.mirror_copy.specs.Faults.{BlamesFrom, BlamesPlaces, IsOfNoPlace}
-use Rattle.mirror_copy.specs.Found.{IsEdgeRead, TellsPartial}
+use Rattle.mirror_copy.specs.Found.{IsEdgeRead, RecordsPartial}
 use Rattle.mirror_copy.specs.Growing.{Tip}
 use Rattle.mirror_copy.specs.declared.fault.BringFault.{BringFault}
 use Rattle.mirror_copy.specs.declared.fault.BringFault.TheVariants.{CopyDamaged}
@@ -53,7 +53,7 @@ module _ (digest : List ℕ → List ℕ) (hash : IsDigest digest) (origin note 
 
   -- what is read at the path of a file that stands is that file
   file_read : (path : Path) (bytes : List ℕ) (found : Option (List ℕ)) → Stands held path bytes →
-      TellsPartial (Some held) path found → found ≡ Some bytes
+      RecordsPartial (Some held) path found → found ≡ Some bytes
   file_read path bytes None stands h = absurd (h (stands_has held path bytes stands))
   file_read path bytes (Some other) stands h =
       ap (λ (b : List ℕ). Some b) (stands_one held path other bytes (h (stands_has held path bytes stands)) stands)
@@ -88,8 +88,8 @@ module _ (digest : List ℕ → List ℕ) (hash : IsDigest digest) (origin note 
       let width = width_of n 0 in
       let bytes = bundle_bytes entries index width in
       let some : 1 ≤ width = subst (λ k. 1 ≤ width_of k 0) r.size_is w.some in
-      let read : TellsPartial (Some held) (Entries index width) w.found =
-      subst (λ k. TellsPartial (Some held) (Entries (edge_index_of k 0) (width_of k 0)) w.found) r.size_is w.found_is in
+      let read : RecordsPartial (Some held) (Entries index width) w.found =
+      subst (λ k. RecordsPartial (Some held) (Entries (edge_index_of k 0) (width_of k 0)) w.found) r.size_is w.found_is in
       let found : w.found ≡ Some bytes = file_read (Entries index width) bytes w.found (bundle_stands some) read in
       let whole : 256 * index + width ≡ n = hashes_of n 0 ∙ omega arith in
       let within : IsWithin n (Entries index width) =
@@ -135,7 +135,7 @@ damaged digest hash origin puts w = record {
 
 -- ---- what was read after nothing was put
 
-pub row_wrong_before : (x y : Option (List Put)) (n level : ℕ) → KeepsTold x y → IsRowWrong y n level → IsRowWrong x n level
+pub row_wrong_before : (x y : Option (List Put)) (n level : ℕ) → KeepsRecord x y → IsRowWrong y n level → IsRowWrong x n level
 row_wrong_before x y n level k w = record {
   upto = w.upto;
   some = w.some;
@@ -144,12 +144,12 @@ row_wrong_before x y n level k w = record {
   no_row = w.no_row;
 }
 
-edge_wrong_before : (x y : Option (List Put)) (n : ℕ) (digest : List ℕ → List ℕ) (root : List ℕ) → KeepsTold x y →
+edge_wrong_before : (x y : Option (List Put)) (n : ℕ) (digest : List ℕ → List ℕ) (root : List ℕ) → KeepsRecord x y →
     IsEdgeWrong y n digest root → IsEdgeWrong x n digest root
 edge_wrong_before x y n digest root k (HasWrongRow level w) = HasWrongRow level (row_wrong_before x y n level k w)
 edge_wrong_before x y n digest root k (HasOtherRoot edge r other) = HasOtherRoot edge (edge_before x y n edge k r) other
 
-bundle_wrong_before : (x y : Option (List Put)) (digest : List ℕ → List ℕ) (edge : Edge) → KeepsTold x y →
+bundle_wrong_before : (x y : Option (List Put)) (digest : List ℕ → List ℕ) (edge : Edge) → KeepsRecord x y →
     IsBundleWrong digest y edge → IsBundleWrong digest x edge
 bundle_wrong_before x y digest edge k w = record {
   some = w.some;
@@ -161,13 +161,13 @@ bundle_wrong_before x y digest edge k w = record {
 -- the bundle that was read is wrong
 pub bundle_wrong : (digest : List ℕ → List ℕ) (x : Option (List Put)) (edge : Edge) (index width : ℕ) (row : List (List ℕ))
     (given : Option (Vec ℕ Global)) → index ≡ edge_index_of edge.size 0 → width ≡ width_of edge.size 0 → row ≡ row_at edge 0 →
-    1 ≤ width → TellsPartial x (Entries index width) (option_map (λ v. v.items) given) →
+    1 ≤ width → RecordsPartial x (Entries index width) (option_map (λ v. v.items) given) →
     IfSome given (λ b. HasLeaves digest width b.items row → ⊥) → IsBundleWrong digest x edge
 bundle_wrong digest x edge index width row given at wide row_is some read other = record {
   some = omega (arith, some, wide);
   found = option_map (λ v. v.items) given;
-  found_is = subst (λ k. TellsPartial x (Entries k (width_of edge.size 0)) (option_map (λ v. v.items) given)) at
-      (subst (λ k. TellsPartial x (Entries index k) (option_map (λ v. v.items) given)) wide read);
+  found_is = subst (λ k. RecordsPartial x (Entries k (width_of edge.size 0)) (option_map (λ v. v.items) given)) at
+      (subst (λ k. RecordsPartial x (Entries index k) (option_map (λ v. v.items) given)) wide read);
   no_leaves = by_answer given (subst (λ k. IfSome given (λ b. HasLeaves digest k b.items (row_at edge 0) → ⊥)) wide
       (subst (λ (r : List (List ℕ)). IfSome given (λ b. HasLeaves digest width b.items r → ⊥)) row_is other));
 }
@@ -178,8 +178,8 @@ bundle_wrong digest x edge index width row given at wide row_is some read other 
     by_answer None h = tt
     by_answer (Some v) h = h
 
-module _ (digest : List ℕ → List ℕ) (hash : IsDigest digest) (origin : List ℕ) (x y : Option (List Put)) (kept : KeepsTold x y)
-    (note : List ℕ) (there : TellsRead x Checkpoint (Some note)) where
+module _ (digest : List ℕ → List ℕ) (hash : IsDigest digest) (origin : List ℕ) (x y : Option (List Put)) (kept : KeepsRecord x y)
+    (note : List ℕ) (there : RecordsRead x Checkpoint (Some note)) where
   pub damaged_head : ((size : ℕ) (root : List ℕ) → IsHead note origin size root → ⊥) → IsDamaged digest origin x
   damaged_head other = damaged digest hash origin x (IsNoHead note there other)
 
@@ -189,7 +189,7 @@ module _ (digest : List ℕ → List ℕ) (hash : IsDigest digest) (origin : Lis
         (HasWrongEdge note there size root head (edge_wrong_before x y size digest root kept w))
 
     pub damaged_bundle : (edge : Edge) → IsEdgeRead y size edge → LeadsTo digest size root edge → (z : Option (List Put)) →
-        KeepsTold y z → (e : BringFault) → ((e ≡ CopyDamaged) × IsBundleWrong digest z edge) ⊎ IsOfNoPlace e →
+        KeepsRecord y z → (e : BringFault) → ((e ≡ CopyDamaged) × IsBundleWrong digest z edge) ⊎ IsOfNoPlace e →
         ((e ≡ CopyDamaged) × IsDamaged digest origin x) ⊎ IsOfNoPlace e
     damaged_bundle edge r leads z still e (inr h) = inr h
     damaged_bundle edge r leads z still e (inl h) = inl (

@@ -3,10 +3,10 @@ use Rattle.std.proofs.Common.{◌≡◌, ℕ, ◌+◌, ◌*◌, ◌^◌, ◌≤�
 use Rattle.std.proofs.Common.{◌∙◌}
 use Rattle.std.proofs.Math.Nat.{div-mul-le_self}
 use Rattle.tlog_shape.specs.Edge.{edge_index_of}
-use Rattle.mirror_sources.specs.Told.{KeepsTold}
+use Rattle.mirror_sources.specs.Recorded.{KeepsRecord}
 use Rattle.tlog_tiles.specs.declared.paths.Path.{Path}
 use Rattle.mirror_folders.specs.Shelf.{Put, Stands}
-use Rattle.mirror_copy.specs.Standing.{TellsStands}
+use Rattle.mirror_copy.specs.Standing.{RecordsStands}
 use Rattle.mirror_copy.specs.Conflicts.{ConflictPutsNothing, IsConflict, IsNoConflict}
 use Rattle.mirror_copy.specs.declared.fault.BringFault.{BringFault}
 use Rattle.mirror_copy.specs.declared.fault.BringFault.TheVariants.{BadCheckpoint, CopyDamaged, NotLarger, Contradiction}
@@ -16,15 +16,15 @@ use Rattle.mirror_copy.specs.declared.fault.BringFault.TheVariants.{Collision, N
 pub edge_start : (m level index : ℕ) → index ≡ edge_index_of m level → index * 256 ^ (level + 1) ≤ m
 edge_start m level index is = subst (λ k. k * 256 ^ (level + 1) ≤ m) (sym is) (div-mul-le_self m (256 ^ (level + 1)))
 
-pub kept_then : (x y z : Option (List Put)) → KeepsTold x y → KeepsTold y z → KeepsTold x z
+pub kept_then : (x y z : Option (List Put)) → KeepsRecord x y → KeepsRecord y z → KeepsRecord x z
 kept_then None y z p q = tt
 kept_then (Some xs) None z p q = absurd p
 kept_then (Some xs) (Some ys) None p q = q
 kept_then (Some xs) (Some ys) (Some zs) p q = q ∙ p
 
 -- what stood stands while what was put is kept
-pub stands_kept : (x y z : Option (List Put)) (path : Path) (bytes : List ℕ) → TellsStands x y path bytes → KeepsTold y z →
-    TellsStands x z path bytes
+pub stands_kept : (x y z : Option (List Put)) (path : Path) (bytes : List ℕ) → RecordsStands x y path bytes → KeepsRecord y z →
+    RecordsStands x z path bytes
 stands_kept None y z path bytes h k = tt
 stands_kept (Some xs) None z path bytes h k = absurd h
 stands_kept (Some xs) (Some ys) None path bytes h k = absurd k
@@ -51,7 +51,7 @@ early_result {T} start m x y (Err e) h = early_other T start m x y e h
 
 -- a fault of a later part, before which nothing was put if that part began within the m entries
 pub early_later : (S T : Type 0) (start later m : ℕ) (x y z : Option (List Put)) (e : BringFault) →
-    (later ≤ m → (start ≤ m) × KeepsTold x y) → ConflictPutsNothing {T = S} later m y z (Err e) → ConflictPutsNothing {T = T} start m x z (Err e)
+    (later ≤ m → (start ≤ m) × KeepsRecord x y) → ConflictPutsNothing {T = S} later m y z (Err e) → ConflictPutsNothing {T = T} start m x z (Err e)
 early_later S T start later m x y z Contradiction f h = ((f h.0).0, kept_then x y z (f h.0).1 h.1)
 early_later S T start later m x y z Collision f h = ((f h.0).0, kept_then x y z (f h.0).1 h.1)
 early_later S T start later m x y z BadCheckpoint f h = tt
@@ -65,7 +65,7 @@ early_later S T start later m x y z OutOfMemory f h = tt
 
 -- at a conflict nothing was put
 pub conflict_keeps : {T : Type 0} (start m : ℕ) (x y : Option (List Put)) (r : Result T BringFault) →
-    ConflictPutsNothing start m x y r → IfErr r (λ e. IsConflict e → KeepsTold x y)
+    ConflictPutsNothing start m x y r → IfErr r (λ e. IsConflict e → KeepsRecord x y)
 conflict_keeps start m x y (Ok a) h = tt
 conflict_keeps start m x y (Err BadCheckpoint) h = λ c. absurd c
 conflict_keeps start m x y (Err CopyDamaged) h = λ c. absurd c
@@ -91,7 +91,7 @@ no_conflict ShelfFault P h c = absurd c
 no_conflict OutOfMemory P h c = absurd c
 
 -- the same, where what was put before the call was kept
-pub conflict_later : {T : Type 0} (x y z : Option (List Put)) (r : Result T BringFault) → KeepsTold x y →
-    IfErr r (λ e. IsConflict e → KeepsTold y z) → IfErr r (λ e. IsConflict e → KeepsTold x z)
+pub conflict_later : {T : Type 0} (x y z : Option (List Put)) (r : Result T BringFault) → KeepsRecord x y →
+    IfErr r (λ e. IsConflict e → KeepsRecord y z) → IfErr r (λ e. IsConflict e → KeepsRecord x z)
 conflict_later x y z (Ok a) k h = tt
 conflict_later x y z (Err e) k h = λ c. kept_then x y z k (h c)

@@ -16,7 +16,7 @@ use Rattle.log_reader.specs.EdgeRows.{Edge, HasWidths, RowIsTrue, row_at}
 use Rattle.mirror_copy.specs.Edges.{IsEdgeBrought}
 use Rattle.mirror_copy.proofs.Prefixes.{level_row_front}
 use Rattle.mirror_copy.proofs.Growth.{gathers_none, gathers_then, kept_same, known_more}
-use Rattle.mirror_copy.proofs.Below.{holds_gathered, tells_earlier}
+use Rattle.mirror_copy.proofs.Below.{holds_gathered, records_earlier}
 
 -- whole blocks of a level end no later than those of a level below
 pub floor_mono : (n low high : ℕ) → low ≤ high → n / 256 ^ high * 256 ^ high ≤ n / 256 ^ low * 256 ^ low
@@ -140,7 +140,7 @@ module _ (digest : List ℕ → List ℕ) (tip : Tip) (edge : Edge) (known : Lis
               let same : level ≡ l = omega arith in
               let lt_row : k < length row = omega (arith, widths level upto, ap (λ j. width_of n j) same) in
               subst (λ j. HoldsBelow digest m (j - 1) (256 * edge_index_of n j + k) b.next x z) same
-              (λ path below new. tells_earlier x y z e.gathers.puts path (true_bytes digest b.next path) e.gathers.told
+              (λ path below new. records_earlier x y z e.gathers.puts path (true_bytes digest b.next path) e.gathers.recorded
               (b.holds k lt_row path below new))
         ];
       }

@@ -13,18 +13,18 @@ use Rattle.tlog_tiles.specs.declared.paths.Path.{Path}
 use Rattle.tlog_tiles.specs.declared.paths.Path.TheVariants.{Checkpoint, Tile, Entries}
 use Rattle.tlog_tiles.specs.Tiles.{IsWithin}
 use Rattle.tlog_tiles.proofs.EdgeLemmas.{hashes_of}
-use Rattle.mirror_sources.specs.Told.{KeepsTold, AddsTold}
+use Rattle.mirror_sources.specs.Recorded.{KeepsRecord, AddsToRecord}
 use Rattle.mirror_sources.specs.Honest.{true_bytes}
 use Rattle.mirror_folders.specs.Shelf.{Put}
 use Rattle.mirror_export.specs.FileLaws.{IsFileOf, IsWidestIn}
-use Rattle.mirror_copy.specs.Standing.{TellsStands}
+use Rattle.mirror_copy.specs.Standing.{RecordsStands}
 use Rattle.log_reader.specs.Verified.{HasLeaves}
 use Rattle.mirror_copy.specs.Growing.{Obtains, IsBelow, IsKnown, IsCutShort, IsNewFile, Tip}
 use Rattle.log_reader.specs.EdgeRows.{Edge, HasWidths, RowIsTrue, edge_tile, row_at}
 use Rattle.mirror_copy.specs.Edges.{BringsToEdge, PutsNote, BringsEdgeBundle, PutsEdgeTile, IsCopyBrought, IsEdgeBrought, AreEdgeTilesPut, IsEdgeBundleBrought, IsEdgeTilePut}
 use Rattle.mirror_copy.proofs.Prefixes.{level_row_front, within_more}
 use Rattle.mirror_copy.proofs.Growth.{gathers_keep, gathers_none, gathers_then, kept_same}
-use Rattle.mirror_copy.proofs.Below.{below_within, stands_gathered, tells_earlier}
+use Rattle.mirror_copy.proofs.Below.{below_within, stands_gathered, records_earlier}
 use Rattle.mirror_copy.proofs.EdgeRows.{above_within}
 use Rattle.mirror_copy.proofs.Bundles as bundles
 
@@ -56,8 +56,8 @@ module _ (digest : List ℕ → List ℕ) (tip : Tip) (edge : Edge) (widths : Ha
   module _ (width : ℕ) (some : 1 ≤ width) (width_is : width ≡ width_of n 0) (bytes : List ℕ)
       (v : HasLeaves digest width bytes (row_at edge 0))
       (goes_on : edge_index_of n 0 ≡ edge_index_of tip.size 0 → take (length tip.bundle) bytes ≡ tip.bundle)
-      (x y z : Option (List Put)) (kept : KeepsTold x y)
-      (puts : (KeepsTold y z) ⊎ (AddsTold y z ((Entries (edge_index_of n 0) width, bytes) ∷ []))) where
+      (x y z : Option (List Put)) (kept : KeepsRecord x y)
+      (puts : (KeepsRecord y z) ⊎ (AddsToRecord y z ((Entries (edge_index_of n 0) width, bytes) ∷ []))) where
     beyond : tip.size < 256 * edge_index_of n 0 + width
     beyond = omega (arith, whole_size, larger, width_is)
 
@@ -68,7 +68,7 @@ module _ (digest : List ℕ → List ℕ) (tip : Tip) (edge : Edge) (widths : Ha
     last_left = bundles.bundle_left digest tip (edge_index_of n 0) width some wide known is beyond bytes (row_at edge 0) v
         goes_on x y z kept puts
 
-    pub last_some : TellsStands y z (Entries (edge_index_of n 0) width) bytes → IsEdgeBundleBrought digest tip.size edge known x z
+    pub last_some : RecordsStands y z (Entries (edge_index_of n 0) width) bytes → IsEdgeBundleBrought digest tip.size edge known x z
     last_some there =
         let index = edge_index_of n 0 in
         let row = row_at edge 0 in
@@ -80,7 +80,7 @@ module _ (digest : List ℕ → List ℕ) (tip : Tip) (edge : Edge) (widths : Ha
               ∙ (ap (λ w. 256 * index + w) width_is ∙ whole_size);
           row_is = bundles.row_is digest tip index width some wide known is beyond bytes row v goes_on
               ∙ ap (λ w. level_row digest next 0 (256 * index) w) width_is;
-          holds = λ positive. subst (λ w. TellsStands x z (Entries index w) (true_bytes digest next (Entries index w))) width_is
+          holds = λ positive. subst (λ w. RecordsStands x z (Entries index w) (true_bytes digest next (Entries index w))) width_is
               (bundles.bundle_there digest tip index width some wide known is beyond bytes row v goes_on x y z kept puts there);
         }
 
@@ -156,7 +156,7 @@ module _ (digest : List ℕ → List ℕ) (m : ℕ) (edge : Edge) (entries : Lis
   module _ (y z : Option (List Put)) (level : ℕ) (upto : level ≤ 7) (some : 1 ≤ width_of edge.size level)
       (new : IsWithin m (edge_tile edge level) → ⊥) (true_row : RowIsTrue digest edge entries level)
       (bytes : List ℕ) (is : bytes ≡ row_text (row_at edge level))
-      (puts : (KeepsTold y z) ⊎ (AddsTold y z ((edge_tile edge level, bytes) ∷ []))) where
+      (puts : (KeepsRecord y z) ⊎ (AddsToRecord y z ((edge_tile edge level, bytes) ∷ []))) where
     is_new : IsNewFile digest m entries (edge_tile edge level, bytes)
     is_new = record {
       new = new;
@@ -167,10 +167,10 @@ module _ (digest : List ℕ → List ℕ) (m : ℕ) (edge : Edge) (entries : Lis
     pub gathers_tile : Obtains digest m entries entries y z
     gathers_tile = gathers_keep digest m entries y z (edge_tile edge level, bytes) puts is_new
 
-    pub tile_put : TellsStands y z (edge_tile edge level) bytes → IsEdgeTilePut digest m edge entries y z level
+    pub tile_put : RecordsStands y z (edge_tile edge level) bytes → IsEdgeTilePut digest m edge entries y z level
     tile_put there = record {
       gathers = gathers_tile;
-      holds = λ some_l new_l. subst (λ b. TellsStands y z (edge_tile edge level) b) is_new.bytes_are there;
+      holds = λ some_l new_l. subst (λ b. RecordsStands y z (edge_tile edge level) b) is_new.bytes_are there;
     }
 
   pub tile_old : (x : Option (List Put)) (level : ℕ) →
@@ -192,9 +192,9 @@ module _ (digest : List ℕ → List ℕ) (m : ℕ) (edge : Edge) (entries : Lis
           let tile : edge_tile edge level ≡ edge_tile edge l = ap (λ j. edge_tile edge j) (sym same) in
           let there = q.holds (subst (λ j. 1 ≤ width_of edge.size j) same some)
           (subst (λ (t : Path). IsWithin m t → ⊥) (sym tile) new) in
-          subst (λ (t : Path). TellsStands x z t (true_bytes digest entries t)) tile
-          (tells_earlier x y z p.gathers.puts (edge_tile edge level) (true_bytes digest entries (edge_tile edge level))
-          p.gathers.told there)
+          subst (λ (t : Path). RecordsStands x z t (true_bytes digest entries t)) tile
+          (records_earlier x y z p.gathers.puts (edge_tile edge level) (true_bytes digest entries (edge_tile edge level))
+          p.gathers.recorded there)
     ];
   }
 
@@ -292,7 +292,7 @@ module _ (digest : List ℕ → List ℕ) (tip : Tip) (edge : Edge) (known : Lis
         (above_within digest tip edge known widths x y 1 level (omega arith) some e))
   ]
 
-  pub left_put : (w v : Option (List Put)) → Obtains digest m l.next l.next z w → KeepsTold w v → IsCutShort digest m known x v
+  pub left_put : (w v : Option (List Put)) → Obtains digest m l.next l.next z w → KeepsRecord w v → IsCutShort digest m known x v
   left_put w v g kept = record {
     next = l.next;
     gathers = gathers_then digest m known l.next l.next x w v (gathers_then digest m known l.next l.next x z w gathers_two g)
@@ -302,7 +302,7 @@ module _ (digest : List ℕ → List ℕ) (tip : Tip) (edge : Edge) (known : Lis
 module _ (digest : List ℕ → List ℕ) (tip : Tip) (edge : Edge) (note : List ℕ) (known : List (List ℕ))
     (small : edge.size < 9223372036854775808) (widths : HasWidths edge) (x y z w v : Option (List Put))
     (e : IsEdgeBrought digest tip edge known 1 x y) (l : IsEdgeBundleBrought digest tip.size edge e.next y z)
-    (p : AreEdgeTilesPut digest tip.size edge l.next z w 8) (told : AddsTold w v ((Checkpoint, note) ∷ [])) where
+    (p : AreEdgeTilesPut digest tip.size edge l.next z w 8) (recorded : AddsToRecord w v ((Checkpoint, note) ∷ [])) where
   two : Obtains digest tip.size known l.next x z
   two = gathers_two digest tip edge known widths x y z e l
 
@@ -327,7 +327,7 @@ module _ (digest : List ℕ → List ℕ) (tip : Tip) (edge : Edge) (note : List
   -- a full file that was brought below the edge
   full_stands : (path : Path) (level index : ℕ) → (u : IsUnder edge.size level index) →
       IsBelow (u.top - 1) (256 * edge_index_of edge.size u.top + u.k) path → (IsWithin tip.size path → ⊥) →
-      TellsStands x w path (true_bytes digest l.next path)
+      RecordsStands x w path (true_bytes digest l.next path)
   full_stands path level index u below new =
       let upto = u.upto in
       let within : IsWithin (length e.next) path =
@@ -339,7 +339,7 @@ module _ (digest : List ℕ → List ℕ) (tip : Tip) (edge : Edge) (note : List
 
   tile_all : (level index width : ℕ) → IsWidestIn edge.size level index width →
       (IsWithin tip.size (Tile level index width) → ⊥) →
-      TellsStands x w (Tile level index width) (true_bytes digest l.next (Tile level index width))
+      RecordsStands x w (Tile level index width) (true_bytes digest l.next (Tile level index width))
   tile_all level index width file new =
       let fits = file.within in
       let upto = fits.upto in
@@ -349,11 +349,11 @@ module _ (digest : List ℕ → List ℕ) (tip : Tip) (edge : Edge) (note : List
             let is : edge_tile edge level ≡ Tile level index width = λ j. Tile level (sym at.0 j) (sym at.1 j) in
             let some : 1 ≤ width_of edge.size level = subst (λ k. 1 ≤ k) at.1 fits.some in
             let lower : level < 8 = let most = fits.level_fits in omega arith in
-            let there : TellsStands z w (edge_tile edge level) (true_bytes digest l.next (edge_tile edge level)) =
+            let there : RecordsStands z w (edge_tile edge level) (true_bytes digest l.next (edge_tile edge level)) =
             p.holds level lower some (λ old. new (subst (λ (q : Path). IsWithin tip.size q) is old)) in
-            subst (λ (q : Path). TellsStands x w q (true_bytes digest l.next q)) is
-            (tells_earlier x z w two.puts (edge_tile edge level) (true_bytes digest l.next (edge_tile edge level))
-            two.told there)
+            subst (λ (q : Path). RecordsStands x w q (true_bytes digest l.next q)) is
+            (records_earlier x z w two.puts (edge_tile edge level) (true_bytes digest l.next (edge_tile edge level))
+            two.recorded there)
         | inr full ↦
             let whole : width ≡ 256 = omega arith in
             let within : (256 * index + 256) * 256 ^ level ≤ edge.size =
@@ -364,7 +364,7 @@ module _ (digest : List ℕ → List ℕ) (tip : Tip) (edge : Edge) (note : List
 
   bundle_all : (index width : ℕ) → IsWidestIn edge.size 0 index width →
       (IsWithin tip.size (Entries index width) → ⊥) →
-      TellsStands x w (Entries index width) (true_bytes digest l.next (Entries index width))
+      RecordsStands x w (Entries index width) (true_bytes digest l.next (Entries index width))
   bundle_all index width file new =
       let fits = file.within in
       let upto = fits.upto in
@@ -374,12 +374,12 @@ module _ (digest : List ℕ → List ℕ) (tip : Tip) (edge : Edge) (note : List
             let there_path = Entries (edge_index_of edge.size 0) (width_of edge.size 0) in
             let is : there_path ≡ Entries index width = λ j. Entries (sym at.0 j) (sym at.1 j) in
             let some : 1 ≤ width_of edge.size 0 = subst (λ k. 1 ≤ k) at.1 fits.some in
-            let there : TellsStands x z there_path (true_bytes digest l.next there_path) =
-            tells_earlier x y z e.gathers.puts there_path (true_bytes digest l.next there_path) e.gathers.told
+            let there : RecordsStands x z there_path (true_bytes digest l.next there_path) =
+            records_earlier x y z e.gathers.puts there_path (true_bytes digest l.next there_path) e.gathers.recorded
             (l.holds some) in
             stands_gathered digest tip.size l.next l.next x z w (Entries index width) p.gathers
             (subst (λ k. IsWithin k (Entries index width)) (sym l.size_is) fits)
-            (subst (λ (q : Path). TellsStands x z q (true_bytes digest l.next q)) is there)
+            (subst (λ (q : Path). RecordsStands x z q (true_bytes digest l.next q)) is there)
         | inr full ↦
             let whole : width ≡ 256 = omega arith in
             let within : (256 * index + 256) * 256 ^ 0 ≤ edge.size =
@@ -390,7 +390,7 @@ module _ (digest : List ℕ → List ℕ) (tip : Tip) (edge : Edge) (note : List
       ]
 
   all_stand : (path : Path) → path ≢ Checkpoint → IsFileOf edge.size path → (IsWithin tip.size path → ⊥) →
-      TellsStands x w path (true_bytes digest l.next path)
+      RecordsStands x w path (true_bytes digest l.next path)
   all_stand Checkpoint other file new = absurd (other refl)
   all_stand (Tile level index width) other file new = tile_all level index width file new
   all_stand (Entries index width) other file new = bundle_all index width file new
@@ -400,7 +400,7 @@ module _ (digest : List ℕ → List ℕ) (tip : Tip) (edge : Edge) (note : List
     next = l.next;
     before = w;
     gathers = gathers_then digest tip.size known l.next l.next x z w two p.gathers;
-    last = told;
+    last = recorded;
     size_is = l.size_is;
     rows_are = true_rows digest tip edge known widths x y z e l;
     holds = all_stand;
@@ -409,7 +409,7 @@ module _ (digest : List ℕ → List ℕ) (tip : Tip) (edge : Edge) (note : List
 -- the answer of the last put decides
 pub ends_brought : (digest : List ℕ → List ℕ) (tip : Tip) (edge : Edge) (note : List ℕ) (known : List (List ℕ))
     (x w v : Option (List Put)) {T E : Type 0} (r : Result T E) → PutsNote w v note r →
-    (AddsTold w v ((Checkpoint, note) ∷ []) → IsCopyBrought digest tip edge note known x v) →
-    (KeepsTold w v → IsCutShort digest tip.size known x v) → BringsToEdge digest tip edge note known x v r
+    (AddsToRecord w v ((Checkpoint, note) ∷ []) → IsCopyBrought digest tip edge note known x v) →
+    (KeepsRecord w v → IsCutShort digest tip.size known x v) → BringsToEdge digest tip edge note known x v r
 ends_brought digest tip edge note known x w v (Ok a) puts brought cut = brought puts
 ends_brought digest tip edge note known x w v (Err e) puts brought cut = cut puts

@@ -9,22 +9,22 @@ use Rattle.tlog_tiles.specs.Bundle.{bundle_text}
 use Rattle.tlog_tiles.proofs.EdgeLemmas.{hashes_of}
 use Rattle.std.proofs.Math.Nat.{div-mul-le_self}
 use Rattle.mirror_model.specs.TrueLaws.{AreShort}
-use Rattle.mirror_sources.specs.Told.{AddsTold, KeepsTold}
+use Rattle.mirror_sources.specs.Recorded.{AddsToRecord, KeepsRecord}
 use Rattle.mirror_folders.specs.Shelf.{Put}
 use Rattle.mirror_copy.specs.Growing.{IsNewFile, Obtains, IsKnown, IsBrought, IsCutShort, BringsTile, Tip}
 use Rattle.mirror_copy.proofs.Prefixes.{bytes_front, within_more, level_row_front, part_front}
 
-pub kept_adds : (a b : Option (List Put)) → KeepsTold a b → AddsTold a b []
+pub kept_adds : (a b : Option (List Put)) → KeepsRecord a b → AddsToRecord a b []
 kept_adds None b k = tt
 kept_adds (Some xs) None k = absurd k
 kept_adds (Some xs) (Some ys) k = k ∙ sym (append-nil xs)
 
-pub kept_same : (a : Option (List Put)) → KeepsTold a a
+pub kept_same : (a : Option (List Put)) → KeepsRecord a a
 kept_same None = tt
 kept_same (Some xs) = refl
 
-pub adds_then : (a b c : Option (List Put)) (xs ys : List Put) → AddsTold a b xs → AddsTold b c ys →
-    AddsTold a c (xs ++ ys)
+pub adds_then : (a b c : Option (List Put)) (xs ys : List Put) → AddsToRecord a b xs → AddsToRecord b c ys →
+    AddsToRecord a c (xs ++ ys)
 adds_then None b c xs ys p q = tt
 adds_then (Some us) None c xs ys p q = absurd p
 adds_then (Some us) (Some vs) None xs ys p q = absurd q
@@ -38,34 +38,34 @@ module _ (digest : List ℕ → List ℕ) (m : ℕ) where
     bytes_are = h.bytes_are ∙ sym (bytes_front digest a b put.0 h.within);
   }
 
-  pub gathers_none : (known : List (List ℕ)) (old new : Option (List Put)) → KeepsTold old new →
+  pub gathers_none : (known : List (List ℕ)) (old new : Option (List Put)) → KeepsRecord old new →
       Obtains digest m known known old new
   gathers_none known old new kept = record {
     more = [];
     next_is = sym (append-nil known);
     short = All-nil (λ (e : List ℕ). length e < 2 ^ 16);
     puts = [];
-    told = kept_adds old new kept;
+    recorded = kept_adds old new kept;
     are_new = All-nil (IsNewFile digest m known);
   }
 
-  pub gathers_put : (known : List (List ℕ)) (old new : Option (List Put)) (put : Put) → AddsTold old new (put ∷ []) →
+  pub gathers_put : (known : List (List ℕ)) (old new : Option (List Put)) (put : Put) → AddsToRecord old new (put ∷ []) →
       IsNewFile digest m known put → Obtains digest m known known old new
-  gathers_put known old new put told is = record {
+  gathers_put known old new put recorded is = record {
     more = [];
     next_is = sym (append-nil known);
     short = All-nil (λ (e : List ℕ). length e < 2 ^ 16);
     puts = put ∷ [];
-    told = told;
+    recorded = recorded;
     are_new = All-cons (IsNewFile digest m known) put [] is (All-nil (IsNewFile digest m known));
   }
 
   -- a file that was put, if it did not stand yet
   pub gathers_keep : (known : List (List ℕ)) (old new : Option (List Put)) (put : Put) →
-      (KeepsTold old new) ⊎ (AddsTold old new (put ∷ [])) → IsNewFile digest m known put →
+      (KeepsRecord old new) ⊎ (AddsToRecord old new (put ∷ [])) → IsNewFile digest m known put →
       Obtains digest m known known old new
   gathers_keep known old new put (inl kept) is = gathers_none known old new kept
-  gathers_keep known old new put (inr told) is = gathers_put known old new put told is
+  gathers_keep known old new put (inr recorded) is = gathers_put known old new put recorded is
 
   pub gathers_then : (a b c : List (List ℕ)) (x y z : Option (List Put)) → Obtains digest m a b x y →
       Obtains digest m b c y z → Obtains digest m a c x z
@@ -74,18 +74,18 @@ module _ (digest : List ℕ → List ℕ) (m : ℕ) where
     next_is = q.next_is ∙ (ap (λ (l : List (List ℕ)). l ++ q.more) p.next_is ∙ append_assoc a p.more q.more);
     short = All-append (λ (e : List ℕ). length e < 2 ^ 16) p.more q.more p.short q.short;
     puts = p.puts ++ q.puts;
-    told = adds_then x y z p.puts q.puts p.told q.told;
+    recorded = adds_then x y z p.puts q.puts p.recorded q.recorded;
     are_new = All-append (IsNewFile digest m c) p.puts q.puts
         (subst (λ (l : List (List ℕ)). All (IsNewFile digest m l) p.puts) (sym q.next_is)
         (All-weaker (IsNewFile digest m b) (IsNewFile digest m (b ++ q.more)) (new_more b q.more) p.puts p.are_new))
         q.are_new;
   }
 
-  pub left_none : (known : List (List ℕ)) (old new : Option (List Put)) → KeepsTold old new →
+  pub left_none : (known : List (List ℕ)) (old new : Option (List Put)) → KeepsRecord old new →
       IsCutShort digest m known old new
   left_none known old new kept = record { next = known; gathers = gathers_none known old new kept }
 
-  pub left_then : (known : List (List ℕ)) (x y z : Option (List Put)) → KeepsTold x y → IsCutShort digest m known y z →
+  pub left_then : (known : List (List ℕ)) (x y z : Option (List Put)) → KeepsRecord x y → IsCutShort digest m known y z →
       IsCutShort digest m known x z
   left_then known x y z kept b = record {
     next = b.next;
@@ -94,13 +94,13 @@ module _ (digest : List ℕ → List ℕ) (m : ℕ) where
 
   -- entries that are known to be those of the log, before a file of them is put
   pub gathers_more : (known more : List (List ℕ)) (old new : Option (List Put)) → AreShort more →
-      KeepsTold old new → Obtains digest m known (known ++ more) old new
+      KeepsRecord old new → Obtains digest m known (known ++ more) old new
   gathers_more known more old new short kept = record {
     more = more;
     next_is = refl;
     short = short;
     puts = [];
-    told = kept_adds old new kept;
+    recorded = kept_adds old new kept;
     are_new = All-nil (IsNewFile digest m (known ++ more));
   }
 

@@ -4,8 +4,8 @@ use Rattle.tlog_tiles.specs.declared.paths.Path.{Path}
 use Rattle.tlog_tiles.specs.declared.paths.Path.TheVariants.{Checkpoint, Entries, Tile}
 use Rattle.tlog_tiles.specs.Tiles.{IsWithin}
 use Rattle.mirror_sources.specs.Honest.{IsTrueAnswer}
-use Rattle.mirror_sources.specs.Told.{KeepsTold}
-use Rattle.mirror_folders.specs.Shelf.{HasPut, Put, TellsRead}
+use Rattle.mirror_sources.specs.Recorded.{KeepsRecord}
+use Rattle.mirror_folders.specs.Shelf.{HasPut, Put, RecordsRead}
 use Rattle.mirror_model.specs.Heads.{IsHead}
 use Rattle.mirror_model.specs.Strings.{IsDigest}
 use Rattle.mirror_model.proofs.HeadNotes.{head_once}
@@ -76,7 +76,7 @@ module _ (digest : List ℕ → List ℕ) (origin : List ℕ) (log : List (List 
   module _ (tip : Tip) (t : IsTipRead digest origin puts tip) where
     none_there : (held : List Put) → puts ≡ Some held → (HasPut held Checkpoint → ⊥) → tip.checkpoint ≡ None
     none_there held is none =
-        none_found held tip.checkpoint (subst (λ o. TellsRead o Checkpoint tip.checkpoint) is t.checkpoint) none
+        none_found held tip.checkpoint (subst (λ o. RecordsRead o Checkpoint tip.checkpoint) is t.checkpoint) none
 
     pub tip_first : HoldsFirst digest origin log puts → IsTipOf digest tip log
     tip_first (HoldsCopy held is note entries more copy log_is some) = record {
@@ -101,7 +101,7 @@ module _ (digest : List ℕ → List ℕ) (origin : List ℕ) (log : List (List 
         other (omega (arith, upto, t.empty gone)) gone
 
     pub bring_fails : {S : Type 0} (places : Places S) (n : ℕ) (y : Option (List Put)) (e : BringFault) → n ≡ length log →
-        HoldsFirst digest origin log puts → KeepsTold puts y → BlamesFrom digest places n tip y e → IsSpared e →
+        HoldsFirst digest origin log puts → KeepsRecord puts y → BlamesFrom digest places n tip y e → IsSpared e →
         IsShelfOrMemory e
     bring_fails places n y e long h kept (inl b) s = absurd (is_larger n long h b.1 b.2)
     bring_fails places n y e long h kept (inr (inl b)) s =
@@ -123,7 +123,7 @@ module _ (take also : Path → List ℕ → Type 0) (f : (path : Path) (bytes : 
   edges_clear c = λ edge from. c edge (edge_weaker also take f (length log) edge from)
 
 module _ {S : Type 0} (may : S → Path → Option (List ℕ) → Type 0) (x y z : Places S) (same : y.list.items ≡ x.list.items)
-    (a b : Option (List Put)) (kept : KeepsTold a b) where
+    (a b : Option (List Put)) (kept : KeepsRecord a b) where
   given_begun : (path : Path) (bytes : List ℕ) → MayGive may y path bytes → MayGive may x path bytes
   given_begun path bytes g = record {
     index = g.index;
@@ -177,7 +177,7 @@ edge_had digest hash may puts x z entries n root small h edge leads from =
 -- ---- the end
 
 pub ended_for : (digest : List ℕ → List ℕ) {S : Type 0} (may : S → Path → Option (List ℕ) → Type 0) (origin note : List ℕ)
-    (a b : Option (List Put)) (x y z : Places S) → y.list.items ≡ x.list.items → KeepsTold a b → (tip : Tip) →
+    (a b : Option (List Put)) (x y z : Places S) → y.list.items ≡ x.list.items → KeepsRecord a b → (tip : Tip) →
     IsTipRead digest origin a tip → (n : ℕ) (root : List ℕ) → IsHead note origin n root → (e : BringFault) →
     BlamesFrom digest z n tip b e →
     ((entries : List (List ℕ)) → IsHonestFor digest may b y z entries n root → IsTipOf digest tip (take n entries) →

@@ -7,8 +7,8 @@ use Rattle.std.specs.List.{Contains}
 use Rattle.std.proofs.lemmas.List.Elements.{All-append, All-cons, All-contains, All-nil, All-weaker, Contains-append_cases}
 use Rattle.tlog_tiles.specs.declared.paths.Path.{Path}
 use Rattle.tlog_tiles.specs.declared.paths.Path.TheVariants.{Entries, Tile}
-use Rattle.mirror_sources.specs.Told.{AddsTold, KeepsTold}
-use Rattle.mirror_folders.specs.Shelf.{Put, TellsRead}
+use Rattle.mirror_sources.specs.Recorded.{AddsToRecord, KeepsRecord}
+use Rattle.mirror_folders.specs.Shelf.{Put, RecordsRead}
 use Rattle.mirror_copy.specs.PlaceGets.{AsksPlaces}
 use Rattle.mirror_copy.specs.Suffices.{HasTruePlace, IsTruePlace, OneIsHonest}
 use Rattle.mirror_copy.specs.Taken.{FilesAreClear, IsLeafTile, MayGive, MayTake, PartOf, PutsTaken, WasPut}
@@ -17,19 +17,19 @@ use Rattle.mirror_copy.proofs.Earlier.{kept_then}
 use Rattle.mirror_copy.proofs.Growth.{adds_then, kept_adds}
 
 -- what was put before stands in the list while nothing is put
-pub put_before : (a b : Option (List Put)) → KeepsTold a b → (path : Path) (bytes : List ℕ) → WasPut b path bytes → WasPut a path bytes
+pub put_before : (a b : Option (List Put)) → KeepsRecord a b → (path : Path) (bytes : List ℕ) → WasPut b path bytes → WasPut a path bytes
 put_before None b kept path bytes put = tt
 put_before (Some us) None kept path bytes put = absurd kept
 put_before (Some us) (Some vs) kept path bytes put = subst (λ (l : List Put). Contains l (path, bytes)) kept put
 
-told_kept : (a b c : Option (List Put)) (puts : List Put) → AddsTold a b puts → KeepsTold b c → AddsTold a c puts
-told_kept None b c puts told kept = tt
-told_kept (Some us) None c puts told kept = absurd told
-told_kept (Some us) (Some vs) None puts told kept = absurd kept
-told_kept (Some us) (Some vs) (Some ws) puts told kept = kept ∙ told
+recorded_kept : (a b c : Option (List Put)) (puts : List Put) → AddsToRecord a b puts → KeepsRecord b c → AddsToRecord a c puts
+recorded_kept None b c puts recorded kept = tt
+recorded_kept (Some us) None c puts recorded kept = absurd recorded
+recorded_kept (Some us) (Some vs) None puts recorded kept = absurd kept
+recorded_kept (Some us) (Some vs) (Some ws) puts recorded kept = kept ∙ recorded
 
 -- what is read was put there
-pub put_read : (puts : Option (List Put)) (path : Path) (bytes : List ℕ) → TellsRead puts path (Some bytes) → WasPut puts path bytes
+pub put_read : (puts : Option (List Put)) (path : Path) (bytes : List ℕ) → RecordsRead puts path (Some bytes) → WasPut puts path bytes
 put_read None path bytes h = tt
 put_read (Some puts) path bytes s = (
   length s.before,
@@ -80,9 +80,9 @@ module _ {S : Type 0} (may : S → Path → Option (List ℕ) → Type 0) (faile
     was_put : (a b : Option (List Put)) (path : Path) (bytes : List ℕ) → PutsTaken may x a b → WasPut b path bytes →
         IsLeafTile path ⊎ MayTake may x a path bytes
     was_put None b path bytes t h = inr (inl tt)
-    was_put (Some us) None path bytes t h = absurd t.told
+    was_put (Some us) None path bytes t h = absurd t.recorded
     was_put (Some us) (Some vs) path bytes t h =
-        elim (Contains-append_cases us t.puts (path, bytes) (subst (λ (l : List Put). Contains l (path, bytes)) t.told h)) [
+        elim (Contains-append_cases us t.puts (path, bytes) (subst (λ (l : List Put). Contains l (path, bytes)) t.recorded h)) [
           | inl old ↦ inr (inl old)
           | inr new ↦ All-contains (λ (put : Put). IsLeafTile put.0 ⊎ MayTake may x (Some us) put.0 put.1) t.puts (path, bytes)
               t.are_taken new
@@ -109,7 +109,7 @@ module _ {S : Type 0} (may : S → Path → Option (List ℕ) → Type 0) (faile
     pub puts_then : (a b c : Option (List Put)) → PutsTaken may x a b → PutsTaken may y b c → PutsTaken may x a c
     puts_then a b c t u = record {
       puts = t.puts ++ u.puts;
-      told = adds_then a b c t.puts u.puts t.told u.told;
+      recorded = adds_then a b c t.puts u.puts t.recorded u.recorded;
       are_taken = All-append (λ (put : Put). IsLeafTile put.0 ⊎ MayTake may x a put.0 put.1) t.puts u.puts t.are_taken
           (All-weaker (λ (put : Put). IsLeafTile put.0 ⊎ MayTake may y b put.0 put.1)
           (λ (put : Put). IsLeafTile put.0 ⊎ MayTake may x a put.0 put.1) (either_before a b t) u.puts u.are_taken);
@@ -139,52 +139,52 @@ module _ {S : Type 0} (may : S → Path → Option (List ℕ) → Type 0) (faile
     clear = clear_later so x y p digest (take size entries) a b t h.clear;
   }
 
-  pub puts_none : (x : Places S) (a b : Option (List Put)) → KeepsTold a b → PutsTaken may x a b
+  pub puts_none : (x : Places S) (a b : Option (List Put)) → KeepsRecord a b → PutsTaken may x a b
   puts_none x a b kept = record {
     puts = [];
-    told = kept_adds a b kept;
+    recorded = kept_adds a b kept;
     are_taken = All-nil (λ (put : Put). IsLeafTile put.0 ⊎ MayTake may x a put.0 put.1);
   }
 
   pub puts_one : (x : Places S) (a b : Option (List Put)) (path : Path) (bytes : List ℕ) →
-      (KeepsTold a b) ⊎ (AddsTold a b ((path, bytes) ∷ [])) → IsLeafTile path ⊎ MayTake may x a path bytes → PutsTaken may x a b
+      (KeepsRecord a b) ⊎ (AddsToRecord a b ((path, bytes) ∷ [])) → IsLeafTile path ⊎ MayTake may x a path bytes → PutsTaken may x a b
   puts_one x a b path bytes (inl kept) taken = puts_none x a b kept
-  puts_one x a b path bytes (inr told) taken = record {
+  puts_one x a b path bytes (inr recorded) taken = record {
     puts = (path, bytes) ∷ [];
-    told = told;
+    recorded = recorded;
     are_taken = All-cons (λ (put : Put). IsLeafTile put.0 ⊎ MayTake may x a put.0 put.1) (path, bytes) [] taken
         (All-nil (λ (put : Put). IsLeafTile put.0 ⊎ MayTake may x a put.0 put.1));
   }
 
   -- what may be taken after nothing was put
   pub taken_kept : (so : Path → Type 0) (x y : Places S) (a b : Option (List Put)) (path : Path) (bytes : List ℕ) →
-      AsksPlaces may failed asked so x y → KeepsTold a b → MayTake may y b path bytes → MayTake may x a path bytes
+      AsksPlaces may failed asked so x y → KeepsRecord a b → MayTake may y b path bytes → MayTake may x a path bytes
   taken_kept so x y a b path bytes p kept (inr given) = inr (given_before so x y path bytes p given)
   taken_kept so x y a b path bytes p kept (inl put) = inl (put_before a b kept path bytes put)
 
-  adds_after : (a b c : Option (List Put)) (puts : List Put) → KeepsTold a b → AddsTold b c puts → AddsTold a c puts
-  adds_after None b c puts kept told = tt
-  adds_after (Some us) None c puts kept told = absurd kept
-  adds_after (Some us) (Some vs) None puts kept told = absurd told
-  adds_after (Some us) (Some vs) (Some ws) puts kept told = told ∙ ap (λ (l : List Put). l ++ puts) kept
+  adds_after : (a b c : Option (List Put)) (puts : List Put) → KeepsRecord a b → AddsToRecord b c puts → AddsToRecord a c puts
+  adds_after None b c puts kept recorded = tt
+  adds_after (Some us) None c puts kept recorded = absurd kept
+  adds_after (Some us) (Some vs) None puts kept recorded = absurd recorded
+  adds_after (Some us) (Some vs) (Some ws) puts kept recorded = recorded ∙ ap (λ (l : List Put). l ++ puts) kept
 
-  pub puts_after : (x : Places S) (a b c : Option (List Put)) (path : Path) (bytes : List ℕ) → KeepsTold a b →
-      (KeepsTold b c) ⊎ (AddsTold b c ((path, bytes) ∷ [])) → IsLeafTile path ⊎ MayTake may x a path bytes → PutsTaken may x a c
+  pub puts_after : (x : Places S) (a b c : Option (List Put)) (path : Path) (bytes : List ℕ) → KeepsRecord a b →
+      (KeepsRecord b c) ⊎ (AddsToRecord b c ((path, bytes) ∷ [])) → IsLeafTile path ⊎ MayTake may x a path bytes → PutsTaken may x a c
   puts_after x a b c path bytes kept (inl same) taken = puts_none x a c (kept_then a b c kept same)
-  puts_after x a b c path bytes kept (inr told) taken =
-      puts_one x a c path bytes (inr (adds_after a b c ((path, bytes) ∷ []) kept told)) taken
+  puts_after x a b c path bytes kept (inr recorded) taken =
+      puts_one x a c path bytes (inr (adds_after a b c ((path, bytes) ∷ []) kept recorded)) taken
 
   -- a file that might be taken at first, put after others
   pub puts_also : (x : Places S) (a b c : Option (List Put)) (path : Path) (bytes : List ℕ) → PutsTaken may x a b →
-      (KeepsTold b c) ⊎ (AddsTold b c ((path, bytes) ∷ [])) → IsLeafTile path ⊎ MayTake may x a path bytes → PutsTaken may x a c
+      (KeepsRecord b c) ⊎ (AddsToRecord b c ((path, bytes) ∷ [])) → IsLeafTile path ⊎ MayTake may x a path bytes → PutsTaken may x a c
   puts_also x a b c path bytes t (inl kept) taken = record {
     puts = t.puts;
-    told = told_kept a b c t.puts t.told kept;
+    recorded = recorded_kept a b c t.puts t.recorded kept;
     are_taken = t.are_taken;
   }
-  puts_also x a b c path bytes t (inr told) taken = record {
+  puts_also x a b c path bytes t (inr recorded) taken = record {
     puts = t.puts ++ (path, bytes) ∷ [];
-    told = adds_then a b c t.puts ((path, bytes) ∷ []) t.told told;
+    recorded = adds_then a b c t.puts ((path, bytes) ∷ []) t.recorded recorded;
     are_taken = All-append (λ (put : Put). IsLeafTile put.0 ⊎ MayTake may x a put.0 put.1) t.puts ((path, bytes) ∷ []) t.are_taken
         (All-cons (λ (put : Put). IsLeafTile put.0 ⊎ MayTake may x a put.0 put.1) (path, bytes) [] taken
         (All-nil (λ (put : Put). IsLeafTile put.0 ⊎ MayTake may x a put.0 put.1)));

@@ -1,8 +1,8 @@
 -- The checkpoint that is read in the last step.
 use Rattle.std.proofs.Common.{◌≡◌, ◌⊎◌, inl, inr, ℕ, List, Option, Some, None, Result, Ok, Err, IfErr, refl, sym, subst, ap, ◌∙◌}
 use Rattle.tlog_tiles.specs.declared.paths.Path.TheVariants.{Checkpoint}
-use Rattle.mirror_sources.specs.Told.{KeepsTold}
-use Rattle.mirror_folders.specs.Shelf.{HasPut, Put, Stands, TellsRead}
+use Rattle.mirror_sources.specs.Recorded.{KeepsRecord}
+use Rattle.mirror_folders.specs.Shelf.{HasPut, Put, Stands, RecordsRead}
 use Rattle.mirror_export.proofs.AllFiles.{files_are_all}
 use Rattle.mirror_copy.specs.AskedForCopy.{IsInUse}
 use Rattle.mirror_copy.specs.Copies.{IsCopy}
@@ -42,7 +42,7 @@ module _ (digest : List ℕ → List ℕ) {S : Type 0} (places : Places S) (tip 
   last_blames x w (Err e) cut (inl h) = inl (h.0, record { before = w; found = h.1; cut = cut })
   last_blames x w (Err e) cut (inr h) = inr (of_no_place places e h)
 
-  then_kept : (x y : Option (List Put)) → KeepsTold x y → IsOtherThen digest tip y → IsOtherThen digest tip x
+  then_kept : (x y : Option (List Put)) → KeepsRecord x y → IsOtherThen digest tip y → IsOtherThen digest tip x
   then_kept x y kept o = record {
     before = o.before;
     found = o.found;
@@ -50,7 +50,7 @@ module _ (digest : List ℕ → List ℕ) {S : Type 0} (places : Places S) (tip 
   }
 
   -- the same of a later part of a call, before which nothing was put
-  pub later_blames : (x y : Option (List Put)) {T : Type 0} (r : Result T BringFault) → KeepsTold x y →
+  pub later_blames : (x y : Option (List Put)) {T : Type 0} (r : Result T BringFault) → KeepsRecord x y →
       IfErr r (BlamesRun digest places tip y) → IfErr r (BlamesRun digest places tip x)
   later_blames x y (Ok a) kept h = tt
   later_blames x y (Err e) kept (inl h) = inl (h.0, then_kept x y kept h.1)
@@ -67,12 +67,12 @@ last_empty digest tip x w (Err e) cut (inr h) = inr h
 
 -- ---- a shelf that records its puts
 
-read_stands : (puts : List Put) (a : Option (List ℕ)) (b : List ℕ) → Stands puts Checkpoint b → TellsRead (Some puts) Checkpoint a →
+read_stands : (puts : List Put) (a : Option (List ℕ)) (b : List ℕ) → Stands puts Checkpoint b → RecordsRead (Some puts) Checkpoint a →
     a ≡ Some b
 read_stands puts None b stands read = absurd (read (stands_has puts Checkpoint b stands))
 read_stands puts (Some a) b stands read = ap (λ (x : List ℕ). Some x) (stands_one puts Checkpoint a b read stands)
 
-read_none : (puts : List Put) (a : Option (List ℕ)) → (HasPut puts Checkpoint → ⊥) → TellsRead (Some puts) Checkpoint a → a ≡ None
+read_none : (puts : List Put) (a : Option (List ℕ)) → (HasPut puts Checkpoint → ⊥) → RecordsRead (Some puts) Checkpoint a → a ≡ None
 read_none puts None none read = refl
 read_none puts (Some a) none read = absurd (none (stands_has puts Checkpoint a read))
 
@@ -82,12 +82,12 @@ module _ (digest : List ℕ → List ℕ) (origin : List ℕ) (found : Option (L
   note_there note entries puts copy = copy.holds Checkpoint ((files_are_all _ Checkpoint).1 tt)
 
   copy_read : (note : List ℕ) (entries : List (List ℕ)) (w : Option (List Put)) → InTheEnd w (IsCopy digest origin note entries) →
-      (a : Option (List ℕ)) → TellsRead w Checkpoint a → a ≡ Some note
+      (a : Option (List ℕ)) → RecordsRead w Checkpoint a → a ≡ Some note
   copy_read note entries None h a read = absurd h
   copy_read note entries (Some puts) h a read = read_stands puts a note (note_there note entries puts h) read
 
   none_read : (w : Option (List Put)) → InTheEnd w (λ now. HasPut now Checkpoint → ⊥) → (a : Option (List ℕ)) →
-      TellsRead w Checkpoint a → a ≡ None
+      RecordsRead w Checkpoint a → a ≡ None
   none_read None h a read = absurd h
   none_read (Some puts) h a read = read_none puts a h read
 
@@ -102,19 +102,19 @@ in_use digest origin tip x t o =
       other = o.found;
       no_copy = λ held is note entries copy.
           let first = copy_read digest origin tip.checkpoint note entries (Some held) copy tip.checkpoint
-          (subst (λ (p : Option (List Put)). TellsRead p Checkpoint tip.checkpoint) is t.checkpoint) in
+          (subst (λ (p : Option (List Put)). RecordsRead p Checkpoint tip.checkpoint) is t.checkpoint) in
           let last = copy_read digest origin tip.checkpoint note entries o.before (s.copy held is note entries copy) o.found.now
           o.found.now_is in o.found.other (last ∙ sym first);
       not_none = λ held is none.
           let first = none_read digest origin tip.checkpoint (Some held) none tip.checkpoint
-          (subst (λ (p : Option (List Put)). TellsRead p Checkpoint tip.checkpoint) is t.checkpoint) in
+          (subst (λ (p : Option (List Put)). RecordsRead p Checkpoint tip.checkpoint) is t.checkpoint) in
           let last = none_read digest origin tip.checkpoint o.before (s.none held is none) o.found.now o.found.now_is in
           o.found.other (last ∙ sym first);
     }
 
 -- CopyInUse, of a call that goes on from a tip
 pub in_use_later : (digest : List ℕ → List ℕ) (origin : List ℕ) {S : Type 0} (places : Places S) (tip : Tip) (n : ℕ)
-    (x y : Option (List Put)) (e : BringFault) → KeepsTold x y → IsTipRead digest origin x tip →
+    (x y : Option (List Put)) (e : BringFault) → KeepsRecord x y → IsTipRead digest origin x tip →
     BlamesFrom digest places n tip y e → e ≡ CopyInUse → IsInUse digest origin x
 in_use_later digest origin places tip n x y e kept t (inl h) is = absurd (cc (h.0, is))
 in_use_later digest origin places tip n x y e kept t (inr (inl h)) is =

@@ -2,7 +2,7 @@
 use Rattle.std.proofs.Common.{◌≡◌, ℕ, List, [], Option, Some, None, Result, Ok, Err, IfErr, refl, sym, subst}
 use Rattle.std.proofs.lemmas.List.{append-nil}
 use Rattle.tlog_tiles.specs.declared.paths.Path.TheVariants.{Checkpoint}
-use Rattle.mirror_sources.specs.Told.{AddsTold, KeepsTold}
+use Rattle.mirror_sources.specs.Recorded.{AddsToRecord, KeepsRecord}
 use Rattle.mirror_folders.specs.Shelf.{Put, HasPut}
 use Rattle.mirror_export.specs.Exports.{IsMoment}
 use Rattle.log_reader.specs.EdgeRows.{Edge}
@@ -14,11 +14,11 @@ use Rattle.mirror_copy.specs.Moments.{CopyStays, InTheEnd}
 use Rattle.mirror_copy.proofs.WholeMoments.{cut_copy, cut_none, none_found}
 
 -- the end is a moment
-ended : (held : List Put) (w : Option (List Put)) (puts : List Put) → AddsTold (Some held) w puts →
+ended : (held : List Put) (w : Option (List Put)) (puts : List Put) → AddsToRecord (Some held) w puts →
     (so : List Put → Type 0) → ((new : List Put) → w ≡ Some new → IsMoment held new new → so new) → InTheEnd w so
-ended held None puts told so all = absurd told
-ended held (Some new) puts told so all =
-    all new refl (record { so_far = puts; later = []; now_is = told; new_is = sym (append-nil new) })
+ended held None puts recorded so all = absurd recorded
+ended held (Some new) puts recorded so all =
+    all new refl (record { so_far = puts; later = []; now_is = recorded; new_is = sym (append-nil new) })
 
 module _ (digest : List ℕ → List ℕ) (origin : List ℕ) (tip : Tip) where
   module _ (held : List Put) (w : Option (List Put)) (t : IsTipRead digest origin (Some held) tip)
@@ -31,13 +31,13 @@ module _ (digest : List ℕ → List ℕ) (origin : List ℕ) (tip : Tip) where
         InTheEnd w (IsCopy digest origin note entries)
     copy_held note entries copy =
         let c = cut entries (t.copy held refl note entries copy) in
-        ended held w c.gathers.puts c.gathers.told (IsCopy digest origin note entries)
+        ended held w c.gathers.puts c.gathers.recorded (IsCopy digest origin note entries)
         (λ new is at. cut_copy digest origin [] tip held new t (later new is) note entries copy new at)
 
     none_held : (HasPut held Checkpoint → ⊥) → InTheEnd w (λ now. HasPut now Checkpoint → ⊥)
     none_held none =
         let c = cut [] (t.known (none_found held tip.checkpoint t.checkpoint none)) in
-        ended held w c.gathers.puts c.gathers.told (λ now. HasPut now Checkpoint → ⊥)
+        ended held w c.gathers.puts c.gathers.recorded (λ now. HasPut now Checkpoint → ⊥)
         (λ new is at. cut_none digest origin [] tip held new t (later new is) none new at)
 
   pub stays_cut : (x w : Option (List Put)) → IsTipRead digest origin x tip →
@@ -53,7 +53,7 @@ module _ (digest : List ℕ → List ℕ) (origin : List ℕ) (tip : Tip) where
   }
 
 -- a call that put nothing
-pub stays_same : (digest : List ℕ → List ℕ) (origin : List ℕ) (x y : Option (List Put)) → KeepsTold x y →
+pub stays_same : (digest : List ℕ → List ℕ) (origin : List ℕ) (x y : Option (List Put)) → KeepsRecord x y →
     CopyStays digest origin x y
 stays_same digest origin None y k = record { copy = λ held is. absurd (cc is); none = λ held is. absurd (cc is) }
 stays_same digest origin (Some xs) None k = absurd k
@@ -78,7 +78,7 @@ stays_then digest origin x (Some ys) w p q = record {
 
 -- what is said of a later part of a call, before which what was put was kept
 pub stays_later : (digest : List ℕ → List ℕ) (origin : List ℕ) (tip : Tip) (x y w : Option (List Put)) →
-    {T E : Type 0} (r : Result T E) → KeepsTold x y → IsTipRead digest origin x tip →
+    {T E : Type 0} (r : Result T E) → KeepsRecord x y → IsTipRead digest origin x tip →
     (IsTipRead digest origin y tip → IfErr r (λ e. CopyStays digest origin y w)) →
     IfErr r (λ e. CopyStays digest origin x w)
 stays_later digest origin tip x y w (Ok a) k t f = tt
@@ -100,5 +100,5 @@ larger_stays digest origin note tip edge x w t (Err e) brings = stays_cut digest
 -- a call that puts the checkpoint alone, by its answer
 pub empty_stays : (digest : List ℕ → List ℕ) (origin note : List ℕ) (x w : Option (List Put)) →
     {T E : Type 0} (r : Result T E) → PutsNote x w note r → IfErr r (λ e. CopyStays digest origin x w)
-empty_stays digest origin note x w (Ok a) told = tt
+empty_stays digest origin note x w (Ok a) recorded = tt
 empty_stays digest origin note x w (Err e) kept = stays_same digest origin x w kept

@@ -15,12 +15,12 @@ use Rattle.tlog_tiles.specs.Row.{IsRow, row_text}
 use Rattle.tlog_tiles.specs.Tiles.{IsTileWithin}
 use Rattle.tlog_tiles.proofs.EdgeLemmas.{hashes_of}
 use Rattle.tlog_tiles.proofs.TileLemmas.{row_folds}
-use Rattle.mirror_sources.specs.Told.{KeepsTold, AddsTold}
+use Rattle.mirror_sources.specs.Recorded.{KeepsRecord, AddsToRecord}
 use Rattle.mirror_folders.specs.Shelf.{Put}
 use Rattle.mirror_copy.specs.Growing.{IsNewFile, Obtains, HoldsBelow, IsBelow, IsKnown, IsBrought, IsRowBrought, IsCutShort, Tip}
 use Rattle.mirror_copy.proofs.Prefixes.{level_row_front}
-use Rattle.mirror_copy.proofs.Below.{below_child, below_within, holds_gathered, tells_earlier}
-use Rattle.mirror_copy.specs.Standing.{TellsStands}
+use Rattle.mirror_copy.proofs.Below.{below_child, below_within, holds_gathered, records_earlier}
+use Rattle.mirror_copy.specs.Standing.{RecordsStands}
 use Rattle.mirror_sources.specs.Honest.{true_bytes}
 use Rattle.mirror_copy.proofs.Growth.{kept_adds, kept_same, gathers_keep, gathers_none, gathers_then, known_more}
 
@@ -60,7 +60,7 @@ row_fits level index width is fits =
 
 -- what was kept before a row was brought
 pub row_then : (digest : List ℕ → List ℕ) (tip : Tip) (level index : ℕ) (row known : List (List ℕ))
-    (x y z : Option (List Put)) → KeepsTold x y → {n : ℕ} → IsRowBrought digest tip level index row known y z n →
+    (x y z : Option (List Put)) → KeepsRecord x y → {n : ℕ} → IsRowBrought digest tip level index row known y z n →
     IsRowBrought digest tip level index row known x z n
 row_then digest tip level index row known x y z kept b = record {
   next = b.next;
@@ -68,7 +68,7 @@ row_then digest tip level index row known x y z kept b = record {
   size_is = b.size_is;
   row_is = b.row_is;
   holds = λ k lt path below new.
-      tells_earlier x y z [] path (true_bytes digest b.next path) (kept_adds x y kept) (b.holds k lt path below new);
+      records_earlier x y z [] path (true_bytes digest b.next path) (kept_adds x y kept) (b.holds k lt path below new);
 }
 
 module _ (tip : Tip) (level index : ℕ) (beyond : tip.size < (index + 1) * 256 ^ (level + 1)) where
@@ -239,7 +239,7 @@ module _ (tip : Tip) (level index : ℕ) (beyond : tip.size < (index + 1) * 256 
             | inr last ↦
                 let same : i ≡ k = omega arith in
                 subst (λ n. HoldsBelow digest m sub (256 * index + n) b.next x z) same
-                (λ path below new. tells_earlier x y z s.gathers.puts path (true_bytes digest b.next path) s.gathers.told
+                (λ path below new. records_earlier x y z s.gathers.puts path (true_bytes digest b.next path) s.gathers.recorded
                 (b.holds path below new))
           ];
         }
@@ -290,7 +290,7 @@ module _ (tip : Tip) (level index : ℕ) (beyond : tip.size < (index + 1) * 256 
       }
 
       module _ (z : Option (List Put)) (bytes : List ℕ) (is : IsRow 256 bytes row)
-          (puts : (KeepsTold y z) ⊎ (AddsTold y z ((Tile level index 256, bytes) ∷ []))) where
+          (puts : (KeepsRecord y z) ⊎ (AddsToRecord y z ((Tile level index 256, bytes) ∷ []))) where
         gathers_tile : Obtains digest m s.next s.next y z
         gathers_tile = gathers_keep digest m s.next y z (Tile level index 256, bytes) puts (new_tile bytes is)
 
@@ -300,15 +300,15 @@ module _ (tip : Tip) (level index : ℕ) (beyond : tip.size < (index + 1) * 256 
         pub tile_left : IsCutShort digest m known x z
         tile_left = record { next = s.next; gathers = gathers_all }
 
-        holds : TellsStands y z (Tile level index 256) bytes → HoldsBelow digest m level index s.next x z
+        holds : RecordsStands y z (Tile level index 256) bytes → HoldsBelow digest m level index s.next x z
         holds there path below new =
             elim (below_child sub index path (subst (λ l. IsBelow l index path) (sym up) below)) [
               | inl tile ↦
-                  let all : TellsStands x z (Tile level index 256) bytes =
-                  tells_earlier x y z s.gathers.puts (Tile level index 256) bytes s.gathers.told there in
+                  let all : RecordsStands x z (Tile level index 256) bytes =
+                  records_earlier x y z s.gathers.puts (Tile level index 256) bytes s.gathers.recorded there in
                   let at : path ≡ Tile level index 256 = tile ∙ ap (λ l. Tile l index 256) up in
-                  subst (λ p. TellsStands x z p (true_bytes digest s.next p)) (sym at)
-                  (subst (λ b. TellsStands x z (Tile level index 256) b) (new_tile bytes is).bytes_are all)
+                  subst (λ p. RecordsStands x z p (true_bytes digest s.next p)) (sym at)
+                  (subst (λ b. RecordsStands x z (Tile level index 256) b) (new_tile bytes is).bytes_are all)
               | inr child ↦
                   let k = child.0 in
                   let less : (256 * index + k + 1) * 256 ^ level ≤ (256 * index + 256) * 256 ^ level =
@@ -318,7 +318,7 @@ module _ (tip : Tip) (level index : ℕ) (beyond : tip.size < (index + 1) * 256 
                   (omega (arith, less, child_end k, ends, long_next)) gathers_tile (s.holds k child.1) path child.2 new
             ]
 
-        pub tile_brought : (hash : List ℕ) → fold_of digest row ≡ hash → TellsStands y z (Tile level index 256) bytes →
+        pub tile_brought : (hash : List ℕ) → fold_of digest row ≡ hash → RecordsStands y z (Tile level index 256) bytes →
             IsBrought digest tip level index hash known x z
         tile_brought hash folds there = record {
           next = s.next;

@@ -25,7 +25,7 @@ use Rattle.mirror_export.proofs.AllFiles.{files_are_all, partial_widest}
 use Rattle.mirror_copy.specs.Copies.{IsCopy}
 use Rattle.mirror_copy.specs.Found.{IsBundleRead, IsEdgeRead, IsRowRead, IsTipRead}
 use Rattle.mirror_copy.specs.Growing.{IsKnown, Tip}
-use Rattle.mirror_folders.specs.Shelf.{TellsRead}
+use Rattle.mirror_folders.specs.Shelf.{RecordsRead}
 
 -- ---- one file stands at a path
 
@@ -163,14 +163,14 @@ module _ (digest : List ℕ → List ℕ) (hash : IsDigest digest) (origin note 
 -- the tip of what was read from a shelf
 pub tip_read : (digest : List ℕ → List ℕ) → IsDigest digest → (origin : List ℕ) (puts : Option (List Put)) (tip : Tip)
     (checkpoint : List ℕ) (size : ℕ) (root : List ℕ) → tip.checkpoint ≡ Some checkpoint →
-    TellsRead puts Checkpoint (Some checkpoint) → IsHead checkpoint origin size root →
+    RecordsRead puts Checkpoint (Some checkpoint) → IsHead checkpoint origin size root →
     IsEdgeRead puts size (record { size = tip.size; rows = tip.rows }) → IsBundleRead puts size tip.bundle →
     IsTipRead digest origin puts tip
 tip_read digest hash origin puts tip checkpoint size root is there head edge bundle = record {
-  checkpoint = subst (λ answer. TellsRead puts Checkpoint answer) (sym is) there;
+  checkpoint = subst (λ answer. RecordsRead puts Checkpoint answer) (sym is) there;
   copy = λ held puts_are note entries copy.
       let stands : Stands held Checkpoint checkpoint =
-      subst (λ p. TellsRead p Checkpoint (Some checkpoint)) puts_are there in
+      subst (λ p. RecordsRead p Checkpoint (Some checkpoint)) puts_are there in
       tip_known digest hash origin note entries held copy tip size
       (size_read digest hash origin note entries held copy checkpoint size root stands head) edge.size_is
       (λ level upto. subst (λ p. IsRowRead p size level (get_or tip.rows level [])) puts_are (edge.rows_are level upto))

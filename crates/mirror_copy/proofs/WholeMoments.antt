@@ -15,7 +15,7 @@ use Rattle.tlog_tiles.specs.declared.paths.Path.TheVariants.{Checkpoint, Tile, E
 use Rattle.tlog_tiles.specs.Tiles.{IsTileWithin, IsWithin}
 use Rattle.mirror_model.specs.Edge.{edge_levels}
 use Rattle.mirror_model.specs.Heads.{IsHead}
-use Rattle.mirror_sources.specs.Told.{AddsTold, KeepsTold}
+use Rattle.mirror_sources.specs.Recorded.{AddsToRecord, KeepsRecord}
 use Rattle.mirror_folders.specs.Shelf.{Put, Stands, HasPut}
 use Rattle.mirror_export.specs.Files.{served_bytes}
 use Rattle.mirror_export.specs.FileLaws.{IsFileOf}
@@ -26,10 +26,10 @@ use Rattle.mirror_export.proofs.Standing.{stands_more}
 use Rattle.mirror_copy.specs.Copies.{IsCopy}
 use Rattle.log_reader.specs.EdgeRows.{Edge, hash_of_edge, row_at}
 use Rattle.mirror_copy.specs.Edges.{BringsToEdge, IsCopyBrought, PutsNote}
-use Rattle.mirror_copy.specs.Found.{IsBundleRead, IsEdgeRead, IsRowRead, IsTipRead, TellsPartial}
+use Rattle.mirror_copy.specs.Found.{IsBundleRead, IsEdgeRead, IsRowRead, IsTipRead, RecordsPartial}
 use Rattle.mirror_copy.specs.Growing.{Obtains, IsCutShort, IsKnown, IsNewFile, Tip, empty_tip}
 use Rattle.mirror_copy.specs.Moments.{AtEachMoment, HadSize, InTheEnd, IsBroughtTo, IsGrownCopy, KeepsCopy, PutsBeyond}
-use Rattle.mirror_folders.specs.Shelf.{TellsRead}
+use Rattle.mirror_folders.specs.Shelf.{RecordsRead}
 use Rattle.mirror_copy.proofs.CopyMoments.{bringing_makes_copy, bringing_stays_copy, copy_files, new_files_keep_copies, not_file}
 use Rattle.mirror_copy.proofs.Growth.{adds_then, gathers_none, kept_adds, kept_same, left_none}
 use Rattle.mirror_copy.proofs.Earlier.{kept_then}
@@ -63,16 +63,16 @@ has_front so_far later puts last path same le has =
     ∙ get_or_append_left (paths so_far) (paths later) path k has.1 in
     (k, in_puts, left ∙ (ap (λ (l : List Put). get_or (paths l) k path) (sym same) ∙ (right ∙ has.2)))
 
-pub none_found : (puts : List Put) (answer : Option (List ℕ)) → TellsRead (Some puts) Checkpoint answer →
+pub none_found : (puts : List Put) (answer : Option (List ℕ)) → RecordsRead (Some puts) Checkpoint answer →
     (HasPut puts Checkpoint → ⊥) → answer ≡ None
 none_found puts (Some bytes) h none = absurd (none (stands_has puts Checkpoint bytes h))
 none_found puts None h none = refl
 
 pub copy_found : (digest : List ℕ → List ℕ) (origin note : List ℕ) (entries : List (List ℕ)) (puts : List Put)
-    (answer : Option (List ℕ)) → IsCopy digest origin note entries puts → TellsRead (Some puts) Checkpoint answer →
+    (answer : Option (List ℕ)) → IsCopy digest origin note entries puts → RecordsRead (Some puts) Checkpoint answer →
     answer ≡ None → ⊥
 copy_found digest origin note entries puts answer copy h is =
-    let none : HasPut puts Checkpoint → ⊥ = subst (λ a. TellsRead (Some puts) Checkpoint a) is h in
+    let none : HasPut puts Checkpoint → ⊥ = subst (λ a. RecordsRead (Some puts) Checkpoint a) is h in
     none (stands_has puts Checkpoint note (copy.holds Checkpoint ((files_are_all (length entries) Checkpoint).1 tt)))
 
 -- a new file, or the checkpoint
@@ -141,7 +141,7 @@ module _ (digest : List ℕ → List ℕ) (origin note : List ℕ) (tip : Tip) (
       let split : at.so_far ++ at.later ≡ g.puts ++ [] =
       append_cancel_left old (at.so_far ++ at.later) g.puts
       (sym (append_assoc old at.so_far at.later)
-      ∙ (ap (λ (l : List Put). l ++ at.later) (sym at.now_is) ∙ (sym at.new_is ∙ g.told)))
+      ∙ (ap (λ (l : List Put). l ++ at.later) (sym at.now_is) ∙ (sym at.new_is ∙ g.recorded)))
       ∙ sym (append-nil g.puts) in
       let shorter : length at.so_far ≤ length g.puts = omega (
         arith,
@@ -176,13 +176,13 @@ module _ (digest : List ℕ → List ℕ) (origin note : List ℕ) (tip : Tip) (
   long : length known ≡ tip.size
   long = let size = is.size_is in omega arith
 
-  all_puts : (before : Option (List Put)) → AddsTold (Some old) before b.gathers.puts → AddsTold before (Some new) last →
+  all_puts : (before : Option (List Put)) → AddsToRecord (Some old) before b.gathers.puts → AddsToRecord before (Some new) last →
       new ≡ old ++ (b.gathers.puts ++ last)
-  all_puts None told put = absurd told
-  all_puts (Some ys) told put = put ∙ (ap (λ (l : List Put). l ++ last) told ∙ append_assoc old b.gathers.puts last)
+  all_puts None recorded put = absurd recorded
+  all_puts (Some ys) recorded put = put ∙ (ap (λ (l : List Put). l ++ last) recorded ∙ append_assoc old b.gathers.puts last)
 
   new_is : new ≡ old ++ (b.gathers.puts ++ last)
-  new_is = all_puts b.before b.gathers.told b.last
+  new_is = all_puts b.before b.gathers.recorded b.last
 
   each_put : (put : Put) → Contains (b.gathers.puts ++ last) put → IsPutOf digest tip.size b.next put
   each_put put has = elim (Contains-append_cases b.gathers.puts last put has) [
@@ -254,11 +254,11 @@ beyond_new : (digest : List ℕ → List ℕ) (m : ℕ) (next : List (List ℕ))
     IsWithin m put.0 → ⊥
 beyond_new digest m next put new = new.new
 
-beyond_same : (n : ℕ) (held : List Put) (x w : Option (List Put)) → x ≡ Some held → KeepsTold x w →
+beyond_same : (n : ℕ) (held : List Put) (x w : Option (List Put)) → x ≡ Some held → KeepsRecord x w →
     PutsBeyond n held w
 beyond_same n held x w is kept = record {
   puts = [];
-  told = kept_adds (Some held) w (subst (λ o. KeepsTold o w) is kept);
+  recorded = kept_adds (Some held) w (subst (λ o. KeepsRecord o w) is kept);
   are_beyond = All-nil (λ (put : Put). ¬ IsWithin n put.0);
 }
 
@@ -272,7 +272,7 @@ module _ (digest : List ℕ → List ℕ) (note : List ℕ) (tip : Tip) (held : 
   pub beyond_cut : IsCutShort digest tip.size known x w → PutsBeyond (length known) held w
   beyond_cut cut = beyond_size (record {
     puts = cut.gathers.puts;
-    told = subst (λ (o : Option (List Put)). AddsTold o w cut.gathers.puts) is cut.gathers.told;
+    recorded = subst (λ (o : Option (List Put)). AddsToRecord o w cut.gathers.puts) is cut.gathers.recorded;
     are_beyond = All-weaker (IsNewFile digest tip.size cut.next) (λ (put : Put). ¬ IsWithin tip.size put.0)
         (beyond_new digest tip.size cut.next) cut.gathers.puts cut.gathers.are_new;
   })
@@ -280,8 +280,8 @@ module _ (digest : List ℕ → List ℕ) (note : List ℕ) (tip : Tip) (held : 
   pub beyond_brought : (edge : Edge) → IsCopyBrought digest tip edge note known x w → PutsBeyond (length known) held w
   beyond_brought edge b = beyond_size (record {
     puts = b.gathers.puts ++ (Checkpoint, note) ∷ [];
-    told = subst (λ (o : Option (List Put)). AddsTold o w (b.gathers.puts ++ (Checkpoint, note) ∷ [])) is
-        (adds_then x b.before w b.gathers.puts ((Checkpoint, note) ∷ []) b.gathers.told b.last);
+    recorded = subst (λ (o : Option (List Put)). AddsToRecord o w (b.gathers.puts ++ (Checkpoint, note) ∷ [])) is
+        (adds_then x b.before w b.gathers.puts ((Checkpoint, note) ∷ []) b.gathers.recorded b.last);
     are_beyond =
         let P : Put → Type 0 = λ put. ¬ IsWithin tip.size put.0 in
         All-append P b.gathers.puts ((Checkpoint, note) ∷ [])
@@ -298,7 +298,7 @@ module _ (digest : List ℕ → List ℕ) (origin note : List ℕ) (tip : Tip) w
       ((new : List Put) → w ≡ Some new → (now : List Put) → IsMoment held new now → so now) →
       AtEachMoment held w so
   at_each x None held is known cut so all =
-      absurd (subst (λ (o : Option (List Put)). AddsTold o None cut.gathers.puts) is cut.gathers.told)
+      absurd (subst (λ (o : Option (List Put)). AddsToRecord o None cut.gathers.puts) is cut.gathers.recorded)
   at_each x (Some new) held is known cut so all = all new refl
 
   -- a call that put new files alone
@@ -315,7 +315,7 @@ module _ (digest : List ℕ → List ℕ) (origin note : List ℕ) (tip : Tip) w
         (subst (λ o. IsCutShort digest tip.size known o w) is (cut known k))) old_note entries copy now at));
     none = λ held is none.
         at_each x w held is []
-        (cut [] (t.known (none_found held tip.checkpoint (subst (λ o. TellsRead o Checkpoint tip.checkpoint) is t.checkpoint) none)))
+        (cut [] (t.known (none_found held tip.checkpoint (subst (λ o. RecordsRead o Checkpoint tip.checkpoint) is t.checkpoint) none)))
         (λ now. (HasPut now Checkpoint → ⊥) ⊎ IsGrownCopy digest origin note [] now)
         (λ new new_is now at. inl (cut_none digest origin note tip held new
         (subst (λ o. IsTipRead digest origin o tip) is t)
@@ -325,7 +325,7 @@ module _ (digest : List ℕ → List ℕ) (origin note : List ℕ) (tip : Tip) w
         let k = t.copy held is old_note entries copy in
         beyond_cut digest note tip held x w is entries k (cut entries k);
     beyond_none = λ held is none.
-        let k = t.known (none_found held tip.checkpoint (subst (λ o. TellsRead o Checkpoint tip.checkpoint) is t.checkpoint) none) in
+        let k = t.known (none_found held tip.checkpoint (subst (λ o. RecordsRead o Checkpoint tip.checkpoint) is t.checkpoint) none) in
         beyond_cut digest note tip held x w is [] k (cut [] k);
   }
 
@@ -340,19 +340,19 @@ module _ (digest : List ℕ → List ℕ) (origin note : List ℕ) (tip : Tip) w
       each_brought held is known k so all =
           by_end w (subst (λ o. IsCopyBrought digest tip edge note known o w) is (brought known k))
         where
-          no_end : (before : Option (List Put)) (puts : List Put) → AddsTold (Some held) before puts →
-              AddsTold before None ((Checkpoint, note) ∷ []) → ⊥
+          no_end : (before : Option (List Put)) (puts : List Put) → AddsToRecord (Some held) before puts →
+              AddsToRecord before None ((Checkpoint, note) ∷ []) → ⊥
           no_end None puts p q = p
           no_end (Some ys) puts p q = q
 
           by_end : (w : Option (List Put)) → IsCopyBrought digest tip edge note known (Some held) w → AtEachMoment held w so
-          by_end None b = absurd (no_end b.before b.gathers.puts b.gathers.told b.last)
+          by_end None b = absurd (no_end b.before b.gathers.puts b.gathers.recorded b.last)
           by_end (Some new) b = all new b
 
       -- what was read before the call says of that moment
       none_known : (held : List Put) → x ≡ Some held → (HasPut held Checkpoint → ⊥) → IsKnown digest tip 0 []
       none_known held is none =
-          t.known (none_found held tip.checkpoint (subst (λ o. TellsRead o Checkpoint tip.checkpoint) is t.checkpoint) none)
+          t.known (none_found held tip.checkpoint (subst (λ o. RecordsRead o Checkpoint tip.checkpoint) is t.checkpoint) none)
 
       -- a call that brought a copy
       pub whole_brought : KeepsCopy digest origin note x w
@@ -381,14 +381,14 @@ module _ (digest : List ℕ → List ℕ) (origin note : List ℕ) (tip : Tip) w
       at_end held is known k files =
           by_end w (subst (λ o. IsCopyBrought digest tip edge note known o w) is (brought known k))
         where
-          no_end : (before : Option (List Put)) (puts : List Put) → AddsTold (Some held) before puts →
-              AddsTold before None ((Checkpoint, note) ∷ []) → ⊥
+          no_end : (before : Option (List Put)) (puts : List Put) → AddsToRecord (Some held) before puts →
+              AddsToRecord before None ((Checkpoint, note) ∷ []) → ⊥
           no_end None puts p q = p
           no_end (Some ys) puts p q = q
 
           by_end : (w : Option (List Put)) → IsCopyBrought digest tip edge note known (Some held) w →
               InTheEnd w (IsGrownCopy digest origin note known)
-          by_end None b = absurd (no_end b.before b.gathers.puts b.gathers.told b.last)
+          by_end None b = absurd (no_end b.before b.gathers.puts b.gathers.recorded b.last)
           by_end (Some new) b = grown_end digest origin note tip edge held new root upto head leads known k b files
 
       pub brought_to : IsBroughtTo digest origin note x w
@@ -406,7 +406,7 @@ had_size digest origin tip x t = record {
   copy = λ held is note entries copy.
       let k = t.copy held is note entries copy in let size = k.size_is in omega arith;
   none = λ held is none.
-      let k = t.known (none_found held tip.checkpoint (subst (λ o. TellsRead o Checkpoint tip.checkpoint) is t.checkpoint) none) in
+      let k = t.known (none_found held tip.checkpoint (subst (λ o. RecordsRead o Checkpoint tip.checkpoint) is t.checkpoint) none) in
       let size = k.size_is in omega arith;
 }
 
@@ -423,13 +423,13 @@ unfolding edge_levels
 empty_edge_hash digest = refl
 
 pub empty_brought : (digest : List ℕ → List ℕ) (tip : Tip) (note : List ℕ) (x w : Option (List Put)) → tip.size ≡ 0 →
-    AddsTold x w ((Checkpoint, note) ∷ []) → (known : List (List ℕ)) → IsKnown digest tip 0 known →
+    AddsToRecord x w ((Checkpoint, note) ∷ []) → (known : List (List ℕ)) → IsKnown digest tip 0 known →
     IsCopyBrought digest tip empty_edge note known x w
-empty_brought digest tip note x w empty told known k = record {
+empty_brought digest tip note x w empty recorded known k = record {
   next = known;
   before = x;
   gathers = gathers_none digest tip.size known x x (kept_same x);
-  last = told;
+  last = recorded;
   size_is = let size = k.size_is in omega arith;
   rows_are = λ level upto. sym (ap (λ w. level_row digest known level (256 * edge_index_of 0 level) w) (no_width level));
   holds = λ path other file new. absurd (no_file path other file);
@@ -448,17 +448,17 @@ module _ (digest : List ℕ → List ℕ) (origin note : List ℕ) (tip : Tip) (
   empty_leads = empty_edge_hash digest ∙ sym root_is
 
   pub empty_whole : {T E : Type 0} (r : Result T E) → PutsNote x w note r → KeepsCopy digest origin note x w
-  empty_whole (Ok a) told =
+  empty_whole (Ok a) recorded =
       whole_brought digest origin note tip empty_edge root upto_none empty_head empty_leads x w t
-      (empty_brought digest tip note x w (t.empty empty) told)
+      (empty_brought digest tip note x w (t.empty empty) recorded)
   empty_whole (Err e) kept =
       whole_cut digest origin note tip x w t (λ known k. left_none digest tip.size known x w kept)
 
   pub empty_ends : {T E : Type 0} (r : Result T E) → PutsNote x w note r →
       OnOk r (IsBroughtTo digest origin note x w)
-  empty_ends (Ok a) told =
+  empty_ends (Ok a) recorded =
       brought_to digest origin note tip empty_edge root upto_none empty_head empty_leads x w t
-      (empty_brought digest tip note x w (t.empty empty) told)
+      (empty_brought digest tip note x w (t.empty empty) recorded)
   empty_ends (Err e) kept = tt
 
 -- ---- a call that brings a copy to a larger edge, by its answer
@@ -494,7 +494,7 @@ none_brought digest origin note w = record { copy = λ held is. absurd (cc is); 
 
 -- what is said of a later part of a call, before which what was put was kept
 pub whole_later : (digest : List ℕ → List ℕ) (origin note : List ℕ) (tip : Tip) (x y w : Option (List Put)) →
-    KeepsTold x y → IsTipRead digest origin x tip →
+    KeepsRecord x y → IsTipRead digest origin x tip →
     (IsTipRead digest origin y tip → KeepsCopy digest origin note y w) → KeepsCopy digest origin note x w
 whole_later digest origin note tip None y w k t f = none_whole digest origin note w
 whole_later digest origin note tip (Some xs) None w k t f = absurd k
@@ -503,7 +503,7 @@ whole_later digest origin note tip (Some xs) (Some ys) w k t f =
     (f (subst (λ (l : List Put). IsTipRead digest origin (Some l) tip) (sym k) t))
 
 pub ends_later : (digest : List ℕ → List ℕ) (origin note : List ℕ) (tip : Tip) (x y w : Option (List Put)) →
-    {T E : Type 0} (r : Result T E) → KeepsTold x y → IsTipRead digest origin x tip →
+    {T E : Type 0} (r : Result T E) → KeepsRecord x y → IsTipRead digest origin x tip →
     (IsTipRead digest origin y tip → OnOk r (IsBroughtTo digest origin note y w)) →
     OnOk r (IsBroughtTo digest origin note x w)
 ends_later digest origin note tip None y w (Ok a) k t f = none_brought digest origin note w
@@ -527,7 +527,7 @@ kept_moment held new now is at =
     ) in
     at.now_is ∙ (ap (λ (l : List Put). held ++ l) (nil_from_length at.so_far none) ∙ append-nil held)
 
-pub at_kept : (x y : Option (List Put)) (held : List Put) → x ≡ Some held → KeepsTold x y → (so : List Put → Type 0) →
+pub at_kept : (x y : Option (List Put)) (held : List Put) → x ≡ Some held → KeepsRecord x y → (so : List Put → Type 0) →
     so held → AtEachMoment held y so
 at_kept None y held is k so h = absurd (cc is)
 at_kept (Some xs) None held is k so h = absurd k
@@ -535,7 +535,7 @@ at_kept (Some xs) (Some ys) held is k so h = λ now at.
     let same : xs ≡ held = cc is in
     subst so (sym (kept_moment held ys now (k ∙ same) at)) h
 
-pub whole_same : (digest : List ℕ → List ℕ) (origin note : List ℕ) (x y : Option (List Put)) → KeepsTold x y →
+pub whole_same : (digest : List ℕ → List ℕ) (origin note : List ℕ) (x y : Option (List Put)) → KeepsRecord x y →
     KeepsCopy digest origin note x y
 whole_same digest origin note x y k = record {
   copy = λ held is old_note entries copy.
@@ -557,19 +557,19 @@ empty_known digest = record {
   bundle_is = refl;
 }
 
-pub empty_read : (digest : List ℕ → List ℕ) (origin : List ℕ) (x : Option (List Put)) → TellsRead x Checkpoint None →
+pub empty_read : (digest : List ℕ → List ℕ) (origin : List ℕ) (x : Option (List Put)) → RecordsRead x Checkpoint None →
     IsTipRead digest origin x empty_tip
 empty_read digest origin x h = record {
   checkpoint = h;
   copy = λ held is note entries copy. absurd
-      (copy_found digest origin note entries held None copy (subst (λ o. TellsRead o Checkpoint None) is h) refl);
+      (copy_found digest origin note entries held None copy (subst (λ o. RecordsRead o Checkpoint None) is h) refl);
   empty = λ e. refl;
   known = λ e. empty_known digest;
 }
 
 module _ (digest : List ℕ → List ℕ) (hash : IsDigest digest) (origin : List ℕ) (x y z : Option (List Put))
-    (kept : KeepsTold x y) (kept' : KeepsTold y z) (edge : Edge) (bundle checkpoint : List ℕ) (size : ℕ)
-    (root : List ℕ) (there : TellsRead x Checkpoint (Some checkpoint)) (head : IsHead checkpoint origin size root)
+    (kept : KeepsRecord x y) (kept' : KeepsRecord y z) (edge : Edge) (bundle checkpoint : List ℕ) (size : ℕ)
+    (root : List ℕ) (there : RecordsRead x Checkpoint (Some checkpoint)) (head : IsHead checkpoint origin size root)
     (rows : IsEdgeRead y size edge) (last : IsBundleRead z edge.size bundle) (tip : Tip)
     (size_is : tip.size ≡ edge.size) (rows_are : tip.rows ≡ edge.rows) (bundle_is : tip.bundle ≡ bundle)
     (checkpoint_is : tip.checkpoint ≡ Some checkpoint) where
@@ -595,13 +595,13 @@ module _ (digest : List ℕ → List ℕ) (hash : IsDigest digest) (origin : Lis
 
 pub bundle_made : (x : Option (List Put)) (edge : Edge) (index width : ℕ) (given : Option (List ℕ)) (bytes : List ℕ) →
     index ≡ edge_index_of edge.size 0 → width ≡ width_of edge.size 0 → 1 ≤ width →
-    TellsPartial x (Entries index width) given → given ≡ Some bytes → IsBundleRead x edge.size bytes
+    RecordsPartial x (Entries index width) given → given ≡ Some bytes → IsBundleRead x edge.size bytes
 bundle_made x edge index width given bytes index_is width_is some there is = record {
   none = λ e. absurd (omega (arith, e, width_is, some));
   stands = λ wide.
-      subst (λ k. TellsPartial x (Entries k (width_of edge.size 0)) (Some bytes)) index_is
-      (subst (λ k. TellsPartial x (Entries index k) (Some bytes)) width_is
-      (subst (λ a. TellsPartial x (Entries index width) a) is there));
+      subst (λ k. RecordsPartial x (Entries k (width_of edge.size 0)) (Some bytes)) index_is
+      (subst (λ k. RecordsPartial x (Entries index k) (Some bytes)) width_is
+      (subst (λ a. RecordsPartial x (Entries index width) a) is there));
 }
 
 pub no_bundle : (x : Option (List Put)) (n : ℕ) (bytes : List ℕ) → bytes ≡ [] → width_of n 0 ≡ 0 →

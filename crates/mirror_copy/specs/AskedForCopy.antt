@@ -2,7 +2,7 @@
 use Rattle.std.specs.Prelude.{◌≡◌, ◌≤◌, ℕ, List, get_or, Option, Some, IsSome}
 use Rattle.tlog_tiles.specs.declared.paths.Path.{Path}
 use Rattle.tlog_tiles.specs.declared.paths.Path.TheVariants.{Checkpoint}
-use Rattle.mirror_folders.specs.Shelf.{HasPut, Put, TellsRead}
+use Rattle.mirror_folders.specs.Shelf.{HasPut, Put, RecordsRead}
 use Rattle.mirror_model.specs.Heads.{IsHead}
 use Rattle.mirror_copy.specs.Asked.{MayBeAsked}
 use Rattle.mirror_copy.specs.Copies.{IsCopy}
@@ -71,7 +71,7 @@ module _ (digest : List ℕ → List ℕ) (origin note : List ℕ) (puts : Optio
 -- Such a shelf recorded no copy, and not that no checkpoint stood: what is recorded changes by the puts of this call alone
 pub record IsInUse (digest : List ℕ → List ℕ) (origin : List ℕ) (old : Option (List Put)) : Type 0 where
   pub found : Option (List ℕ)
-  pub found_is : TellsRead old Checkpoint found
+  pub found_is : RecordsRead old Checkpoint found
   pub before : Option (List Put)
   pub other : IsOtherFound found before
   pub no_copy : (held : List Put) → old ≡ Some held → (note : List ℕ) (entries : List (List ℕ)) →

@@ -1,6 +1,6 @@
 -- What a bringing that ends by a contradiction or a collision has put: nothing.
 use Rattle.std.specs.Prelude.{ℕ, ◌≤◌, List, Option, Result, Ok, Err, ⊤}
-use Rattle.mirror_sources.specs.Told.{KeepsTold}
+use Rattle.mirror_sources.specs.Recorded.{KeepsRecord}
 use Rattle.mirror_folders.specs.Shelf.{Put}
 use Rattle.mirror_copy.specs.declared.fault.BringFault.{BringFault}
 use Rattle.mirror_copy.specs.declared.fault.BringFault.TheVariants.{BadCheckpoint, CopyDamaged, NotLarger}
@@ -40,8 +40,8 @@ ConflictPutsNothing start m old new (Ok x) = ⊤
 ConflictPutsNothing start m old new (Err BadCheckpoint) = ⊤
 ConflictPutsNothing start m old new (Err CopyDamaged) = ⊤
 ConflictPutsNothing start m old new (Err NotLarger) = ⊤
-ConflictPutsNothing start m old new (Err Contradiction) = (start ≤ m) × KeepsTold old new
-ConflictPutsNothing start m old new (Err Collision) = (start ≤ m) × KeepsTold old new
+ConflictPutsNothing start m old new (Err Contradiction) = (start ≤ m) × KeepsRecord old new
+ConflictPutsNothing start m old new (Err Collision) = (start ≤ m) × KeepsRecord old new
 ConflictPutsNothing start m old new (Err NoFile) = ⊤
 ConflictPutsNothing start m old new (Err Source) = ⊤
 ConflictPutsNothing start m old new (Err CopyInUse) = ⊤

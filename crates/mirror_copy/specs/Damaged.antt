@@ -3,12 +3,12 @@ use Rattle.std.specs.Prelude.{◌≡◌, ◌≢◌, ℕ, ◌≤◌, List, Option
 use Rattle.tlog_shape.specs.Edge.{edge_index_of, width_of}
 use Rattle.tlog_tiles.specs.declared.paths.Path.TheVariants.{Checkpoint, Tile, Entries}
 use Rattle.tlog_tiles.specs.Row.{IsRow}
-use Rattle.mirror_folders.specs.Shelf.{HasPut, Put, TellsRead}
+use Rattle.mirror_folders.specs.Shelf.{HasPut, Put, RecordsRead}
 use Rattle.mirror_model.specs.Heads.{IsHead}
 use Rattle.log_reader.specs.EdgeRows.{Edge, LeadsTo, hash_of_edge, row_at}
 use Rattle.log_reader.specs.Verified.{HasLeaves}
 use Rattle.mirror_copy.specs.Copies.{IsCopy}
-use Rattle.mirror_copy.specs.Found.{IsEdgeRead, TellsPartial}
+use Rattle.mirror_copy.specs.Found.{IsEdgeRead, RecordsPartial}
 
 module _ (puts : Option (List Put)) (n : ℕ) where
   -- the partial tile of a level of the edge of n entries is not there, or is no row of its width
@@ -16,7 +16,7 @@ module _ (puts : Option (List Put)) (n : ℕ) where
     pub upto : level ≤ 7
     pub some : 1 ≤ width_of n level
     pub found : Option (List ℕ)
-    pub found_is : TellsPartial puts (Tile level (edge_index_of n level) (width_of n level)) found
+    pub found_is : RecordsPartial puts (Tile level (edge_index_of n level) (width_of n level)) found
     pub no_row : IfSome found (λ bytes. (row : List (List ℕ)) → ¬ IsRow (width_of n level) bytes row)
 
   module _ (digest : List ℕ → List ℕ) (root : List ℕ) where
@@ -29,20 +29,20 @@ module _ (puts : Option (List Put)) (n : ℕ) where
 pub record IsBundleWrong (digest : List ℕ → List ℕ) (puts : Option (List Put)) (edge : Edge) : Type 0 where
   pub some : 1 ≤ width_of edge.size 0
   pub found : Option (List ℕ)
-  pub found_is : TellsPartial puts (Entries (edge_index_of edge.size 0) (width_of edge.size 0)) found
+  pub found_is : RecordsPartial puts (Entries (edge_index_of edge.size 0) (width_of edge.size 0)) found
   pub no_leaves : IfSome found (λ bytes. ¬ HasLeaves digest (width_of edge.size 0) bytes (row_at edge 0))
 
 module _ (digest : List ℕ → List ℕ) (origin : List ℕ) (puts : Option (List Put)) where
   -- the shelf has a checkpoint, and it is no note of the origin, or the edge of its size and root or the bundle there is wrong
   pub data IsTipWrong : Type 0 where
     IsNoHead :
-        (note : List ℕ) → TellsRead puts Checkpoint (Some note) →
+        (note : List ℕ) → RecordsRead puts Checkpoint (Some note) →
         ((size : ℕ) (root : List ℕ) → ¬ IsHead note origin size root) → IsTipWrong
     HasWrongEdge :
-        (note : List ℕ) → TellsRead puts Checkpoint (Some note) → (size : ℕ) (root : List ℕ) →
+        (note : List ℕ) → RecordsRead puts Checkpoint (Some note) → (size : ℕ) (root : List ℕ) →
         IsHead note origin size root → IsEdgeWrong puts size digest root → IsTipWrong
     HasWrongBundle :
-        (note : List ℕ) → TellsRead puts Checkpoint (Some note) → (size : ℕ) (root : List ℕ) →
+        (note : List ℕ) → RecordsRead puts Checkpoint (Some note) → (size : ℕ) (root : List ℕ) →
         IsHead note origin size root → (edge : Edge) → IsEdgeRead puts size edge → LeadsTo digest size root edge →
         IsBundleWrong digest puts edge → IsTipWrong
 

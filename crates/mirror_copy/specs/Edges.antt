@@ -5,17 +5,17 @@ use Rattle.tlog_tiles.specs.declared.paths.Path.{Path}
 use Rattle.tlog_tiles.specs.declared.paths.Path.TheVariants.{Checkpoint, Entries}
 use Rattle.tlog_tiles.specs.Tiles.{IsWithin}
 use Rattle.log_reader.specs.EdgeRows.{Edge, RowIsTrue, edge_tile}
-use Rattle.mirror_sources.specs.Told.{AddsTold, KeepsTold}
+use Rattle.mirror_sources.specs.Recorded.{AddsToRecord, KeepsRecord}
 use Rattle.mirror_sources.specs.Honest.{true_bytes}
 use Rattle.mirror_folders.specs.Shelf.{Put}
 use Rattle.mirror_export.specs.FileLaws.{IsFileOf}
-use Rattle.mirror_copy.specs.Standing.{TellsStands}
+use Rattle.mirror_copy.specs.Standing.{RecordsStands}
 use Rattle.mirror_copy.specs.Growing.{Tip, Obtains, HoldsBelow, IsCutShort}
 
 -- what putting the checkpoint last comes to, by its answer
 abbrev pub PutsNote : {T E : Type 0} → Option (List Put) → Option (List Put) → List ℕ → Result T E → Type 0
-PutsNote old new note (Ok x) = AddsTold old new ((Checkpoint, note) ∷ [])
-PutsNote old new note (Err e) = KeepsTold old new
+PutsNote old new note (Ok x) = AddsToRecord old new ((Checkpoint, note) ∷ [])
+PutsNote old new note (Err e) = KeepsRecord old new
 
 module _ (digest : List ℕ → List ℕ) where
   -- all that lies below the rows of the levels from low on was brought, and these rows are true
@@ -44,7 +44,7 @@ module _ (digest : List ℕ → List ℕ) where
     pub holds :
         1 ≤ width_of edge.size 0 → let path =
         Entries (edge_index_of edge.size 0) (width_of edge.size 0) in
-        TellsStands old new path (true_bytes digest next path)
+        RecordsStands old new path (true_bytes digest next path)
 
   -- what bringing the partial bundle comes to, by its answer
   abbrev pub BringsEdgeBundle : {T E : Type 0} → ℕ → Edge → List (List ℕ) →
@@ -59,7 +59,7 @@ module _ (digest : List ℕ → List ℕ) where
     pub holds :
         (level : ℕ) → level < below → 1 ≤ width_of edge.size level →
         ¬ IsWithin m (edge_tile edge level) →
-        TellsStands old new (edge_tile edge level) (true_bytes digest entries (edge_tile edge level))
+        RecordsStands old new (edge_tile edge level) (true_bytes digest entries (edge_tile edge level))
 
   -- the partial tile of a level stands with true bytes, if there is one and the first m entries do not have it
   pub record IsEdgeTilePut (m : ℕ) (edge : Edge) (entries : List (List ℕ)) (old new : Option (List Put))
@@ -67,7 +67,7 @@ module _ (digest : List ℕ → List ℕ) where
     pub gathers : Obtains digest m entries entries old new
     pub holds :
         1 ≤ width_of edge.size level → ¬ IsWithin m (edge_tile edge level) →
-        TellsStands old new (edge_tile edge level) (true_bytes digest entries (edge_tile edge level))
+        RecordsStands old new (edge_tile edge level) (true_bytes digest entries (edge_tile edge level))
 
   -- what putting a partial tile comes to, by its answer
   abbrev pub PutsEdgeTile : {T E : Type 0} → ℕ → Edge → List (List ℕ) → Option (List Put) → Option (List Put) → ℕ →
@@ -88,11 +88,11 @@ module _ (digest : List ℕ → List ℕ) where
     pub next : List (List ℕ)
     pub before : Option (List Put)
     pub gathers : Obtains digest tip.size known next old before
-    pub last : AddsTold before new ((Checkpoint, note) ∷ [])
+    pub last : AddsToRecord before new ((Checkpoint, note) ∷ [])
     pub size_is : length next ≡ edge.size
     pub rows_are : (level : ℕ) → level ≤ 7 → RowIsTrue digest edge next level
     pub holds : (path : Path) → path ≢ Checkpoint → IsFileOf edge.size path → ¬ IsWithin tip.size path →
-        TellsStands old before path (true_bytes digest next path)
+        RecordsStands old before path (true_bytes digest next path)
 
   -- what bringing a copy comes to, by its answer
   abbrev pub BringsToEdge : {T E : Type 0} → Tip → Edge → List ℕ → List (List ℕ) →

@@ -5,28 +5,28 @@ use Rattle.tlog_shape.specs.Edge.{width_of, edge_index_of}
 use Rattle.tlog_tiles.specs.declared.paths.Path.{Path}
 use Rattle.tlog_tiles.specs.declared.paths.Path.TheVariants.{Checkpoint, Tile, Entries}
 use Rattle.tlog_tiles.specs.Row.{IsRow}
-use Rattle.mirror_sources.specs.Told.{KeepsTold}
+use Rattle.mirror_sources.specs.Recorded.{KeepsRecord}
 use Rattle.mirror_folders.specs.Shelf.{HasPut, Put, Stands}
 use Rattle.mirror_copy.specs.Copies.{IsCopy}
 use Rattle.log_reader.specs.EdgeRows.{Edge, row_at}
 use Rattle.mirror_copy.specs.Growing.{IsKnown, Tip}
 use Rattle.mirror_copy.specs.Moments.{CopyStays, IsBroughtTo, KeepsCopy}
 use Rattle.mirror_copy.specs.Taken.{PartOf, WasPut}
-use Rattle.mirror_folders.specs.Shelf.{TellsRead}
+use Rattle.mirror_folders.specs.Shelf.{RecordsRead}
 
 -- the answer is what stands at the path of a partial file, where something was put there; where nothing was, it may be
 -- cut from the full file
-abbrev pub TellsPartial : Option (List Put) → Path → Option (List ℕ) → Type 0
-TellsPartial None path answer = ⊤
-TellsPartial (Some puts) path None = ¬ HasPut puts path
-TellsPartial (Some puts) path (Some bytes) = HasPut puts path → Stands puts path bytes
+abbrev pub RecordsPartial : Option (List Put) → Path → Option (List ℕ) → Type 0
+RecordsPartial None path answer = ⊤
+RecordsPartial (Some puts) path None = ¬ HasPut puts path
+RecordsPartial (Some puts) path (Some bytes) = HasPut puts path → Stands puts path bytes
 
 -- the row of a level of the edge of n entries is what stands on the shelf, where there is one
 pub record IsRowRead (puts : Option (List Put)) (n level : ℕ) (row : List (List ℕ)) : Type 0 where
   pub bytes : List ℕ
   pub is_row : IsRow (width_of n level) bytes row
   pub stands : 1 ≤ width_of n level →
-      TellsPartial puts (Tile level (edge_index_of n level) (width_of n level)) (Some bytes)
+      RecordsPartial puts (Tile level (edge_index_of n level) (width_of n level)) (Some bytes)
   pub taken : 1 ≤ width_of n level →
       PartOf (WasPut puts) (Tile level (edge_index_of n level) (width_of n level)) bytes
 
@@ -38,12 +38,12 @@ pub record IsEdgeRead (puts : Option (List Put)) (n : ℕ) (edge : Edge) : Type 
 -- the bytes are the partial bundle at the edge of n entries as it stands on the shelf, and none where there is none
 pub record IsBundleRead (puts : Option (List Put)) (n : ℕ) (bytes : List ℕ) : Type 0 where
   pub none : width_of n 0 ≡ 0 → bytes ≡ []
-  pub stands : 1 ≤ width_of n 0 → TellsPartial puts (Entries (edge_index_of n 0) (width_of n 0)) (Some bytes)
+  pub stands : 1 ≤ width_of n 0 → RecordsPartial puts (Entries (edge_index_of n 0) (width_of n 0)) (Some bytes)
 
 module _ (digest : List ℕ → List ℕ) where
   -- the tip is what stands on the shelf: of each copy that stands there it is the tip
   pub record IsTipRead (origin : List ℕ) (puts : Option (List Put)) (tip : Tip) : Type 0 where
-    pub checkpoint : TellsRead puts Checkpoint tip.checkpoint
+    pub checkpoint : RecordsRead puts Checkpoint tip.checkpoint
     pub copy : (held : List Put) → puts ≡ Some held → (note : List ℕ) (entries : List (List ℕ)) →
         IsCopy digest origin note entries held → IsKnown digest tip 0 entries
     pub empty : tip.checkpoint ≡ None → tip.size ≡ 0
@@ -54,6 +54,6 @@ module _ (digest : List ℕ → List ℕ) where
   abbrev pub BringsFromTip : {T E : Type 0} → List ℕ → List ℕ → Tip → Option (List Put) → Option (List Put) →
       Result T E → Type 0
   BringsFromTip origin note tip old new result =
-      (before : Option (List Put)) → KeepsTold before old → IsTipRead origin before tip →
+      (before : Option (List Put)) → KeepsRecord before old → IsTipRead origin before tip →
       KeepsCopy digest origin note before new × OnOk result (IsBroughtTo digest origin note before new)
       × IfErr result (λ e. CopyStays digest origin before new)

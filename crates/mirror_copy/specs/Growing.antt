@@ -9,10 +9,10 @@ use Rattle.tlog_tiles.specs.declared.paths.Path.TheVariants.{Checkpoint, Tile, E
 use Rattle.tlog_tiles.specs.Bundle.{bundle_text}
 use Rattle.tlog_tiles.specs.Tiles.{IsWithin}
 use Rattle.mirror_model.specs.TrueLaws.{AreShort}
-use Rattle.mirror_sources.specs.Told.{AddsTold}
+use Rattle.mirror_sources.specs.Recorded.{AddsToRecord}
 use Rattle.mirror_sources.specs.Honest.{true_bytes}
 use Rattle.mirror_folders.specs.Shelf.{Put}
-use Rattle.mirror_copy.specs.Standing.{TellsStands}
+use Rattle.mirror_copy.specs.Standing.{RecordsStands}
 
 -- the tip of a copy: how many entries it has, the rows of its partial tiles by their levels, the bytes of its
 -- partial bundle, and its checkpoint, where one stands
@@ -45,7 +45,7 @@ module _ (digest : List ℕ → List ℕ) where
     pub next_is : next ≡ known ++ more
     pub short : AreShort more
     pub puts : List Put
-    pub told : AddsTold old new puts
+    pub recorded : AddsToRecord old new puts
     pub are_new : All (IsNewFile m next) puts
 
   -- the entries are those of the tip, and all up to the start; the tip is theirs
@@ -62,7 +62,7 @@ module _ (digest : List ℕ → List ℕ) where
       Type 0
   HoldsBelow m level index entries old new =
       (path : Path) → IsBelow level index path → ¬ IsWithin m path →
-      TellsStands old new path (true_bytes digest entries path)
+      RecordsStands old new path (true_bytes digest entries path)
 
   -- all entries below the full tile of that level and index were gathered, and its hash is true
   pub record IsBrought (tip : Tip) (level index : ℕ) (hash : List ℕ) (known : List (List ℕ))

@@ -2,7 +2,7 @@
 use Rattle.std.specs.Prelude.{◌≡◌, ◌⊎◌, ℕ, All, List, [], ◌++◌, length, Option, Some, None}
 use Rattle.tlog_tiles.specs.declared.paths.Path.TheVariants.{Checkpoint}
 use Rattle.tlog_tiles.specs.Tiles.{IsWithin}
-use Rattle.mirror_sources.specs.Told.{AddsTold}
+use Rattle.mirror_sources.specs.Recorded.{AddsToRecord}
 use Rattle.mirror_folders.specs.Shelf.{Put, HasPut}
 use Rattle.mirror_export.specs.Exports.{IsMoment}
 use Rattle.mirror_export.specs.SinceLaws.{HoldsFiles}
@@ -21,7 +21,7 @@ InTheEnd (Some new) so = so new
 -- what was put since is no file of a log of n entries or fewer
 pub record PutsBeyond (n : ℕ) (held : List Put) (new : Option (List Put)) : Type 0 where
   pub puts : List Put
-  pub told : AddsTold (Some held) new puts
+  pub recorded : AddsToRecord (Some held) new puts
   pub are_beyond : All (λ put. ¬ IsWithin n put.0) puts
 
 module _ (digest : List ℕ → List ℕ) (origin note : List ℕ) where

@@ -3,7 +3,7 @@ use Rattle.std.specs.Prelude.{◌≡◌, ◌⊎◌, ℕ, ◌+◌, ◌-◌, ◌^�
 use Rattle.std.specs.Prelude.{IsTrue, IsFalse, IsSome}
 use Rattle.tlog_tiles.specs.declared.paths.Path.{Path}
 use Rattle.mirror_sources.specs.Source.{StaysWithin}
-use Rattle.mirror_sources.specs.Told.{AddsTold}
+use Rattle.mirror_sources.specs.Recorded.{AddsToRecord}
 use Rattle.mirror_copy.specs.declared.place.Place.{Place}
 use Rattle.mirror_copy.specs.declared.place.PlaceAnswer.{PlaceAnswer}
 use Rattle.mirror_copy.specs.declared.place.PlaceAnswer.TheVariants.{File, NotFound, Failed}
@@ -32,7 +32,7 @@ module _ {S : Type 0} (may : S → Path → Option (List ℕ) → Type 0) (faile
   pub record IsAskedFor (so : Path → Type 0) (old new : Place S) : Type 0 where
     pub later : StaysWithin (may old.source) (may new.source)
     pub paths : List Path
-    pub told : AddsTold (asked old.source) (asked new.source) paths
+    pub recorded : AddsToRecord (asked old.source) (asked new.source) paths
     pub are_so : All so paths
     pub more : old.failures ≤ new.failures
     pub counted : RoseTimes (new.failures - old.failures) (failed old.source) (failed new.source)

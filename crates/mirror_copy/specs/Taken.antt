@@ -11,7 +11,7 @@ use Rattle.tlog_tiles.specs.Row.{IsRow}
 use Rattle.node_store.specs.Strings.{NoClash}
 use Rattle.mirror_model.specs.Edge.{edge_levels, edge_strings}
 use Rattle.mirror_sources.specs.Files.{full_of}
-use Rattle.mirror_sources.specs.Told.{AddsTold}
+use Rattle.mirror_sources.specs.Recorded.{AddsToRecord}
 use Rattle.mirror_folders.specs.Shelf.{Put}
 use Rattle.log_reader.specs.EdgeRows.{Edge, row_at}
 use Rattle.mirror_copy.specs.declared.place.Place.{Place}
@@ -62,7 +62,7 @@ module _ {S : Type 0} (may : S → Path → Option (List ℕ) → Type 0) where
   -- tiles of level 0 were put, and files that might be taken
   pub record PutsTaken (places : Places S) (old new : Option (List Put)) : Type 0 where
     pub puts : List Put
-    pub told : AddsTold old new puts
+    pub recorded : AddsToRecord old new puts
     pub are_taken : All (λ put. IsLeafTile put.0 ⊎ MayTake places old put.0 put.1) puts
 
 module _ (digest : List ℕ → List ℕ) (log : List (List ℕ)) where

@@ -1,7 +1,7 @@
 //! Bundles that will be asked for soon.
 ghost use Rattle.std.specs.Prelude.{◌≡◌, ◌^◌, ◌<◌, ℕ, List, IfErr, IfOk};
 ghost use Rattle.tlog_tiles.specs.declared.paths.Path.TheVariants.{Entries};
-ghost use Rattle.mirror_sources.specs.Told.{KeepsTold};
+ghost use Rattle.mirror_sources.specs.Recorded.{KeepsRecord};
 ghost use Rattle.log_reader.specs.Verified.{Verifies};
 ghost use Rattle.mirror_copy.specs.Conflicts.{IsNoConflict};
 ghost use Rattle.mirror_copy.specs.Faults.{BlamesPlaces, CountsShelf};
@@ -72,7 +72,7 @@ pub(crate) fn find_bundle<H: TreeHash, D: ReadableShelf, S: Source + Drop>(
     ensures found { IfOk result
         (λ f. Verifies H.digest FullFile.Bundle hash.now f.bytes.items f.row.items) }
     ensures fault { IfErr result IsNoConflict }
-    ensures same { KeepsTold (D.puts shelf.old) (D.puts shelf.new) }
+    ensures same { KeepsRecord (D.puts shelf.old) (D.puts shelf.new) }
     ensures counted { CountsShelf (D.failed shelf.old) (D.failed shelf.new) result }
     ensures asks { AsksPlaces S.may_answer S.failed S.asked (λ p. p ≡ Entries index 256)
         places.old places.new }

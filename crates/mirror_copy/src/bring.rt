@@ -1,6 +1,6 @@
 //! Tiles brought from places, with all that lies below them.
 ghost use Rattle.std.specs.Prelude.{◌≡◌, ◌+◌, ◌*◌, ◌^◌, ◌<◌, ◌≤◌, ℕ, List, IfErr, OnOk, length, take};
-ghost use Rattle.mirror_sources.specs.Told.{KeepsTold};
+ghost use Rattle.mirror_sources.specs.Recorded.{KeepsRecord};
 ghost use Rattle.mirror_copy.specs.Asked.{IsNewFull};
 ghost use Rattle.mirror_copy.specs.Faults.{BlamesPlaces, CountsShelf};
 ghost use Rattle.mirror_copy.specs.PlaceGets.{AsksPlaces};
@@ -132,7 +132,7 @@ pub(crate) fn bring_row<H: TreeHash, D: ReadableShelf, S: Source + Drop>(
     requires fits { (256 * index + length row.now) * 256 ^ level ≤ 2 ^ 63 }
     requires beyond { tip.now.size < (index + 1) * 256 ^ (level + 1) }
     ensures none { (256 * index + length row.now) * 256 ^ level ≤ tip.now.size
-        → OnOk result (KeepsTold (D.puts shelf.old) (D.puts shelf.new)) }
+        → OnOk result (KeepsRecord (D.puts shelf.old) (D.puts shelf.new)) }
     ensures counted { CountsShelf (D.failed shelf.old) (D.failed shelf.new) result }
     ensures asks { AsksPlaces S.may_answer S.failed S.asked (IsNewFull tip.now.size)
         places.old places.new }

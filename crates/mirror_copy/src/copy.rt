@@ -2,7 +2,7 @@
 ghost use Rattle.std.specs.Prelude.{◌≡◌, ◌↔◌, ◌⊎◌, ◌<◌, ◌^◌, ℕ, None, Some, [], IfErr, IfOk, IfSome, IsTrue, List, OnOk, length, take};
 ghost use Rattle.tlog_hash.specs.Tree.{mth};
 ghost use Rattle.mirror_model.specs.Heads.{IsHead};
-ghost use Rattle.mirror_sources.specs.Told.{KeepsTold};
+ghost use Rattle.mirror_sources.specs.Recorded.{KeepsRecord};
 ghost use Rattle.mirror_export.specs.Since.{since_paths};
 ghost use Rattle.log_reader.specs.EdgeRows.{LeadsTo};
 ghost use Rattle.mirror_copy.specs.Conflicts.{IsConflict, IsNoConflict};
@@ -50,7 +50,7 @@ fn is_empty_root<H: TreeHash>(root: &Hash) -> bool
 
 // Says how many files the copy lacks, the checkpoint among them.
 fn expect_new<D: ReadableShelf>(shelf: &mut D, old_size: u64, size: u64)
-    ensures same { KeepsTold (D.puts shelf.old) (D.puts shelf.new) }
+    ensures same { KeepsRecord (D.puts shelf.old) (D.puts shelf.new) }
     ensures failed { D.failed shelf.new ≡ D.failed shelf.old }
     ensures expected { IfSome (D.expected shelf.new)
         (λ all. all ≡ length (since_paths old_size size)) }
@@ -67,7 +67,7 @@ fn find_new_edge<H: TreeHash, D: ReadableShelf, S: Source + Drop>(
     candidate: &Candidate<'_>,
 ) -> Result<EdgeRows, BringFault>
     ensures fault { IfErr result IsNoConflict }
-    ensures same { KeepsTold (D.puts shelf.old) (D.puts shelf.new) }
+    ensures same { KeepsRecord (D.puts shelf.old) (D.puts shelf.new) }
     ensures counted { CountsShelf (D.failed shelf.old) (D.failed shelf.new) result }
     ensures asks { AsksPlaces S.may_answer S.failed S.asked (IsEdgeTile candidate.now.size)
         places.old places.new }
@@ -100,7 +100,7 @@ fn put_empty<H: TreeHash, D: ReadableShelf>(
     ensures counted { CountsShelf (D.failed shelf.old) (D.failed shelf.new) result }
     ensures blames { IfErr result (λ e. ((e ≡ CopyInUse) × IsOtherThen H.digest tip.now
         (D.puts shelf.old)) ⊎ IsOfNoPlace e) }
-    ensures conflict { IfErr result (λ e. IsConflict e → KeepsTold (D.puts shelf.old)
+    ensures conflict { IfErr result (λ e. IsConflict e → KeepsRecord (D.puts shelf.old)
         (D.puts shelf.new)) }
     ensures honest { IfErr result (λ e. candidate.now.root ≡ mth H.digest [] → IsSpared e) }
     ensures brings { BringsFromTip H.digest origin.now candidate.now.note.now tip.now
@@ -128,7 +128,7 @@ fn bring_larger<H: TreeHash, D: ReadableShelf, S: Source + Drop>(
     ensures asks { AsksPlaces S.may_answer S.failed S.asked
         (MayBeAsked tip.now.size candidate.now.size) places.old places.new }
     ensures blames { IfErr result (BlamesRun H.digest places.new tip.now (D.puts shelf.old)) }
-    ensures conflict { IfErr result (λ e. IsConflict e → KeepsTold (D.puts shelf.old)
+    ensures conflict { IfErr result (λ e. IsConflict e → KeepsRecord (D.puts shelf.old)
         (D.puts shelf.new)) }
     ensures honest { IfErr result (λ e. (entries : List (List ℕ))
         → IsHonestFor H.digest S.may_answer (D.puts shelf.old) places.old places.new entries
@@ -158,7 +158,7 @@ fn bring_from<H: TreeHash, D: ReadableShelf, S: Source + Drop>(
         (MayBeAsked tip.now.size candidate.now.size) places.old places.new }
     ensures blames { IfErr result (BlamesFrom H.digest places.new candidate.now.size tip.now
         (D.puts shelf.old)) }
-    ensures conflict { IfErr result (λ e. IsConflict e → KeepsTold (D.puts shelf.old)
+    ensures conflict { IfErr result (λ e. IsConflict e → KeepsRecord (D.puts shelf.old)
         (D.puts shelf.new)) }
     ensures honest { IfErr result (λ e. (entries : List (List ℕ))
         → IsHonestFor H.digest S.may_answer (D.puts shelf.old) places.old places.new entries
@@ -225,7 +225,7 @@ pub fn bring_copy<H: TreeHash, D: ReadableShelf, S: Source + Drop>(
     ensures suffices { IsHonestNote H.digest S.may_answer (D.puts shelf.old) places.old places.new
         origin.now note.now → IfErr result IsShelfOrMemory }
     ensures had { IfOk result (λ size. HadSize H.digest origin.now (D.puts shelf.old) size) }
-    ensures conflict { IfErr result (λ e. IsConflict e → KeepsTold (D.puts shelf.old)
+    ensures conflict { IfErr result (λ e. IsConflict e → KeepsRecord (D.puts shelf.old)
         (D.puts shelf.new)) }
     ensures whole { KeepsCopy H.digest origin.now note.now (D.puts shelf.old) (D.puts shelf.new) }
     ensures stays { IfErr result

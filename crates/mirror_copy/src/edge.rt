@@ -1,7 +1,7 @@
 //! A copy brought to the edge of a larger tree.
 ghost use Rattle.std.specs.Prelude.{◌≡◌, ◌*◌, ◌^◌, ◌<◌, ◌≤◌, ℕ, List, IfErr, OnOk, take};
 ghost use Rattle.tlog_shape.specs.Edge.{edge_index_of};
-ghost use Rattle.mirror_sources.specs.Told.{KeepsTold};
+ghost use Rattle.mirror_sources.specs.Recorded.{KeepsRecord};
 ghost use Rattle.mirror_copy.specs.Asked.{IsNewFull};
 ghost use Rattle.mirror_copy.specs.Faults.{BlamesPlaces, CountsShelf};
 ghost use Rattle.mirror_copy.specs.PlaceGets.{AsksPlaces};
@@ -46,7 +46,7 @@ pub(crate) fn bring_levels<H: TreeHash, D: ReadableShelf, S: Source + Drop>(
     ensures early { ConflictPutsNothing 0 tip.now.size (D.puts shelf.old)
         (D.puts shelf.new) result }
     ensures none { edge_index_of edge.now.size 0 * 256 ≤ tip.now.size
-        → OnOk result (KeepsTold (D.puts shelf.old) (D.puts shelf.new)) }
+        → OnOk result (KeepsRecord (D.puts shelf.old) (D.puts shelf.new)) }
     ensures brings { (known : List (List ℕ)) → IsKnown H.digest tip.now 0 known
         → BringsEdge H.digest tip.now edge.now known (D.puts shelf.old) (D.puts shelf.new) result }
 {

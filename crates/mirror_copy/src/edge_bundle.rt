@@ -1,7 +1,7 @@
 //! The partial bundle at the edge.
 ghost use Rattle.std.specs.Prelude.{◌≡◌, ◌*◌, ◌^◌, ◌<◌, ◌≤◌, ℕ, List, IfErr, IfNone, IfOk, IfSome, IsTrue, Some, length, option_map, take};
 ghost use Rattle.tlog_shape.specs.Edge.{edge_index_of};
-ghost use Rattle.mirror_sources.specs.Told.{KeepsTold};
+ghost use Rattle.mirror_sources.specs.Recorded.{KeepsRecord};
 ghost use Rattle.mirror_copy.specs.Asked.{IsEdgeBundle, IsPathOrFull};
 ghost use Rattle.mirror_copy.specs.Faults.{BlamesPlaces, CountsShelf};
 ghost use Rattle.mirror_copy.specs.PlaceGets.{AsksPlaces};
@@ -131,7 +131,7 @@ fn find_edge_bundle<H: TreeHash, D: ReadableShelf, S: Source + Drop>(
     requires { length row.now ≤ 256 }
     ensures found { IfOk result (λ bytes. HasLeaves H.digest (length row.now) bytes.items row.now) }
     ensures fault { IfErr result IsNoConflict }
-    ensures same { KeepsTold (D.puts shelf.old) (D.puts shelf.new) }
+    ensures same { KeepsRecord (D.puts shelf.old) (D.puts shelf.new) }
     ensures counted { CountsShelf (D.failed shelf.old) (D.failed shelf.new) result }
     ensures asks { AsksPlaces S.may_answer S.failed S.asked (IsPathOrFull path.now)
         places.old places.new }

@@ -1,6 +1,6 @@
 //! A file found on the shelf or at a place, where it verifies.
 ghost use Rattle.std.specs.Prelude.{◌≡◌, ◌<◌, ℕ, List, IfErr, IfNone, IfOk, IfSome, get_or, length};
-ghost use Rattle.mirror_sources.specs.Told.{KeepsTold};
+ghost use Rattle.mirror_sources.specs.Recorded.{KeepsRecord};
 ghost use Rattle.mirror_model.specs.TrueLaws.{AreShort};
 ghost use Rattle.log_reader.specs.Verified.{Verifies};
 ghost use Rattle.mirror_copy.specs.Asked.{IsAskedInVain};
@@ -135,7 +135,7 @@ pub(crate) fn find<H: TreeHash, D: ReadableShelf, S: Source + Drop>(
 ) -> Result<Found, BringFault>
     ensures found { IfOk result (λ f. Verifies H.digest kind hash.now f.bytes.items f.row.items) }
     ensures fault { IfErr result IsNoConflict }
-    ensures same { KeepsTold (D.puts shelf.old) (D.puts shelf.new) }
+    ensures same { KeepsRecord (D.puts shelf.old) (D.puts shelf.new) }
     ensures counted { CountsShelf (D.failed shelf.old) (D.failed shelf.new) result }
     ensures asks { AsksPlaces S.may_answer S.failed S.asked (λ p. p ≡ path.now)
         places.old places.new }

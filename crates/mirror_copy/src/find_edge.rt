@@ -1,6 +1,6 @@
 //! The edge rows of a tree, all from the shelf or all from one place.
 ghost use Rattle.std.specs.Prelude.{◌≡◌, ◌<◌, ◌≤◌, ℕ, List, IfErr, IfNone, IfOk, IfSome, length, option_map};
-ghost use Rattle.mirror_sources.specs.Told.{KeepsTold};
+ghost use Rattle.mirror_sources.specs.Recorded.{KeepsRecord};
 ghost use Rattle.mirror_copy.specs.Asked.{IsEdgeTile};
 ghost use Rattle.mirror_copy.specs.Faults.{BlamesPlaces, CountsShelf, IsOfNoPlace};
 ghost use Rattle.mirror_copy.specs.PlaceGets.{AsksPlaces};
@@ -94,7 +94,7 @@ fn row_on_shelf<D: ReadableShelf>(
     ensures fault { IfErr result IsNoConflict }
     ensures counted { CountsShelf (D.failed shelf.old) (D.failed shelf.new) result }
     ensures places { IfErr result IsOfNoPlace }
-    ensures same { KeepsTold (D.puts shelf.old) (D.puts shelf.new) }
+    ensures same { KeepsRecord (D.puts shelf.old) (D.puts shelf.new) }
     ensures row { IfOk result (λ found. IfSome found
         (λ row. IsRowRead (D.puts shelf.old) size level row.items)) }
     ensures none { IfOk result (λ found. IfNone found
@@ -119,7 +119,7 @@ fn rows_on_shelf<D: ReadableShelf>(
     ensures fault { IfErr result IsNoConflict }
     ensures counted { CountsShelf (D.failed shelf.old) (D.failed shelf.new) result }
     ensures places { IfErr result IsOfNoPlace }
-    ensures same { KeepsTold (D.puts shelf.old) (D.puts shelf.new) }
+    ensures same { KeepsRecord (D.puts shelf.old) (D.puts shelf.new) }
     ensures edge { IfOk result (λ found. IfSome found
         (λ edge. IsEdgeRead (D.puts shelf.old) size edge)) }
     ensures none { IfOk result (λ found. IfNone found
@@ -145,7 +145,7 @@ pub(crate) fn edge_on_shelf<H: TreeHash, D: ReadableShelf>(
     ensures fault { IfErr result IsNoConflict }
     ensures counted { CountsShelf (D.failed shelf.old) (D.failed shelf.new) result }
     ensures places { IfErr result IsOfNoPlace }
-    ensures same { KeepsTold (D.puts shelf.old) (D.puts shelf.new) }
+    ensures same { KeepsRecord (D.puts shelf.old) (D.puts shelf.new) }
     ensures read { IfOk result (λ found. IfSome found
         (λ edge. IsEdgeRead (D.puts shelf.old) size edge)) }
     ensures none { IfOk result (λ found. IfNone found
@@ -241,7 +241,7 @@ pub(crate) fn find_edge<H: TreeHash, D: ReadableShelf, S: Source + Drop>(
     root: &Hash,
 ) -> Result<EdgeRows, BringFault>
     ensures fault { IfErr result IsNoConflict }
-    ensures same { KeepsTold (D.puts shelf.old) (D.puts shelf.new) }
+    ensures same { KeepsRecord (D.puts shelf.old) (D.puts shelf.new) }
     ensures counted { CountsShelf (D.failed shelf.old) (D.failed shelf.new) result }
     ensures asks { AsksPlaces S.may_answer S.failed S.asked (IsEdgeTile size)
         places.old places.new }

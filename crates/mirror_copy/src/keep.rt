@@ -1,9 +1,9 @@
 //! A verified file, put if it is not there yet.
 ghost use Rattle.std.specs.Prelude.{◌≡◌, ◌↔◌, ◌⊎◌, [], ◌∷◌, IfErr, IfOk, IsTrue, OnOk};
-ghost use Rattle.mirror_sources.specs.Told.{KeepsTold, AddsTold};
+ghost use Rattle.mirror_sources.specs.Recorded.{KeepsRecord, AddsToRecord};
 ghost use Rattle.mirror_copy.specs.Conflicts.{IsNoConflict};
 ghost use Rattle.mirror_copy.specs.Faults.{CountsShelf, IsOfNoPlace};
-ghost use Rattle.mirror_copy.specs.Standing.{TellsStands};
+ghost use Rattle.mirror_copy.specs.Standing.{RecordsStands};
 
 use crate::fault::BringFault;
 use mirror_folders::ReadableShelf;
@@ -20,9 +20,9 @@ fn stands<D: ReadableShelf>(shelf: &mut D, path: &Path, bytes: &[u8]) -> Result<
     ensures fault { IfErr result IsNoConflict }
     ensures counted { CountsShelf (D.failed shelf.old) (D.failed shelf.new) result }
     ensures places { IfErr result IsOfNoPlace }
-    ensures same { KeepsTold (D.puts shelf.old) (D.puts shelf.new) }
+    ensures same { KeepsRecord (D.puts shelf.old) (D.puts shelf.new) }
     ensures there { IfOk result (λ b. IsTrue b
-        → TellsStands (D.puts shelf.old) (D.puts shelf.new) path.now bytes.now) }
+        → RecordsStands (D.puts shelf.old) (D.puts shelf.new) path.now bytes.now) }
 {
     match shelf.read(path)? {
         Some(there) => Ok(is_same(&there, bytes)),
@@ -40,10 +40,10 @@ pub(crate) fn keep<D: ReadableShelf>(
     ensures fault { IfErr result IsNoConflict }
     ensures counted { CountsShelf (D.failed shelf.old) (D.failed shelf.new) result }
     ensures places { IfErr result IsOfNoPlace }
-    ensures puts { KeepsTold (D.puts shelf.old) (D.puts shelf.new)
-        ⊎ AddsTold (D.puts shelf.old) (D.puts shelf.new) ((path.now, bytes.now) ∷ []) }
+    ensures puts { KeepsRecord (D.puts shelf.old) (D.puts shelf.new)
+        ⊎ AddsToRecord (D.puts shelf.old) (D.puts shelf.new) ((path.now, bytes.now) ∷ []) }
     ensures stands { OnOk result
-        (TellsStands (D.puts shelf.old) (D.puts shelf.new) path.now bytes.now) }
+        (RecordsStands (D.puts shelf.old) (D.puts shelf.new) path.now bytes.now) }
 {
     if stands(shelf, path, bytes)? {
         shelf.flush_before_checkpoint(path)?;

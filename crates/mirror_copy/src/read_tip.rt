@@ -1,6 +1,6 @@
 //! The tip of the copy on a shelf.
 ghost use Rattle.std.specs.Prelude.{◌≡◌, ◌⊎◌, IfErr, IfOk};
-ghost use Rattle.mirror_sources.specs.Told.{KeepsTold};
+ghost use Rattle.mirror_sources.specs.Recorded.{KeepsRecord};
 ghost use Rattle.mirror_copy.specs.Conflicts.{IsNoConflict};
 ghost use Rattle.log_reader.specs.EdgeRows.{HasWidths};
 ghost use Rattle.mirror_copy.specs.Damaged.{IsBundleWrong, IsDamaged};
@@ -31,7 +31,7 @@ fn bundle_on_shelf<H: TreeHash, D: ReadableShelf>(
     ensures counted { CountsShelf (D.failed shelf.old) (D.failed shelf.new) result }
     ensures damaged { IfErr result (λ e. ((e ≡ CopyDamaged)
         × IsBundleWrong H.digest (D.puts shelf.old) edge.now) ⊎ IsOfNoPlace e) }
-    ensures same { KeepsTold (D.puts shelf.old) (D.puts shelf.new) }
+    ensures same { KeepsRecord (D.puts shelf.old) (D.puts shelf.new) }
     ensures bundle { IfOk result (λ bytes. IsBundleRead
         (D.puts shelf.old) edge.now.size bytes.items) }
 {
@@ -62,7 +62,7 @@ pub(crate) fn read_tip<H: TreeHash, D: ReadableShelf>(
     ensures counted { CountsShelf (D.failed shelf.old) (D.failed shelf.new) result }
     ensures damaged { IfErr result (λ e. ((e ≡ CopyDamaged)
         × IsDamaged H.digest origin.now (D.puts shelf.old)) ⊎ IsOfNoPlace e) }
-    ensures same { KeepsTold (D.puts shelf.old) (D.puts shelf.new) }
+    ensures same { KeepsRecord (D.puts shelf.old) (D.puts shelf.new) }
     ensures tip { IfOk result (λ tip. IsTipRead H.digest origin.now (D.puts shelf.old) tip) }
 {
     let Some(checkpoint) = shelf.read(&Path::Checkpoint)? else {

@@ -1,9 +1,9 @@
 //! The files of the edge, as a shelf has them.
 ghost use Rattle.std.specs.Prelude.{IfErr, IfOk, IfSome, option_map};
-ghost use Rattle.mirror_sources.specs.Told.{KeepsTold};
+ghost use Rattle.mirror_sources.specs.Recorded.{KeepsRecord};
 ghost use Rattle.mirror_copy.specs.Conflicts.{IsNoConflict};
 ghost use Rattle.mirror_copy.specs.Faults.{CountsShelf, IsOfNoPlace};
-ghost use Rattle.mirror_copy.specs.Found.{TellsPartial};
+ghost use Rattle.mirror_copy.specs.Found.{RecordsPartial};
 ghost use Rattle.mirror_copy.specs.Taken.{PartOf, WasPut};
 
 use crate::fault::BringFault;
@@ -23,8 +23,8 @@ pub(crate) fn read_partial<D: ReadableShelf>(
     ensures fault { IfErr result IsNoConflict }
     ensures counted { CountsShelf (D.failed shelf.old) (D.failed shelf.new) result }
     ensures places { IfErr result IsOfNoPlace }
-    ensures same { KeepsTold (D.puts shelf.old) (D.puts shelf.new) }
-    ensures answer { IfOk result (λ found. TellsPartial (D.puts shelf.old) path.now
+    ensures same { KeepsRecord (D.puts shelf.old) (D.puts shelf.new) }
+    ensures answer { IfOk result (λ found. RecordsPartial (D.puts shelf.old) path.now
         (option_map (λ v. v.items) found)) }
     ensures taken { IfOk result (λ found. IfSome found
         (λ bytes. PartOf (WasPut (D.puts shelf.old)) path.now bytes.items)) }

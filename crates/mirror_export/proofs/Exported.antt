@@ -5,11 +5,11 @@ use Rattle.std.proofs.lemmas.Bool.{false≢true, cases_lt}
 use Rattle.std.proofs.lemmas.List.{length-map}
 use Rattle.tlog_tiles.specs.declared.paths.Path.{Path}
 use Rattle.tlog_tiles.specs.declared.paths.Path.TheVariants.{Checkpoint}
-use Rattle.mirror_sources.specs.Told.{AddsTold, KeepsTold, Rose, one_more}
+use Rattle.mirror_sources.specs.Recorded.{AddsToRecord, KeepsRecord, Rose, one_more}
 use Rattle.mirror_model.specs.View.{View}
 use Rattle.mirror_model.specs.Reports.{SaysServed}
 use Rattle.tlog_mirror.specs.Tops.{Top, IsServedTop}
-use Rattle.mirror_folders.specs.Shelf.{CountsFailures, Put, TellsHas, TellsNone, TellsSome}
+use Rattle.mirror_folders.specs.Shelf.{CountsFailures, Put, RecordsHas, RecordsNone, RecordsSome}
 use Rattle.mirror_export.specs.Faults.{of_shelf}
 use Rattle.mirror_export.specs.Files.{file_at, files_at, kind_paths, paths_of, tile_paths, IsServedFiles}
 use Rattle.mirror_export.specs.Exports.{AddsPrefix, CountsExport, Exports, PutsPrefix}
@@ -24,17 +24,17 @@ use Rattle.mirror_export.proofs.Prefixes.{adds_kept, adds_then, front_then}
 
 -- ---- what a shelf tells
 
-pub tells_none : (old : Option (List Put)) (path : Path) → TellsHas old path false → TellsNone old path
-tells_none None path h = tt
-tells_none (Some puts) path h = λ has. false≢true (h.1 has)
+pub records_none : (old : Option (List Put)) (path : Path) → RecordsHas old path false → RecordsNone old path
+records_none None path h = tt
+records_none (Some puts) path h = λ has. false≢true (h.1 has)
 
-pub tells_some : (old : Option (List Put)) (path : Path) → TellsHas old path true → TellsSome old path
-tells_some None path h = tt
-tells_some (Some puts) path h = h.0 refl
+pub records_some : (old : Option (List Put)) (path : Path) → RecordsHas old path true → RecordsSome old path
+records_some None path h = tt
+records_some (Some puts) path h = h.0 refl
 
-pub same_told : (old : Option (List Put)) → KeepsTold old old
-same_told None = tt
-same_told (Some puts) = refl
+pub same_recorded : (old : Option (List Put)) → KeepsRecord old old
+same_recorded None = tt
+same_recorded (Some puts) = refl
 
 -- ---- its count
 
@@ -82,18 +82,18 @@ module _ (digest : List ℕ → List ℕ) (v : View) (top : Top) (is : IsServedT
   all_new : new_files ≡ files
   all_new = ap (files_at digest top.note is.served.entries) (all_since_none top.size)
 
-  pub all_put : {T : Type 0} (old middle new : Option (List Put)) (x : T) → KeepsTold old middle →
-      TellsNone old Checkpoint → AddsTold middle new (files_since digest top.note is.served.entries 0 top.size) →
+  pub all_put : {T : Type 0} (old middle new : Option (List Put)) (x : T) → KeepsRecord old middle →
+      RecordsNone old Checkpoint → AddsToRecord middle new (files_since digest top.note is.served.entries 0 top.size) →
       Exports digest v old new (Ok x)
   all_put old middle new x kept free p = record {
     files = files;
     are_served = are_served;
     free = free;
-    told = adds_then old middle new [] files (adds_kept old middle kept)
-        (subst (λ (l : List Put). AddsTold middle new l) all_new p);
+    recorded = adds_then old middle new [] files (adds_kept old middle kept)
+        (subst (λ (l : List Put). AddsToRecord middle new l) all_new p);
   }
 
-  some_put : (old middle new : Option (List Put)) → KeepsTold old middle → TellsNone old Checkpoint →
+  some_put : (old middle new : Option (List Put)) → KeepsRecord old middle → RecordsNone old Checkpoint →
       AddsPrefix middle new files → PutsPrefix digest v old new
   some_put old middle new kept free p =
       record {
@@ -103,23 +103,23 @@ module _ (digest : List ℕ → List ℕ) (v : View) (top : Top) (is : IsServedT
         free = λ _. free;
       }
 
-  none_put : (old new : Option (List Put)) → KeepsTold old new → PutsPrefix digest v old new
+  none_put : (old new : Option (List Put)) → KeepsRecord old new → PutsPrefix digest v old new
   none_put old new kept = record {
     files = files;
     are_served = are_served;
-    front = record { count = 0; short = some; told = adds_kept old new kept };
+    front = record { count = 0; short = some; recorded = adds_kept old new kept };
     free = λ lt. absurd (omega arith);
   }
 
-  pub cut_put : (T : Type 0) (old middle new : Option (List Put)) (e : ShelfError) → KeepsTold old middle →
-      TellsNone old Checkpoint → AddsPrefix middle new (files_since digest top.note is.served.entries 0 top.size) →
+  pub cut_put : (T : Type 0) (old middle new : Option (List Put)) (e : ShelfError) → KeepsRecord old middle →
+      RecordsNone old Checkpoint → AddsPrefix middle new (files_since digest top.note is.served.entries 0 top.size) →
       Exports digest v old new (answer_of T (of_shelf e))
   cut_put T old middle new Failed kept free p =
       some_put old middle new kept free (subst (λ (l : List Put). AddsPrefix middle new l) all_new p)
   cut_put T old middle new OutOfMemory kept free p =
       some_put old middle new kept free (subst (λ (l : List Put). AddsPrefix middle new l) all_new p)
 
-  pub not_put : (T : Type 0) (old new : Option (List Put)) (e : ShelfError) → KeepsTold old new →
+  pub not_put : (T : Type 0) (old new : Option (List Put)) (e : ShelfError) → KeepsRecord old new →
       Exports digest v old new (answer_of T (of_shelf e))
   not_put T old new Failed kept = none_put old new kept
   not_put T old new OutOfMemory kept = none_put old new kept

@@ -4,7 +4,7 @@ use Rattle.std.proofs.Common.{subst, ◌∙◌, length-append, inl, inr, arith}
 use Rattle.std.specs.List.{Contains}
 use Rattle.std.proofs.lemmas.Bool.{cases_lt}
 use Rattle.tlog_tiles.specs.declared.paths.Path.{Path}
-use Rattle.mirror_folders.specs.Shelf.{Put, HasPut, Stands, TellsRead}
+use Rattle.mirror_folders.specs.Shelf.{Put, HasPut, Stands, RecordsRead}
 use Rattle.mirror_export.proofs.Moments.{has_after}
 use Rattle.mirror_export.proofs.Standing.{at_middle, put_has, stands_more}
 
@@ -51,7 +51,7 @@ module _ (puts : List Put) (path : Path) where
       put_has puts path bytes (subst (λ (l : List Put). Contains l (path, bytes)) (sym p.puts_are)
       (middle p.before p.after (path, bytes)))
 
-  pub read_once : (a b : Option (List ℕ)) → TellsRead (Some puts) path a → TellsRead (Some puts) path b → a ≡ b
+  pub read_once : (a b : Option (List ℕ)) → RecordsRead (Some puts) path a → RecordsRead (Some puts) path b → a ≡ b
   read_once None None p q = refl
   read_once None (Some b) p q = absurd (p (stands_has b q))
   read_once (Some a) None p q = absurd (q (stands_has a p))
@@ -59,7 +59,7 @@ module _ (puts : List Put) (path : Path) where
 
   -- nothing is put there
   pub read_more : (more : List Put) (found : Option (List ℕ)) → (HasPut more path → ⊥) →
-      TellsRead (Some puts) path found → TellsRead (Some (puts ++ more)) path found
+      RecordsRead (Some puts) path found → RecordsRead (Some (puts ++ more)) path found
   read_more more None none p = λ has. none (has_after puts more path p has)
   read_more more (Some bytes) none p =
       stands_more puts more path bytes p (λ other has. absurd (none (put_has more path other has)))

@@ -11,7 +11,7 @@ use Rattle.std.proofs.lemmas.List.{map-append, nil_from_length, take-append-drop
 use Rattle.std.proofs.lemmas.List.Elements.{All-append, All-cons, All-map, All-nil, Contains-append_cases, All-contains}
 use Rattle.tlog_tiles.specs.declared.paths.Path.{Path}
 use Rattle.tlog_tiles.specs.declared.paths.Path.TheVariants.{Checkpoint}
-use Rattle.mirror_sources.specs.Told.{AddsTold, KeepsTold}
+use Rattle.mirror_sources.specs.Recorded.{AddsToRecord, KeepsRecord}
 use Rattle.mirror_model.specs.View.{View}
 use Rattle.mirror_folders.specs.Shelf.{Put, HasPut, Stands}
 use Rattle.mirror_export.specs.Files.{served_bytes, file_at, full_paths, kind_paths, partial_path, kind_path, paths_of}
@@ -162,7 +162,7 @@ module _ (digest : List ℕ → List ℕ) (v : View) where
       }
 
   -- nothing was put
-  pub kept_last : (old new : Option (List Put)) → KeepsTold old new → CheckpointIsLast digest v old new
+  pub kept_last : (old new : Option (List Put)) → KeepsRecord old new → CheckpointIsLast digest v old new
   kept_last None new k = tt
   kept_last (Some xs) None k = absurd k
   kept_last (Some xs) (Some ys) k = λ none now at h.
@@ -178,7 +178,7 @@ module _ (digest : List ℕ → List ℕ) (v : View) where
       absurd (none (subst (λ (l : List Put). HasPut l Checkpoint) now_is h))
 
   put_last : (old new : Option (List Put)) (files : List Put) (count : ℕ) → IsServedFiles digest v files →
-      AddsTold old new (take count files) → CheckpointIsLast digest v old new
+      AddsToRecord old new (take count files) → CheckpointIsLast digest v old new
   put_last None new puts count is p = tt
   put_last (Some xs) None puts count is p = absurd p
   put_last (Some xs) (Some ys) puts count is p = moment_whole xs ys puts count is p
@@ -187,8 +187,8 @@ module _ (digest : List ℕ → List ℕ) (v : View) where
       Exports digest v old new r → CheckpointIsLast digest v old new
   checkpoint_last old new (Ok x) p =
       put_last old new p.files (length p.files) p.are_served
-      (subst (λ (l : List Put). AddsTold old new l) (sym (take_all (length p.files) p.files (omega arith))) p.told)
+      (subst (λ (l : List Put). AddsToRecord old new l) (sym (take_all (length p.files) p.files (omega arith))) p.recorded)
   checkpoint_last old new (Err NothingComplete) p = kept_last old new p
   checkpoint_last old new (Err ShelfInUse) p = kept_last old new p.0
-  checkpoint_last old new (Err ShelfFault) p = put_last old new p.files p.front.count p.are_served p.front.told
-  checkpoint_last old new (Err OutOfMemory) p = put_last old new p.files p.front.count p.are_served p.front.told
+  checkpoint_last old new (Err ShelfFault) p = put_last old new p.files p.front.count p.are_served p.front.recorded
+  checkpoint_last old new (Err OutOfMemory) p = put_last old new p.files p.front.count p.are_served p.front.recorded

@@ -6,7 +6,7 @@ use Rattle.std.proofs.lemmas.Bool.{cases_lt}
 use Rattle.std.proofs.lemmas.List.{append-nil, take-append-drop}
 use Rattle.std.proofs.lemmas.List.FromFn.{take-map-range_with_len, map-range_with_len_more}
 use Rattle.tlog_tiles.specs.declared.paths.Path.{Path}
-use Rattle.mirror_sources.specs.Told.{AddsTold}
+use Rattle.mirror_sources.specs.Recorded.{AddsToRecord}
 use Rattle.mirror_folders.specs.Shelf.{Put}
 use Rattle.mirror_export.specs.Exports.{AddsPrefix}
 use Rattle.tlog_shape.specs.Edge.{edge_index_of}
@@ -57,15 +57,15 @@ module _ (file : Path → Put) (keep : Path → Bool) (a b c : Option (List Put)
   extends xs ys front f =
       subst (λ (l : List Path). AddsPrefix a c (map file (filter keep l))) (sym front.is) (files_more file keep a c xs front.rest f)
 
-  pub first_put : (at : ℕ → Path) (i : ℕ) (path : Path) → path ≡ at i → AddsTold a b (map file (filter keep (first_paths at i))) →
-      AddsTold b c (map file (filter keep (path ∷ []))) → AddsTold a c (map file (filter keep (first_paths at (i + 1))))
+  pub first_put : (at : ℕ → Path) (i : ℕ) (path : Path) → path ≡ at i → AddsToRecord a b (map file (filter keep (first_paths at i))) →
+      AddsToRecord b c (map file (filter keep (path ∷ []))) → AddsToRecord a c (map file (filter keep (first_paths at (i + 1))))
   first_put at i path e p q =
-      let next : AddsTold b c (map file (filter keep (at i ∷ []))) = subst (λ (x : Path). AddsTold b c (map file (filter keep (x ∷ [])))) e q in
-      subst (λ (l : List Path). AddsTold a c (map file (filter keep l))) (sym (first_more at i))
+      let next : AddsToRecord b c (map file (filter keep (at i ∷ []))) = subst (λ (x : Path). AddsToRecord b c (map file (filter keep (x ∷ [])))) e q in
+      subst (λ (l : List Path). AddsToRecord a c (map file (filter keep l))) (sym (first_more at i))
       (files_then file keep a b c (first_paths at i) (at i ∷ []) p next)
 
   pub first_cut : (at : ℕ → Path) (i count : ℕ) (path : Path) →
-      path ≡ at i → i < count → AddsTold a b (map file (filter keep (first_paths at i))) → AddsPrefix b c (map file (filter keep (path ∷ []))) →
+      path ≡ at i → i < count → AddsToRecord a b (map file (filter keep (first_paths at i))) → AddsPrefix b c (map file (filter keep (path ∷ []))) →
       AddsPrefix a c (map file (filter keep (first_paths at count)))
   first_cut at i count path e lt p f =
       let next : AddsPrefix b c (map file (filter keep (at i ∷ []))) = subst (λ (x : Path). AddsPrefix b c (map file (filter keep (x ∷ [])))) e f in
@@ -74,13 +74,13 @@ module _ (file : Path → Put) (keep : Path → Bool) (a b c : Option (List Put)
       (subst (λ (l : List Path). AddsPrefix a c (map file (filter keep l))) (sym (first_more at i))
       (files_front file keep a b c (first_paths at i) (at i ∷ []) p next))
 
-  pub level_put : (n level : ℕ) → AddsTold a b (map file (filter keep (tiles_below n level))) →
-      AddsTold b c (map file (filter keep (kind_paths n (Tiles level)))) → AddsTold a c (map file (filter keep (tiles_below n (level + 1))))
+  pub level_put : (n level : ℕ) → AddsToRecord a b (map file (filter keep (tiles_below n level))) →
+      AddsToRecord b c (map file (filter keep (kind_paths n (Tiles level)))) → AddsToRecord a c (map file (filter keep (tiles_below n (level + 1))))
   level_put n level p q =
-      subst (λ k. AddsTold a c (map file (filter keep (tiles_below n k)))) (sym (add-one level))
+      subst (λ k. AddsToRecord a c (map file (filter keep (tiles_below n k)))) (sym (add-one level))
       (files_then file keep a b c (tiles_below n level) (kind_paths n (Tiles level)) p q)
 
-  pub level_cut : (n level : ℕ) → level < 8 → AddsTold a b (map file (filter keep (tiles_below n level))) →
+  pub level_cut : (n level : ℕ) → level < 8 → AddsToRecord a b (map file (filter keep (tiles_below n level))) →
       AddsPrefix b c (map file (filter keep (kind_paths n (Tiles level)))) → AddsPrefix a c (map file (filter keep (tile_paths n)))
   level_cut n level lt p f =
       let upto : suc level ≤ 8 = omega arith in
@@ -89,13 +89,13 @@ module _ (file : Path → Put) (keep : Path → Bool) (a b c : Option (List Put)
       (files_front file keep a b c (tiles_below n level) (kind_paths n (Tiles level)) p f))
 
 module _ (file : Path → Put) (keep : Path → Bool) (a b : Option (List Put)) where
-  pub all_levels_put : (n level : ℕ) → level ≡ 8 → AddsTold a b (map file (filter keep (tiles_below n level))) →
-      AddsTold a b (map file (filter keep (tile_paths n)))
+  pub all_levels_put : (n level : ℕ) → level ≡ 8 → AddsToRecord a b (map file (filter keep (tiles_below n level))) →
+      AddsToRecord a b (map file (filter keep (tile_paths n)))
   all_levels_put n level e p =
-      subst (λ (l : List Path). AddsTold a b (map file (filter keep l))) (ap (tiles_below n) e ∙ sym (tiles_are n)) p
+      subst (λ (l : List Path). AddsToRecord a b (map file (filter keep l))) (ap (tiles_below n) e ∙ sym (tiles_are n)) p
 
   pub full_put : (n : ℕ) (kind : FileKind) (index : ℕ) → index ≡ edge_index_of n (kind_level kind) →
-      AddsTold a b (map file (filter keep (first_paths (λ i. kind_path kind i 256) index))) →
-      AddsTold a b (map file (filter keep (full_paths n kind)))
+      AddsToRecord a b (map file (filter keep (first_paths (λ i. kind_path kind i 256) index))) →
+      AddsToRecord a b (map file (filter keep (full_paths n kind)))
   full_put n kind index e p =
-      subst (λ m. AddsTold a b (map file (filter keep (first_paths (λ i. kind_path kind i 256) m)))) e p
+      subst (λ m. AddsToRecord a b (map file (filter keep (first_paths (λ i. kind_path kind i 256) m)))) e p

@@ -9,7 +9,7 @@ use Rattle.std.proofs.lemmas.List.Elements.{Contains-append_left, filter-append}
 use Rattle.tlog_tiles.specs.declared.paths.Path.{Path}
 use Rattle.tlog_tiles.specs.declared.paths.Path.TheVariants.{Checkpoint, Tile, Entries}
 use Rattle.mirror_model.proofs.TrueItems.{prefixes_serve_same}
-use Rattle.mirror_folders.specs.Shelf.{Put, HasPut, Stands, TellsRead}
+use Rattle.mirror_folders.specs.Shelf.{Put, HasPut, Stands, RecordsRead}
 use Rattle.mirror_export.specs.Files.{file_at, kind_paths, paths_of, served_bytes, tile_paths}
 use Rattle.mirror_export.specs.FileLaws.{IsFileOf}
 use Rattle.mirror_export.specs.Exports.{IsMoment}
@@ -34,7 +34,7 @@ log_of digest entries checkpoint puts files stands (Entries index width) listed 
 
 -- what was found stands
 found_stands : (digest : List ℕ → List ℕ) (entries : List (List ℕ)) (found : Option (List ℕ)) (puts : List Put) →
-    HoldsFiles digest entries puts → TellsRead (Some puts) Checkpoint found → HoldsFound digest found entries puts
+    HoldsFiles digest entries puts → RecordsRead (Some puts) Checkpoint found → HoldsFound digest found entries puts
 found_stands digest entries None puts files read = read
 found_stands digest entries (Some checkpoint) puts files read = log_of digest entries checkpoint puts files read
 
@@ -126,14 +126,14 @@ module _ (digest : List ℕ → List ℕ) (note : List ℕ) (entries : List (Lis
             (first path is.1 (subst (λ k. Contains (paths_of k) path) (sym long) ((files_are_all m path).1 is.0)))
 
     -- the checkpoint was not put
-    before : (found : Option (List ℕ)) → TellsRead (Some old) Checkpoint found → (HasPut at.so_far Checkpoint → ⊥) →
+    before : (found : Option (List ℕ)) → RecordsRead (Some old) Checkpoint found → (HasPut at.so_far Checkpoint → ⊥) →
         HoldsFound digest found (take m entries) now
     before found read none =
         found_stands digest (take m entries) found now first
-        (subst (λ (l : List Put). TellsRead (Some l) Checkpoint found) (sym at.now_is)
+        (subst (λ (l : List Put). RecordsRead (Some l) Checkpoint found) (sym at.now_is)
         (read_more old Checkpoint at.so_far found none read))
 
-    moment : (found : Option (List ℕ)) → TellsRead (Some old) Checkpoint found →
+    moment : (found : Option (List ℕ)) → RecordsRead (Some old) Checkpoint found →
         IsWholeAt digest note entries found m old now
     moment found read =
         let parts : at.so_far ++ at.later ≡ take count (map file front ++ checkpoint ∷ []) =

@@ -6,8 +6,8 @@ use Rattle.std.proofs.lemmas.List.Elements.{All-contains, All-filter, All-map}
 use Rattle.tlog_tiles.specs.declared.paths.Path.{Path}
 use Rattle.tlog_tiles.specs.declared.paths.Path.TheVariants.{Checkpoint}
 use Rattle.tlog_mirror.specs.Tops.{Top}
-use Rattle.mirror_sources.specs.Told.{AddsTold, KeepsTold}
-use Rattle.mirror_folders.specs.Shelf.{HasPut, Put, TellsRead}
+use Rattle.mirror_sources.specs.Recorded.{AddsToRecord, KeepsRecord}
+use Rattle.mirror_folders.specs.Shelf.{HasPut, Put, RecordsRead}
 use Rattle.mirror_folders.specs.declared.shelf.ShelfError.{ShelfError}
 use Rattle.mirror_folders.specs.declared.shelf.ShelfError.TheVariants as shelf
 use Rattle.mirror_export.specs.Beginnings.{FindsSince, PutsLast, PutsPrefixTop, TopGoesOnFound, TopStandsOther, UpdatesTop}
@@ -27,19 +27,19 @@ module _ (digest : List ℕ → List ℕ) (top : Top) (origin : List ℕ) (entri
   Puts T old new fault = UpdatesTop digest {T = T} top origin entries old new (Err fault)
 
   -- the checkpoint could not be read
-  pub not_read : (T : Type 0) (old new : Option (List Put)) (e : ShelfError) → KeepsTold old new →
+  pub not_read : (T : Type 0) (old new : Option (List Put)) (e : ShelfError) → KeepsRecord old new →
       Puts T old new (update_of_shelf e)
   not_read T old new shelf.Failed kept = inl kept
   not_read T old new shelf.OutOfMemory kept = inl kept
 
-  stands_other : (old : Option (List Put)) (checkpoint : List ℕ) → TellsRead old Checkpoint (Some checkpoint) →
+  stands_other : (old : Option (List Put)) (checkpoint : List ℕ) → RecordsRead old Checkpoint (Some checkpoint) →
       FindsSince digest top origin (Some checkpoint) (Err OtherLog) → TopStandsOther digest top origin old
   stands_other None checkpoint read h = tt
   stands_other (Some puts) checkpoint read h = (checkpoint, read, h)
 
   -- what was found is no checkpoint of the log
   pub no_since : (T : Type 0) (old new : Option (List Put)) (found : Option (List ℕ)) (fault : UpdateFault) →
-      KeepsTold old new → TellsRead old Checkpoint found → FindsSince digest top origin found (Err fault) →
+      KeepsRecord old new → RecordsRead old Checkpoint found → FindsSince digest top origin found (Err fault) →
       Puts T old new fault
   no_since T old new None fault kept read h = absurd h
   no_since T old new (Some checkpoint) NothingComplete kept read h = absurd h
@@ -57,14 +57,14 @@ module _ (digest : List ℕ → List ℕ) (top : Top) (origin : List ℕ) (entri
     abbrev front : List Put
     front = map file (filter (is_new m) parts)
 
-    first_put : (old new : Option (List Put)) → TellsRead old Checkpoint found →
+    first_put : (old new : Option (List Put)) → RecordsRead old Checkpoint found →
         AddsPrefix old new (files_since digest top.note entries m top.size) →
         PutsPrefixTop digest top origin entries old new
     first_put old new read p = record { found = found; read = read; m = m; goes_on = on; front = p }
 
     -- the tiles and bundles were not all put
-    pub cut_off : (T : Type 0) (old middle new : Option (List Put)) (e : ShelfError) → KeepsTold old middle →
-        TellsRead old Checkpoint found →
+    pub cut_off : (T : Type 0) (old middle new : Option (List Put)) (e : ShelfError) → KeepsRecord old middle →
+        RecordsRead old Checkpoint found →
         AddsPrefix middle new (map (file_at digest top.note entries) (since_parts m top.size)) →
         Puts T old new (update_of_shelf e)
     cut_off T old middle new shelf.Failed kept read p =
@@ -83,29 +83,29 @@ module _ (digest : List ℕ → List ℕ) (top : Top) (origin : List ℕ) (entri
         (All-map (λ (path : Path). path ≢ Checkpoint) (λ (put : Put). put.0) front no) h refl
 
     -- a shelf that records what is put still has what was found
-    found_still : (old middle put : Option (List Put)) → KeepsTold old middle → TellsRead old Checkpoint found →
-        AddsTold middle put front → (again : Option (List ℕ)) → TellsRead put Checkpoint again → again ≢ found →
-        (new : Option (List Put)) → KeepsTold put new → KeepsTold old new × TopStandsOther digest top origin old
+    found_still : (old middle put : Option (List Put)) → KeepsRecord old middle → RecordsRead old Checkpoint found →
+        AddsToRecord middle put front → (again : Option (List ℕ)) → RecordsRead put Checkpoint again → again ≢ found →
+        (new : Option (List Put)) → KeepsRecord put new → KeepsRecord old new × TopStandsOther digest top origin old
     found_still None middle put kept read p again other differs new last = (tt, tt)
     found_still (Some xs) None put kept read p again other differs new last = absurd kept
     found_still (Some xs) (Some ys) None kept read p again other differs new last = absurd p
     found_still (Some xs) (Some ys) (Some zs) kept read p again other differs new last =
         let are : zs ≡ xs ++ front = p ∙ ap (λ (l : List Put). l ++ front) kept in
-        let still = subst (λ (l : List Put). TellsRead (Some l) Checkpoint found) (sym are)
+        let still = subst (λ (l : List Put). RecordsRead (Some l) Checkpoint found) (sym are)
         (read_more xs Checkpoint front found no_checkpoint read) in
         absurd (differs (read_once zs Checkpoint again found other still))
 
     -- the tiles and bundles were put, and the checkpoint or not
     pub last_put : {T : Type 0} (old middle put new : Option (List Put)) (r : Result T UpdateFault) →
-        KeepsTold old middle → TellsRead old Checkpoint found → found ≢ Some top.note →
-        AddsTold middle put (map (file_at digest top.note entries) (since_parts m top.size)) →
+        KeepsRecord old middle → RecordsRead old Checkpoint found → found ≢ Some top.note →
+        AddsToRecord middle put (map (file_at digest top.note entries) (since_parts m top.size)) →
         PutsLast put new found top.note r → UpdatesTop digest top origin entries old new r
     last_put old middle put new (Ok x) kept read other p q = record {
       found = found;
       read = read;
       m = m;
       goes_on = on;
-      told = inl (
+      recorded = inl (
         other,
         files_then file (is_new m) old put new parts (Checkpoint ∷ [])
             (adds_then old middle put [] front (adds_kept old middle kept) p) q.1,
@@ -124,8 +124,8 @@ module _ (digest : List ℕ → List ℕ) (top : Top) (origin : List ℕ) (entri
         (file_refused file put new Checkpoint q)))
 
     -- the note that is served stands
-    pub nothing_new : {T : Type 0} (old new : Option (List Put)) (x : T) → KeepsTold old new →
-        TellsRead old Checkpoint found → found ≡ Some top.note →
+    pub nothing_new : {T : Type 0} (old new : Option (List Put)) (x : T) → KeepsRecord old new →
+        RecordsRead old Checkpoint found → found ≡ Some top.note →
         UpdatesTop digest top origin entries old new (Ok x)
     nothing_new old new x kept read same =
-        record { found = found; read = read; m = m; goes_on = on; told = inr (same, kept) }
+        record { found = found; read = read; m = m; goes_on = on; recorded = inr (same, kept) }

@@ -8,8 +8,8 @@ use Rattle.mirror_model.proofs.HeadNotes.{head_once}
 use Rattle.mirror_model.specs.Reports.{SaysServed}
 use Rattle.tlog_mirror.specs.Tops.{Top, IsListOf, IsServedTop}
 use Rattle.tlog_mirror.proofs.ServedParts.{list_of}
-use Rattle.mirror_sources.specs.Told.{KeepsTold}
-use Rattle.mirror_folders.specs.Shelf.{Put, Stands, TellsRead}
+use Rattle.mirror_sources.specs.Recorded.{KeepsRecord}
+use Rattle.mirror_folders.specs.Shelf.{Put, Stands, RecordsRead}
 use Rattle.mirror_export.specs.Since.{files_since}
 use Rattle.mirror_export.specs.SinceLaws.{HoldsFiles, HoldsLog, IsWholeAt}
 use Rattle.mirror_export.specs.Beginnings.{PutsPrefixTop, PutsTop, TopGoesOnFound, UpdatesTop}
@@ -30,7 +30,7 @@ module _ (digest : List ℕ → List ℕ) (v : View) (top : Top) (is : IsServedT
       (head_once checkpoint v.origin v.origin k m q.root p.root q.is_head p.is_head).size_is
 
   module _ (old new : List Put) (found : Option (List ℕ)) (m : ℕ) (entries : List (List ℕ))
-      (read : TellsRead (Some old) Checkpoint found) (on : GoesOn digest v found m)
+      (read : RecordsRead (Some old) Checkpoint found) (on : GoesOn digest v found m)
       (listed : IsListOf digest top entries) (holds : HoldsFiles digest (take m entries) old) where
     within : (f : Option (List ℕ)) → GoesOn digest v f m → m ≤ length entries
     within None p = omega (arith, p)
@@ -45,7 +45,7 @@ module _ (digest : List ℕ → List ℕ) (v : View) (top : Top) (is : IsServedT
     le = within found on
 
     -- what was found by the update is what stands
-    same_size : (other : Option (List ℕ)) (k : ℕ) → TellsRead (Some old) Checkpoint other →
+    same_size : (other : Option (List ℕ)) (k : ℕ) → RecordsRead (Some old) Checkpoint other →
         TopGoesOnFound digest top v.origin other k → k ≡ m
     same_size other k other_read q =
         one_size found m k on (subst (λ (f : Option (List ℕ)). TopGoesOnFound digest top v.origin f k)
@@ -75,7 +75,7 @@ module _ (digest : List ℕ → List ℕ) (v : View) (top : Top) (is : IsServedT
       first_put : (fault : UpdateFault) → PutsPrefixTop digest top v.origin entries (Some old) (Some new) →
           KeepsWhole digest {T = T} top.note entries found m old new (Err fault)
       first_put fault p = record {
-        moments = moments_at p.front.count (p.front.told ∙ ap (λ (l : List Put). old ++ take p.front.count l)
+        moments = moments_at p.front.count (p.front.recorded ∙ ap (λ (l : List Put). old ++ take p.front.count l)
             (files_are p.m (same_size p.found p.m p.read p.goes_on)));
         done = tt;
       }
@@ -84,7 +84,7 @@ module _ (digest : List ℕ → List ℕ) (v : View) (top : Top) (is : IsServedT
           KeepsWhole digest {T = T} top.note entries found m old new (Ok x)
       all_put x p =
           let size_is : p.m ≡ m = same_size p.found p.m p.read p.goes_on in
-          elim p.told [
+          elim p.recorded [
             | inl put ↦ (
                 let e : new ≡ old ++ files = put.1 ∙ ap (λ (l : List Put). old ++ l) (files_are p.m size_is) in
                 record {
@@ -96,7 +96,7 @@ module _ (digest : List ℕ → List ℕ) (v : View) (top : Top) (is : IsServedT
             | inr kept ↦ record {
               moments = kept_moments kept.1;
               done = subst (λ (l : List Put). HoldsLog digest top.note entries l) (sym kept.1)
-                  (standing (subst (λ (f : Option (List ℕ)). TellsRead (Some old) Checkpoint f) kept.0 p.read)
+                  (standing (subst (λ (f : Option (List ℕ)). RecordsRead (Some old) Checkpoint f) kept.0 p.read)
                   (subst (λ (f : Option (List ℕ)). TopGoesOnFound digest top v.origin f p.m) kept.0 p.goes_on) size_is);
             }
           ]
@@ -125,11 +125,11 @@ module _ (digest : List ℕ → List ℕ) (v : View) (top : Top) (is : IsServedT
   -- a shelf that records what is put does so afterwards too
   records : (T : Type 0) (old : List Put) (entries : List (List ℕ)) (r : Result T UpdateFault) →
       UpdatesTop digest top v.origin entries (Some old) None r → ⊥
-  records T old entries (Ok x) p = elim p.told [ inl put ↦ put.1 | inr kept ↦ kept.1 ]
+  records T old entries (Ok x) p = elim p.recorded [ inl put ↦ put.1 | inr kept ↦ kept.1 ]
   records T old entries (Err NothingComplete) p = p
   records T old entries (Err OtherLog) p = p.0
-  records T old entries (Err ShelfFault) p = elim p [ inl kept ↦ kept | inr some ↦ some.front.told ]
-  records T old entries (Err OutOfMemory) p = elim p [ inl kept ↦ kept | inr some ↦ some.front.told ]
+  records T old entries (Err ShelfFault) p = elim p [ inl kept ↦ kept | inr some ↦ some.front.recorded ]
+  records T old entries (Err OutOfMemory) p = elim p [ inl kept ↦ kept | inr some ↦ some.front.recorded ]
 
   pub stays_whole : {T : Type 0} (old new : Option (List Put)) (r : Result T UpdateFault) →
       ((entries : List (List ℕ)) → IsListOf digest top entries → UpdatesTop digest top v.origin entries old new r) →
@@ -143,7 +143,7 @@ module _ (digest : List ℕ → List ℕ) (v : View) (top : Top) (is : IsServedT
 
 -- where nothing is served, nothing is said
 pub nothing_whole : {T : Type 0} (digest : List ℕ → List ℕ) (v : View) → SaysServed digest v None →
-    (old new : Option (List Put)) (r : Result T UpdateFault) → KeepsTold old new → StaysWhole digest v old new r
+    (old new : Option (List Put)) (r : Result T UpdateFault) → KeepsRecord old new → StaysWhole digest v old new r
 nothing_whole digest v nothing None new r kept = tt
 nothing_whole digest v nothing (Some old) None r kept = kept
 nothing_whole digest v nothing (Some old) (Some new) r kept = λ found m note size root entries read on served holds.

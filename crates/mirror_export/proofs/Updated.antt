@@ -13,7 +13,7 @@ use Rattle.mirror_model.proofs.OneLists.{at_most_both}
 use Rattle.mirror_model.specs.Reports.{SaysServed}
 use Rattle.tlog_mirror.specs.Tops.{Top, IsListOf, IsServedTop}
 use Rattle.tlog_mirror.proofs.ServedParts.{list_of, listed}
-use Rattle.mirror_sources.specs.Told.{Rose}
+use Rattle.mirror_sources.specs.Recorded.{Rose}
 use Rattle.mirror_folders.specs.Shelf.{CountsError, Put}
 use Rattle.mirror_export.specs.Faults.{update_of_shelf}
 use Rattle.mirror_export.specs.Since.{files_since}
@@ -203,7 +203,7 @@ module _ (digest : List ℕ → List ℕ) (v : View) (top : Top) (is : IsServedT
     read = p.read;
     files = files p.m;
     are_since = are_since p.found p.m p.goes_on;
-    told = p.told;
+    recorded = p.recorded;
   }
   updates_of old new (Err NothingComplete) p = absurd p
   updates_of old new (Err OtherLog) p = (p.0, stands_other old p.1)

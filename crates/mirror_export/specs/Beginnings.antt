@@ -10,8 +10,8 @@ use Rattle.tlog_checkpoint.specs.declared.fault.CheckpointFault.{CheckpointFault
 use Rattle.tlog_checkpoint.specs.declared.fault.CheckpointFault.TheVariants as reading
 use Rattle.tlog_tiles.specs.declared.paths.Path.TheVariants.{Checkpoint}
 use Rattle.mirror_model.specs.Heads.{IsHead}
-use Rattle.mirror_sources.specs.Told.{KeepsTold, AddsTold}
-use Rattle.mirror_folders.specs.Shelf.{Put, Stands, TellsRead}
+use Rattle.mirror_sources.specs.Recorded.{KeepsRecord, AddsToRecord}
+use Rattle.mirror_folders.specs.Shelf.{Put, Stands, RecordsRead}
 use Rattle.mirror_export.specs.Exports.{AddsPrefix}
 use Rattle.mirror_export.specs.Since.{files_since}
 use Rattle.tlog_mirror.specs.Tops.{Top, IsListOf}
@@ -41,11 +41,11 @@ ReadsPoint bytes origin (Err ShelfFault) = ⊥
 abbrev pub PutsLast : {T : Type 0} → Option (List Put) → Option (List Put) → Option (List ℕ) →
     List ℕ → Result T UpdateFault → Type 0
 PutsLast old new found note (Ok x) =
-    TellsRead old Checkpoint found × AddsTold old new ((Checkpoint, note) ∷ [])
+    RecordsRead old Checkpoint found × AddsToRecord old new ((Checkpoint, note) ∷ [])
 PutsLast old new found note (Err OtherLog) =
-    KeepsTold old new × (again : Option (List ℕ)) × TellsRead old Checkpoint again × (again ≢ found)
-PutsLast old new found note (Err ShelfFault) = KeepsTold old new
-PutsLast old new found note (Err OutOfMemory) = KeepsTold old new
+    KeepsRecord old new × (again : Option (List ℕ)) × RecordsRead old Checkpoint again × (again ≢ found)
+PutsLast old new found note (Err ShelfFault) = KeepsRecord old new
+PutsLast old new found note (Err OutOfMemory) = KeepsRecord old new
 PutsLast old new found note (Err NothingComplete) = ⊥
 
 module _ (digest : List ℕ → List ℕ) where
@@ -85,18 +85,18 @@ module _ (digest : List ℕ → List ℕ) where
   pub record PutsTop (top : Top) (origin : List ℕ) (entries : List (List ℕ))
       (old new : Option (List Put)) : Type 0 where
     pub found : Option (List ℕ)
-    pub read : TellsRead old Checkpoint found
+    pub read : RecordsRead old Checkpoint found
     pub m : ℕ
     pub goes_on : TopGoesOnFound top origin found m
-    pub told : ((found ≢ Some top.note)
-        × AddsTold old new (files_since digest top.note entries m top.size))
-        ⊎ ((found ≡ Some top.note) × KeepsTold old new)
+    pub recorded : ((found ≢ Some top.note)
+        × AddsToRecord old new (files_since digest top.note entries m top.size))
+        ⊎ ((found ≡ Some top.note) × KeepsRecord old new)
 
   -- the first of these files were put, and not all of them
   pub record PutsPrefixTop (top : Top) (origin : List ℕ) (entries : List (List ℕ))
       (old new : Option (List Put)) : Type 0 where
     pub found : Option (List ℕ)
-    pub read : TellsRead old Checkpoint found
+    pub read : RecordsRead old Checkpoint found
     pub m : ℕ
     pub goes_on : TopGoesOnFound top origin found m
     pub front : AddsPrefix old new (files_since digest top.note entries m top.size)
@@ -113,9 +113,9 @@ module _ (digest : List ℕ → List ℕ) where
       Option (List Put) → Result T UpdateFault → Type 0
   UpdatesTop top origin entries old new (Ok x) = PutsTop top origin entries old new
   UpdatesTop top origin entries old new (Err OtherLog) =
-      KeepsTold old new × TopStandsOther top origin old
+      KeepsRecord old new × TopStandsOther top origin old
   UpdatesTop top origin entries old new (Err ShelfFault) =
-      KeepsTold old new ⊎ PutsPrefixTop top origin entries old new
+      KeepsRecord old new ⊎ PutsPrefixTop top origin entries old new
   UpdatesTop top origin entries old new (Err OutOfMemory) =
-      KeepsTold old new ⊎ PutsPrefixTop top origin entries old new
+      KeepsRecord old new ⊎ PutsPrefixTop top origin entries old new
   UpdatesTop top origin entries old new (Err NothingComplete) = ⊥

@@ -6,8 +6,8 @@ use Rattle.tlog_tiles.specs.declared.paths.Path.{Path}
 use Rattle.tlog_tiles.specs.declared.paths.Path.TheVariants.{Checkpoint}
 use Rattle.mirror_model.specs.View.{View}
 use Rattle.mirror_model.specs.Served.{Served}
-use Rattle.mirror_sources.specs.Told.{KeepsTold, AddsTold, Rose}
-use Rattle.mirror_folders.specs.Shelf.{Put, HasPut, Stands, TellsNone, TellsSome}
+use Rattle.mirror_sources.specs.Recorded.{KeepsRecord, AddsToRecord, Rose}
+use Rattle.mirror_folders.specs.Shelf.{Put, HasPut, Stands, RecordsNone, RecordsSome}
 use Rattle.mirror_export.specs.Files.{paths_of, served_bytes, IsServedFiles}
 use Rattle.mirror_export.specs.declared.fault.ExportFault.{ExportFault}
 use Rattle.mirror_export.specs.declared.fault.ExportFault.TheVariants.{NothingComplete, ShelfInUse}
@@ -17,12 +17,12 @@ use Rattle.mirror_export.specs.declared.fault.ExportFault.TheVariants.{ShelfFaul
 pub record AddsPrefix (old new : Option (List Put)) (files : List Put) : Type 0 where
   pub count : ℕ
   pub short : count < length files
-  pub told : AddsTold old new (take count files)
+  pub recorded : AddsToRecord old new (take count files)
 
 -- what a call that puts files added, by its answer: at Ok all of them, and else the first of them
 abbrev pub AddsFiles : {T E : Type 0} → Option (List Put) → Option (List Put) → List Put →
     Result T E → Type 0
-AddsFiles old new files (Ok x) = AddsTold old new files
+AddsFiles old new files (Ok x) = AddsToRecord old new files
 AddsFiles old new files (Err e) = AddsPrefix old new files
 
 -- at a moment of a call that puts one file after the other, so much was put, and the rest came
@@ -38,8 +38,8 @@ module _ (digest : List ℕ → List ℕ) where
   pub record PutsAll (v : View) (old new : Option (List Put)) : Type 0 where
     pub files : List Put
     pub are_served : IsServedFiles digest v files
-    pub free : TellsNone old Checkpoint
-    pub told : AddsTold old new files
+    pub free : RecordsNone old Checkpoint
+    pub recorded : AddsToRecord old new files
 
   -- of the files of what is served the first were put, not all of them, and none where the shelf
   -- had a checkpoint
@@ -47,14 +47,14 @@ module _ (digest : List ℕ → List ℕ) where
     pub files : List Put
     pub are_served : IsServedFiles digest v files
     pub front : AddsPrefix old new files
-    pub free : 0 < front.count → TellsNone old Checkpoint
+    pub free : 0 < front.count → RecordsNone old Checkpoint
 
   -- what an export puts, by its answer
   abbrev pub Exports : {T : Type 0} → View → Option (List Put) → Option (List Put) →
       Result T ExportFault → Type 0
   Exports v old new (Ok x) = PutsAll v old new
-  Exports v old new (Err NothingComplete) = KeepsTold old new
-  Exports v old new (Err ShelfInUse) = KeepsTold old new × TellsSome old Checkpoint
+  Exports v old new (Err NothingComplete) = KeepsRecord old new
+  Exports v old new (Err ShelfInUse) = KeepsRecord old new × RecordsSome old Checkpoint
   Exports v old new (Err ShelfFault) = PutsPrefix v old new
   Exports v old new (Err OutOfMemory) = PutsPrefix v old new
 

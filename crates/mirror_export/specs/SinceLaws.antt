@@ -4,7 +4,7 @@ use Rattle.std.specs.Prelude.{◌≡◌, ◌≢◌, ◌⊎◌, ◌↔◌, ℕ, �
 use Rattle.std.specs.Prelude.{Option, Some, None}
 use Rattle.tlog_tiles.specs.declared.paths.Path.{Path}
 use Rattle.tlog_tiles.specs.declared.paths.Path.TheVariants.{Checkpoint, Tile, Entries}
-use Rattle.mirror_folders.specs.Shelf.{Put, HasPut, Stands, TellsRead}
+use Rattle.mirror_folders.specs.Shelf.{Put, HasPut, Stands, RecordsRead}
 use Rattle.mirror_export.specs.Files.{paths_of, served_bytes}
 use Rattle.mirror_export.specs.Since.{files_since, since_paths}
 use Rattle.mirror_export.specs.Exports.{IsMoment}
@@ -71,6 +71,6 @@ abbrev pub UpdatesStayWhole : Type 0
 UpdatesStayWhole =
     (digest : List ℕ → List ℕ) (note : List ℕ) (entries : List (List ℕ))
     (found : Option (List ℕ)) (m count : ℕ) → m ≤ length entries → (old new now : List Put) →
-    TellsRead (Some old) Checkpoint found → HoldsFiles digest (take m entries) old →
+    RecordsRead (Some old) Checkpoint found → HoldsFiles digest (take m entries) old →
     new ≡ old ++ take count (files_since digest note entries m (length entries)) →
     IsMoment old new now → IsWholeAt digest note entries found m old now

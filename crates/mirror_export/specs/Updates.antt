@@ -5,8 +5,8 @@ use Rattle.tlog_tiles.specs.declared.paths.Path.TheVariants.{Checkpoint}
 use Rattle.mirror_model.specs.View.{View}
 use Rattle.mirror_model.specs.Heads.{IsHead}
 use Rattle.mirror_model.specs.Served.{IsRangeHash, Served}
-use Rattle.mirror_sources.specs.Told.{KeepsTold, AddsTold, Rose}
-use Rattle.mirror_folders.specs.Shelf.{Put, Stands, TellsRead}
+use Rattle.mirror_sources.specs.Recorded.{KeepsRecord, AddsToRecord, Rose}
+use Rattle.mirror_folders.specs.Shelf.{Put, Stands, RecordsRead}
 use Rattle.mirror_export.specs.Exports.{AddsPrefix, IsMoment}
 use Rattle.mirror_export.specs.Since.{files_since}
 use Rattle.mirror_export.specs.SinceLaws.{HoldsFiles, HoldsLog, IsWholeAt}
@@ -43,16 +43,16 @@ module _ (digest : List ℕ → List ℕ) where
   -- is served, byte for byte
   pub record PutsSince (v : View) (old new : Option (List Put)) : Type 0 where
     pub found : Option (List ℕ)
-    pub read : TellsRead old Checkpoint found
+    pub read : RecordsRead old Checkpoint found
     pub files : List Put
     pub are_since : IsFilesSince v found files
-    pub told : ((found ≢ Some are_since.note) × AddsTold old new files)
-        ⊎ ((found ≡ Some are_since.note) × KeepsTold old new)
+    pub recorded : ((found ≢ Some are_since.note) × AddsToRecord old new files)
+        ⊎ ((found ≡ Some are_since.note) × KeepsRecord old new)
 
   -- the first of these files were put, and not all of them
   pub record PutsPrefixSince (v : View) (old new : Option (List Put)) : Type 0 where
     pub found : Option (List ℕ)
-    pub read : TellsRead old Checkpoint found
+    pub read : RecordsRead old Checkpoint found
     pub files : List Put
     pub are_since : IsFilesSince v found files
     pub front : AddsPrefix old new files
@@ -68,10 +68,10 @@ module _ (digest : List ℕ → List ℕ) where
   abbrev pub Updates : {T : Type 0} → View → Option (List Put) → Option (List Put) →
       Result T UpdateFault → Type 0
   Updates v old new (Ok x) = PutsSince v old new
-  Updates v old new (Err NothingComplete) = KeepsTold old new
-  Updates v old new (Err OtherLog) = KeepsTold old new × StandsOther v old
-  Updates v old new (Err ShelfFault) = KeepsTold old new ⊎ PutsPrefixSince v old new
-  Updates v old new (Err OutOfMemory) = KeepsTold old new ⊎ PutsPrefixSince v old new
+  Updates v old new (Err NothingComplete) = KeepsRecord old new
+  Updates v old new (Err OtherLog) = KeepsRecord old new × StandsOther v old
+  Updates v old new (Err ShelfFault) = KeepsRecord old new ⊎ PutsPrefixSince v old new
+  Updates v old new (Err OutOfMemory) = KeepsRecord old new ⊎ PutsPrefixSince v old new
 
   -- at each moment of an update a whole log stands, and at Ok the one that is served
   pub record KeepsWhole {T : Type 0} (note : List ℕ) (entries : List (List ℕ))
@@ -90,7 +90,7 @@ module _ (digest : List ℕ → List ℕ) where
   StaysWhole v (Some old) (Some new) answer =
       (found : Option (List ℕ)) (m : ℕ) (note : List ℕ) (size : ℕ) (root : List ℕ)
       (entries : List (List ℕ)) →
-      TellsRead (Some old) Checkpoint found → GoesOn v found m →
+      RecordsRead (Some old) Checkpoint found → GoesOn v found m →
       Served digest v note size root entries → HoldsFiles digest (take m entries) old →
       KeepsWhole note entries found m old new answer
 

@@ -82,7 +82,7 @@ fn put_file<H: TreeHash, S: Shelf>(
     path: Path,
 ) -> Result<(), ShelfError>
     requires { IsWithin top.now.size path }
-    ensures told { (entries : List (List ℕ)) → IsListOf H.digest top.now entries
+    ensures recorded { (entries : List (List ℕ)) → IsListOf H.digest top.now entries
         → AddsFiles (S.puts shelf.old) (S.puts shelf.new)
         (files_at H.digest top.now.note entries (path ∷ [])) result }
     ensures counted { CountsFailures (S.failed shelf.old) (S.failed shelf.new) result }
@@ -127,7 +127,7 @@ fn put_new<H: TreeHash, S: Shelf>(
     path: Path,
 ) -> Result<(), ShelfError>
     requires { IsWithin top.now.size path }
-    ensures told { (entries : List (List ℕ)) → IsListOf H.digest top.now entries
+    ensures recorded { (entries : List (List ℕ)) → IsListOf H.digest top.now entries
         → AddsFiles (S.puts shelf.old) (S.puts shelf.new)
         (files_at H.digest top.now.note entries (filter (is_new since) (path ∷ []))) result }
     ensures counted { CountsFailures (S.failed shelf.old) (S.failed shelf.new) result }
@@ -149,7 +149,7 @@ fn put_kind<H: TreeHash, S: Shelf>(
 ) -> Result<(), ShelfError>
     requires size { size ≡ top.now.size }
     requires level { kind_level kind ≤ 7 }
-    ensures told { (entries : List (List ℕ)) → IsListOf H.digest top.now entries
+    ensures recorded { (entries : List (List ℕ)) → IsListOf H.digest top.now entries
         → AddsFiles (S.puts shelf.old) (S.puts shelf.new)
         (files_at H.digest top.now.note entries
         (filter (is_new since) (kind_paths top.now.size kind))) result }
@@ -187,7 +187,7 @@ pub(crate) fn put_parts<H: TreeHash, S: Shelf>(
     shelf: &mut S,
 ) -> Result<(), ShelfError>
     requires size { size ≡ top.now.size }
-    ensures told { (entries : List (List ℕ)) → IsListOf H.digest top.now entries
+    ensures recorded { (entries : List (List ℕ)) → IsListOf H.digest top.now entries
         → AddsFiles (S.puts shelf.old) (S.puts shelf.new)
         (files_at H.digest top.now.note entries (since_parts since top.now.size)) result }
     ensures counted { CountsFailures (S.failed shelf.old) (S.failed shelf.new) result }
@@ -207,7 +207,7 @@ pub(crate) fn put_served<H: TreeHash, S: Shelf>(
     shelf: &mut S,
 ) -> Result<(), ShelfError>
     requires size { size ≡ top.now.size }
-    ensures told { (entries : List (List ℕ)) → IsListOf H.digest top.now entries
+    ensures recorded { (entries : List (List ℕ)) → IsListOf H.digest top.now entries
         → AddsFiles (S.puts shelf.old) (S.puts shelf.new)
         (files_at H.digest top.now.note entries (since_paths 0 top.now.size)) result }
     ensures counted { CountsFailures (S.failed shelf.old) (S.failed shelf.new) result }

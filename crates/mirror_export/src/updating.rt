@@ -69,7 +69,7 @@ fn update_to<H: TreeHash, S: ReadableShelf>(
     shelf: &mut S,
 ) -> Result<(), UpdateFault>
     requires size { size ≡ top.now.size }
-    ensures told { (entries : List (List ℕ)) → IsListOf H.digest top.now entries
+    ensures recorded { (entries : List (List ℕ)) → IsListOf H.digest top.now entries
         → UpdatesTop H.digest top.now origin.now entries (S.puts shelf.old) (S.puts shelf.new)
         result }
     ensures counted { CountsUpdate (S.failed shelf.old) (S.failed shelf.new) result }

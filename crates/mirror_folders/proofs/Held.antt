@@ -5,7 +5,7 @@ use Rattle.std.specs.List.{Contains}
 use Rattle.std.proofs.lemmas.List.{take_more, take_all, map-append, get_or-map, length-map}
 use Rattle.std.proofs.lemmas.List.Elements.{Contains-push_cases}
 use Rattle.tlog_tiles.specs.declared.paths.Path.{Path}
-use Rattle.mirror_folders.specs.Shelf.{Put, HasPut, Stands, TellsRead}
+use Rattle.mirror_folders.specs.Shelf.{Put, HasPut, Stands, RecordsRead}
 
 module _ {X : Type 0} (seen : X → Put) (xs : List X) (path : Path) where
   -- the path of an element, as it is seen
@@ -70,24 +70,24 @@ module _ {X : Type 0} (seen : X → Put) (xs : List X) (path : Path) where
   }
 
   module _ (i : ℕ) (x : X) (lt : i < length xs) (e : x ≡ get_or xs i x) (found : Option (List ℕ)) where
-    pub read_here : place x ≡ path → found ≡ Some (seen x).1 → TellsRead (Some (map seen (take (i + 1) xs))) path found
+    pub read_here : place x ≡ path → found ≡ Some (seen x).1 → RecordsRead (Some (map seen (take (i + 1) xs))) path found
     read_here same is =
-        subst (λ (f : Option (List ℕ)). TellsRead (Some (map seen (take (i + 1) xs))) path f) (sym is)
+        subst (λ (f : Option (List ℕ)). RecordsRead (Some (map seen (take (i + 1) xs))) path f) (sym is)
         (subst (λ (l : List Put). Stands l path (seen x).1) (more_is i x lt e)
         (stands_last (map seen (take i xs)) x same))
 
     pub read_other : (place x ≡ path → ⊥) → (before : Option (List ℕ)) → found ≡ before →
-        TellsRead (Some (map seen (take i xs))) path before → TellsRead (Some (map seen (take (i + 1) xs))) path found
+        RecordsRead (Some (map seen (take i xs))) path before → RecordsRead (Some (map seen (take (i + 1) xs))) path found
     read_other differs before is h =
-        subst (λ (f : Option (List ℕ)). TellsRead (Some (map seen (take (i + 1) xs))) path f) (sym is) (by before h)
+        subst (λ (f : Option (List ℕ)). RecordsRead (Some (map seen (take (i + 1) xs))) path f) (sym is) (by before h)
       where
-        by : (b : Option (List ℕ)) → TellsRead (Some (map seen (take i xs))) path b →
-            TellsRead (Some (map seen (take (i + 1) xs))) path b
+        by : (b : Option (List ℕ)) → RecordsRead (Some (map seen (take i xs))) path b →
+            RecordsRead (Some (map seen (take (i + 1) xs))) path b
         by None h = held_more i x lt e differs h
         by (Some bytes) h = subst (λ (l : List Put). Stands l path bytes) (more_is i x lt e)
             (stands_past (map seen (take i xs)) x bytes differs h)
 
   pub read_all : (i : ℕ) → length xs ≤ i → (found : Option (List ℕ)) →
-      TellsRead (Some (map seen (take i xs))) path found → TellsRead (Some (map seen xs)) path found
+      RecordsRead (Some (map seen (take i xs))) path found → RecordsRead (Some (map seen xs)) path found
   read_all i le found h =
-      subst (λ (l : List X). TellsRead (Some (map seen l)) path found) (take_all i xs le) h
+      subst (λ (l : List X). RecordsRead (Some (map seen l)) path found) (take_all i xs le) h

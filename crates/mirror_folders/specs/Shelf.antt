@@ -2,7 +2,7 @@
 use Rattle.std.specs.Prelude.{◌≡◌, ◌↔◌, ℕ, List, [], ◌∷◌, ◌++◌, map, Option, Some, None, Result, Ok}
 use Rattle.std.specs.Prelude.{Err, Bool, IsTrue, Contains, ⊤}
 use Rattle.tlog_tiles.specs.declared.paths.Path.{Path}
-use Rattle.mirror_sources.specs.Told.{KeepsTold, AddsTold, one_more}
+use Rattle.mirror_sources.specs.Recorded.{KeepsRecord, AddsToRecord, one_more}
 use Rattle.mirror_folders.specs.declared.shelf.ShelfError.{ShelfError}
 use Rattle.mirror_folders.specs.declared.shelf.ShelfError.TheVariants.{Failed, OutOfMemory}
 
@@ -22,31 +22,31 @@ pub record Stands (puts : List Put) (path : Path) (bytes : List ℕ) : Type 0 wh
   pub kept : (other : List ℕ) → Contains after (path, other) → other ≡ bytes
 
 -- a put that answers Ok is recorded last, and one that answers an error left all as it was
-abbrev pub TellsPut : {T : Type 0} → Option (List Put) → Option (List Put) → Put →
+abbrev pub RecordsPut : {T : Type 0} → Option (List Put) → Option (List Put) → Put →
     Result T ShelfError → Type 0
-TellsPut old new put (Ok x) = AddsTold old new (put ∷ [])
-TellsPut old new put (Err e) = KeepsTold old new
+RecordsPut old new put (Ok x) = AddsToRecord old new (put ∷ [])
+RecordsPut old new put (Err e) = KeepsRecord old new
 
 -- the answer tells whether something was put at the path
-abbrev pub TellsHas : Option (List Put) → Path → Bool → Type 0
-TellsHas None path answer = ⊤
-TellsHas (Some puts) path answer = IsTrue answer ↔ HasPut puts path
+abbrev pub RecordsHas : Option (List Put) → Path → Bool → Type 0
+RecordsHas None path answer = ⊤
+RecordsHas (Some puts) path answer = IsTrue answer ↔ HasPut puts path
 
 -- the answer is what stands at the path: what was put there last, or None where nothing was put
-abbrev pub TellsRead : Option (List Put) → Path → Option (List ℕ) → Type 0
-TellsRead None path answer = ⊤
-TellsRead (Some puts) path None = ¬ HasPut puts path
-TellsRead (Some puts) path (Some bytes) = Stands puts path bytes
+abbrev pub RecordsRead : Option (List Put) → Path → Option (List ℕ) → Type 0
+RecordsRead None path answer = ⊤
+RecordsRead (Some puts) path None = ¬ HasPut puts path
+RecordsRead (Some puts) path (Some bytes) = Stands puts path bytes
 
 -- nothing was put at the path, as far as the shelf tells
-abbrev pub TellsNone : Option (List Put) → Path → Type 0
-TellsNone None path = ⊤
-TellsNone (Some puts) path = ¬ HasPut puts path
+abbrev pub RecordsNone : Option (List Put) → Path → Type 0
+RecordsNone None path = ⊤
+RecordsNone (Some puts) path = ¬ HasPut puts path
 
 -- something was put at the path, as far as the shelf tells
-abbrev pub TellsSome : Option (List Put) → Path → Type 0
-TellsSome None path = ⊤
-TellsSome (Some puts) path = HasPut puts path
+abbrev pub RecordsSome : Option (List Put) → Path → Type 0
+RecordsSome None path = ⊤
+RecordsSome (Some puts) path = HasPut puts path
 
 -- the shelf's count of failures rises by one at each failure, and OutOfMemory is none
 abbrev pub CountsError : ℕ → ℕ → ShelfError → Type 0

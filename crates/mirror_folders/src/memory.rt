@@ -1,6 +1,6 @@
 //! A shelf in memory.
 ghost use Rattle.std.specs.Prelude.{◌≡◌, ◌↔◌, [], map, IsTrue, Some, option_map};
-ghost use Rattle.mirror_folders.specs.Shelf.{HasPut, TellsRead};
+ghost use Rattle.mirror_folders.specs.Shelf.{HasPut, RecordsRead};
 
 use crate::folders::NamedFolders;
 use crate::shelf::{ReadableShelf, Shelf, ShelfError};
@@ -70,7 +70,7 @@ fn is_put(puts: &[(Path, Vec<u8>)], path: &Path) -> bool
 
 // What was put last at the path.
 fn last_put<'a>(puts: &'a [(Path, Vec<u8>)], path: &Path) -> Option<&'a [u8]>
-    ensures { TellsRead (Some (map (λ put. (put.0, put.1.items)) puts.entry.now)) path.now
+    ensures { RecordsRead (Some (map (λ put. (put.0, put.1.items)) puts.entry.now)) path.now
         (option_map (λ bytes. bytes.now) result) }
 {
     let mut last: Option<&'a [u8]> = None;

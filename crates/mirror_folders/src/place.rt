@@ -1,6 +1,6 @@
 //! Where the files of a log lie in a folder.
 ghost use Rattle.std.specs.Prelude.{◌≡◌, IfOk, string_bytes};
-ghost use Rattle.mirror_sources.specs.Told.{one_more};
+ghost use Rattle.mirror_sources.specs.Recorded.{one_more};
 ghost use Rattle.mirror_folders.specs.Places.{LiesAt};
 
 use std::alloc::Global;

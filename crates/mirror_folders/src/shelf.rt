@@ -30,8 +30,8 @@ impl From<AllocError> for ShelfError {
 /// `DirShelf` keeps them in a folder, a file for each path, as `tile/0/000`.
 pub trait Shelf {
     ghost use Rattle.std.specs.Prelude.{◌≡◌, ℕ, List, Option, None, IfOk, IfSome};
-    ghost use Rattle.mirror_sources.specs.Told.{KeepsTold};
-    ghost use Rattle.mirror_folders.specs.Shelf.{Put, TellsPut, TellsHas, CountsFailures};
+    ghost use Rattle.mirror_sources.specs.Recorded.{KeepsRecord};
+    ghost use Rattle.mirror_folders.specs.Shelf.{Put, RecordsPut, RecordsHas, CountsFailures};
 
     /// What was put, the oldest first, if the shelf records it. What was put last at a path stands there.
     ghost puts: { Self → Option (List Put) } = { λ _. None };
@@ -48,8 +48,8 @@ pub trait Shelf {
     ///
     /// `Failed` where the shelf failed, which is counted, and `OutOfMemory` where memory was refused. What was put stays.
     fn has(&mut self, path: &Path) -> Result<bool, ShelfError>
-        ensures answer { IfOk result (λ b. TellsHas (puts self.old) path.now b) }
-        ensures same { KeepsTold (puts self.old) (puts self.new) }
+        ensures answer { IfOk result (λ b. RecordsHas (puts self.old) path.now b) }
+        ensures same { KeepsRecord (puts self.old) (puts self.new) }
         ensures counted { CountsFailures (failed self.old) (failed self.new) result };
 
     /// Puts a file at the path, whole.
@@ -58,7 +58,7 @@ pub trait Shelf {
     ///
     /// Those of `has`; the path is then as it was.
     fn put(&mut self, path: &Path, bytes: &[u8]) -> Result<(), ShelfError>
-        ensures told { TellsPut (puts self.old) (puts self.new) (path.now, bytes.now) result }
+        ensures recorded { RecordsPut (puts self.old) (puts self.new) (path.now, bytes.now) result }
         ensures counted { CountsFailures (failed self.old) (failed self.new) result };
 
     /// The file that stands at the path, as an earlier run may have put it, is relied on: it is flushed to the device
@@ -68,7 +68,7 @@ pub trait Shelf {
     ///
     /// Those of `has`. What was put stays.
     fn flush_before_checkpoint(&mut self, path: &Path) -> Result<(), ShelfError>
-        ensures same { KeepsTold (puts self.old) (puts self.new) }
+        ensures same { KeepsRecord (puts self.old) (puts self.new) }
         ensures counted { CountsFailures (failed self.old) (failed self.new) result };
 
     /// How many calls failed; the count stays at its last value, 2^64 - 1.
@@ -91,8 +91,8 @@ pub trait Shelf {
 /// ```
 pub trait ReadableShelf: Shelf {
     ghost use Rattle.std.specs.Prelude.{IfOk, option_map};
-    ghost use Rattle.mirror_sources.specs.Told.{KeepsTold};
-    ghost use Rattle.mirror_folders.specs.Shelf.{TellsRead, CountsFailures};
+    ghost use Rattle.mirror_sources.specs.Recorded.{KeepsRecord};
+    ghost use Rattle.mirror_folders.specs.Shelf.{RecordsRead, CountsFailures};
 
     /// The bytes of the file at the path, and None where there is no file.
     ///
@@ -101,7 +101,7 @@ pub trait ReadableShelf: Shelf {
     /// Those of `has`. What was put stays.
     fn read(&mut self, path: &Path) -> Result<Option<Vec<u8>>, ShelfError>
         ensures answer { IfOk result
-            (λ found. TellsRead (Self.puts self.old) path.now (option_map (λ v. v.items) found)) }
-        ensures same { KeepsTold (Self.puts self.old) (Self.puts self.new) }
+            (λ found. RecordsRead (Self.puts self.old) path.now (option_map (λ v. v.items) found)) }
+        ensures same { KeepsRecord (Self.puts self.old) (Self.puts self.new) }
         ensures counted { CountsFailures (Self.failed self.old) (Self.failed self.new) result };
 }

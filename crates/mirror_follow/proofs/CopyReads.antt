@@ -6,8 +6,8 @@ use Rattle.tlog_hash.specs.Tree.{mth}
 use Rattle.tlog_tiles.specs.declared.paths.Path.{Path}
 use Rattle.tlog_tiles.specs.declared.paths.Path.TheVariants.{Checkpoint}
 use Rattle.mirror_sources.specs.Source.{StaysWithin}
-use Rattle.mirror_sources.specs.Told.{KeepsTold}
-use Rattle.mirror_folders.specs.Shelf.{Put, TellsRead}
+use Rattle.mirror_sources.specs.Recorded.{KeepsRecord}
+use Rattle.mirror_folders.specs.Shelf.{Put, RecordsRead}
 use Rattle.mirror_model.specs.Heads.{IsHead}
 use Rattle.log_reader.specs.Holding.{IsReaderOf, ReadsLog, ReadsOf}
 use Rattle.log_reader.specs.Ways.{Reader}
@@ -82,7 +82,7 @@ module _ (T U : Type 0) (digest : List ℕ → List ℕ) (size : ℕ) (root : Li
       (reads entries (opened entries size_is root_is source) (source_later digest entries may later stays source)).answer
 
   -- of a shelf
-  pub read_copy : (x y : Option (List Put)) → KeepsTold x y → (e : CopyFault) →
+  pub read_copy : (x y : Option (List Put)) → KeepsRecord x y → (e : CopyFault) →
       ReadsCopyLog digest size root x (Ok reader) Opened → ReadsCopyOf IsShelfFailure digest reader new y (Err e) claim →
       ReadsCopyLog {T = U} digest size root x (Err e) (λ _ _. ⊤)
   read_copy x y kept e opened reads entries size_is root_is files =
@@ -104,17 +104,17 @@ module _ (digest : List ℕ → List ℕ) (origin : List ℕ) where
       lacks entries (sym s.under.size_is) (sym s.under.root_is)
       (subst (λ p. HasFilesOf digest entries p) (sym s.puts_are) w.files)
 
-  module _ (x y : Option (List Put)) (found : List ℕ) (stands : TellsRead x Checkpoint (Some found)) where
+  module _ (x y : Option (List Put)) (found : List ℕ) (stands : RecordsRead x Checkpoint (Some found)) where
     -- the checkpoint of a copy that stands is one of the origin
     pub no_head : ((size : ℕ) (root : List ℕ) → IsHead found origin size root → ⊥) → HoldsNoCopy digest origin x
     no_head none held is note entries copy =
         let one : found ≡ note =
-        checkpoint_one digest origin note entries held copy found (subst (λ p. TellsRead p Checkpoint (Some found)) is stands) in
+        checkpoint_one digest origin note entries held copy found (subst (λ p. RecordsRead p Checkpoint (Some found)) is stands) in
         none (length entries) (mth digest entries)
         (subst (λ b. IsHead b origin (length entries) (mth digest entries)) (sym one) copy.is_head)
 
     -- and its edge is read
-    pub no_edge : (T : Type 0) (size : ℕ) (root : List ℕ) → IsHead found origin size root → KeepsTold x y →
+    pub no_edge : (T : Type 0) (size : ℕ) (root : List ℕ) → IsHead found origin size root → KeepsRecord x y →
         (e : CopyFault) → ReadsCopyLog {T = T} digest size root y (Err e) (λ _ _. ⊤) → (IsShelfFailure e → ⊥) →
         HoldsNoCopy digest origin x
     no_edge T size root head kept e reads other held is note entries copy =

@@ -8,7 +8,7 @@ use Rattle.tlog_tiles.specs.declared.paths.Path.{Path}
 use Rattle.tlog_tiles.specs.declared.paths.Path.TheVariants.{Checkpoint}
 use Rattle.mirror_model.specs.Heads.{IsHead}
 use Rattle.mirror_model.proofs.HeadNotes.{head_once}
-use Rattle.mirror_folders.specs.Shelf.{Put, TellsRead}
+use Rattle.mirror_folders.specs.Shelf.{Put, RecordsRead}
 use Rattle.mirror_folders.specs.declared.shelf.ShelfError.{ShelfError}
 use Rattle.mirror_folders.specs.declared.shelf.ShelfError.TheVariants as shelf
 use Rattle.mirror_copy.proofs.WholeMoments.{copy_found}
@@ -33,8 +33,8 @@ use Rattle.mirror_follow.specs.declared.fault.CandidateFault.TheVariants as none
 use Rattle.mirror_follow.specs.declared.fault.FollowFault.{FollowFault}
 use Rattle.mirror_follow.specs.declared.fault.FollowFault.TheVariants as fault
 use Rattle.mirror_follow.specs.declared.report.Run.{Run}
-use Rattle.mirror_follow.specs.declared.report.Turn.{Turn}
-use Rattle.mirror_follow.specs.declared.report.Turn.TheVariants as turn
+use Rattle.mirror_follow.specs.declared.report.Outcome.{Outcome}
+use Rattle.mirror_follow.specs.declared.report.Outcome.TheVariants as turn
 use Rattle.mirror_follow.proofs.Blame.{fails_brought, fails_later, fails_then}
 use Rattle.mirror_follow.proofs.Standing.{checkpoint_one}
 use Rattle.mirror_follow.proofs.TurnOrder.{element}
@@ -50,7 +50,7 @@ or_source : (first : Option FollowFault) (f : FollowFault) → or_fault first f 
 or_source None f e = inr (cc e)
 or_source (Some g) f e = inl e
 
-source_after : (first : Option FollowFault) (t : Turn) → fault_after first t ≡ Some fault.Source →
+source_after : (first : Option FollowFault) (t : Outcome) → fault_after first t ≡ Some fault.Source →
     (first ≡ Some fault.Source) ⊎ (t ≡ turn.NotHad fault.Source)
 source_after first turn.Agrees e = inl e
 source_after first turn.Brought e = inl e
@@ -64,7 +64,7 @@ source_after first (turn.NotHad f) e = elim (or_source first f e) [
   | inr now ↦ inr (ap turn.NotHad now)
 ]
 
-pub source_blames : {S : Type 0} (x y : Places S) (run next : Run) (t : Turn) →
+pub source_blames : {S : Type 0} (x y : Places S) (run next : Run) (t : Outcome) →
     next.first_fault ≡ fault_after run.first_fault t → (t ≡ turn.NotHad fault.Source → PlaceFails x y) →
     BlamesPlace x y run.first_fault next.first_fault
 source_blames x y run next t is fails e = elim (source_after run.first_fault t (sym is ∙ e)) [
@@ -73,14 +73,14 @@ source_blames x y run next t is fails e = elim (source_after run.first_fault t (
 ]
 
 -- a turn in which no candidate is missing since a place failed
-pub none_fails : {S E : Type 0} (x y : Places S) (r : Result Turn E) → IfOk r (λ t. t ≢ turn.NotHad fault.Source) →
+pub none_fails : {S E : Type 0} (x y : Places S) (r : Result Outcome E) → IfOk r (λ t. t ≢ turn.NotHad fault.Source) →
     IfOk r (λ t. t ≡ turn.NotHad fault.Source → PlaceFails x y)
 none_fails x y (Ok t) h = λ e. absurd (h e)
 none_fails x y (Err e) h = tt
 
 -- a turn after a bringing that ended by a fault
 pub turned_fails : {S E : Type 0} (may : S → Path → Option (List ℕ) → Type 0) (failed : S → ℕ)
-    (asked : S → Option (List Path)) (x y : Places S) (e : BringFault) (r : Result Turn E) →
+    (asked : S → Option (List Path)) (x y : Places S) (e : BringFault) (r : Result Outcome E) →
     BlamesFailed may failed asked x y e → IfOk r (λ t. t ≡ turn.NotHad fault.Source → e ≡ bring.Source) →
     IfOk r (λ t. t ≡ turn.NotHad fault.Source → PlaceFails x y)
 turned_fails may failed asked x y e (Ok t) blames h = λ is. fails_brought may failed asked x y e (h is) blames
@@ -112,7 +112,7 @@ module _ (digest : List ℕ → List ℕ) where
   kept_by done c first last f e is h = subst (IsFirstFault digest (done ++ c ∷ [])) (sym e) (or_kept done c first f is h)
 
   -- after the turn of a candidate
-  pub keeps_fault : (done : List Candidate) (c : Candidate) (run next : Run) (t : Turn) →
+  pub keeps_fault : (done : List Candidate) (c : Candidate) (run next : Run) (t : Outcome) →
       (run.copy ≡ None → IsOfEmpty digest c t) → KnowsAfter c t run.copy next.copy →
       next.first_fault ≡ fault_after run.first_fault t → KeepsFault digest done run →
       KeepsFault digest (done ++ c ∷ []) next
@@ -155,7 +155,7 @@ module _ (digest : List ℕ → List ℕ) where
   keeps_all cs i run le h = subst (λ l. KeepsFault digest l run) (take_all i cs le) h
 
   -- what is known of the turn of a candidate where the copy is empty
-  pub empty_says : {E : Type 0} (r : Result Turn E) (c : Candidate) → IfOk r (IsOfEmpty digest c) →
+  pub empty_says : {E : Type 0} (r : Result Outcome E) (c : Candidate) → IfOk r (IsOfEmpty digest c) →
       IfOk r (SaysTurn digest None c)
   empty_says (Err e) c h = tt
   empty_says (Ok turn.Agrees) c h = absurd h
@@ -164,7 +164,7 @@ module _ (digest : List ℕ → List ℕ) where
   empty_says (Ok turn.Contradicts) c h = tt
   empty_says (Ok (turn.NotHad f)) c h = tt
 
-  pub empty_shows : {E : Type 0} (r : Result Turn E) (c : Candidate) → IfOk r (IsOfEmpty digest c) →
+  pub empty_shows : {E : Type 0} (r : Result Outcome E) (c : Candidate) → IfOk r (IsOfEmpty digest c) →
       IfOk r (ShowsTurn digest None c)
   empty_shows (Err e) c h = tt
   empty_shows (Ok turn.Agrees) c h = tt
@@ -239,9 +239,9 @@ module _ (digest : List ℕ → List ℕ) (origin : List ℕ) where
   pub none_found : (copy : Candidate) (x : Option (List Put)) → IsOtherFound (Some (note_of copy)) x →
       HasStanding digest origin (Some copy) x → ⊥
   none_found copy x o s =
-      found o.now (subst (λ p. TellsRead p Checkpoint o.now) s.puts_are o.now_is) o.other
+      found o.now (subst (λ p. RecordsRead p Checkpoint o.now) s.puts_are o.now_is) o.other
     where
-      found : (now : Option (List ℕ)) → TellsRead (Some s.held) Checkpoint now → now ≢ Some (note_of copy) → ⊥
+      found : (now : Option (List ℕ)) → RecordsRead (Some s.held) Checkpoint now → now ≢ Some (note_of copy) → ⊥
       found None none other =
           copy_found digest origin (note_of copy) (s.entries ++ s.under.more) s.held None s.under.copy none refl
       found (Some bytes) there other =
@@ -354,7 +354,7 @@ module _ (digest : List ℕ → List ℕ) {S : Type 0} (may : S → Path → Opt
   -- the candidates were not had
   module _ (given : Option (List ℕ)) (c : Candidate) (cs : List Candidate)
       (gathered : AreCandidates may origin keys x y given (c ∷ cs)) (rising : IsSorted turn_cmp (c ∷ cs))
-      (empty : TellsRead puts Checkpoint None) where
+      (empty : RecordsRead puts Checkpoint None) where
     none_had : (so : Candidate → Type 0) → so c → HadNone digest may origin keys puts x y given so
     none_had so is = record {
       first = c;
@@ -394,7 +394,7 @@ module _ (digest : List ℕ → List ℕ) {S : Type 0} (may : S → Path → Opt
   -- the report of a run ends with a fault
   pub ends_report : (given : Option (List ℕ)) (cs : List Candidate) (run : Run) {T : Type 0} (r : Result T FollowFault) →
       0 < length cs → AreCandidates may origin keys x y given cs → IsSorted turn_cmp cs →
-      (run.copy ≡ None → TellsRead puts Checkpoint None) → KeepsFault digest cs run →
+      (run.copy ≡ None → RecordsRead puts Checkpoint None) → KeepsFault digest cs run →
       (run.first_fault ≡ Some fault.Source → PlaceFails x y) → IfErr r (λ e. Reported run e) → IfErr r (Ends given)
   ends_report given cs run (Ok x) some gathered rising empty keeps fails h = tt
   ends_report given cs run (Err e) some gathered rising empty keeps fails (inl memory) =
@@ -408,11 +408,11 @@ module _ (digest : List ℕ → List ℕ) {S : Type 0} (may : S → Path → Opt
 -- the copy was empty where a run ends with none
 pub was_empty : (digest : List ℕ → List ℕ) (origin : List ℕ) (x : Option (List Put)) (first : Option Candidate)
     (cs : List Candidate) (run : Run) → HasTakenRun digest first cs run → IsFoundCopy origin x first → run.copy ≡ None →
-    TellsRead x Checkpoint None
+    RecordsRead x Checkpoint None
 was_empty digest origin x first cs run h found none =
     none_found_first first (subst (λ o. IsGrown first o) none h.taken.grown) found
   where
-    none_found_first : (first : Option Candidate) → IsGrown first None → IsFoundCopy origin x first → TellsRead x Checkpoint None
+    none_found_first : (first : Option Candidate) → IsGrown first None → IsFoundCopy origin x first → RecordsRead x Checkpoint None
     none_found_first None grown found = found
     none_found_first (Some f) grown found = absurd grown
 

@@ -6,7 +6,7 @@ use Rattle.std.specs.Prelude.{IfOk}
 use Rattle.std.proofs.lemmas.List.Elements.{All-get_or, All-nil, All-push, All-weaker}
 use Rattle.std.proofs.lemmas.List.Sorted.{All-permutation}
 use Rattle.signed_note.specs.Keys.{Key}
-use Rattle.mirror_sources.specs.Told.{KeepsTold}
+use Rattle.mirror_sources.specs.Recorded.{KeepsRecord}
 use Rattle.mirror_folders.specs.Shelf.{Put}
 use Rattle.mirror_follow.specs.Candidates.{IsCandidate, IsCandidateOf, turn_cmp}
 use Rattle.mirror_follow.specs.GatheredFrom.{IsOnly}
@@ -87,7 +87,7 @@ head_at origin candidates i candidate lt is all =
 
 module _ (digest : List ℕ → List ℕ) (origin : List ℕ) (keys : List Key) (so : List ℕ → Type 0) where
   -- a call that puts nothing follows no candidate
-  pub follows_none : (x y : Option (List Put)) → KeepsTold x y → FollowsCandidates digest origin keys so x y
+  pub follows_none : (x y : Option (List Put)) → KeepsRecord x y → FollowsCandidates digest origin keys so x y
   follows_none x y kept = record {
     candidates = [];
     opened = All-nil (IsCandidate origin keys);
@@ -97,7 +97,7 @@ module _ (digest : List ℕ → List ℕ) (origin : List ℕ) (keys : List Key) 
 
   -- after a call that puts nothing, a run under the notes of candidates
   pub follows_candidates : (given candidates : List Candidate) (x y z : Option (List Put)) → candidates ≡ given →
-      All (IsCandidate origin keys) given → All (λ c. so (note_of c)) given → KeepsTold x y →
+      All (IsCandidate origin keys) given → All (λ c. so (note_of c)) given → KeepsRecord x y →
       KeepsCopies digest origin (map note_of candidates) y z → FollowsCandidates digest origin keys so x z
   follows_candidates given candidates x y z is opens gave kept run = record {
     candidates = candidates;

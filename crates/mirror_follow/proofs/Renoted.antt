@@ -11,8 +11,8 @@ use Rattle.tlog_tiles.specs.declared.paths.Path.TheVariants.{Checkpoint, Tile, E
 use Rattle.tlog_tiles.specs.Tiles.{IsWithin}
 use Rattle.mirror_model.specs.Heads.{IsHead}
 use Rattle.mirror_model.proofs.HeadNotes.{head_once}
-use Rattle.mirror_sources.specs.Told.{AddsTold}
-use Rattle.mirror_folders.specs.Shelf.{Put, HasPut, Stands, TellsRead}
+use Rattle.mirror_sources.specs.Recorded.{AddsToRecord}
+use Rattle.mirror_folders.specs.Shelf.{Put, HasPut, Stands, RecordsRead}
 use Rattle.mirror_export.specs.Exports.{IsMoment}
 use Rattle.mirror_export.specs.Files.{paths_of, served_bytes}
 use Rattle.mirror_export.proofs.AllFiles.{files_are_all}
@@ -116,29 +116,29 @@ module _ (digest : List ℕ → List ℕ) (origin note : List ℕ) where
   module _ (x z : Option (List Put)) (there : List ℕ) (size : ℕ) (root : List ℕ) (first : IsHead there origin size root)
       (second : IsHead note origin size root) (p : IsNotePut x z there note) where
     stood_at : (held : List Put) → x ≡ Some held → Stands held Checkpoint there
-    stood_at held is = subst (λ o. TellsRead o Checkpoint (Some there)) is p.stood
+    stood_at held is = subst (λ o. RecordsRead o Checkpoint (Some there)) is p.stood
 
-    told_at : (held : List Put) → x ≡ Some held → AddsTold (Some held) z (put ∷ [])
-    told_at held is = subst (λ o. AddsTold o z (put ∷ [])) is p.told
+    recorded_at : (held : List Put) → x ≡ Some held → AddsToRecord (Some held) z (put ∷ [])
+    recorded_at held is = subst (λ o. AddsToRecord o z (put ∷ [])) is p.recorded
 
     no_none : (held : List Put) → x ≡ Some held → (HasPut held Checkpoint → ⊥) → ⊥
     no_none held is none = cc (none_found held (Some there) (stood_at held is) none)
 
-    each : (held : List Put) (z : Option (List Put)) → AddsTold (Some held) z (put ∷ []) → (so : List Put → Type 0) →
+    each : (held : List Put) (z : Option (List Put)) → AddsToRecord (Some held) z (put ∷ []) → (so : List Put → Type 0) →
         ((new : List Put) → new ≡ held ++ put ∷ [] → (now : List Put) → IsMoment held new now → so now) →
         AtEachMoment held z so
-    each held None told so all = absurd told
-    each held (Some new) told so all = λ now at. all new told now at
+    each held None recorded so all = absurd recorded
+    each held (Some new) recorded so all = λ now at. all new recorded now at
 
-    last : (held : List Put) (z : Option (List Put)) → AddsTold (Some held) z (put ∷ []) → (so : List Put → Type 0) →
+    last : (held : List Put) (z : Option (List Put)) → AddsToRecord (Some held) z (put ∷ []) → (so : List Put → Type 0) →
         so (held ++ put ∷ []) → InTheEnd z so
-    last held None told so h = absurd told
-    last held (Some new) told so h = subst so (sym told) h
+    last held None recorded so h = absurd recorded
+    last held (Some new) recorded so h = subst so (sym recorded) h
 
     beyond : (n : ℕ) (held : List Put) → x ≡ Some held → PutsBeyond n held z
     beyond n held is = record {
       puts = put ∷ [];
-      told = told_at held is;
+      recorded = recorded_at held is;
       are_beyond =
           let P : Put → Type 0 = λ put. ¬ IsWithin n put.0 in All-cons P put [] (λ within. within) (All-nil P);
     }
@@ -146,7 +146,7 @@ module _ (digest : List ℕ → List ℕ) (origin note : List ℕ) where
     pub note_keeps : KeepsCopy digest origin note x z
     note_keeps = record {
       copy = λ held is old_note entries copy.
-          each held z (told_at held is)
+          each held z (recorded_at held is)
           (λ now. IsCopy digest origin old_note entries now ⊎ IsGrownCopy digest origin note entries now)
           (λ new e now at. renoted_moment held there (stood_at held is) size root first second old_note entries copy new now e at);
       none = λ held is none. absurd (no_none held is none);
@@ -157,7 +157,7 @@ module _ (digest : List ℕ → List ℕ) (origin note : List ℕ) where
     pub note_brought : IsBroughtTo digest origin note x z
     note_brought = record {
       copy = λ held is old_note entries copy.
-          last held z (told_at held is) (IsGrownCopy digest origin note entries)
+          last held z (recorded_at held is) (IsGrownCopy digest origin note entries)
           (renoted_grown held there (stood_at held is) size root first second old_note entries copy);
       none = λ held is none. absurd (no_none held is none);
     }

@@ -10,7 +10,7 @@ use Rattle.std.proofs.lemmas.List.Elements.{Contains-get_or, All-append, All-con
 use Rattle.tlog_tiles.specs.declared.paths.Path.{Path}
 use Rattle.tlog_tiles.specs.declared.paths.Path.TheVariants.{Checkpoint, Tile, Entries}
 use Rattle.tlog_tiles.specs.Tiles.{IsWithin}
-use Rattle.mirror_sources.specs.Told.{AddsTold, KeepsTold}
+use Rattle.mirror_sources.specs.Recorded.{AddsToRecord, KeepsRecord}
 use Rattle.mirror_folders.specs.Shelf.{Put, HasPut, Stands}
 use Rattle.mirror_export.specs.Exports.{IsMoment}
 use Rattle.mirror_export.specs.FileLaws.{IsFileOf}
@@ -75,11 +75,11 @@ module _ (held first last mid new : List Put) (mid_is : mid ≡ held ++ first) (
 
 -- what is so at each moment of both calls is so at each moment
 splice : (held mid first last : List Put) (w : Option (List Put)) (so : List Put → Type 0) → mid ≡ held ++ first →
-    AddsTold (Some mid) w last → ((now : List Put) → IsMoment held mid now → so now) → AtEachMoment mid w so →
+    AddsToRecord (Some mid) w last → ((now : List Put) → IsMoment held mid now → so now) → AtEachMoment mid w so →
     AtEachMoment held w so
-splice held mid first last None so mid_is told f g = absurd g
-splice held mid first last (Some new) so mid_is told f g = λ now at.
-    elim (moment_cases held first last mid new mid_is told now at) [
+splice held mid first last None so mid_is recorded f g = absurd g
+splice held mid first last (Some new) so mid_is recorded f g = λ now at.
+    elim (moment_cases held first last mid new mid_is recorded now at) [
       | inl early ↦ f now early
       | inr late ↦ g now late
     ]
@@ -110,7 +110,7 @@ not_within n k le put beyond within = beyond (within_more n k put.0 le within)
 beyond_fewer : (n k : ℕ) (held : List Put) (w : Option (List Put)) → n ≤ k → PutsBeyond k held w → PutsBeyond n held w
 beyond_fewer n k held w le b = record {
   puts = b.puts;
-  told = b.told;
+  recorded = b.recorded;
   are_beyond = All-weaker (λ (put : Put). ¬ IsWithin k put.0) (λ (put : Put). ¬ IsWithin n put.0) (not_within n k le) b.puts
       b.are_beyond;
 }
@@ -119,7 +119,7 @@ beyond_then : (n : ℕ) (held mid : List Put) (w : Option (List Put)) (b : PutsB
     PutsBeyond n mid w → PutsBeyond n held w
 beyond_then n held mid w b b' = record {
   puts = b.puts ++ b'.puts;
-  told = adds_then (Some held) (Some mid) w b.puts b'.puts b.told b'.told;
+  recorded = adds_then (Some held) (Some mid) w b.puts b'.puts b.recorded b'.recorded;
   are_beyond = All-append (λ (put : Put). ¬ IsWithin n put.0) b.puts b'.puts b.are_beyond b'.are_beyond;
 }
 
@@ -172,7 +172,7 @@ module _ (digest : List ℕ → List ℕ) (origin : List ℕ) (notes : List (Lis
     stay : (new now : List Put) → w ≡ Some new → IsMoment mid new now → HoldsFiles digest entries now
     stay new now is at =
         files_stay digest entries mid grown_beyond.puts new now g.grown.kept
-        (subst (λ o. AddsTold (Some mid) o grown_beyond.puts) is grown_beyond.told) grown_beyond.are_beyond at
+        (subst (λ o. AddsToRecord (Some mid) o grown_beyond.puts) is grown_beyond.recorded) grown_beyond.are_beyond at
 
     -- a copy that has grown stays so
     grown_stays : AtEachMoment mid w (Grown entries)
@@ -199,12 +199,12 @@ module _ (digest : List ℕ → List ℕ) (origin : List ℕ) (notes : List (Lis
           AtEachMoment held w So × PutsBeyond (length entries) held w
       copy_then b f (inl still) =
           let b' = second.beyond mid refl note entries still in (
-            splice held mid b.puts b'.puts w So b.told b'.told f (second.copy mid refl note entries still),
+            splice held mid b.puts b'.puts w So b.recorded b'.recorded f (second.copy mid refl note entries still),
             beyond_then (length entries) held mid w b b',
           )
       copy_then b f (inr grown) =
           let b' = grown_beyond mid w second entries grown in (
-            splice held mid b.puts b'.puts w So b.told b'.told f
+            splice held mid b.puts b'.puts w So b.recorded b'.recorded f
                 (at_each_weaker mid w (Grown entries) So (λ new now is at so. inr so)
                 (grown_stays mid w second entries grown)),
             beyond_then (length entries) held mid w b b',
@@ -217,12 +217,12 @@ module _ (digest : List ℕ → List ℕ) (origin : List ℕ) (notes : List (Lis
         SoNone mid → AtEachMoment held w SoNone × PutsBeyond 0 held w
     none_then b f (inl none) =
         let b' = second.beyond_none mid refl none in (
-          splice held mid b.puts b'.puts w SoNone b.told b'.told f (second.none mid refl none),
+          splice held mid b.puts b'.puts w SoNone b.recorded b'.recorded f (second.none mid refl none),
           beyond_then 0 held mid w b b',
         )
     none_then b f (inr grown) =
         let b' = grown_beyond mid w second [] grown in (
-          splice held mid b.puts b'.puts w SoNone b.told b'.told f
+          splice held mid b.puts b'.puts w SoNone b.recorded b'.recorded f
               (at_each_weaker mid w (Grown []) SoNone (λ new now is at so. inr so)
               (grown_stays mid w second [] grown)),
           beyond_then 0 held mid w b b',
@@ -238,7 +238,7 @@ module _ (digest : List ℕ → List ℕ) (origin : List ℕ) (notes : List (Lis
     two_copy (Some mid) first second held is note entries copy =
         let b = first.beyond held is note entries copy in
         let f = first.copy held is note entries copy in
-        copy_then held mid w second note entries b f (f mid (end_is held mid b.puts b.told))
+        copy_then held mid w second note entries b f (f mid (end_is held mid b.puts b.recorded))
 
     two_none : (mid : Option (List Put)) → KeepsCopies digest origin notes old mid →
         KeepsCopies digest origin notes mid w → (held : List Put) → old ≡ Some held → (HasPut held Checkpoint → ⊥) →
@@ -247,7 +247,7 @@ module _ (digest : List ℕ → List ℕ) (origin : List ℕ) (notes : List (Lis
     two_none (Some mid) first second held is none =
         let b = first.beyond_none held is none in
         let f = first.none held is none in
-        none_then held mid w second b f (f mid (end_is held mid b.puts b.told))
+        none_then held mid w second b f (f mid (end_is held mid b.puts b.recorded))
 
     pub two_runs : (mid : Option (List Put)) → KeepsCopies digest origin notes old mid →
         KeepsCopies digest origin notes mid w → KeepsCopies digest origin notes old w
@@ -284,7 +284,7 @@ module _ (digest : List ℕ → List ℕ) (origin : List ℕ) (notes : List (Lis
   }
 
   -- a call that puts nothing
-  pub no_run : (old w : Option (List Put)) → KeepsTold old w → KeepsCopies digest origin notes old w
+  pub no_run : (old w : Option (List Put)) → KeepsRecord old w → KeepsCopies digest origin notes old w
   no_run old w kept =
       let k = whole_same digest origin [] old w kept in
       record {

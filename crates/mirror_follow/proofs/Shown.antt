@@ -11,7 +11,7 @@ use Rattle.mirror_follow.specs.declared.candidate.Candidate.{Candidate}
 use Rattle.mirror_follow.specs.declared.report.Followed.{Followed}
 use Rattle.mirror_follow.specs.declared.report.ForkLine.{ForkLine}
 use Rattle.mirror_follow.specs.declared.report.Run.{Run}
-use Rattle.mirror_follow.specs.declared.report.Turn.{Turn}
+use Rattle.mirror_follow.specs.declared.report.Outcome.{Outcome}
 
 same_point : (a b : Candidate) → IsSame a b → point_of a ≡ point_of b
 same_point a b s = λ i. record { size = sym s.size_is i; root = sym s.root_is i }
@@ -66,7 +66,7 @@ module _ (digest : List ℕ → List ℕ) where
   ]
 
   -- a turn of a candidate beside a copy
-  pub turn_beside : (copy : Option Candidate) (held candidate : Candidate) (t : Turn) → copy ≡ Some held →
+  pub turn_beside : (copy : Option Candidate) (held candidate : Candidate) (t : Outcome) → copy ≡ Some held →
       ShowsTurn digest (Some held) candidate t → ShowsTurn digest copy candidate t
   turn_beside copy held candidate t is h = subst (λ o. ShowsTurn digest o candidate t) (sym is) h
 

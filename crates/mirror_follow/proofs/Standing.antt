@@ -5,8 +5,8 @@ use Rattle.tlog_hash.specs.Tree.{mth}
 use Rattle.tlog_tiles.specs.declared.paths.Path.TheVariants.{Checkpoint}
 use Rattle.mirror_model.specs.Heads.{IsHead}
 use Rattle.mirror_model.proofs.HeadNotes.{head_once}
-use Rattle.mirror_sources.specs.Told.{KeepsTold}
-use Rattle.mirror_folders.specs.Shelf.{Put, HasPut, Stands, TellsRead}
+use Rattle.mirror_sources.specs.Recorded.{KeepsRecord}
+use Rattle.mirror_folders.specs.Shelf.{Put, HasPut, Stands, RecordsRead}
 use Rattle.mirror_copy.specs.Copies.{IsCopy}
 use Rattle.mirror_copy.specs.Moments.{CopyStays, HadSize, InTheEnd, IsBroughtTo, IsGrownCopy}
 use Rattle.mirror_copy.proofs.Stays.{stays_same}
@@ -17,8 +17,8 @@ use Rattle.mirror_follow.specs.Gathering.{note_of}
 use Rattle.mirror_follow.specs.Standing.{HadCopy, HasCopy, IsCopyNow, IsCopyOfRun, IsFollowed, IsFoundCopy, IsHeadOf, IsSame, KnowsAfter, StandsAfter, StandsAs, StandsOrNone, StandsUnder, size_of_copy}
 use Rattle.mirror_follow.specs.declared.candidate.Candidate.{Candidate}
 use Rattle.mirror_follow.specs.declared.report.Followed.{Followed}
-use Rattle.mirror_follow.specs.declared.report.Turn.{Turn}
-use Rattle.mirror_follow.specs.declared.report.Turn.TheVariants as turn
+use Rattle.mirror_follow.specs.declared.report.Outcome.{Outcome}
+use Rattle.mirror_follow.specs.declared.report.Outcome.TheVariants as turn
 
 -- what is so in the end, and more so
 pub end_weaker : (w : Option (List Put)) (so also : List Put → Type 0) → ((now : List Put) → so now → also now) →
@@ -131,7 +131,7 @@ module _ (digest : List ℕ → List ℕ) (origin : List ℕ) where
       CopyStays digest origin y w → Known x w new
   kept_known x y w old new e k s = subst (λ o. Known x w o) (sym e) (known_stays x y w old k s)
 
-  pub known_after : (c : Candidate) (x y w : Option (List Put)) (old new : Option Candidate) (t : Turn) →
+  pub known_after : (c : Candidate) (x y w : Option (List Put)) (old new : Option Candidate) (t : Outcome) →
       IsHeadOf origin c → Known x y old → StandsAfter digest origin c y w t → KnowsAfter c t old new → Known x w new
   known_after c x y w old new turn.Agrees head k s n = kept_known x y w old new n k s
   known_after c x y w old new turn.Brought head k s n =
@@ -150,14 +150,14 @@ module _ (digest : List ℕ → List ℕ) (origin : List ℕ) where
       stands_one held Checkpoint bytes note there
       (copy.holds Checkpoint ((files_are_all (length entries) Checkpoint).1 tt))
 
-  known_first : (x y : Option (List Put)) (c : Candidate) → IsHeadOf origin c → TellsRead x Checkpoint (Some (note_of c)) →
-      KeepsTold x y → Known x y (Some c)
+  known_first : (x y : Option (List Put)) (c : Candidate) → IsHeadOf origin c → RecordsRead x Checkpoint (Some (note_of c)) →
+      KeepsRecord x y → Known x y (Some c)
   known_first x y c head there kept = record {
     some = λ held is note entries copy.
-        under_stays c entries (Some held) y (read_under held note entries copy (subst (λ o. TellsRead o Checkpoint (Some (note_of c))) is there))
+        under_stays c entries (Some held) y (read_under held note entries copy (subst (λ o. RecordsRead o Checkpoint (Some (note_of c))) is there))
         (subst (λ o. CopyStays digest origin o y) is (stays_same digest origin x y kept));
     none = λ held is none.
-        absurd (cc (none_found held (Some (note_of c)) (subst (λ o. TellsRead o Checkpoint (Some (note_of c))) is there) none));
+        absurd (cc (none_found held (Some (note_of c)) (subst (λ o. RecordsRead o Checkpoint (Some (note_of c))) is there) none));
   }
     where
       read_under : (held : List Put) (note : List ℕ) (entries : List (List ℕ)) → IsCopy digest origin note entries held →
@@ -172,56 +172,56 @@ module _ (digest : List ℕ → List ℕ) (origin : List ℕ) where
           head copy'.is_head in
           record { more = []; copy = copy'; size_is = once.size_is; root_is = once.root_is }
 
-  known_none : (x y : Option (List Put)) → TellsRead x Checkpoint None → KeepsTold x y → Known x y None
+  known_none : (x y : Option (List Put)) → RecordsRead x Checkpoint None → KeepsRecord x y → Known x y None
   known_none x y there kept = record {
     some = λ held is note entries copy.
-        absurd (copy_found digest origin note entries held None copy (subst (λ o. TellsRead o Checkpoint None) is there) refl);
+        absurd (copy_found digest origin note entries held None copy (subst (λ o. RecordsRead o Checkpoint None) is there) refl);
     none = λ held is none.
         none_end (Some held) y none (subst (λ o. CopyStays digest origin o y) is (stays_same digest origin x y kept));
   }
 
-  had_first : (x : Option (List Put)) (c : Candidate) → IsHeadOf origin c → TellsRead x Checkpoint (Some (note_of c)) →
+  had_first : (x : Option (List Put)) (c : Candidate) → IsHeadOf origin c → RecordsRead x Checkpoint (Some (note_of c)) →
       HadSize digest origin x c.size.0
   had_first x c head there = record {
     copy = λ held is note entries copy.
         (head_once note origin origin c.size.0 (length entries) c.root (mth digest entries)
         (subst (λ b. IsHead b origin c.size.0 c.root)
-        (checkpoint_one note entries held copy (note_of c) (subst (λ o. TellsRead o Checkpoint (Some (note_of c))) is there)) head)
+        (checkpoint_one note entries held copy (note_of c) (subst (λ o. RecordsRead o Checkpoint (Some (note_of c))) is there)) head)
         copy.is_head).size_is;
     none = λ held is none.
-        absurd (cc (none_found held (Some (note_of c)) (subst (λ o. TellsRead o Checkpoint (Some (note_of c))) is there) none));
+        absurd (cc (none_found held (Some (note_of c)) (subst (λ o. RecordsRead o Checkpoint (Some (note_of c))) is there) none));
   }
 
   -- the copy that was read is the one that was there
-  read_first : (x : Option (List Put)) (c : Candidate) → IsHeadOf origin c → TellsRead x Checkpoint (Some (note_of c)) →
+  read_first : (x : Option (List Put)) (c : Candidate) → IsHeadOf origin c → RecordsRead x Checkpoint (Some (note_of c)) →
       HadCopy digest origin x (Some c)
   read_first x c head there = record {
     some = λ held is note entries copy.
         let e : note_of c ≡ note =
-        checkpoint_one note entries held copy (note_of c) (subst (λ o. TellsRead o Checkpoint (Some (note_of c))) is there) in (
+        checkpoint_one note entries held copy (note_of c) (subst (λ o. RecordsRead o Checkpoint (Some (note_of c))) is there) in (
           e,
           (head_once note origin origin c.size.0 (length entries) c.root (mth digest entries)
               (subst (λ b. IsHead b origin c.size.0 c.root) e head) copy.is_head).size_is,
         );
     none = λ held is none.
-        absurd (cc (none_found held (Some (note_of c)) (subst (λ o. TellsRead o Checkpoint (Some (note_of c))) is there) none));
+        absurd (cc (none_found held (Some (note_of c)) (subst (λ o. RecordsRead o Checkpoint (Some (note_of c))) is there) none));
   }
 
-  read_none : (x : Option (List Put)) → TellsRead x Checkpoint None → HadCopy digest origin x None
+  read_none : (x : Option (List Put)) → RecordsRead x Checkpoint None → HadCopy digest origin x None
   read_none x there = record {
     some = λ held is note entries copy.
-        absurd (copy_found digest origin note entries held None copy (subst (λ o. TellsRead o Checkpoint None) is there) refl);
+        absurd (copy_found digest origin note entries held None copy (subst (λ o. RecordsRead o Checkpoint None) is there) refl);
     none = λ held is none. refl;
   }
 
-  had_none : (x : Option (List Put)) → TellsRead x Checkpoint None → HadSize digest origin x 0
+  had_none : (x : Option (List Put)) → RecordsRead x Checkpoint None → HadSize digest origin x 0
   had_none x there = record {
     copy = λ held is note entries copy.
-        absurd (copy_found digest origin note entries held None copy (subst (λ o. TellsRead o Checkpoint None) is there) refl);
+        absurd (copy_found digest origin note entries held None copy (subst (λ o. RecordsRead o Checkpoint None) is there) refl);
     none = λ held is none. refl;
   }
 
-  pub known_found : (x y : Option (List Put)) (copy : Option Candidate) → IsFoundCopy origin x copy → KeepsTold x y →
+  pub known_found : (x y : Option (List Put)) (copy : Option Candidate) → IsFoundCopy origin x copy → KeepsRecord x y →
       Known x y copy
   known_found x y None f kept = known_none x y f kept
   known_found x y (Some c) f kept = known_first x y c f.1 f.0 kept
@@ -273,7 +273,7 @@ head_now : (origin : List ℕ) (c : Candidate) (copy : Option Candidate) → IsH
 head_now origin c copy head n =
     subst (λ o. IfSome o (IsHeadOf origin)) (sym n.is) (same_head_of origin c n.now n.same head)
 
-pub head_after : (origin : List ℕ) (c : Candidate) (old new : Option Candidate) (t : Turn) → IsHeadOf origin c →
+pub head_after : (origin : List ℕ) (c : Candidate) (old new : Option Candidate) (t : Outcome) → IsHeadOf origin c →
     KnowsAfter c t old new → IfSome old (IsHeadOf origin) → IfSome new (IsHeadOf origin)
 head_after origin c old new turn.Agrees head e h = subst (λ o. IfSome o (IsHeadOf origin)) (sym e) h
 head_after origin c old new turn.Brought head n h = head_now origin c new head n
@@ -283,7 +283,7 @@ head_after origin c old new (turn.NotHad fault) head e h = subst (λ o. IfSome o
 
 -- a call that puts nothing, and that brings the copy to nothing
 pub after_same : (digest : List ℕ → List ℕ) (origin : List ℕ) (c : Candidate) (x y : Option (List Put)) {E : Type 0}
-    (r : Result Turn E) → KeepsTold x y →
+    (r : Result Outcome E) → KeepsRecord x y →
     IfOk r (λ t. (digest : List ℕ → List ℕ) (origin : List ℕ) (old new : Option (List Put)) →
     CopyStays digest origin old new → StandsAfter digest origin c old new t) →
     IfOk r (λ t. StandsAfter digest origin c x y t)

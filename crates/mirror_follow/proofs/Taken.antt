@@ -17,8 +17,8 @@ use Rattle.mirror_follow.specs.Taken.{AddsLacked, HasTaken, HasTakenRun, IsAbove
 use Rattle.mirror_follow.specs.declared.candidate.Candidate.{Candidate}
 use Rattle.mirror_follow.specs.declared.report.ForkLine.{ForkLine}
 use Rattle.mirror_follow.specs.declared.report.Run.{Run}
-use Rattle.mirror_follow.specs.declared.report.Turn.{Turn}
-use Rattle.mirror_follow.specs.declared.report.Turn.TheVariants as turn
+use Rattle.mirror_follow.specs.declared.report.Outcome.{Outcome}
+use Rattle.mirror_follow.specs.declared.report.Outcome.TheVariants as turn
 use Rattle.mirror_follow.proofs.Lines.{lines_forked, lines_more, lines_none, listed_more, listed_now}
 use Rattle.mirror_follow.proofs.TurnOrder.{again, element, next_of, note_itself, note_upto}
 
@@ -415,7 +415,7 @@ module _ (digest : List ℕ → List ℕ) (first : Option Candidate) where
     abbrev TakenRun : List Candidate → Run → Type 0
     TakenRun cs run = Taken cs run.copy run.forks.items run.not_had.items run.behind run.is_reached
 
-    turned : (run next : Run) (t : Turn) → TakenRun done run → IsNextOf done c →
+    turned : (run next : Run) (t : Outcome) → TakenRun done run → IsNextOf done c →
         KnowsAfter c t run.copy next.copy → IsAdded c t run next → SaysTurn digest run.copy c t →
         ShowsTurn digest run.copy c t → TakenRun More next
     turned run next turn.Agrees h is knows (forks, lacked, behind, marks) says shows =
@@ -468,7 +468,7 @@ module _ (digest : List ℕ → List ℕ) (first : Option Candidate) where
     known_copy None o = tt
     known_copy (Some held) o = o
 
-    lines_turned : (run next : Run) (t : Turn) → HasTakenRun digest first done run → IsAdded c t run next →
+    lines_turned : (run next : Run) (t : Outcome) → HasTakenRun digest first done run → IsAdded c t run next →
         SaysTurn digest run.copy c t → ShowsTurn digest run.copy c t → AreLines first More next.forks.items
     lines_turned run next turn.Agrees h (forks, lacked, behind, marks) says shows =
         still_lines run.forks.items next.forks.items (ap (λ v. v.items) forks) h.lines
@@ -482,7 +482,7 @@ module _ (digest : List ℕ → List ℕ) (first : Option Candidate) where
     lines_turned run next (turn.NotHad fault) h (forks, lacked, behind, marks) says shows =
         still_lines run.forks.items next.forks.items (ap (λ v. v.items) forks) h.lines
 
-    listed_turned : (run next : Run) (t : Turn) → HasTakenRun digest first done run → IsAdded c t run next →
+    listed_turned : (run next : Run) (t : Outcome) → HasTakenRun digest first done run → IsAdded c t run next →
         All (IsListed More) next.not_had.items
     listed_turned run next turn.Agrees h (forks, lacked, behind, marks) =
         still_listed run.not_had.items next.not_had.items (ap (λ v. v.items) lacked) h.listed
@@ -495,7 +495,7 @@ module _ (digest : List ℕ → List ℕ) (first : Option Candidate) where
     listed_turned run next (turn.NotHad fault) h (forks, lacked, behind, marks) =
         one_listed run.not_had.items next.not_had.items lacked h.listed
 
-    pub taken_turn : (run next : Run) (t : Turn) → HasTakenRun digest first done run → IsNextOf done c →
+    pub taken_turn : (run next : Run) (t : Outcome) → HasTakenRun digest first done run → IsNextOf done c →
         KnowsAfter c t run.copy next.copy → IsAdded c t run next → SaysTurn digest run.copy c t →
         ShowsTurn digest run.copy c t → HasTakenRun digest first More next
     taken_turn run next t h is knows added says shows = record {
@@ -524,7 +524,7 @@ due_agrees digest copy c due le which as_copy as_none same = elim (cases_lt c.si
 ]
 
 -- what a turn says, by the copy that the run knows
-module _ (digest : List ℕ → List ℕ) {E : Type 0} (r : Result Turn E) (copy : Option Candidate) (c held : Candidate)
+module _ (digest : List ℕ → List ℕ) {E : Type 0} (r : Result Outcome E) (copy : Option Candidate) (c held : Candidate)
     (is : copy ≡ Some held) where
   pub says_held : IfOk r (SaysTurn digest (Some held) c) → IfOk r (SaysTurn digest copy c)
   says_held h = subst (λ o. IfOk r (SaysTurn digest o c)) (sym is) h
@@ -533,7 +533,7 @@ module _ (digest : List ℕ → List ℕ) {E : Type 0} (r : Result Turn E) (copy
       IfOk r (SaysTurn digest copy c)
   says_noted noted h = says_held (so r h)
     where
-      so : (r : Result Turn E) → IfOk r (λ t. IsNoted (Some held) c → SaysTurn digest (Some held) c t) →
+      so : (r : Result Outcome E) → IfOk r (λ t. IsNoted (Some held) c → SaysTurn digest (Some held) c t) →
           IfOk r (SaysTurn digest (Some held) c)
       so (Ok t) h = h noted
       so (Err e) h = tt

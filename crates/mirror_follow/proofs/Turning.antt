@@ -11,7 +11,7 @@ use Rattle.mirror_follow.specs.declared.fault.FollowFault.{FollowFault}
 use Rattle.mirror_follow.specs.declared.fault.FollowFault.TheVariants.{Source, ShelfFault}
 use Rattle.mirror_follow.specs.declared.fault.FollowFault.TheVariants as fault
 use Rattle.mirror_follow.specs.declared.report.Run.{Run}
-use Rattle.mirror_follow.specs.declared.report.Turn.{Turn}
+use Rattle.mirror_follow.specs.declared.report.Outcome.{Outcome}
 use Rattle.mirror_follow.proofs.Standing.{head_after, known_after}
 
 module _ (digest : List ℕ → List ℕ) (origin : List ℕ) where
@@ -31,7 +31,7 @@ module _ (digest : List ℕ → List ℕ) (origin : List ℕ) where
   run_same x run = record { known = λ first k. k; head = λ h. h; had_is = refl; shows = λ h. h }
 
   -- one turn of a candidate
-  pub run_turned : (x y : Option (List Put)) (candidate : Candidate) (run next : Run) (t : Turn) →
+  pub run_turned : (x y : Option (List Put)) (candidate : Candidate) (run next : Run) (t : Outcome) →
       IsHeadOf origin candidate → StandsAfter digest origin candidate x y t →
       KnowsAfter candidate t run.copy next.copy → next.had ≡ run.had →
       (ShowsEach digest run.forks.items → ShowsEach digest next.forks.items) → ContinuesRun digest origin x y run next

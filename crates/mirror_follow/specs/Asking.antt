@@ -5,7 +5,7 @@ use Rattle.signed_note.specs.Keys.{Key}
 use Rattle.tlog_tiles.specs.declared.paths.Path.{Path}
 use Rattle.tlog_tiles.specs.declared.paths.Path.TheVariants.{Checkpoint}
 use Rattle.mirror_sources.specs.Source.{StaysWithin}
-use Rattle.mirror_sources.specs.Told.{AddsTold, one_more}
+use Rattle.mirror_sources.specs.Recorded.{AddsToRecord, one_more}
 use Rattle.mirror_follow.specs.Candidates.{turn_cmp}
 use Rattle.mirror_follow.specs.Gathering.{AreCandidatesOf, IsFirstReason}
 use Rattle.mirror_follow.specs.declared.candidate.Candidate.{Candidate}
@@ -28,7 +28,7 @@ SaysAnswer may old new Failed = new ≡ one_more old
 module _ {S : Type 0} (may : S → Path → Option (List ℕ) → Type 0) (failed : S → ℕ) (asked : S → Option (List Path)) where
   -- a place was asked for its checkpoint once, and for nothing else, and this is its answer
   pub record IsAnswer (old new : S) (answer : PlaceAnswer) : Type 0 where
-    pub told : AddsTold (asked old) (asked new) (Checkpoint ∷ [])
+    pub recorded : AddsToRecord (asked old) (asked new) (Checkpoint ∷ [])
     pub later : StaysWithin (may old) (may new)
     pub says : SaysAnswer (may old) (failed old) (failed new) answer
 

@@ -2,7 +2,7 @@
 use Rattle.std.specs.Prelude.{◌≡◌, ◌⊎◌, ℕ, ◌<◌, ◌≤◌, List, get_or, length, Option, Some, None, Result, Ok, Err, ⊤}
 use Rattle.tlog_tiles.specs.declared.paths.Path.{Path}
 use Rattle.tlog_tiles.specs.declared.paths.Path.TheVariants.{Checkpoint}
-use Rattle.mirror_sources.specs.Told.{one_more}
+use Rattle.mirror_sources.specs.Recorded.{one_more}
 use Rattle.mirror_folders.specs.declared.shelf.ShelfError.{ShelfError}
 use Rattle.mirror_folders.specs.declared.shelf.ShelfError.TheVariants as shelf
 use Rattle.copy_reader.specs.declared.fault.CopyFault.{CopyFault}

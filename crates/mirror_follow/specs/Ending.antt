@@ -4,7 +4,7 @@ use Rattle.std.specs.List.Sorted.{IsSorted}
 use Rattle.signed_note.specs.Keys.{Key}
 use Rattle.tlog_tiles.specs.declared.paths.Path.{Path}
 use Rattle.tlog_tiles.specs.declared.paths.Path.TheVariants.{Checkpoint}
-use Rattle.mirror_folders.specs.Shelf.{Put, TellsRead}
+use Rattle.mirror_folders.specs.Shelf.{Put, RecordsRead}
 use Rattle.mirror_copy.specs.declared.places.Places.{Places}
 use Rattle.mirror_copy.specs.declared.fault.BringFault.{BringFault}
 use Rattle.mirror_copy.specs.declared.fault.BringFault.TheVariants as bring
@@ -22,8 +22,8 @@ use Rattle.mirror_follow.specs.declared.fault.FollowFault.TheVariants.{NoCheckpo
 use Rattle.mirror_follow.specs.declared.fault.FollowFault.TheVariants.{ShelfFault, Contradiction, Collision, NoFile}
 use Rattle.mirror_follow.specs.declared.fault.FollowFault.TheVariants.{Source, OutOfMemory}
 use Rattle.mirror_follow.specs.declared.report.Run.{Run}
-use Rattle.mirror_follow.specs.declared.report.Turn.{Turn}
-use Rattle.mirror_follow.specs.declared.report.Turn.TheVariants as turn
+use Rattle.mirror_follow.specs.declared.report.Outcome.{Outcome}
+use Rattle.mirror_follow.specs.declared.report.Outcome.TheVariants as turn
 
 -- ---- faults of turns
 
@@ -75,7 +75,7 @@ IsFaultOf digest candidate Source = ⊤
 IsFaultOf digest candidate OutOfMemory = ⊥
 
 -- what comes of the turn of a candidate where the copy is empty: it is brought to it, or the candidate was not had
-abbrev pub IsOfEmpty : (List ℕ → List ℕ) → Candidate → Turn → Type 0
+abbrev pub IsOfEmpty : (List ℕ → List ℕ) → Candidate → Outcome → Type 0
 IsOfEmpty digest candidate turn.Agrees = ⊥
 IsOfEmpty digest candidate turn.Brought = ⊤
 IsOfEmpty digest candidate (turn.Forks proof) = ⊥
@@ -88,7 +88,7 @@ or_fault None fault = Some fault
 or_fault (Some first) fault = Some first
 
 -- the first fault of a run, after a turn
-abbrev pub fault_after : Option FollowFault → Turn → Option FollowFault
+abbrev pub fault_after : Option FollowFault → Outcome → Option FollowFault
 fault_after first turn.Agrees = first
 fault_after first turn.Brought = first
 fault_after first (turn.Forks proof) = first
@@ -157,7 +157,7 @@ module _ (digest : List ℕ → List ℕ) {S : Type 0} (may : S → Path → Opt
     pub gathered : AreCandidates may origin keys old new given (first ∷ others)
     pub rising : IsSorted turn_cmp (first ∷ others)
     pub is_so : so first
-    pub empty : TellsRead puts Checkpoint None
+    pub empty : RecordsRead puts Checkpoint None
 
   -- what a fault says, where that note was given, or none was. NoCheckpoint and Head: the given note is no candidate, or
   -- no place gives one, for the reason of the first. CopyDamaged and CopyInUse: the shelf recorded no copy.

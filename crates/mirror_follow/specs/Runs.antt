@@ -2,7 +2,7 @@
 use Rattle.std.specs.Prelude.{◌≡◌, ◌⊎◌, ℕ, All, List, [], length, map, Contains, Option, Some}
 use Rattle.signed_note.specs.Keys.{Key}
 use Rattle.tlog_tiles.specs.declared.paths.Path.TheVariants.{Checkpoint}
-use Rattle.mirror_sources.specs.Told.{KeepsTold}
+use Rattle.mirror_sources.specs.Recorded.{KeepsRecord}
 use Rattle.mirror_folders.specs.Shelf.{Put, HasPut}
 use Rattle.mirror_copy.specs.Copies.{IsCopy}
 use Rattle.mirror_copy.specs.Moments.{AtEachMoment, IsGrownCopy, KeepsCopy, PutsBeyond}
@@ -38,7 +38,7 @@ pub record RunsKeepCopies : Type 0 where
       (old new : Option (List Put)) → Contains notes note → KeepsCopy digest origin note old new →
       KeepsCopies digest origin notes old new
   pub nothing : (digest : List ℕ → List ℕ) (origin : List ℕ) (notes : List (List ℕ)) (old new : Option (List Put)) →
-      KeepsTold old new → KeepsCopies digest origin notes old new
+      KeepsRecord old new → KeepsCopies digest origin notes old new
   pub two : (digest : List ℕ → List ℕ) (origin : List ℕ) (notes : List (List ℕ)) (old mid new : Option (List Put)) →
       KeepsCopies digest origin notes old mid → KeepsCopies digest origin notes mid new →
       KeepsCopies digest origin notes old new

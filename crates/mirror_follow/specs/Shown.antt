@@ -6,8 +6,8 @@ use Rattle.mirror_follow.specs.Forks.{ShowsFork}
 use Rattle.mirror_follow.specs.Standing.{IsSame}
 use Rattle.mirror_follow.specs.declared.candidate.Candidate.{Candidate}
 use Rattle.mirror_follow.specs.declared.report.ForkLine.{ForkLine}
-use Rattle.mirror_follow.specs.declared.report.Turn.{Turn}
-use Rattle.mirror_follow.specs.declared.report.Turn.TheVariants as turn
+use Rattle.mirror_follow.specs.declared.report.Outcome.{Outcome}
+use Rattle.mirror_follow.specs.declared.report.Outcome.TheVariants as turn
 
 -- the size and root of a candidate
 abbrev pub point_of : Candidate → Point
@@ -41,7 +41,7 @@ module _ (digest : List ℕ → List ℕ) where
   ShowsEach lines = All ShowsLine lines
 
   -- a turn that ends with a fork: the copy and the candidate are one
-  abbrev pub ShowsTurn : Option Candidate → Candidate → Turn → Type 0
+  abbrev pub ShowsTurn : Option Candidate → Candidate → Outcome → Type 0
   ShowsTurn copy candidate turn.Agrees = ⊤
   ShowsTurn copy candidate turn.Brought = ⊤
   ShowsTurn copy candidate (turn.Forks proof) = IfSome copy (λ held. AreFork held candidate proof)

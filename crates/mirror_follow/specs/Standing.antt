@@ -2,7 +2,7 @@
 use Rattle.std.specs.Prelude.{◌≡◌, ℕ, ◌≤◌, List, [], ◌++◌, length, Option, Some, None}
 use Rattle.tlog_hash.specs.Tree.{mth}
 use Rattle.tlog_tiles.specs.declared.paths.Path.TheVariants.{Checkpoint}
-use Rattle.mirror_folders.specs.Shelf.{Put, HasPut, TellsRead}
+use Rattle.mirror_folders.specs.Shelf.{Put, HasPut, RecordsRead}
 use Rattle.mirror_model.specs.Heads.{IsHead}
 use Rattle.copy_reader.specs.WholeCopies.{HasFilesOf}
 use Rattle.mirror_copy.specs.Copies.{IsCopy}
@@ -10,8 +10,8 @@ use Rattle.mirror_copy.specs.Moments.{CopyStays, HadSize, InTheEnd, IsBroughtTo}
 use Rattle.mirror_follow.specs.Gathering.{note_of}
 use Rattle.mirror_follow.specs.declared.candidate.Candidate.{Candidate}
 use Rattle.mirror_follow.specs.declared.report.Followed.{Followed}
-use Rattle.mirror_follow.specs.declared.report.Turn.{Turn}
-use Rattle.mirror_follow.specs.declared.report.Turn.TheVariants as turn
+use Rattle.mirror_follow.specs.declared.report.Outcome.{Outcome}
+use Rattle.mirror_follow.specs.declared.report.Outcome.TheVariants as turn
 
 -- the note is one whose text is a checkpoint of the origin, of that size and root
 abbrev pub IsHeadOf : List ℕ → Candidate → Type 0
@@ -24,8 +24,8 @@ size_of_copy (Some copy) = copy.size.0
 
 -- the shelf answers this for its checkpoint: that of the copy, and None where there is none
 abbrev pub IsFoundCopy : List ℕ → Option (List Put) → Option Candidate → Type 0
-IsFoundCopy origin puts None = TellsRead puts Checkpoint None
-IsFoundCopy origin puts (Some copy) = TellsRead puts Checkpoint (Some (note_of copy)) × IsHeadOf origin copy
+IsFoundCopy origin puts None = RecordsRead puts Checkpoint None
+IsFoundCopy origin puts (Some copy) = RecordsRead puts Checkpoint (Some (note_of copy)) × IsHeadOf origin copy
 
 -- the copy has that note and that number of entries
 abbrev pub IsCopyRead : List ℕ → ℕ → Option Candidate → Type 0
@@ -92,7 +92,7 @@ module _ (digest : List ℕ → List ℕ) (origin : List ℕ) where
     pub none : (held : List Put) → old ≡ Some held → ¬ HasPut held Checkpoint → copy ≡ None
 
   -- what stands after a turn of a candidate: where the copy was brought, one under its note, and else that which stood
-  abbrev pub StandsAfter : Candidate → Option (List Put) → Option (List Put) → Turn → Type 0
+  abbrev pub StandsAfter : Candidate → Option (List Put) → Option (List Put) → Outcome → Type 0
   StandsAfter candidate old new turn.Agrees = CopyStays digest origin old new
   StandsAfter candidate old new turn.Brought = IsBroughtTo digest origin (note_of candidate) old new
   StandsAfter candidate old new (turn.Forks proof) = CopyStays digest origin old new
@@ -129,7 +129,7 @@ pub record IsCopyNow (candidate : Candidate) (copy : Option Candidate) : Type 0 
   pub same : IsSame candidate now
 
 -- the copy that the run knows after a turn of a candidate
-abbrev pub KnowsAfter : Candidate → Turn → Option Candidate → Option Candidate → Type 0
+abbrev pub KnowsAfter : Candidate → Outcome → Option Candidate → Option Candidate → Type 0
 KnowsAfter candidate turn.Agrees old new = new ≡ old
 KnowsAfter candidate turn.Brought old new = IsCopyNow candidate new
 KnowsAfter candidate (turn.Forks proof) old new = new ≡ old

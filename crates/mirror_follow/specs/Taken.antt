@@ -11,8 +11,8 @@ use Rattle.mirror_follow.specs.Standing.{IsSame, size_of_copy}
 use Rattle.mirror_follow.specs.declared.candidate.Candidate.{Candidate}
 use Rattle.mirror_follow.specs.declared.report.ForkLine.{ForkLine}
 use Rattle.mirror_follow.specs.declared.report.Run.{Run}
-use Rattle.mirror_follow.specs.declared.report.Turn.{Turn}
-use Rattle.mirror_follow.specs.declared.report.Turn.TheVariants as turn
+use Rattle.mirror_follow.specs.declared.report.Outcome.{Outcome}
+use Rattle.mirror_follow.specs.declared.report.Outcome.TheVariants as turn
 
 -- ---- lines of forks
 
@@ -62,7 +62,7 @@ pub record MarksReached (copy : Option Candidate) (candidate : Candidate) (old n
   pub unreached : new ≡ false → (old ≡ false) × (candidate.size.0 ≢ size_of_copy copy)
 
 -- what is added to a run by what came of a candidate's turn
-abbrev pub IsAdded : Candidate → Turn → Run → Run → Type 0
+abbrev pub IsAdded : Candidate → Outcome → Run → Run → Type 0
 IsAdded candidate turn.Agrees old new =
     (new.forks ≡ old.forks) × (new.not_had ≡ old.not_had) × (new.behind ≡ or_agreed old.behind candidate)
     × MarksReached old.copy candidate old.is_reached new.is_reached
@@ -169,7 +169,7 @@ module _ (digest : List ℕ → List ℕ) where
       (candidate.size.0 ≤ copy.size.0) × Agrees digest (point_of candidate) (point_of copy)
 
   -- what a candidate's turn says of it
-  abbrev pub SaysTurn : Option Candidate → Candidate → Turn → Type 0
+  abbrev pub SaysTurn : Option Candidate → Candidate → Outcome → Type 0
   SaysTurn copy candidate turn.Agrees = IsAgreed copy candidate × IsNoted copy candidate
   SaysTurn copy candidate turn.Brought = IsAbove copy candidate
   SaysTurn copy candidate (turn.Forks proof) = copy ≢ None

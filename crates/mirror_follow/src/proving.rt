@@ -4,7 +4,7 @@ ghost use Rattle.std.specs.List.{AllByRecursion};
 ghost use Rattle.tlog_text.specs.Hash.{Is32Bytes};
 ghost use Rattle.tlog_proof.specs.Text.{HasHashes};
 ghost use Rattle.mirror_sources.specs.Source.{StaysWithin};
-ghost use Rattle.mirror_sources.specs.Told.{KeepsTold};
+ghost use Rattle.mirror_sources.specs.Recorded.{KeepsRecord};
 ghost use Rattle.log_reader.specs.Faults.{CountsFailure};
 ghost use Rattle.log_reader.specs.Holding.{ReadsLog};
 ghost use Rattle.copy_reader.specs.Faults.{CountsRead};
@@ -95,7 +95,7 @@ fn checked_proof<H: TreeHash, S: Source>(
     requires some { 0 < small.now.size.0 }
     requires less { small.now.size.0 < large.now.size.0 }
     ensures later { StaysWithin (S.may_answer files.old) (S.may_answer files.new) }
-    ensures kept { KeepsTold (S.files files.old) (S.files files.new) }
+    ensures kept { KeepsRecord (S.files files.old) (S.files files.new) }
     ensures counted { CountsFailure (S.failed files.old) (S.failed files.new) result }
     ensures honest { ReadsLog H.digest large.now.size.0 large.now.root (S.may_answer files.old)
         result (λ _ _. ⊤) }
@@ -125,7 +125,7 @@ fn fork_proof<H: TreeHash, S: Source>(
     large: &Candidate,
 ) -> Result<Option<Proof>, ReadFault>
     ensures later { StaysWithin (S.may_answer files.old) (S.may_answer files.new) }
-    ensures kept { KeepsTold (S.files files.old) (S.files files.new) }
+    ensures kept { KeepsRecord (S.files files.old) (S.files files.new) }
     ensures counted { CountsFailure (S.failed files.old) (S.failed files.new) result }
     ensures honest { ReadsLog H.digest large.now.size.0 large.now.root (S.may_answer files.old)
         result (λ _ _. ⊤) }
@@ -179,7 +179,7 @@ pub(crate) fn read_proof<H: TreeHash, D: ReadableShelf>(
     smaller: &Candidate,
     copy: &Candidate,
 ) -> Result<Option<Proof>, CopyFault>
-    ensures same { KeepsTold (D.puts shelf.old) (D.puts shelf.new) }
+    ensures same { KeepsRecord (D.puts shelf.old) (D.puts shelf.new) }
     ensures counted { CountsRead (D.failed shelf.old) (D.failed shelf.new) result }
     ensures honest { ReadsCopyLog H.digest copy.now.size.0 copy.now.root (D.puts shelf.old) result
         (λ _ _. ⊤) }
@@ -202,7 +202,7 @@ fn judge_files<H: TreeHash, D: ReadableShelf>(
     size: u64,
     root: &Hash,
 ) -> Result<(), CopyFault>
-    ensures same { KeepsTold (D.puts shelf.old) (D.puts shelf.new) }
+    ensures same { KeepsRecord (D.puts shelf.old) (D.puts shelf.new) }
     ensures counted { CountsRead (D.failed shelf.old) (D.failed shelf.new) result }
     ensures honest { ReadsCopyLog H.digest size root.now (D.puts shelf.old) result (λ _ _. ⊤) }
 {
@@ -222,7 +222,7 @@ pub(crate) fn judge_copy<H: TreeHash, D: ReadableShelf>(
     origin: &str,
     shelf: &mut D,
 ) -> Result<Option<Candidate>, FollowFault>
-    ensures same { KeepsTold (D.puts shelf.old) (D.puts shelf.new) }
+    ensures same { KeepsRecord (D.puts shelf.old) (D.puts shelf.new) }
     ensures counted { CountsFollow (D.failed shelf.old) (D.failed shelf.new) result }
     ensures ends { IfErr result
         (EndsRun (HoldsNoCopy H.digest origin.now (D.puts shelf.old)) ⊥) }

@@ -50,7 +50,7 @@ pub struct Followed {
 
 /// What came of a candidate's turn.
 #[derive(Drop)]
-pub(crate) enum Turn {
+pub(crate) enum Outcome {
     /// The copy begins with it.
     Agrees,
     /// The copy was brought to it.
@@ -309,7 +309,7 @@ impl Run {
         &mut self,
         alloc: Global,
         candidate: &Candidate,
-        turn: Turn,
+        turn: Outcome,
     ) -> Result<(), AllocError>
         ensures copy { OnOk result (KnowsAfter candidate.now turn self.old.copy self.new.copy) }
         ensures had { self.new.had ≡ self.old.had }
@@ -321,14 +321,14 @@ impl Run {
         ensures added { OnOk result (IsAdded candidate.now turn self.old self.new) }
     {
         match turn {
-            Turn::Agrees => self.agree(candidate),
-            Turn::Brought => {
+            Outcome::Agrees => self.agree(candidate),
+            Outcome::Brought => {
                 self.is_reached = true;
                 self.copy = Some(copy_of(alloc, candidate)?);
             }
-            Turn::Forks(proof) => self.fork(alloc, candidate, proof)?,
-            Turn::Contradicts => self.lack(alloc, candidate, FollowFault::Contradiction)?,
-            Turn::NotHad(fault) => self.lack(alloc, candidate, fault)?,
+            Outcome::Forks(proof) => self.fork(alloc, candidate, proof)?,
+            Outcome::Contradicts => self.lack(alloc, candidate, FollowFault::Contradiction)?,
+            Outcome::NotHad(fault) => self.lack(alloc, candidate, fault)?,
         }
         Ok(())
     }

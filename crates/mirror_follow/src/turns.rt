@@ -1,7 +1,7 @@
 //! A copy that follows its places.
 ghost use Rattle.std.specs.Prelude.{◌≡◌, ◌≢◌, ◌⊎◌, ◌↔◌, ◌∷◌, ◌+◌, ◌++◌, ◌<◌, ◌≤◌, [], ℕ, All, IfErr, IfOk, IfSome, IsFalse, IsTrue, List, None, OnOk, Option, Some, length, map, option_map, take, ⊤};
 ghost use Rattle.std.specs.List.Sorted.{IsSorted};
-ghost use Rattle.mirror_sources.specs.Told.{KeepsTold};
+ghost use Rattle.mirror_sources.specs.Recorded.{KeepsRecord};
 ghost use Rattle.mirror_folders.specs.Shelf.{Put};
 ghost use Rattle.mirror_copy.specs.Faults.{CountsFault, IsOtherFound};
 ghost use Rattle.mirror_copy.specs.Moments.{CopyStays, KeepsCopy};
@@ -23,7 +23,7 @@ use crate::ask::ask_places;
 use crate::candidate::{Candidate, candidate_of};
 use crate::fault::FollowFault;
 use crate::proving::{ask_proof, judge_copy, read_proof};
-use crate::report::{Followed, Run, Turn, is_same_point, report};
+use crate::report::{Followed, Outcome, Run, is_same_point, report};
 use mirror_copy::{BringFault, Places, bring_copy};
 use mirror_folders::ReadableShelf;
 use mirror_model::TakeFault;
@@ -34,12 +34,12 @@ use tlog_hash::{Hash, TreeHash};
 use tlog_tiles::Path;
 
 // What a fault of a bringing says of the candidate, or why the run ends.
-fn turn_of(fault: BringFault) -> Result<Turn, FollowFault>
+fn turn_of(fault: BringFault) -> Result<Outcome, FollowFault>
     ensures after { IfOk result (λ turn. (digest : List ℕ → List ℕ) (origin : List ℕ)
         (candidate : Candidate) (old new : Option (List Put)) → CopyStays digest origin old new
         → StandsAfter digest origin candidate old new turn) }
     ensures counted { (old new : ℕ) → CountsFault old new fault → CountsFollow old new result }
-    ensures source { IfOk result (λ turn. turn ≡ Turn.NotHad FollowFault.Source
+    ensures source { IfOk result (λ turn. turn ≡ Outcome.NotHad FollowFault.Source
         → fault ≡ BringFault.Source) }
     ensures ends { IfErr result
         (EndsRun (fault ≡ BringFault.CopyDamaged) (IsOfOtherRun fault)) }
@@ -50,10 +50,10 @@ fn turn_of(fault: BringFault) -> Result<Turn, FollowFault>
         → SaysTurn digest copy candidate turn) }
 {
     match fault {
-        BringFault::Contradiction => Ok(Turn::Contradicts),
-        BringFault::NoFile => Ok(Turn::NotHad(FollowFault::NoFile)),
-        BringFault::Source => Ok(Turn::NotHad(FollowFault::Source)),
-        BringFault::Collision => Ok(Turn::NotHad(FollowFault::Collision)),
+        BringFault::Contradiction => Ok(Outcome::Contradicts),
+        BringFault::NoFile => Ok(Outcome::NotHad(FollowFault::NoFile)),
+        BringFault::Source => Ok(Outcome::NotHad(FollowFault::Source)),
+        BringFault::Collision => Ok(Outcome::NotHad(FollowFault::Collision)),
         // A candidate is a checkpoint of the origin, and it is larger than the copy that was read.
         BringFault::BadCheckpoint => Err(FollowFault::CopyInUse),
         BringFault::NotLarger => Err(FollowFault::CopyInUse),
@@ -71,7 +71,7 @@ fn bring<H: TreeHash, D: ReadableShelf, S: Source + Drop>(
     shelf: &mut D,
     places: &mut Places<S>,
     candidate: &Candidate,
-) -> Result<Turn, FollowFault>
+) -> Result<Outcome, FollowFault>
     requires { IsHeadOf origin.now candidate.now }
     ensures keeps { KeepsCopy H.digest origin.now (note_of candidate.now) (D.puts shelf.old)
         (D.puts shelf.new) }
@@ -79,7 +79,7 @@ fn bring<H: TreeHash, D: ReadableShelf, S: Source + Drop>(
     ensures after { IfOk result (λ turn. StandsAfter H.digest origin.now candidate.now
         (D.puts shelf.old) (D.puts shelf.new) turn) }
     ensures asks { AsksAny S.may_answer S.failed S.asked places.old places.new }
-    ensures source { IfOk result (λ turn. turn ≡ Turn.NotHad FollowFault.Source
+    ensures source { IfOk result (λ turn. turn ≡ Outcome.NotHad FollowFault.Source
         → PlaceFails places.old places.new) }
     ensures ends { IfErr result (EndsRun (HoldsNoCopy H.digest origin.now (D.puts shelf.old))
         (HoldsNoSmaller H.digest origin.now candidate.now.size.0 (D.puts shelf.old))) }
@@ -90,7 +90,7 @@ fn bring<H: TreeHash, D: ReadableShelf, S: Source + Drop>(
         → SaysTurn digest copy candidate turn) }
 {
     match bring_copy::<H, D, S>(alloc, origin, shelf, places, &candidate.note) {
-        Ok(_) => Ok(Turn::Brought),
+        Ok(_) => Ok(Outcome::Brought),
         Err(fault) => turn_of(fault),
     }
 }
@@ -101,19 +101,19 @@ fn contradict<H: TreeHash, S: Source + Drop>(
     places: &mut Places<S>,
     copy: &Candidate,
     candidate: &Candidate,
-) -> Result<Turn, AllocError>
+) -> Result<Outcome, AllocError>
     requires { copy.now.size.0 < candidate.now.size.0 }
     ensures after { IfOk result (λ turn. (digest : List ℕ → List ℕ) (origin : List ℕ)
         (old new : Option (List Put)) → CopyStays digest origin old new
         → StandsAfter digest origin candidate.now old new turn) }
     ensures asks { AsksAny S.may_answer S.failed S.asked places.old places.new }
-    ensures source { IfOk result (λ turn. turn ≢ Turn.NotHad FollowFault.Source) }
+    ensures source { IfOk result (λ turn. turn ≢ Outcome.NotHad FollowFault.Source) }
     ensures shows { IfOk result (ShowsTurn H.digest (Some copy.now) candidate.now) }
     ensures says { IfOk result (SaysTurn H.digest (Some copy.now) candidate.now) }
 {
     match ask_proof::<H, S>(alloc, places, copy, candidate)? {
-        Some(proof) => Ok(Turn::Forks(Some(proof))),
-        None => Ok(Turn::Contradicts),
+        Some(proof) => Ok(Outcome::Forks(Some(proof))),
+        None => Ok(Outcome::Contradicts),
     }
 }
 
@@ -125,7 +125,7 @@ fn take_larger<H: TreeHash, D: ReadableShelf, S: Source + Drop>(
     places: &mut Places<S>,
     copy: &Candidate,
     candidate: &Candidate,
-) -> Result<Turn, FollowFault>
+) -> Result<Outcome, FollowFault>
     requires head { IsHeadOf origin.now candidate.now }
     requires larger { copy.now.size.0 < candidate.now.size.0 }
     ensures keeps { KeepsCopy H.digest origin.now (note_of candidate.now) (D.puts shelf.old)
@@ -134,7 +134,7 @@ fn take_larger<H: TreeHash, D: ReadableShelf, S: Source + Drop>(
     ensures after { IfOk result (λ turn. StandsAfter H.digest origin.now candidate.now
         (D.puts shelf.old) (D.puts shelf.new) turn) }
     ensures asks { AsksAny S.may_answer S.failed S.asked places.old places.new }
-    ensures source { IfOk result (λ turn. turn ≡ Turn.NotHad FollowFault.Source
+    ensures source { IfOk result (λ turn. turn ≡ Outcome.NotHad FollowFault.Source
         → PlaceFails places.old places.new) }
     ensures ends { IfErr result
         (EndsAt (¬ HasStanding H.digest origin.now (Some copy.now) (D.puts shelf.old))) }
@@ -143,7 +143,7 @@ fn take_larger<H: TreeHash, D: ReadableShelf, S: Source + Drop>(
 {
     let turn = bring::<H, D, S>(alloc, origin, shelf, places, candidate)?;
     match turn {
-        Turn::Contradicts => Ok(contradict::<H, S>(alloc, places, copy, candidate)?),
+        Outcome::Contradicts => Ok(contradict::<H, S>(alloc, places, copy, candidate)?),
         turn => Ok(turn),
     }
 }
@@ -157,16 +157,16 @@ fn has_false_root<H: TreeHash>(candidate: &Candidate) -> bool
 
 // What comes of bringing an empty copy to a candidate. Rows and bundles contradict no empty copy: if some did, another run has put a
 // checkpoint.
-fn over_none(turn: Turn) -> Result<Turn, FollowFault>
+fn over_none(turn: Outcome) -> Result<Outcome, FollowFault>
     ensures same { IfOk result (λ now. now ≡ turn) }
     ensures empty { IfOk result (λ now. (digest : List ℕ → List ℕ) (candidate : Candidate)
         → IsOfEmpty digest candidate now) }
     ensures ends { IfErr result (λ e. e ≡ FollowFault.CopyInUse) }
 {
     match turn {
-        Turn::Brought => Ok(Turn::Brought),
-        Turn::NotHad(FollowFault::NoFile) => Ok(Turn::NotHad(FollowFault::NoFile)),
-        Turn::NotHad(FollowFault::Source) => Ok(Turn::NotHad(FollowFault::Source)),
+        Outcome::Brought => Ok(Outcome::Brought),
+        Outcome::NotHad(FollowFault::NoFile) => Ok(Outcome::NotHad(FollowFault::NoFile)),
+        Outcome::NotHad(FollowFault::Source) => Ok(Outcome::NotHad(FollowFault::Source)),
         _ => Err(FollowFault::CopyInUse),
     }
 }
@@ -178,7 +178,7 @@ fn take_first<H: TreeHash, D: ReadableShelf, S: Source + Drop>(
     shelf: &mut D,
     places: &mut Places<S>,
     candidate: &Candidate,
-) -> Result<Turn, FollowFault>
+) -> Result<Outcome, FollowFault>
     requires { IsHeadOf origin.now candidate.now }
     ensures keeps { KeepsCopy H.digest origin.now (note_of candidate.now) (D.puts shelf.old)
         (D.puts shelf.new) }
@@ -186,14 +186,14 @@ fn take_first<H: TreeHash, D: ReadableShelf, S: Source + Drop>(
     ensures after { IfOk result (λ turn. StandsAfter H.digest origin.now candidate.now
         (D.puts shelf.old) (D.puts shelf.new) turn) }
     ensures asks { AsksAny S.may_answer S.failed S.asked places.old places.new }
-    ensures source { IfOk result (λ turn. turn ≡ Turn.NotHad FollowFault.Source
+    ensures source { IfOk result (λ turn. turn ≡ Outcome.NotHad FollowFault.Source
         → PlaceFails places.old places.new) }
     ensures ends { IfErr result
         (EndsAt (¬ HasStanding H.digest origin.now None (D.puts shelf.old))) }
     ensures empty { IfOk result (IsOfEmpty H.digest candidate.now) }
 {
     if has_false_root::<H>(candidate) {
-        return Ok(Turn::Contradicts);
+        return Ok(Outcome::Contradicts);
     }
     let turn = bring::<H, D, S>(alloc, origin, shelf, places, candidate)?;
     over_none(turn)
@@ -222,21 +222,21 @@ fn has_due_root(copy: &Candidate, candidate: &Candidate) -> bool
 }
 
 // The turn of a candidate of the copy's size or of no entries.
-fn compare_root<H: TreeHash>(copy: &Candidate, candidate: &Candidate) -> Turn
+fn compare_root<H: TreeHash>(copy: &Candidate, candidate: &Candidate) -> Outcome
     requires upto { candidate.now.size.0 ≤ copy.now.size.0 }
     requires due { (candidate.now.size.0 ≡ 0) ⊎ (candidate.now.size.0 ≡ copy.now.size.0) }
     ensures after { (digest : List ℕ → List ℕ) (origin : List ℕ)
         (old new : Option (List Put)) → CopyStays digest origin old new
         → StandsAfter digest origin candidate.now old new result }
     ensures shows { ShowsTurn H.digest (Some copy.now) candidate.now result }
-    ensures source { result ≢ Turn.NotHad FollowFault.Source }
+    ensures source { result ≢ Outcome.NotHad FollowFault.Source }
     ensures says { IsNoted (Some copy.now) candidate.now
         → SaysTurn H.digest (Some copy.now) candidate.now result }
 {
     if candidate.root == root_due::<H>(copy, candidate.size.0) {
-        return Turn::Agrees;
+        return Outcome::Agrees;
     }
-    Turn::Forks(None)
+    Outcome::Forks(None)
 }
 
 // The turn of a candidate that is not larger than the copy.
@@ -245,15 +245,15 @@ fn take_smaller<H: TreeHash, D: ReadableShelf>(
     shelf: &mut D,
     copy: &Candidate,
     candidate: &Candidate,
-) -> Result<Turn, FollowFault>
+) -> Result<Outcome, FollowFault>
     requires { candidate.now.size.0 ≤ copy.now.size.0 }
-    ensures same { KeepsTold (D.puts shelf.old) (D.puts shelf.new) }
+    ensures same { KeepsRecord (D.puts shelf.old) (D.puts shelf.new) }
     ensures counted { CountsFollow (D.failed shelf.old) (D.failed shelf.new) result }
     ensures after { IfOk result (λ turn. (digest : List ℕ → List ℕ) (origin : List ℕ)
         (old new : Option (List Put)) → CopyStays digest origin old new
         → StandsAfter digest origin candidate.now old new turn) }
     ensures shows { IfOk result (ShowsTurn H.digest (Some copy.now) candidate.now) }
-    ensures source { IfOk result (λ turn. turn ≢ Turn.NotHad FollowFault.Source) }
+    ensures source { IfOk result (λ turn. turn ≢ Outcome.NotHad FollowFault.Source) }
     ensures ends { IfErr result
         (EndsRun (LacksLog H.digest copy.now (D.puts shelf.old)) ⊥) }
     ensures says { IfOk result (λ turn. IsNoted (Some copy.now) candidate.now
@@ -263,8 +263,8 @@ fn take_smaller<H: TreeHash, D: ReadableShelf>(
         return Ok(compare_root::<H>(copy, candidate));
     }
     match read_proof::<H, D>(alloc, shelf, candidate, copy)? {
-        Some(proof) => Ok(Turn::Forks(Some(proof))),
-        None => Ok(Turn::Agrees),
+        Some(proof) => Ok(Outcome::Forks(Some(proof))),
+        None => Ok(Outcome::Agrees),
     }
 }
 
@@ -319,7 +319,7 @@ fn renote<H: TreeHash, D: ReadableShelf>(
     shelf: &mut D,
     copy: &Candidate,
     candidate: &Candidate,
-) -> Result<Turn, FollowFault>
+) -> Result<Outcome, FollowFault>
     requires copy { IsHeadOf origin.now copy.now }
     requires candidate { IsHeadOf origin.now candidate.now }
     requires size { copy.now.size.0 ≡ candidate.now.size.0 }
@@ -330,14 +330,14 @@ fn renote<H: TreeHash, D: ReadableShelf>(
     ensures counted { CountsFollow (D.failed shelf.old) (D.failed shelf.new) result }
     ensures after { IfOk result (λ turn. StandsAfter H.digest origin.now candidate.now
         (D.puts shelf.old) (D.puts shelf.new) turn) }
-    ensures source { IfOk result (λ turn. turn ≢ Turn.NotHad FollowFault.Source) }
+    ensures source { IfOk result (λ turn. turn ≢ Outcome.NotHad FollowFault.Source) }
     ensures shows { IfOk result (ShowsTurn H.digest (Some copy.now) candidate.now) }
     ensures says { IfOk result (SaysTurn H.digest (Some copy.now) candidate.now) }
     ensures ends { IfErr result
         (EndsAt (¬ HasStanding H.digest origin.now (Some copy.now) (D.puts shelf.old))) }
 {
     put_note(shelf, copy, candidate)?;
-    Ok(Turn::Brought)
+    Ok(Outcome::Brought)
 }
 
 // The turn of a candidate that is not larger than the copy. The shelf stays as it is.
@@ -347,7 +347,7 @@ fn compare<H: TreeHash, D: ReadableShelf>(
     shelf: &mut D,
     copy: &Candidate,
     candidate: &Candidate,
-) -> Result<Turn, FollowFault>
+) -> Result<Outcome, FollowFault>
     requires { candidate.now.size.0 ≤ copy.now.size.0 }
     ensures keeps { KeepsCopy H.digest origin.now (note_of candidate.now) (D.puts shelf.old)
         (D.puts shelf.new) }
@@ -355,7 +355,7 @@ fn compare<H: TreeHash, D: ReadableShelf>(
     ensures after { IfOk result (λ turn. StandsAfter H.digest origin.now candidate.now
         (D.puts shelf.old) (D.puts shelf.new) turn) }
     ensures shows { IfOk result (ShowsTurn H.digest (Some copy.now) candidate.now) }
-    ensures source { IfOk result (λ turn. turn ≢ Turn.NotHad FollowFault.Source) }
+    ensures source { IfOk result (λ turn. turn ≢ Outcome.NotHad FollowFault.Source) }
     ensures ends { IfErr result
         (EndsAt (¬ HasStanding H.digest origin.now (Some copy.now) (D.puts shelf.old))) }
     ensures says { IfOk result (λ turn. IsNoted (Some copy.now) candidate.now
@@ -372,7 +372,7 @@ fn turn_for<H: TreeHash, D: ReadableShelf, S: Source + Drop>(
     places: &mut Places<S>,
     run: &Run,
     candidate: &Candidate,
-) -> Result<Turn, FollowFault>
+) -> Result<Outcome, FollowFault>
     requires head { IsHeadOf origin.now candidate.now }
     requires copy { IfSome run.now.copy (IsHeadOf origin.now) }
     ensures keeps { KeepsCopy H.digest origin.now (note_of candidate.now) (D.puts shelf.old)
@@ -382,7 +382,7 @@ fn turn_for<H: TreeHash, D: ReadableShelf, S: Source + Drop>(
         (D.puts shelf.old) (D.puts shelf.new) turn) }
     ensures shows { IfOk result (ShowsTurn H.digest run.now.copy candidate.now) }
     ensures asks { AsksAny S.may_answer S.failed S.asked places.old places.new }
-    ensures source { IfOk result (λ turn. turn ≡ Turn.NotHad FollowFault.Source
+    ensures source { IfOk result (λ turn. turn ≡ Outcome.NotHad FollowFault.Source
         → PlaceFails places.old places.new) }
     ensures ends { IfErr result
         (EndsAt (¬ HasStanding H.digest origin.now run.now.copy (D.puts shelf.old))) }

@@ -2,4 +2,4 @@ mod Written
 mod Appended
 mod Commas
 mod Printed
-mod Tells
+mod Reports

@@ -1,3 +1,3 @@
 pub mod Text
-pub mod Telling
+pub mod ProgressView
 pub mod Counting

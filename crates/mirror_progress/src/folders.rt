@@ -13,7 +13,7 @@ use std::fs::Files;
 /// folders.put(&path, bytes)?; // once a second has passed: export: 3,200 of 7,833 files
 /// folders.end();              // export: 7,833 of 7,833 files
 /// ```
-pub trait ToldFolders: NamedFolders {
+pub trait CountedFolders: NamedFolders {
     ghost use Rattle.std.specs.Prelude.{◌≡◌};
 
     /// From now on a line now and then reports how many files were put, under the name of that command.
@@ -39,6 +39,6 @@ pub trait ToldFolders: NamedFolders {
 }
 
 // A folder that is not counted reports nothing.
-impl<'a, R: Files> ToldFolders for DirShelf<'a, R> {}
+impl<'a, R: Files> CountedFolders for DirShelf<'a, R> {}
 
-impl ToldFolders for MemShelf {}
+impl CountedFolders for MemShelf {}

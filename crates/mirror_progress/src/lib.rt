@@ -8,7 +8,7 @@
 //! progress.begin(Task::Pull);
 //! let mut source = CountingSource::new(source, progress);
 //! let pulled = pull(alloc, &mut mirror, &keys, &mut source)?; // pull: 1,024 files, 23 MB
-//! source.progress.tell_pulled(5_000, pulled.size);            // pull: 5,000 to 5,300 entries, 4 files, 91 kB
+//! source.progress.report_pulled(5_000, pulled.size);            // pull: 5,000 to 5,300 entries, 4 files, 91 kB
 //! ```
 #![tactic(auto)]
 
@@ -24,7 +24,7 @@ mod task;
 
 pub use counts::Counts;
 pub use errors::StandardError;
-pub use folders::ToldFolders;
+pub use folders::CountedFolders;
 pub use laws::{counted_shelf_law, counted_source_law};
 pub use line::{followed_line, progress_line, pulled_line};
 pub use progress::Progress;

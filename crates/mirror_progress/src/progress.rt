@@ -3,7 +3,7 @@ ghost use Rattle.std.specs.Prelude.{◌≡◌, ◌↔◌, None, Some, IfOk, IsTr
 ghost use Rattle.std.specs.Time.{instant_nanos};
 ghost use Rattle.byte_streams.specs.Streams.{AppendsPrefix};
 ghost use Rattle.mirror_progress.specs.Text.{with_file, line_of, grown_text, pulled_text};
-ghost use Rattle.mirror_progress.specs.Telling.{IsDue, IsSecondAfter, TellsAt, TellsOnce, told_line};
+ghost use Rattle.mirror_progress.specs.ProgressView.{IsDue, IsSecondAfter, ReportsAt, ReportsOnce, printed_line};
 
 use crate::counts::Counts;
 use crate::line::{followed_line, progress_line, pulled_line};
@@ -22,7 +22,7 @@ use tlog_tiles::Path;
 // A line may be written this many seconds after the last, or after the work began.
 const SECONDS: u64 = 1;
 
-/// Tells how far long work is, by a line now and then: none in the first second, and at most one a second.
+/// Reports how far long work is, by a line now and then: none in the first second, and at most one a second.
 ///
 /// It reports nothing until `begin`. Where the clock cannot be read, memory for a line is refused or the writer does not take
 /// it, the line is passed over.
@@ -43,15 +43,15 @@ pub struct Progress<C: Clock + Drop, W: Write + Drop> {
     counts: Counts,
     due: Option<Instant>,
     // Whether the last line says what is done now.
-    is_told_now: bool,
+    is_recorded_now: bool,
 }
 
 impl<C: Clock + Drop, W: Write + Drop> Model for Progress<C, W> {
     ghost use Rattle.std.specs.Prelude.{option_map};
     ghost use Rattle.std.specs.Time.{instant_nanos};
-    ghost use Rattle.mirror_progress.specs.Telling.{Telling};
+    ghost use Rattle.mirror_progress.specs.ProgressView.{ProgressView};
 
-    ghost Value = { Telling W };
+    ghost Value = { ProgressView W };
 
     ghost view = { λ p. record { writer = p.writer; task = p.task; all = p.all; counts = p.counts; due = option_map instant_nanos p.due } };
 }
@@ -121,7 +121,7 @@ impl<C: Clock + Drop, W: Write + Drop> Progress<C, W> {
             all: None,
             counts: Counts::new(),
             due: None,
-            is_told_now: false,
+            is_recorded_now: false,
         }
     }
 
@@ -137,11 +137,11 @@ impl<C: Clock + Drop, W: Write + Drop> Progress<C, W> {
         self.all = None;
         self.counts = Counts::new();
         self.due = first_due(&Instant::now(&self.clock));
-        self.is_told_now = false;
+        self.is_recorded_now = false;
     }
 
     /// Whether anything is reported: from `begin` on, if the clock can be read.
-    pub fn is_told(&self) -> bool
+    pub fn is_recorded(&self) -> bool
         ensures { result ≡ is_some self.now.due }
     {
         self.due.is_some()
@@ -152,7 +152,7 @@ impl<C: Clock + Drop, W: Write + Drop> Progress<C, W> {
         ensures { self.new ≡ record self.old { all = Some all } }
     {
         self.all = Some(all);
-        self.is_told_now = false;
+        self.is_recorded_now = false;
     }
 
     /// Says that a file was read. Where it is the checkpoint, an audit reads all files of its log: so many are expected from then on. Of
@@ -182,22 +182,22 @@ impl<C: Clock + Drop, W: Write + Drop> Progress<C, W> {
     /// Counts a file of that many bytes, and writes a line if it is time.
     pub fn count(&mut self, len: usize)
         ensures counted { self.new.counts ≡ with_file self.old.counts len }
-        ensures told { TellsOnce W.contents self.old self.new }
+        ensures recorded { ReportsOnce W.contents self.old self.new }
     {
         self.counts.add(len);
-        self.is_told_now = false;
-        if !self.is_told() {
+        self.is_recorded_now = false;
+        if !self.is_recorded() {
             return;
         }
         match Instant::now(&self.clock) {
-            Ok(now) => self.tell_at(now),
+            Ok(now) => self.report_at(now),
             Err(_) => {}
         }
     }
 
-    /// Tells what a pull came to, whatever the time is: from how many entries of the largest checkpoint that was held to how
+    /// Reports what a pull came to, whatever the time is: from how many entries of the largest checkpoint that was held to how
     /// many of the one that was pulled, or that this is older.
-    pub fn tell_pulled(&mut self, held: u64, size: u64)
+    pub fn report_pulled(&mut self, held: u64, size: u64)
         ensures counts { self.new.counts ≡ self.old.counts }
         ensures line { AppendsPrefix (W.contents self.old.writer) (W.contents self.new.writer)
             (line_of (pulled_text held size self.old.counts)) }
@@ -208,8 +208,8 @@ impl<C: Clock + Drop, W: Write + Drop> Progress<C, W> {
         }
     }
 
-    /// Tells what following came to, whatever the time is: from how many entries to how many the copy grew.
-    pub fn tell_followed(&mut self, old: u64, size: u64)
+    /// Reports what following came to, whatever the time is: from how many entries to how many the copy grew.
+    pub fn report_followed(&mut self, old: u64, size: u64)
         ensures counts { self.new.counts ≡ self.old.counts }
         ensures line { AppendsPrefix (W.contents self.old.writer) (W.contents self.new.writer)
             (line_of (grown_text Task.Follow old size self.old.counts)) }
@@ -220,17 +220,17 @@ impl<C: Clock + Drop, W: Write + Drop> Progress<C, W> {
         }
     }
 
-    /// Tells how much is done, whatever the time is, unless the last line says so.
+    /// Reports how much is done, whatever the time is, unless the last line says so.
     ///
     /// ```text
-    /// progress.tell_done(); // export: 7,833 of 7,833 files
+    /// progress.report_done(); // export: 7,833 of 7,833 files
     /// ```
-    pub fn tell_done(&mut self)
+    pub fn report_done(&mut self)
         ensures counts { self.new.counts ≡ self.old.counts }
         ensures line { AppendsPrefix (W.contents self.old.writer) (W.contents self.new.writer)
-            (told_line self.old) }
+            (printed_line self.old) }
     {
-        if self.is_told_now {
+        if self.is_recorded_now {
             return;
         }
         match progress_line(self.alloc, self.task, self.all, self.counts) {
@@ -239,15 +239,15 @@ impl<C: Clock + Drop, W: Write + Drop> Progress<C, W> {
         }
     }
 
-    // Tells how much is done, if it is time.
-    fn tell_at(&mut self, now: Instant)
-        ensures { TellsAt W.contents (instant_nanos now) self.old self.new }
+    // Reports how much is done, if it is time.
+    fn report_at(&mut self, now: Instant)
+        ensures { ReportsAt W.contents (instant_nanos now) self.old self.new }
     {
         if !is_due(self.due, now) {
             return;
         }
         self.due = next_due(now);
-        self.is_told_now = true;
+        self.is_recorded_now = true;
         match progress_line(self.alloc, self.task, self.all, self.counts) {
             Ok(line) => write_line(&mut self.writer, &line),
             Err(_) => {}

@@ -1,9 +1,9 @@
 //! A shelf that is counted.
 ghost use Rattle.std.specs.Prelude.{◌≡◌, Some, length};
-ghost use Rattle.mirror_folders.specs.Shelf.{TellsPut, CountsFailures};
+ghost use Rattle.mirror_folders.specs.Shelf.{RecordsPut, CountsFailures};
 ghost use Rattle.mirror_progress.specs.Counting.{CountsPut};
 
-use crate::folders::ToldFolders;
+use crate::folders::CountedFolders;
 use crate::progress::Progress;
 use crate::task::Task;
 use mirror_folders::{NamedFolders, ReadableShelf, Shelf, ShelfError};
@@ -50,7 +50,7 @@ impl<S: Shelf + Drop, C: Clock + Drop, W: Write + Drop> Shelf for CountingShelf<
     }
 
     fn put(&mut self, path: &Path, bytes: &[u8]) -> Result<(), ShelfError>
-        ensures told { TellsPut (S.puts self.old.shelf) (S.puts self.new.shelf)
+        ensures recorded { RecordsPut (S.puts self.old.shelf) (S.puts self.new.shelf)
             (path.now, bytes.now) result }
         ensures counted { CountsFailures (S.failed self.old.shelf) (S.failed self.new.shelf)
             result }
@@ -96,17 +96,17 @@ impl<S: NamedFolders + Drop, C: Clock + Drop, W: Write + Drop> NamedFolders
     }
 }
 
-impl<S: NamedFolders + Drop, C: Clock + Drop, W: Write + Drop> ToldFolders
+impl<S: NamedFolders + Drop, C: Clock + Drop, W: Write + Drop> CountedFolders
     for CountingShelf<S, C, W> {
     fn begin(&mut self, task: Task) {
         self.progress.begin(task);
     }
 
     fn end(&mut self) {
-        self.progress.tell_done();
+        self.progress.report_done();
     }
 
     fn end_followed(&mut self, old: u64, size: u64) {
-        self.progress.tell_followed(old, size);
+        self.progress.report_followed(old, size);
     }
 }

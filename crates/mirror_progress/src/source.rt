@@ -1,7 +1,7 @@
 //! A source that is counted.
 ghost use Rattle.std.specs.Prelude.{◌≡◌, IfOk, option_map, vec_len};
-ghost use Rattle.mirror_sources.specs.Source.{TellsGet, CountsGet, StaysWithin};
-ghost use Rattle.mirror_sources.specs.Told.{KeepsTold};
+ghost use Rattle.mirror_sources.specs.Source.{RecordsGet, CountsGet, StaysWithin};
+ghost use Rattle.mirror_sources.specs.Recorded.{KeepsRecord};
 ghost use Rattle.mirror_progress.specs.Counting.{CountsAnswer};
 
 use crate::progress::Progress;
@@ -60,8 +60,8 @@ impl<S: Source + Drop, C: Clock + Drop, W: Write + Drop> Source for CountingSour
         ensures answer { IfOk result
             (λ bytes. S.may_answer self.old.source path.now (option_map (λ v. v.items) bytes)) }
         ensures later { StaysWithin (S.may_answer self.old.source) (S.may_answer self.new.source) }
-        ensures kept { KeepsTold (S.files self.old.source) (S.files self.new.source) }
-        ensures told { TellsGet (S.asked self.old.source) (S.asked self.new.source) path.now
+        ensures kept { KeepsRecord (S.files self.old.source) (S.files self.new.source) }
+        ensures recorded { RecordsGet (S.asked self.old.source) (S.asked self.new.source) path.now
             result }
         ensures counted { CountsGet (S.failed self.old.source) (S.failed self.new.source) result }
         ensures counts { CountsAnswer vec_len self.old.progress.counts self.new.progress.counts
@@ -78,7 +78,7 @@ impl<S: Source + Drop, C: Clock + Drop, W: Write + Drop> Source for CountingSour
     fn expect(&mut self, paths: &[Path])
         ensures later { StaysWithin (S.may_answer self.old.source) (S.may_answer self.new.source) }
         ensures kept { S.files self.new.source ≡ S.files self.old.source }
-        ensures told { S.asked self.new.source ≡ S.asked self.old.source }
+        ensures recorded { S.asked self.new.source ≡ S.asked self.old.source }
         ensures counted { S.failed self.new.source ≡ S.failed self.old.source }
         ensures counts { self.new.progress.counts ≡ self.old.progress.counts }
     {

@@ -4,10 +4,10 @@ use Rattle.std.proofs.Common.{ap, subst, append_assoc}
 use Rattle.std.proofs.lemmas.List.{append-nil, get_or_default, map-append}
 use Rattle.std.proofs.lemmas.List.Quantifiers.{all_pairs_push}
 use Rattle.tlog_tiles.specs.declared.paths.Path.{Path}
-use Rattle.mirror_sources.specs.Told.{AddsTold, KeepsTold}
+use Rattle.mirror_sources.specs.Recorded.{AddsToRecord, KeepsRecord}
 use Rattle.mirror_pull.specs.Asking.{IsOnce, Adds, AddsTo, AddsSome, AsksPaths}
 use Rattle.std.proofs.Common.{Vec, Global}
-use Rattle.mirror_sources.specs.Source.{TellsGet, StaysWithin}
+use Rattle.mirror_sources.specs.Source.{RecordsGet, StaysWithin}
 use Rattle.mirror_sources.specs.Replies.{Reply, asked_paths, MayReply}
 use Rattle.mirror_pull.specs.Replying.{with_replies}
 use Rattle.mirror_pull.specs.Faults.{of_source}
@@ -15,21 +15,21 @@ use Rattle.mirror_sources.specs.declared.source.SourceFault.{SourceFault}
 use Rattle.mirror_sources.specs.declared.source.SourceFault.TheVariants as source
 use Rattle.mirror_pull.specs.declared.fault.PullFault.{PullFault}
 
-pub adds_told_none : {X : Type 0} (a : Option (List X)) → AddsTold a a []
-adds_told_none None = tt
-adds_told_none (Some xs) = sym (append-nil xs)
+pub adds_record_none : {X : Type 0} (a : Option (List X)) → AddsToRecord a a []
+adds_record_none None = tt
+adds_record_none (Some xs) = sym (append-nil xs)
 
-pub adds_told_kept : {X : Type 0} (a b : Option (List X)) → KeepsTold a b → AddsTold a b []
-adds_told_kept None b k = tt
-adds_told_kept (Some xs) None k = absurd k
-adds_told_kept (Some xs) (Some ys) k = k ∙ sym (append-nil xs)
+pub adds_record_kept : {X : Type 0} (a b : Option (List X)) → KeepsRecord a b → AddsToRecord a b []
+adds_record_kept None b k = tt
+adds_record_kept (Some xs) None k = absurd k
+adds_record_kept (Some xs) (Some ys) k = k ∙ sym (append-nil xs)
 
-pub adds_told_then : {X : Type 0} (a b c : Option (List X)) (xs ys : List X) → AddsTold a b xs → AddsTold b c ys →
-    AddsTold a c (xs ++ ys)
-adds_told_then None b c xs ys p q = tt
-adds_told_then (Some us) None c xs ys p q = absurd p
-adds_told_then (Some us) (Some vs) None xs ys p q = absurd q
-adds_told_then {X} (Some us) (Some vs) (Some ws) xs ys p q =
+pub adds_record_then : {X : Type 0} (a b c : Option (List X)) (xs ys : List X) → AddsToRecord a b xs → AddsToRecord b c ys →
+    AddsToRecord a c (xs ++ ys)
+adds_record_then None b c xs ys p q = tt
+adds_record_then (Some us) None c xs ys p q = absurd p
+adds_record_then (Some us) (Some vs) None xs ys p q = absurd q
+adds_record_then {X} (Some us) (Some vs) (Some ws) xs ys p q =
     q ∙ (ap (λ (l : List X). l ++ ys) p ∙ append_assoc us xs ys)
 
 -- a path that is not among those asked for comes once
@@ -40,7 +40,7 @@ once_more before path fresh once =
     (λ k d lt e. fresh (k, lt, get_or_default before k path d lt ∙ e))
 
 pub adds_none : (before : List Path) (a : Option (List Path)) → Adds before a a []
-adds_none before a = record { told = adds_told_none a; once = λ o. subst IsOnce (sym (append-nil before)) o }
+adds_none before a = record { recorded = adds_record_none a; once = λ o. subst IsOnce (sym (append-nil before)) o }
 
 pub adds_to_none : (before : List Path) (a : Option (List Path)) → AddsTo before before a a
 adds_to_none before a = record { more = []; list = sym (append-nil before); adds = adds_none before a }
@@ -49,14 +49,14 @@ pub adds_some_none : (before : List Path) (a : Option (List Path)) → AddsSome 
 adds_some_none before a = record { more = []; adds = adds_none before a }
 
 pub adds_one : (before : List Path) (path : Path) (a b : Option (List Path)) → (Contains before path → ⊥) →
-    AddsTold a b (path ∷ []) → Adds before a b (path ∷ [])
-adds_one before path a b fresh told = record { told = told; once = once_more before path fresh }
+    AddsToRecord a b (path ∷ []) → Adds before a b (path ∷ [])
+adds_one before path a b fresh recorded = record { recorded = recorded; once = once_more before path fresh }
 
 pub adds_then : (before middle : List Path) (a b c : Option (List Path)) (xs ys : List Path) → middle ≡ before ++ xs →
     Adds before a b xs → Adds middle b c ys → Adds before a c (xs ++ ys)
 adds_then before middle a b c xs ys e p q =
     record {
-      told = adds_told_then a b c xs ys p.told q.told;
+      recorded = adds_record_then a b c xs ys p.recorded q.recorded;
       once = λ o. subst IsOnce (append_assoc before xs ys)
           (subst (λ m. IsOnce (m ++ ys)) e (q.once (subst IsOnce (sym e) (p.once o))));
     }
@@ -86,12 +86,12 @@ asks_then before middle after a b c (Err e) p q = adds_some_then before middle a
 
 -- a get that is answered by a fault
 pub some_get : (before : List Path) (path : Path) (a b : Option (List Path)) (f : SourceFault) →
-    (Contains before path → ⊥) → TellsGet {T = Option (Vec ℕ Global)} a b path (Err f) →
+    (Contains before path → ⊥) → RecordsGet {T = Option (Vec ℕ Global)} a b path (Err f) →
     AsksPaths {T = Option (Vec ℕ Global)} before before a b (Err (of_source f))
-some_get before path a b source.Failed fresh told =
-    record { more = path ∷ []; adds = adds_one before path a b fresh told }
-some_get before path a b source.OutOfMemory fresh told =
-    record { more = []; adds = record { told = adds_told_kept a b told; once = (adds_none before a).once } }
+some_get before path a b source.Failed fresh recorded =
+    record { more = path ∷ []; adds = adds_one before path a b fresh recorded }
+some_get before path a b source.OutOfMemory fresh recorded =
+    record { more = []; adds = record { recorded = adds_record_kept a b recorded; once = (adds_none before a).once } }
 
 -- what a part asked, after which another asks nothing, whatever its answer
 pub asks_late : {T : Type 0} (before after : List Path) (a b : Option (List Path)) (r : Result T PullFault) →

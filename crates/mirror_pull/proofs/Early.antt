@@ -8,9 +8,9 @@ use Rattle.tlog_tiles.specs.declared.paths.Path.{Path}
 use Rattle.tlog_tiles.specs.declared.paths.Path.TheVariants.{Checkpoint}
 use Rattle.mirror_model.specs.View.{View}
 use Rattle.mirror_sources.specs.Files.{full_of}
-use Rattle.mirror_sources.specs.Source.{StaysWithin, TellsGet}
+use Rattle.mirror_sources.specs.Source.{StaysWithin, RecordsGet}
 use Rattle.mirror_sources.specs.Replies.{Reply, reply, asked_paths}
-use Rattle.mirror_sources.specs.Told.{AddsTold}
+use Rattle.mirror_sources.specs.Recorded.{AddsToRecord}
 use Rattle.mirror_sources.specs.declared.source.SourceFault.{SourceFault}
 use Rattle.mirror_sources.specs.declared.source.SourceFault.TheVariants as source
 use Rattle.mirror_pull.specs.Faults.{of_source}
@@ -23,7 +23,7 @@ use Rattle.mirror_pull.specs.Replying.{Gathers, IsWorkedList, IsLeftToAsk, PathF
 use Rattle.mirror_pull.specs.declared.fault.PullFault.{PullFault}
 use Rattle.mirror_pull.specs.declared.fault.PullFault.TheVariants.{NoCheckpoint, NoEdge, Head, Source, Collision}
 use Rattle.mirror_pull.specs.declared.fault.PullFault.TheVariants.{OutOfMemory}
-use Rattle.mirror_pull.proofs.Askings.{adds_told_none, adds_told_kept, adds_told_then, paths_then, may_then, may_stays}
+use Rattle.mirror_pull.proofs.Askings.{adds_record_none, adds_record_kept, adds_record_then, paths_then, may_then, may_stays}
 use Rattle.mirror_pull.proofs.Replies.{AreRoundsSoFar, asks_found, never_none, takes_not, takes_then}
 use Rattle.mirror_pull.proofs.Replies.{found_worked, full_worked}
 
@@ -64,7 +64,7 @@ module _ {may : Path → Option (List ℕ) → Type 0} {a b : Option (List Path)
     tried = p.tried;
     are = more p.replies p.tried p.are;
     may_reply = p.may_reply;
-    told = p.told;
+    recorded = p.recorded;
   }
 
   -- an end behind what went well, with no get
@@ -76,12 +76,12 @@ module _ {may : Path → Option (List ℕ) → Type 0} {a b : Option (List Path)
     tried = [];
     are = more p.replies p.list p.are;
     may_reply = p.may_reply;
-    told = subst (AddsTold a b) (sym (append-nil (asked_paths p.replies))) p.told;
+    recorded = subst (AddsToRecord a b) (sym (append-nil (asked_paths p.replies))) p.recorded;
   }
 
 pub ends_none : {may : Path → Option (List ℕ) → Type 0} {R : List Reply → List Path → Type 0}
     (a : Option (List Path)) → R [] [] → EndsWith may a a R
-ends_none a are = record { replies = []; tried = []; are = are; may_reply = tt; told = adds_told_none a }
+ends_none a are = record { replies = []; tried = []; are = are; may_reply = tt; recorded = adds_record_none a }
 
 module _ {may later : Path → Option (List ℕ) → Type 0} {a b c : Option (List Path)} {before middle : List Path}
     {P : List Reply → Type 0} {Q : List Reply → List Path → Type 0} where
@@ -99,8 +99,8 @@ module _ {may later : Path → Option (List ℕ) → Type 0} {a b c : Option (Li
         tried = q.tried;
         are = join p.replies q.replies q.tried p.list p.are q.are;
         may_reply = may_then may p.replies q.replies p.may_reply (may_stays may later q.replies stays q.may_reply);
-        told = subst (AddsTold a c) (sym all)
-            (adds_told_then a b c (asked_paths p.replies) (asked_paths q.replies ++ q.tried) p.told q.told);
+        recorded = subst (AddsToRecord a c) (sym all)
+            (adds_record_then a b c (asked_paths p.replies) (asked_paths q.replies ++ q.tried) p.recorded q.recorded);
       }
 
 -- ---- one get
@@ -110,21 +110,21 @@ pub ask_refused : (may : Path → Option (List ℕ) → Type 0) (before : List P
 ask_refused may before path a fresh = ends_none a (MemoryRefused {next = Some path} (fresh, refl, refl))
 
 pub ask_fails : (may : Path → Option (List ℕ) → Type 0) (before : List Path) (path : Path) (a b : Option (List Path))
-    (f : SourceFault) → (Contains before path → ⊥) → TellsGet {T = Option (Vec ℕ Global)} a b path (Err f) →
+    (f : SourceFault) → (Contains before path → ⊥) → RecordsGet {T = Option (Vec ℕ Global)} a b path (Err f) →
     EndsWith may a b (IsUnanswered (ComesNext before path) (of_source f))
-ask_fails may before path a b source.Failed fresh told = record {
+ask_fails may before path a b source.Failed fresh recorded = record {
   replies = [];
   tried = path ∷ [];
   are = GetFailed (fresh, refl, refl);
   may_reply = tt;
-  told = told;
+  recorded = recorded;
 }
-ask_fails may before path a b source.OutOfMemory fresh told = record {
+ask_fails may before path a b source.OutOfMemory fresh recorded = record {
   replies = [];
   tried = [];
   are = MemoryRefused {next = Some path} (fresh, refl, refl);
   may_reply = tt;
-  told = adds_told_kept a b told;
+  recorded = adds_record_kept a b recorded;
 }
 
 -- ---- one path

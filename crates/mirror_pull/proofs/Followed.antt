@@ -47,7 +47,7 @@ module _ (digest : List ℕ → List ℕ) (keys : List Key) (v w : View) (may : 
   pub replied_of : (before after : List Path) (Are : List Reply → Type 0) (g : Gathers may old new before after Are)
       (xs : List Reply) → g.replies ≡ xs → Replied digest keys v w may old new xs
   replied_of before after Are g xs is =
-      subst (Replied digest keys v w may old new) is (record { may_reply = g.may_reply; told = g.told })
+      subst (Replied digest keys v w may old new) is (record { may_reply = g.may_reply; recorded = g.recorded })
 
   pub replied_first : (none after : List Path) (found other : Option (List ℕ)) → none ≡ [] → found ≡ other →
       Gathers may old new none after (λ xs. Asks none Checkpoint xs found) →
@@ -89,7 +89,7 @@ module _ (digest : List ℕ → List ℕ) (keys : List Key) (v w : View) (may : 
     tried = [];
     are = EndsAsking kept (MemoryRefused {next = None} (BehindCheckpoint note));
     may_reply = replied.may_reply;
-    told = replied.told;
+    recorded = replied.recorded;
   }
 
   follows_note : w ≡ v → (note : List ℕ) (f : TakeFault) → ReadsHead note v.origin keys (Err f) →

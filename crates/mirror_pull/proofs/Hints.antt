@@ -18,7 +18,7 @@ module _ (may later : Path → Option (List ℕ) → Type 0) (stays : StaysWithi
     are = g.are;
     may_reply = may_stays may later g.replies stays g.may_reply;
     list = g.list;
-    told = g.told;
+    recorded = g.recorded;
   }
 
   ends_before : (a b : Option (List Path)) (P : List Reply → List Path → Type 0) →
@@ -28,7 +28,7 @@ module _ (may later : Path → Option (List ℕ) → Type 0) (stays : StaysWithi
     tried = e.tried;
     are = e.are;
     may_reply = may_stays may later e.replies stays e.may_reply;
-    told = e.told;
+    recorded = e.recorded;
   }
 
   pub path_before : (a b : Option (List Path)) (before after : List Path) (digest : List ℕ → List ℕ) (v : View)

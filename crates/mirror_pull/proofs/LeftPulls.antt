@@ -24,7 +24,7 @@ use Rattle.mirror_model.proofs.StringSets.{held_from_holds, held_more}
 use Rattle.mirror_model.proofs.TrueItems.{front_is_within, front_is_widest}
 use Rattle.mirror_model.proofs.Views.{within_itself, within_plus}
 use Rattle.mirror_sources.specs.Replies.{Reply, reply, asked_paths, MayReply}
-use Rattle.mirror_sources.specs.Told.{AddsTold}
+use Rattle.mirror_sources.specs.Recorded.{AddsToRecord}
 use Rattle.mirror_sources.specs.Honest.{Gets, GetsNone, IsHonest}
 use Rattle.mirror_pull.specs.Honest.{AreFrontRounds, NoClashAmong, with_true}
 use Rattle.mirror_pull.specs.Parts.{MayTake, MayWork}
@@ -245,9 +245,9 @@ module _ (digest : List ℕ → List ℕ) (hash : IsDigest digest) (entries : Li
     (note : List ℕ) (size : ℕ) (v w : View) (may : Path → Option (List ℕ) → Type 0) (old new : Option (List Path))
     (is : IsHonest digest entries v.origin keys note size may) (clean : NoClashAmong digest entries v size) where
   keeps : (replies : List Reply) (tried : List Path) → MayReply may replies →
-      AddsTold old new (asked_paths replies ++ tried) → IsLeftBehind digest keys v w replies tried →
+      AddsToRecord old new (asked_paths replies ++ tried) → IsLeftBehind digest keys v w replies tried →
       KeepsFound digest entries note size v w old new
-  keeps replies tried mays told left =
+  keeps replies tried mays recorded left =
       let b = left.at in
       let g = b.gives in
       let read = g.checkpoint in
@@ -298,7 +298,7 @@ module _ (digest : List ℕ → List ℕ) (hash : IsDigest digest) (entries : Li
           length-map r.last (λ (q : Reply). q.path),
           length-append (asked_paths r.last) (left.path ∷ []),
         );
-        told = subst (AddsTold old new) all told;
+        recorded = subst (AddsToRecord old new) all recorded;
       }))
 
 pub kept_honestly :
@@ -322,5 +322,5 @@ kept_honestly digest hash keys v w may old new (Err Source) ends =
       | inl kept ↦ inl kept
       | inr left ↦ inr
           (keeps digest hash entries keys note size v w may old new is clean ends.replies ends.tried ends.may_reply
-          ends.told left)
+          ends.recorded left)
     ]

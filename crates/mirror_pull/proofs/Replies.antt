@@ -11,7 +11,7 @@ use Rattle.mirror_model.specs.Item.{plus}
 use Rattle.mirror_sources.specs.Files.{full_of, width_named}
 use Rattle.mirror_sources.specs.Source.{StaysWithin}
 use Rattle.mirror_sources.specs.Replies.{Reply, reply, asked_paths}
-use Rattle.mirror_sources.specs.Told.{AddsTold}
+use Rattle.mirror_sources.specs.Recorded.{AddsToRecord}
 use Rattle.mirror_pull.specs.Taking.{TakesItem, EndsAfterHead, item_at}
 use Rattle.mirror_pull.specs.Replying.{Asks, AsksNew, AsksAgain, AsksPath, PathFound, PathNone, AsksList, ListNone}
 use Rattle.mirror_pull.specs.Replying.{ListNext, GivesRow, RowFound, RowCut, GivesRows, RowsNext, GivesNoRow}
@@ -21,7 +21,7 @@ use Rattle.mirror_pull.specs.Replying.{Gathers, IsWorkedPath, IsWorkedList, AreW
 use Rattle.mirror_pull.specs.declared.fault.PullFault.{PullFault}
 use Rattle.mirror_pull.specs.declared.fault.PullFault.TheVariants.{NoEdge}
 use Rattle.mirror_pull.specs.declared.fault.PullFault.TheVariants.{OutOfMemory}
-use Rattle.mirror_pull.proofs.Askings.{adds_told_none, adds_told_then, paths_then, with_then, may_then, may_stays}
+use Rattle.mirror_pull.proofs.Askings.{adds_record_none, adds_record_then, paths_then, with_then, may_then, may_stays}
 use Rattle.mirror_pull.proofs.Freshness.{take_one}
 
 -- ---- parts, one after another
@@ -29,7 +29,7 @@ use Rattle.mirror_pull.proofs.Freshness.{take_one}
 pub gathers_none : (may : Path → Option (List ℕ) → Type 0) (a : Option (List Path)) (before : List Path)
     (Are : List Reply → Type 0) → Are [] → Gathers may a a before before Are
 gathers_none may a before Are are =
-    record { replies = []; are = are; may_reply = tt; list = sym (append-nil before); told = adds_told_none a }
+    record { replies = []; are = are; may_reply = tt; list = sym (append-nil before); recorded = adds_record_none a }
 
 module _ {may : Path → Option (List ℕ) → Type 0} {a b : Option (List Path)} {before after : List Path}
     {P Q : List Reply → Type 0} where
@@ -40,7 +40,7 @@ module _ {may : Path → Option (List ℕ) → Type 0} {a b : Option (List Path)
     are = more p.replies p.list p.are;
     may_reply = p.may_reply;
     list = p.list;
-    told = p.told;
+    recorded = p.recorded;
   }
 
 module _ {may later : Path → Option (List ℕ) → Type 0} {a b c : Option (List Path)} {before middle after : List Path}
@@ -58,8 +58,8 @@ module _ {may later : Path → Option (List ℕ) → Type 0} {a b c : Option (Li
         are = join p.replies q.replies p.list list p.are q.are;
         may_reply = may_then may p.replies q.replies p.may_reply (may_stays may later q.replies stays q.may_reply);
         list = list;
-        told = subst (AddsTold a c) (sym (paths_then p.replies q.replies))
-            (adds_told_then a b c (asked_paths p.replies) (asked_paths q.replies) p.told q.told);
+        recorded = subst (AddsToRecord a c) (sym (paths_then p.replies q.replies))
+            (adds_record_then a b c (asked_paths p.replies) (asked_paths q.replies) p.recorded q.recorded);
       }
 
 -- ---- one path

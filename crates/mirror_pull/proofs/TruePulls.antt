@@ -31,7 +31,7 @@ use Rattle.mirror_model.proofs.EdgeStrings.{edge_strings_within}
 use Rattle.mirror_model.proofs.Fetching.{plus_holds}
 use Rattle.mirror_sources.specs.Files.{full_of}
 use Rattle.mirror_sources.specs.Source.{StaysWithin}
-use Rattle.mirror_sources.specs.Told.{AddsTold}
+use Rattle.mirror_sources.specs.Recorded.{AddsToRecord}
 use Rattle.mirror_sources.specs.Replies.{Reply, asked_paths}
 use Rattle.mirror_sources.specs.Honest.{IsHonest, true_bytes}
 use Rattle.mirror_pull.proofs.Askings.{paths_then, may_then, may_stays}
@@ -303,7 +303,7 @@ module _ (digest : List ℕ → List ℕ) (hash : IsDigest digest) (keys : List 
           asked ≡ Checkpoint ∷ [] →
           GetsAll (length entries) edge_may (edge_of size) asked mid → AddsTo none after old new →
           HonestGets digest entries note size v x may old new rounds
-      worked_gets edge_may none asked old new stays later answered is_none begun got told = record {
+      worked_gets edge_may none asked old new stays later answered is_none begun got recorded = record {
         edge = got.replies;
         edge_founds = got.founds;
         edge_gets = got.are;
@@ -317,12 +317,12 @@ module _ (digest : List ℕ → List ℕ) (hash : IsDigest digest) (keys : List 
           may_then may got.replies working.replies (may_stays may edge_may got.replies stays got.may_reply)
               (may_stays may rest working.replies later working.may_reply),
         );
-        told = subst (AddsTold old new)
-            (sym (told.list ∙ ap (λ (l : List Path). l ++ told.more) is_none) ∙
+        recorded = subst (AddsToRecord old new)
+            (sym (recorded.list ∙ ap (λ (l : List Path). l ++ recorded.more) is_none) ∙
             (working.list ∙
             (ap (λ (l : List Path). l ++ asked_paths working.replies)
             (got.list ∙ ap (λ (l : List Path). l ++ asked_paths got.replies) begun) ∙
-            ap (λ (l : List Path). Checkpoint ∷ l) (sym (paths_then got.replies working.replies))))) told.adds.told;
+            ap (λ (l : List Path). Checkpoint ∷ l) (sym (paths_then got.replies working.replies))))) recorded.adds.recorded;
       }
 
       pub worked_notes : GainsStrings w x → (other : List ℕ) → Has x.notes other → Has v.notes other ⊎ (other ≡ note)

@@ -4,7 +4,7 @@ use Rattle.std.specs.Prelude.{◌≡◌, ◌≢◌, ℕ, List, ◌++◌, Option,
 use Rattle.std.specs.Prelude.{AllPairs, Contains}
 use Rattle.tlog_tiles.specs.declared.paths.Path.{Path}
 use Rattle.mirror_sources.specs.Files.{full_of}
-use Rattle.mirror_sources.specs.Told.{AddsTold, Rose}
+use Rattle.mirror_sources.specs.Recorded.{AddsToRecord, Rose}
 use Rattle.mirror_pull.specs.declared.fault.PullFault.{PullFault}
 use Rattle.mirror_pull.specs.declared.fault.PullFault.TheVariants.{NoCheckpoint, NoEdge, Head}
 use Rattle.mirror_pull.specs.declared.fault.PullFault.TheVariants.{Source, Collision, OutOfMemory}
@@ -20,7 +20,7 @@ IsOnce paths = AllPairs (λ a b. a ≢ b) paths
 -- the source was asked for these paths, of which none stands twice nor among those before
 pub record Adds (before : List Path) (old new : Option (List Path)) (more : List Path)
     : Type 0 where
-  pub told : AddsTold old new more
+  pub recorded : AddsToRecord old new more
   pub once : IsOnce before → IsOnce (before ++ more)
 
 -- a part of a pull asked for some paths; where it went well, these are what its list grew by

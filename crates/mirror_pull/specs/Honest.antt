@@ -15,7 +15,7 @@ use Rattle.mirror_model.specs.declared.items.Item.TheVariants as item
 use Rattle.mirror_model.specs.Item.{plus}
 use Rattle.mirror_model.specs.TrueLaws.{edge_bytes}
 use Rattle.mirror_model.specs.Listed.{ListsFront}
-use Rattle.mirror_sources.specs.Told.{AddsTold}
+use Rattle.mirror_sources.specs.Recorded.{AddsToRecord}
 use Rattle.mirror_sources.specs.Replies.{Reply, reply, asked_paths, MayReply}
 use Rattle.mirror_sources.specs.Honest.{Gets, true_bytes, IsHonest}
 use Rattle.mirror_pull.specs.Taking.{item_at}
@@ -76,7 +76,7 @@ module _ (digest : List ℕ → List ℕ) (entries : List (List ℕ)) where
     pub count : length lists ≡ rounds
     pub worked : AreFrontRounds size (with_head v note size) w lists replies
     pub may_reply : MayReply may (reply Checkpoint (Some note) ∷ edge ++ replies)
-    pub told : AddsTold old new (asked_paths (reply Checkpoint (Some note) ∷ edge ++ replies))
+    pub recorded : AddsToRecord old new (asked_paths (reply Checkpoint (Some note) ∷ edge ++ replies))
 
   -- what an honest pull came to
   pub record HonestOutcome (note : List ℕ) (size : ℕ) (v w : View)

@@ -12,7 +12,7 @@ use Rattle.mirror_model.specs.View.{View, IsSubview}
 use Rattle.mirror_model.specs.Rounds.{true_strings}
 use Rattle.mirror_model.specs.TrueLaws.{IsWidest}
 use Rattle.mirror_sources.specs.Replies.{Reply, reply, asked_paths}
-use Rattle.mirror_sources.specs.Told.{AddsTold}
+use Rattle.mirror_sources.specs.Recorded.{AddsToRecord}
 use Rattle.mirror_sources.specs.Honest.{Gets, IsHonest}
 use Rattle.mirror_pull.specs.Honest.{NoClashAmong}
 use Rattle.mirror_pull.specs.declared.pulling.Pulled.{Pulled}
@@ -62,7 +62,7 @@ pub record KeepsFound (digest : List ℕ → List ℕ) (entries : List (List ℕ
   pub fetches : FetchesFiles digest (take size entries) v w files
   pub last : List Path
   pub last_few : length last ≤ 2
-  pub told : AddsTold old new
+  pub recorded : AddsToRecord old new
       (asked_paths (reply Checkpoint (Some note) ∷ edge ++ replies) ++ last)
 
 -- a pull that ends as Source leaves the view as it was, or keeps each file that was answered, from

@@ -19,7 +19,7 @@ use Rattle.mirror_model.specs.Refusals.{IsOpenCheckpoint, ReadsHead, JudgesHead}
 use Rattle.mirror_model.specs.declared.fault.TakeFault.{TakeFault}
 use Rattle.mirror_sources.specs.Files.{full_of, width_named}
 use Rattle.mirror_sources.specs.Replies.{Reply, reply, asked_paths, MayReply}
-use Rattle.mirror_sources.specs.Told.{AddsTold}
+use Rattle.mirror_sources.specs.Recorded.{AddsToRecord}
 use Rattle.mirror_pull.specs.Taking.{item_at}
 use Rattle.mirror_pull.specs.declared.fault.PullFault.{PullFault}
 use Rattle.mirror_pull.specs.declared.fault.PullFault.TheVariants.{NoCheckpoint, NoEdge, Head}
@@ -231,7 +231,7 @@ pub record EndsWith (may : Path → Option (List ℕ) → Type 0) (old new : Opt
   pub tried : List Path
   pub are : Are replies tried
   pub may_reply : MayReply may replies
-  pub told : AddsTold old new (asked_paths replies ++ tried)
+  pub recorded : AddsToRecord old new (asked_paths replies ++ tried)
 
 -- ---- a pull
 
@@ -291,7 +291,7 @@ module _ (digest : List ℕ → List ℕ) (keys : List Key) (v w : View)
   -- the source was asked for these paths and no others, and may have replied so
   pub record Replied (replies : List Reply) : Type 0 where
     pub may_reply : MayReply may replies
-    pub told : AddsTold old new (asked_paths replies)
+    pub recorded : AddsToRecord old new (asked_paths replies)
 
   -- a pull that went well: the checkpoint and the rows of its edge were found and taken, then came
   -- so many rounds, after which nothing was left, or which were eight; the replies of all of them
@@ -357,7 +357,7 @@ pub record Gathers (may : Path → Option (List ℕ) → Type 0) (old new : Opti
   pub are : Are replies
   pub may_reply : MayReply may replies
   pub list : after ≡ with_replies before replies
-  pub told : AddsTold old new (asked_paths replies)
+  pub recorded : AddsToRecord old new (asked_paths replies)
 
 -- this get comes next, and nothing was replied behind those before
 abbrev pub ComesNext : List Path → Path → List Reply → Option Path → Type 0

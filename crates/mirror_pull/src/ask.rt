@@ -51,7 +51,7 @@ pub(crate) fn ask<S: Source>(
     asked: &mut AskedPaths,
     path: Path,
 ) -> Result<Option<Vec<u8>>, PullFault>
-    ensures told { AsksPaths asked.old.items asked.new.items (S.asked source.old)
+    ensures recorded { AsksPaths asked.old.items asked.new.items (S.asked source.old)
         (S.asked source.new) result }
     ensures counted { BlamesSource (S.failed source.old) (S.failed source.new) result }
     ensures early { EndsBeforeHead result }

@@ -23,7 +23,7 @@ fn edge_row<S: Source>(
     asked: &mut AskedPaths,
     path: Path,
 ) -> Result<Vec<u8>, PullFault>
-    ensures told { AsksPaths asked.old.items asked.new.items (S.asked source.old)
+    ensures recorded { AsksPaths asked.old.items asked.new.items (S.asked source.old)
         (S.asked source.new) result }
     ensures counted { BlamesSource (S.failed source.old) (S.failed source.new) result }
     ensures later { StaysWithin (S.may_answer source.old) (S.may_answer source.new) }
@@ -54,7 +54,7 @@ pub(crate) fn edge_rows<S: Source>(
     asked: &mut AskedPaths,
     size: u64,
 ) -> Result<Vec<Vec<u8>>, PullFault>
-    ensures told { AsksPaths asked.old.items asked.new.items (S.asked source.old)
+    ensures recorded { AsksPaths asked.old.items asked.new.items (S.asked source.old)
         (S.asked source.new) result }
     ensures counted { BlamesSource (S.failed source.old) (S.failed source.new) result }
     ensures later { StaysWithin (S.may_answer source.old) (S.may_answer source.new) }

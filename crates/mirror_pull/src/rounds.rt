@@ -69,7 +69,7 @@ fn take_path<H: TreeHash, S: Source>(
     path: Path,
 ) -> Result<bool, PullFault>
     requires { IsTakeable path }
-    ensures told { AsksPaths asked.old.items asked.new.items (S.asked source.old)
+    ensures recorded { AsksPaths asked.old.items asked.new.items (S.asked source.old)
         (S.asked source.new) result }
     ensures counted { BlamesSource (S.failed source.old) (S.failed source.new) result }
     ensures later { StaysWithin (S.may_answer source.old) (S.may_answer source.new) }
@@ -99,7 +99,7 @@ fn next_paths(paths: &[Path], at: usize) -> &[Path] {
     &rest[..rest.len().min(MOST_HINTED)]
 }
 
-/// Tells the source which paths come next, and does `take_path` for that one.
+/// DecidesFork the source which paths come next, and does `take_path` for that one.
 fn take_next<H: TreeHash, S: Source>(
     alloc: Global,
     mirror: &mut Mirror<H>,
@@ -109,7 +109,7 @@ fn take_next<H: TreeHash, S: Source>(
     path: Path,
 ) -> Result<bool, PullFault>
     requires { IsTakeable path }
-    ensures told { AsksPaths asked.old.items asked.new.items (S.asked source.old)
+    ensures recorded { AsksPaths asked.old.items asked.new.items (S.asked source.old)
         (S.asked source.new) result }
     ensures counted { BlamesSource (S.failed source.old) (S.failed source.new) result }
     ensures later { StaysWithin (S.may_answer source.old) (S.may_answer source.new) }
@@ -135,7 +135,7 @@ fn work_round<H: TreeHash, S: Source>(
     paths: &[Path],
 ) -> Result<u64, PullFault>
     requires { All IsTakeable paths.now }
-    ensures told { AsksPaths asked.old.items asked.new.items (S.asked source.old)
+    ensures recorded { AsksPaths asked.old.items asked.new.items (S.asked source.old)
         (S.asked source.new) result }
     ensures counted { BlamesSource (S.failed source.old) (S.failed source.new) result }
     ensures later { StaysWithin (S.may_answer source.old) (S.may_answer source.new) }
@@ -176,7 +176,7 @@ fn work_noted<H: TreeHash, S: Source>(
     paths: &[Path],
 ) -> Result<u64, PullFault>
     requires { All IsTakeable paths.now }
-    ensures told { AsksPaths asked.old.items asked.new.items (S.asked source.old)
+    ensures recorded { AsksPaths asked.old.items asked.new.items (S.asked source.old)
         (S.asked source.new) result }
     ensures counted { BlamesSource (S.failed source.old) (S.failed source.new) result }
     ensures later { StaysWithin (S.may_answer source.old) (S.may_answer source.new) }
@@ -229,7 +229,7 @@ pub(crate) fn work<H: TreeHash, S: Source>(
     root: &Hash,
 ) -> Result<(u32, u64), PullFault>
     requires { size ≤ 256 ^ 8 }
-    ensures told { AsksPaths asked.old.items asked.new.items (S.asked source.old)
+    ensures recorded { AsksPaths asked.old.items asked.new.items (S.asked source.old)
         (S.asked source.new) result }
     ensures counted { BlamesSource (S.failed source.old) (S.failed source.new) result }
     ensures later { StaysWithin (S.may_answer source.old) (S.may_answer source.new) }

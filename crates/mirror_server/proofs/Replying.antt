@@ -8,8 +8,8 @@ use Rattle.mirror_server.specs.Looks.{SeesIn}
 use Rattle.mirror_server.specs.Resource.{Names}
 use Rattle.mirror_server.specs.Response.{bad_request, IsFoundBy, LacksRequest, ResponseBy}
 use Rattle.mirror_server.specs.Response.{other_method, not_there, is_there, silent, refused, replied}
-use Rattle.mirror_server.specs.declared.head.Seen.{Seen}
-use Rattle.mirror_server.specs.declared.head.Seen.TheVariants as seeing
+use Rattle.mirror_server.specs.declared.head.Received.{Received}
+use Rattle.mirror_server.specs.declared.head.Received.TheVariants as seeing
 use Rattle.mirror_server.specs.declared.request.Request.{Request}
 use Rattle.mirror_server.specs.declared.request.Request.TheVariants.{Nothing, Unreadable, OtherMethod, Unknown, Get}
 use Rattle.mirror_server.specs.declared.resource.Resource.{Resource}
@@ -26,16 +26,16 @@ for_get method target OtherMethod get is = absurd is
 for_get method target Unknown get is = (get, is)
 for_get method target (Get resource) get is = (get, is)
 
-module _ (buf : List ℕ) (seen : Seen) where
+module _ (buf : List ℕ) (seen : Received) where
   pub asks_nothing : (known : Option (List ℕ)) → seen ≡ seeing.Nothing → IfSome known (λ all. SeesIn all buf seen) →
       IfSome known (λ all. IsRequestOf all Nothing)
   asks_nothing None s h = tt
-  asks_nothing (Some all) s h = subst (λ (x : Seen). SeesIn all buf x) s h
+  asks_nothing (Some all) s h = subst (λ (x : Received). SeesIn all buf x) s h
 
   pub asks_badly : (known : Option (List ℕ)) → seen ≡ seeing.NoHead → IfSome known (λ all. SeesIn all buf seen) →
       IfSome known (λ all. IsRequestOf all Unreadable)
   asks_badly None s h = tt
-  asks_badly (Some all) s h = subst (λ (x : Seen). SeesIn all buf x) s h
+  asks_badly (Some all) s h = subst (λ (x : Received). SeesIn all buf x) s h
 
   of_head : (all : List ℕ) (method target : Span) (m t : List ℕ) (request : Request) →
       SeesIn all buf (seeing.Head method target) → m ≡ span_bytes buf method → t ≡ span_bytes buf target →
@@ -60,7 +60,7 @@ module _ (buf : List ℕ) (seen : Seen) where
       t ≡ span_bytes buf target → IsForHead m t request → IfSome known (λ all. IsRequestOf all request)
   asks_for None method target m t request s h mm same is = tt
   asks_for (Some all) method target m t request s h mm same is =
-      of_head all method target m t request (subst (λ (x : Seen). SeesIn all buf x) s h) mm same is
+      of_head all method target m t request (subst (λ (x : Received). SeesIn all buf x) s h) mm same is
 
 -- ---- what is answered
 

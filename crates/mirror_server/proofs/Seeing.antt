@@ -14,7 +14,7 @@ use Rattle.mirror_server.specs.Answered.{FailsBeforeHead}
 use Rattle.mirror_server.specs.Response.{HasRequest, LacksRequest}
 use Rattle.mirror_server.specs.Looks.{HasRequestAt, ReadsMore, ReadsEnd, ReadsNone, SeesIn}
 use Rattle.mirror_server.specs.declared.limits.TheConstants.{MAX_FIELDS, MAX_HEAD_LEN}
-use Rattle.mirror_server.specs.declared.head.Seen.TheVariants.{Nothing, NoHead, Head}
+use Rattle.mirror_server.specs.declared.head.Received.TheVariants.{Nothing, NoHead, Head}
 
 -- ---- the bytes of a head and those behind them
 

@@ -7,12 +7,12 @@ use Rattle.httparse.specs.declared.spans.Span.{Span}
 use Rattle.httparse.specs.Spans.{RequestOverflows, IsWithin, span_bytes}
 use Rattle.mirror_server.specs.Response.{HasRequest, LacksRequest}
 use Rattle.mirror_server.specs.declared.limits.TheConstants.{MAX_FIELDS, MAX_HEAD_LEN}
-use Rattle.mirror_server.specs.declared.head.Look.{Look}
-use Rattle.mirror_server.specs.declared.head.Look.TheVariants.{Whole, Open, Bad}
-use Rattle.mirror_server.specs.declared.head.Seen.{Seen}
-use Rattle.mirror_server.specs.declared.head.Seen.TheVariants.{Nothing, NoHead, Head}
-use Rattle.mirror_server.specs.declared.head.Turn.{Turn}
-use Rattle.mirror_server.specs.declared.head.Turn.TheVariants.{More, Interrupted, End}
+use Rattle.mirror_server.specs.declared.head.HeadState.{HeadState}
+use Rattle.mirror_server.specs.declared.head.HeadState.TheVariants.{Whole, Open, Bad}
+use Rattle.mirror_server.specs.declared.head.Received.{Received}
+use Rattle.mirror_server.specs.declared.head.Received.TheVariants.{Nothing, NoHead, Head}
+use Rattle.mirror_server.specs.declared.head.ReadStep.{ReadStep}
+use Rattle.mirror_server.specs.declared.head.ReadStep.TheVariants.{More, Interrupted, End}
 
 -- the bytes begin with the head of a request, whose method and target stand at these places
 pub record HasRequestAt (bytes : List ℕ) (method target : Span) : Type 0 where
@@ -27,13 +27,13 @@ pub record HasRequestAt (bytes : List ℕ) (method target : Span) : Type 0 where
 
 -- what a look at the bytes that were read says: a whole head, the beginning of one, or no head that
 -- is read
-abbrev pub LooksLike : List ℕ → Look → Type 0
+abbrev pub LooksLike : List ℕ → HeadState → Type 0
 LooksLike bytes (Whole method target) = HasRequestAt bytes method target
 LooksLike bytes Open = HasNoRequest bytes
 LooksLike bytes Bad = RequestOverflows MAX_FIELDS bytes
 
 -- what was seen of all the bytes that a client gives, `buf` being those that were read
-abbrev pub SeesIn : List ℕ → List ℕ → Seen → Type 0
+abbrev pub SeesIn : List ℕ → List ℕ → Received → Type 0
 SeesIn all buf Nothing = all ≡ []
 SeesIn all buf NoHead = (first : ℕ) × (others : List ℕ) × (all ≡ first ∷ others) × LacksRequest all
 SeesIn all buf (Head method target) =
@@ -41,7 +41,7 @@ SeesIn all buf (Head method target) =
     × (span_bytes buf target ≡ h.target)
 
 -- the method and the target that were seen lie in the first `len` bytes
-abbrev pub LiesWithin : ℕ → Seen → Type 0
+abbrev pub LiesWithin : ℕ → Received → Type 0
 LiesWithin len Nothing = ⊤
 LiesWithin len NoHead = ⊤
 LiesWithin len (Head method target) = IsWithin len method × IsWithin len target
@@ -66,7 +66,7 @@ pub record ReadsNone (known cur : Option (List ℕ)) (old new : List ℕ) : Type
   pub keeps : Keeps known cur
 
 -- what one read of a client's bytes did
-abbrev pub ReadsOn : Option (List ℕ) → Option (List ℕ) → List ℕ → List ℕ → Turn → Type 0
+abbrev pub ReadsOn : Option (List ℕ) → Option (List ℕ) → List ℕ → List ℕ → ReadStep → Type 0
 ReadsOn known cur old new More = ReadsMore known cur old new
 ReadsOn known cur old new Interrupted = ReadsNone known cur old new
 ReadsOn known cur old new End = ReadsEnd known cur old new

@@ -17,7 +17,7 @@ const CHUNK: usize = 1_024;
 
 /// What the bytes so far are.
 #[derive(Clone, Copy)]
-pub enum Look {
+pub enum HeadState {
     /// A whole head stands at the start, with its method and its target at these places.
     Whole(Span, Span),
     /// No whole head yet.
@@ -28,7 +28,7 @@ pub enum Look {
 
 /// What one read gave.
 #[derive(Clone, Copy)]
-pub enum Turn {
+pub enum ReadStep {
     /// Some bytes.
     More,
     /// None, since it was interrupted.
@@ -39,7 +39,7 @@ pub enum Turn {
 
 /// What came from a client.
 #[derive(Clone, Copy)]
-pub enum Seen {
+pub enum Received {
     /// No byte.
     Nothing,
     /// Some bytes, and no head.
@@ -49,19 +49,19 @@ pub enum Seen {
 }
 
 // What the bytes are.
-fn look_at(bytes: &[u8]) -> Look
+fn look_at(bytes: &[u8]) -> HeadState
     ensures { LooksLike bytes.now result }
 {
     let mut headers = [EMPTY_HEADER_SPAN; MAX_FIELDS];
     match parse_request(bytes, &mut headers) {
-        Ok(Status::Complete(spans)) => Look::Whole(spans.method, spans.path),
-        Ok(Status::Partial) => Look::Open,
-        Err(_) => Look::Bad,
+        Ok(Status::Complete(spans)) => HeadState::Whole(spans.method, spans.path),
+        Ok(Status::Partial) => HeadState::Open,
+        Err(_) => HeadState::Bad,
     }
 }
 
 // Adds what one read gives, to so many bytes as a head may have.
-fn read_more<R: Read>(reader: &mut R, received: &mut Vec<u8>) -> Result<Turn, HttpFault>
+fn read_more<R: Read>(reader: &mut R, received: &mut Vec<u8>) -> Result<ReadStep, HttpFault>
     requires { vec_len received.old < MAX_HEAD_LEN }
     ensures turn { IfOk result (ReadsOn (R.remaining reader.old) (R.remaining reader.new)
         received.old.items received.new.items) }
@@ -73,14 +73,14 @@ fn read_more<R: Read>(reader: &mut R, received: &mut Vec<u8>) -> Result<Turn, Ht
     let mut chunk = [0u8; CHUNK];
     let room = chunk.len().min(MAX_HEAD_LEN - received.len());
     match reader.read(&mut chunk[..room]) {
-        Ok(0) => Ok(Turn::End),
+        Ok(0) => Ok(ReadStep::End),
         Ok(n) => {
             received.extend_from_slice(&chunk[..n])?;
-            Ok(Turn::More)
+            Ok(ReadStep::More)
         }
         Err(e) => {
             if e.kind() == ErrorKind::Interrupted {
-                Ok(Turn::Interrupted)
+                Ok(ReadStep::Interrupted)
             } else {
                 Err(HttpFault::ReadFault)
             }
@@ -90,7 +90,7 @@ fn read_more<R: Read>(reader: &mut R, received: &mut Vec<u8>) -> Result<Turn, Ht
 
 /// Reads to the end of a head, or until none can come any more, and gives what was read. The reader is
 /// not read again once a whole head is there.
-pub fn read_head<R: Read>(alloc: Global, reader: &mut R) -> Result<(Seen, Vec<u8>), HttpFault>
+pub fn read_head<R: Read>(alloc: Global, reader: &mut R) -> Result<(Received, Vec<u8>), HttpFault>
     ensures within { IfOk result (λ r. LiesWithin (vec_len r.1) r.0) }
     ensures seen { IfOk result (λ r.
         IfSome (R.remaining reader.old) (λ all. SeesIn all r.1.items r.0)) }
@@ -101,19 +101,22 @@ pub fn read_head<R: Read>(alloc: Global, reader: &mut R) -> Result<(Seen, Vec<u8
     let mut received = Vec::new(alloc);
     for _ in 0..u64::MAX {
         match read_more(reader, &mut received)? {
-            Turn::Interrupted => {}
-            Turn::End => {
+            ReadStep::Interrupted => {}
+            ReadStep::End => {
                 if received.is_empty() {
-                    return Ok((Seen::Nothing, received));
+                    return Ok((Received::Nothing, received));
                 }
-                return Ok((Seen::NoHead, received));
+                return Ok((Received::NoHead, received));
             }
-            Turn::More => match look_at(&received) {
-                Look::Whole(method, target) => return Ok((Seen::Head(method, target), received)),
-                Look::Bad => return Ok((Seen::NoHead, received)),
-                Look::Open => {
+            ReadStep::More => match look_at(&received) {
+                HeadState::Whole(method, target) => return Ok((
+                    Received::Head(method, target),
+                    received,
+                )),
+                HeadState::Bad => return Ok((Received::NoHead, received)),
+                HeadState::Open => {
                     if received.len() == MAX_HEAD_LEN {
-                        return Ok((Seen::NoHead, received));
+                        return Ok((Received::NoHead, received));
                     }
                 }
             },

@@ -4,7 +4,7 @@ ghost use Rattle.byte_streams.specs.Streams.{TakesAtMost};
 ghost use Rattle.mirror_server.specs.Answered.{FailsBeforeHead, IsForHead, IsForTarget, IsRequestOf};
 
 use crate::fault::HttpFault;
-use crate::head::{Seen, read_head};
+use crate::head::{Received, read_head};
 use crate::limits::MAX_HEAD_LEN;
 use crate::resource::{Resource, resource_of};
 use std::alloc::Global;
@@ -76,8 +76,10 @@ pub fn read_request<R: Read>(alloc: Global, reader: &mut R) -> Result<Request, H
 {
     let (seen, received) = read_head(alloc, reader)?;
     match seen {
-        Seen::Nothing => Ok(Request::Nothing),
-        Seen::NoHead => Ok(Request::Unreadable),
-        Seen::Head(method, target) => { Ok(request_of(method.of(&received), target.of(&received))) }
+        Received::Nothing => Ok(Request::Nothing),
+        Received::NoHead => Ok(Request::Unreadable),
+        Received::Head(method, target) => {
+            Ok(request_of(method.of(&received), target.of(&received)))
+        }
     }
 }

@@ -92,7 +92,7 @@ fn hash_of(digits: &str) -> Option<Hash>
 }
 
 // The size and the root that are asked what is missing of them.
-fn head_of(target: &str) -> Option<(u64, Hash)>
+fn point_in(target: &str) -> Option<(u64, Hash)>
     ensures found { IfSome result (λ x. NamesHead (codes "/mirror/missing/") target.now x.0 x.1) }
     ensures none { IfNone result ((n : ℕ) (root : List ℕ)
         → ¬ NamesHead (codes "/mirror/missing/") target.now n root) }
@@ -134,7 +134,7 @@ pub fn resource_of(target: &str) -> Option<Resource>
     if target == "/mirror/forks" {
         return Some(Resource::Forks);
     }
-    if let Some(head) = head_of(target) {
+    if let Some(head) = point_in(target) {
         let size = head.0;
         let root = head.1;
         return Some(Resource::Missing { size, root });

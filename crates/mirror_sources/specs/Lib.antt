@@ -1,4 +1,4 @@
-pub mod Told
+pub mod Recorded
 pub mod Source
 pub mod Files
 pub mod Replies

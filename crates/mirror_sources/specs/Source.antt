@@ -1,7 +1,7 @@
 -- What a call of a source does.
 use Rattle.std.specs.Prelude.{◌≡◌, ◌≤◌, ℕ, List, [], ◌∷◌, length, Option, Some, None, Result, Ok, Err, ⊤}
 use Rattle.tlog_tiles.specs.declared.paths.Path.{Path}
-use Rattle.mirror_sources.specs.Told.{KeepsTold, AddsTold, one_more}
+use Rattle.mirror_sources.specs.Recorded.{KeepsRecord, AddsToRecord, one_more}
 use Rattle.mirror_sources.specs.declared.source.SourceFault.{SourceFault}
 use Rattle.mirror_sources.specs.declared.source.SourceFault.TheVariants.{Failed, OutOfMemory}
 
@@ -10,11 +10,11 @@ abbrev pub File : Type 0
 File = Path × List ℕ
 
 -- a get adds its path, except one that wanted memory
-abbrev pub TellsGet : {T : Type 0} → Option (List Path) → Option (List Path) → Path →
+abbrev pub RecordsGet : {T : Type 0} → Option (List Path) → Option (List Path) → Path →
     Result T SourceFault → Type 0
-TellsGet old new path (Ok x) = AddsTold old new (path ∷ [])
-TellsGet old new path (Err Failed) = AddsTold old new (path ∷ [])
-TellsGet old new path (Err OutOfMemory) = KeepsTold old new
+RecordsGet old new path (Ok x) = AddsToRecord old new (path ∷ [])
+RecordsGet old new path (Err Failed) = AddsToRecord old new (path ∷ [])
+RecordsGet old new path (Err OutOfMemory) = KeepsRecord old new
 
 -- the source's count of failures rises by one at each get that failed, and at no other
 abbrev pub CountsGet : {T : Type 0} → ℕ → ℕ → Result T SourceFault → Type 0

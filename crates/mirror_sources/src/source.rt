@@ -39,8 +39,8 @@ impl<T: Drop> From<AllocFailed<T>> for SourceFault {
 pub trait Source {
     ghost use Rattle.std.specs.Prelude.{◌≡◌, ℕ, List, Option, None, ⊤, IfOk, option_map};
     ghost use Rattle.tlog_tiles.specs.declared.paths.Path.{Path};
-    ghost use Rattle.mirror_sources.specs.Source.{File, TellsGet, CountsGet, StaysWithin};
-    ghost use Rattle.mirror_sources.specs.Told.{KeepsTold};
+    ghost use Rattle.mirror_sources.specs.Source.{File, RecordsGet, CountsGet, StaysWithin};
+    ghost use Rattle.mirror_sources.specs.Recorded.{KeepsRecord};
 
     /// Which answers may still come. A source that nothing is known of may give any.
     ghost may_answer: { Self → Path → Option (List ℕ) → Type 0 } = { λ _ _ _. ⊤ };
@@ -63,8 +63,8 @@ pub trait Source {
         ensures answer { IfOk result
             (λ bytes. may_answer self.old path.now (option_map (λ v. v.items) bytes)) }
         ensures later { StaysWithin (may_answer self.old) (may_answer self.new) }
-        ensures kept { KeepsTold (files self.old) (files self.new) }
-        ensures told { TellsGet (asked self.old) (asked self.new) path.now result }
+        ensures kept { KeepsRecord (files self.old) (files self.new) }
+        ensures recorded { RecordsGet (asked self.old) (asked self.new) path.now result }
         ensures counted { CountsGet (failed self.old) (failed self.new) result };
 
     /// A hint: the paths that will be asked for next, the first soonest.
@@ -74,7 +74,7 @@ pub trait Source {
     fn expect(&mut self, _paths: &[Path])
         ensures later { StaysWithin (may_answer self.old) (may_answer self.new) }
         ensures kept { files self.new ≡ files self.old }
-        ensures told { asked self.new ≡ asked self.old }
+        ensures recorded { asked self.new ≡ asked self.old }
         ensures counted { failed self.new ≡ failed self.old }
     {}
 

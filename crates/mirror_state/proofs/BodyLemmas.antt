@@ -10,7 +10,7 @@ use Rattle.mirror_state.specs.declared.parts.PartsFault.{PartsFault}
 use Rattle.mirror_state.specs.declared.parts.PartsFault.TheVariants.{StateMagic, StateShort, StateLong, StateDigest}
 use Rattle.mirror_state.specs.declared.parts.PartsFault.TheVariants.{OutOfMemory}
 use Rattle.mirror_state.specs.Items.{item_text, list_text}
-use Rattle.mirror_state.specs.StateText.{Parts, Parted, Tagged, magic_of, lists_text, body_text, IsText}
+use Rattle.mirror_state.specs.StateText.{Parts, VersionTwo, VersionOne, magic_of, lists_text, body_text, IsText}
 use Rattle.mirror_state.specs.Reading.{HasMagic, HasBody, HasText, ReadsParts}
 use Rattle.mirror_state.specs.Stands.{HasList, HasLists, FindsLists, EndsAs}
 use Rattle.mirror_state.proofs.ListLemmas.{list_one, origin_rest, parted_notes, tagged_notes}
@@ -21,24 +21,24 @@ versions_differ x p q = true≢false (sym ((bytes_eq-Decides (codes "TLMIRR02") 
 
 pub magic_in : (bytes : List ℕ) (parts : Parts) (rest : List ℕ) → HasBody bytes parts rest →
     take 8 bytes ≡ magic_of parts
-magic_in bytes (Parted o n p e) rest h = ap (λ (x : List ℕ). take 8 x) h.text
-magic_in bytes (Tagged o n s) rest h = ap (λ (x : List ℕ). take 8 x) h.text
+magic_in bytes (VersionTwo o n p e) rest h = ap (λ (x : List ℕ). take 8 x) h.text
+magic_in bytes (VersionOne o n s) rest h = ap (λ (x : List ℕ). take 8 x) h.text
 
 pub has_magic : (bytes : List ℕ) (parts : Parts) (rest : List ℕ) → HasBody bytes parts rest → HasMagic bytes
-has_magic bytes (Parted o n p e) rest h = inl (magic_in bytes (Parted o n p e) rest h)
-has_magic bytes (Tagged o n s) rest h = inr (magic_in bytes (Tagged o n s) rest h)
+has_magic bytes (VersionTwo o n p e) rest h = inl (magic_in bytes (VersionTwo o n p e) rest h)
+has_magic bytes (VersionOne o n s) rest h = inr (magic_in bytes (VersionOne o n s) rest h)
 
 pub lists_in : (bytes : List ℕ) (parts : Parts) (rest : List ℕ) → HasBody bytes parts rest →
     HasLists (drop 8 bytes) parts rest
-lists_in bytes (Parted o n p e) rest h = record { are_parts = h.are_parts; text = ap (λ (x : List ℕ). drop 8 x) h.text }
-lists_in bytes (Tagged o n s) rest h = record { are_parts = h.are_parts; text = ap (λ (x : List ℕ). drop 8 x) h.text }
+lists_in bytes (VersionTwo o n p e) rest h = record { are_parts = h.are_parts; text = ap (λ (x : List ℕ). drop 8 x) h.text }
+lists_in bytes (VersionOne o n s) rest h = record { are_parts = h.are_parts; text = ap (λ (x : List ℕ). drop 8 x) h.text }
 
 -- the lists of one version stand at the start in one way
 pub lists_one : (bytes : List ℕ) (p q : Parts) (a b : List ℕ) → magic_of p ≡ magic_of q → HasLists bytes p a →
     HasLists bytes q b → (p ≡ q) × (a ≡ b)
-lists_one bytes (Parted o n p e) (Tagged o' n' s') a b m x y = absurd (versions_differ (codes "TLMIRR02") refl m)
-lists_one bytes (Tagged o n s) (Parted o' n' p' e') a b m x y = absurd (versions_differ (codes "TLMIRR01") m refl)
-lists_one bytes (Parted o n p e) (Parted o' n' p' e') a b m x y =
+lists_one bytes (VersionTwo o n p e) (VersionOne o' n' s') a b m x y = absurd (versions_differ (codes "TLMIRR02") refl m)
+lists_one bytes (VersionOne o n s) (VersionTwo o' n' p' e') a b m x y = absurd (versions_differ (codes "TLMIRR01") m refl)
+lists_one bytes (VersionTwo o n p e) (VersionTwo o' n' p' e') a b m x y =
     let rest : List ℕ = (list_text Long n ++ (list_text Hashes p ++ list_text Short e)) ++ a in
     let first : bytes ≡ item_text Short o ++ rest =
     x.text ∙ append_assoc (item_text Short o) (list_text Long n ++ (list_text Hashes p ++ list_text Short e)) a in
@@ -60,9 +60,9 @@ lists_one bytes (Parted o n p e) (Parted o' n' p' e') a b m x y =
     let entries_there : HasList Short (list_text Short e ++ a) e' b =
     record { are_items = y.are_parts.entries_fit; text = pairs.1 } in
     let entries = list_one Short _ e e' a b entries_here entries_there in
-    let one : Parted o n p e ≡ Parted o' n' p' e' = cc (origin, notes.0, pairs.0, entries.0) in
+    let one : VersionTwo o n p e ≡ VersionTwo o' n' p' e' = cc (origin, notes.0, pairs.0, entries.0) in
     (one, entries.1)
-lists_one bytes (Tagged o n s) (Tagged o' n' s') a b m x y =
+lists_one bytes (VersionOne o n s) (VersionOne o' n' s') a b m x y =
     let rest : List ℕ = (list_text Long n ++ list_text Long s) ++ a in
     let first : bytes ≡ item_text Short o ++ rest =
     x.text ∙ append_assoc (item_text Short o) (list_text Long n ++ list_text Long s) a in
@@ -76,7 +76,7 @@ lists_one bytes (Tagged o n s) (Tagged o' n' s') a b m x y =
     let strings_there : HasList Long (list_text Long s ++ a) s' b =
     record { are_items = y.are_parts.strings_fit; text = notes.1 } in
     let strings = list_one Long _ s s' a b strings_here strings_there in
-    let one : Tagged o n s ≡ Tagged o' n' s' = cc (origin, notes.0, strings.0) in
+    let one : VersionOne o n s ≡ VersionOne o' n' s' = cc (origin, notes.0, strings.0) in
     (one, strings.1)
 
 -- a body stands at the start in one way
@@ -171,14 +171,14 @@ body_of bytes parts rest m h =
 
 -- where the lists of the version do not stand, no body does
 pub none_parted : (bytes : List ℕ) → take 8 bytes ≡ codes "TLMIRR02" →
-    ((o : List ℕ) (n p e : List (List ℕ)) (rest : List ℕ) → HasLists (drop 8 bytes) (Parted o n p e) rest → ⊥) →
+    ((o : List ℕ) (n p e : List (List ℕ)) (rest : List ℕ) → HasLists (drop 8 bytes) (VersionTwo o n p e) rest → ⊥) →
     (parts : Parts) (rest : List ℕ) → HasBody bytes parts rest → ⊥
-none_parted bytes m none (Parted o n p e) rest h = none o n p e rest (lists_in bytes (Parted o n p e) rest h)
-none_parted bytes m none (Tagged o n s) rest h = versions_differ (take 8 bytes) m (magic_in bytes (Tagged o n s) rest h)
+none_parted bytes m none (VersionTwo o n p e) rest h = none o n p e rest (lists_in bytes (VersionTwo o n p e) rest h)
+none_parted bytes m none (VersionOne o n s) rest h = versions_differ (take 8 bytes) m (magic_in bytes (VersionOne o n s) rest h)
 
 pub none_tagged : (bytes : List ℕ) → take 8 bytes ≡ codes "TLMIRR01" →
-    ((o : List ℕ) (n s : List (List ℕ)) (rest : List ℕ) → HasLists (drop 8 bytes) (Tagged o n s) rest → ⊥) →
+    ((o : List ℕ) (n s : List (List ℕ)) (rest : List ℕ) → HasLists (drop 8 bytes) (VersionOne o n s) rest → ⊥) →
     (parts : Parts) (rest : List ℕ) → HasBody bytes parts rest → ⊥
-none_tagged bytes m none (Parted o n p e) rest h =
-    versions_differ (take 8 bytes) (magic_in bytes (Parted o n p e) rest h) m
-none_tagged bytes m none (Tagged o n s) rest h = none o n s rest (lists_in bytes (Tagged o n s) rest h)
+none_tagged bytes m none (VersionTwo o n p e) rest h =
+    versions_differ (take 8 bytes) (magic_in bytes (VersionTwo o n p e) rest h) m
+none_tagged bytes m none (VersionOne o n s) rest h = none o n s rest (lists_in bytes (VersionOne o n s) rest h)

@@ -5,7 +5,7 @@ use Rattle.std.proofs.lemmas.Nat.{from_be_bytes-to_be_bytes_8}
 use Rattle.mirror_state.specs.declared.items.Form.{Form}
 use Rattle.mirror_state.specs.declared.items.Form.TheVariants.{Short, Long, Hashes}
 use Rattle.mirror_state.specs.Items.{item_text, items_text, list_text, IsItem, AreItems}
-use Rattle.mirror_state.specs.StateText.{Parted, Tagged}
+use Rattle.mirror_state.specs.StateText.{VersionTwo, VersionOne}
 use Rattle.mirror_state.specs.Stands.{HasList, HasLists}
 use Rattle.mirror_state.proofs.ItemLemmas.{item_one, items_one}
 
@@ -43,7 +43,7 @@ next_stands f g a b others r xs ys zs p q fits = record {
 
 -- where the lists of version 2 stand, each stands behind the one before
 pub parted_notes : (bytes o a r origin : List ℕ) (notes pairs entries : List (List ℕ)) →
-    IsItem Short o → bytes ≡ item_text Short o ++ a → HasLists bytes (Parted origin notes pairs entries) r →
+    IsItem Short o → bytes ≡ item_text Short o ++ a → HasLists bytes (VersionTwo origin notes pairs entries) r →
     HasList Long a notes ((list_text Hashes pairs ++ list_text Short entries) ++ r)
 parted_notes bytes o a r origin notes pairs entries p e h =
     record {
@@ -56,7 +56,7 @@ parted_notes bytes o a r origin notes pairs entries p e h =
 
 -- and those of version 1
 pub tagged_notes : (bytes o a r origin : List ℕ) (notes strings : List (List ℕ)) → IsItem Short o →
-    bytes ≡ item_text Short o ++ a → HasLists bytes (Tagged origin notes strings) r →
+    bytes ≡ item_text Short o ++ a → HasLists bytes (VersionOne origin notes strings) r →
     HasList Long a notes (list_text Long strings ++ r)
 tagged_notes bytes o a r origin notes strings p e h =
     record {
@@ -68,7 +68,7 @@ tagged_notes bytes o a r origin notes strings p e h =
 -- lists one after the other are what version 2 lists
 pub parted_found : (bytes o a b c r : List ℕ) (notes pairs entries : List (List ℕ)) → IsItem Short o →
     bytes ≡ item_text Short o ++ a → HasList Long a notes b → HasList Hashes b pairs c → HasList Short c entries r →
-    HasLists bytes (Parted o notes pairs entries) r
+    HasLists bytes (VersionTwo o notes pairs entries) r
 parted_found bytes o a b c r notes pairs entries p e n q s =
     let O = item_text Short o in
     let N = list_text Long notes in

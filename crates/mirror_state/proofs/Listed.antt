@@ -13,7 +13,7 @@ use Rattle.mirror_model.specs.View.{View}
 use Rattle.mirror_model.specs.Complete.{HasEdge}
 use Rattle.mirror_model.proofs.StringSets.{same_strings, listed_from_has, has_from_listed}
 use Rattle.tlog_mirror.specs.Restored.{IsOpenNote}
-use Rattle.mirror_state.specs.StateText.{Parts, Parted, Tagged, StateText, OldStateText}
+use Rattle.mirror_state.specs.StateText.{Parts, VersionTwo, VersionOne, StateText, OldStateText}
 use Rattle.mirror_state.specs.Loading.{listed_notes, listed_view, IsStateString, HasState, HasStrings, HasNoCollision}
 
 -- ---- elements
@@ -95,7 +95,7 @@ same_view v notes strings n_to n_from s_to s_from =
     λ i. record { origin = v.origin; notes = n i; strings = s i }
 
 pub new_view : (v : View) (bytes : List ℕ) (t : StateText v bytes) → AllTagged v.strings →
-    listed_view (Parted v.origin t.notes t.pairs t.entries) ≡ v
+    listed_view (VersionTwo v.origin t.notes t.pairs t.entries) ≡ v
 new_view v bytes t tagged =
     same_view v t.notes (both t.entries t.pairs) (λ q c. (t.notes_are.exact q).0 c)
     (λ q h. (t.notes_are.exact q).1 h) to from
@@ -115,7 +115,7 @@ new_view v bytes t tagged =
     from q h = by_tag q (tagged q h) h
 
 pub old_view : (v : View) (bytes : List ℕ) (t : OldStateText v bytes) →
-    listed_view (Tagged v.origin t.notes t.strings) ≡ v
+    listed_view (VersionOne v.origin t.notes t.strings) ≡ v
 old_view v bytes t =
     same_view v t.notes t.strings (λ q c. (t.notes_are.exact q).0 c) (λ q h. (t.notes_are.exact q).1 h)
     (λ q c. (t.strings_are q).0 c) (λ q h. (t.strings_are q).1 h)
@@ -160,7 +160,7 @@ module _ (digest : List ℕ → List ℕ) (origin : List ℕ) (keys : List Key) 
 
   pub in_order : HasState digest origin keys bytes v → IsInOrder
   in_order state = elim state.text [
-    | inl t ↦ from_parts state (Parted v.origin t.notes t.pairs t.entries)
+    | inl t ↦ from_parts state (VersionTwo v.origin t.notes t.pairs t.entries)
         (record {
           has_order = record {
             has_origin = record { is_text = t.is_text; origin_is = state.origin_is };
@@ -169,7 +169,7 @@ module _ (digest : List ℕ → List ℕ) (origin : List ℕ) (keys : List Key) 
           tagged = tt;
         })
         (new_view v bytes t state.lawful.are_strings)
-    | inr t ↦ from_parts state (Tagged v.origin t.notes t.strings)
+    | inr t ↦ from_parts state (VersionOne v.origin t.notes t.strings)
         (record {
           has_order = record {
             has_origin = record { is_text = t.is_text; origin_is = state.origin_is };

@@ -18,7 +18,7 @@ use Rattle.tlog_mirror.specs.Adding.{with_notes}
 use Rattle.tlog_mirror.specs.Restored.{IsOpenNote, strings_alone}
 use Rattle.mirror_state.specs.Items.{IsItem}
 use Rattle.mirror_state.specs.declared.items.Form.TheVariants.{Short, Hashes}
-use Rattle.mirror_state.specs.StateText.{Parts, Parted, Tagged, StateText, OldStateText}
+use Rattle.mirror_state.specs.StateText.{Parts, VersionTwo, VersionOne, StateText, OldStateText}
 use Rattle.mirror_state.specs.Loading.{listed_origin, listed_notes, listed_strings, listed_view, IsStateString}
 use Rattle.mirror_state.specs.Loading.{HasState, HasStrings, HasOpenNotes, HasNoCollision, Loads}
 use Rattle.mirror_state.specs.LoadSteps.{AreListable, ChecksLists, ChecksNotes, KeepsNotes}
@@ -50,32 +50,32 @@ entry_short entry (inr p) = absurd (let e = p.0 in omega (arith, e))
 -- of those that can be listed, entries are short
 pub listed_short : (parts : Parts) → AreListable parts → (entry : List ℕ) →
     Has (set.from_list (listed_strings parts)) (0 ∷ entry) → length entry ≤ 65535
-listed_short (Parted o notes pairs entries) l = λ entry held.
+listed_short (VersionTwo o notes pairs entries) l = λ entry held.
     All-contains (λ (e : List ℕ). length e ≤ 65535) entries entry l.0
     (entry_in entries pairs entry (listed_from_has (both entries pairs) (0 ∷ entry) held))
-listed_short (Tagged o notes strings) l = λ entry held. entry_short entry
+listed_short (VersionOne o notes strings) l = λ entry held. entry_short entry
     (All-contains IsStateString strings (0 ∷ entry) l (listed_from_has strings (0 ∷ entry) held))
 
 module _ (origin bytes : List ℕ) where
   -- they can be listed
   pub listable : (parts : Parts) → HasStrings origin bytes parts → AreListable parts
-  listable (Parted o notes pairs entries) h =
+  listable (VersionTwo o notes pairs entries) h =
       let fit = h.has_order.has_origin.is_text.are_parts in (
         All-weaker (IsItem Short) (λ (e : List ℕ). length e ≤ 65535) (λ e lt. omega (arith, lt))
             entries fit.entries_fit.fits,
         fit.pairs_fit.fits,
       )
-  listable (Tagged o notes strings) h = h.tagged
+  listable (VersionOne o notes strings) h = h.tagged
 
   all_tagged : (parts : Parts) → HasStrings origin bytes parts → AllTagged (set.from_list (listed_strings parts))
-  all_tagged (Parted o notes pairs entries) h = λ q held.
+  all_tagged (VersionTwo o notes pairs entries) h = λ q held.
       let fit = h.has_order.has_origin.is_text.are_parts in
       elim (either entries pairs q (listed_from_has (both entries pairs) q held)) [
         | inl m ↦ subst IsTagged m.is (string.OfEntry m.from)
         | inr m ↦ subst IsTagged m.is
             (pair_tagged m.from (All-contains (IsItem Hashes) pairs m.from fit.pairs_fit.fits m.is_in))
       ]
-  all_tagged (Tagged o notes strings) h =
+  all_tagged (VersionOne o notes strings) h =
       λ q held. string_tagged q (All-contains IsStateString strings q h.tagged (listed_from_has strings q held))
 
   all_short : (parts : Parts) → HasStrings origin bytes parts → (entry : List ℕ) →
@@ -86,7 +86,7 @@ module _ (origin bytes : List ℕ) where
 
   listed_text : (parts : Parts) → HasStrings origin bytes parts →
       StateText (listed_view parts) bytes ⊎ OldStateText (listed_view parts) bytes
-  listed_text (Parted o notes pairs entries) h = inl (record {
+  listed_text (VersionTwo o notes pairs entries) h = inl (record {
     notes = notes;
     pairs = pairs;
     entries = entries;
@@ -104,7 +104,7 @@ module _ (origin bytes : List ℕ) where
       λ held. entry_in entries pairs e (listed_from_has (both entries pairs) (0 ∷ e) held),
     );
   })
-  listed_text (Tagged o notes strings) h = inr (record {
+  listed_text (VersionOne o notes strings) h = inr (record {
     notes = notes;
     strings = strings;
     is_text = h.has_order.has_origin.is_text;
@@ -255,18 +255,18 @@ module _ (digest : List ℕ → List ℕ) (origin : List ℕ) (keys : List Key) 
 
 module _ (digest : List ℕ → List ℕ) (origin : List ℕ) (keys : List Key) (bytes : List ℕ) (parts : Parts)
     (listed : HasStrings origin bytes parts) (notes : List (List ℕ)) (notes_are : notes ≡ listed_notes parts) where
-  pub notes_told : (fault : LoadFault) → ChecksNotes origin keys notes (Err fault) →
+  pub notes_recorded : (fault : LoadFault) → ChecksNotes origin keys notes (Err fault) →
       Loads digest origin keys bytes (Err fault)
-  notes_told fault h = notes_refused digest origin keys bytes parts listed fault
+  notes_recorded fault h = notes_refused digest origin keys bytes parts listed fault
       (subst (λ ns. ChecksNotes origin keys ns (Err fault)) notes_are h)
 
   module _ (opened : All (IsOpenNote origin keys) notes) where
     opened_here : All (IsOpenNote origin keys) (listed_notes parts)
     opened_here = subst (All (IsOpenNote origin keys)) notes_are opened
 
-    pub clash_told : HasClash digest (set.from_list (listed_strings parts)) →
+    pub clash_recorded : HasClash digest (set.from_list (listed_strings parts)) →
         Loads digest origin keys bytes (Err Collision)
-    clash_told clash = strings_clash digest origin keys bytes parts listed opened_here clash
+    clash_recorded clash = strings_clash digest origin keys bytes parts listed opened_here clash
 
     module _ (old : View) (made : (old ≡ strings_alone origin (set.from_list (listed_strings parts)))
         × NoClash digest (set.from_list (listed_strings parts))) (later : List (List ℕ))

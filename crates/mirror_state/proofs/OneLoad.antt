@@ -12,7 +12,7 @@ use Rattle.mirror_model.proofs.Listing.{same_lists, notes_are_listed_once}
 use Rattle.std.specs.Ordering.{nat_cmp}
 use Rattle.std.specs.Cmp.Lexicographic.{slice_cmp, nat_list_cmp_total}
 use Rattle.tlog_mirror.specs.Restored.{IsOpenNote}
-use Rattle.mirror_state.specs.StateText.{Parts, Parted, body_text, IsText, StateText}
+use Rattle.mirror_state.specs.StateText.{Parts, VersionTwo, body_text, IsText, StateText}
 use Rattle.sha2.specs.Sha256.{sha256}
 use Rattle.mirror_state.specs.Reading.{ReadsParts}
 use Rattle.mirror_state.specs.declared.parts.PartsFault.{PartsFault}
@@ -232,7 +232,7 @@ text_is_one v a b s t =
     let entries : s.entries ≡ t.entries =
     same_lists (slice_cmp nat_cmp) nat_list_cmp_total.antisymm s.entries t.entries s.entries_rise t.entries_rise
     (λ z c. (t.entries_are z).1 ((s.entries_are z).0 c)) (λ z c. (s.entries_are z).1 ((t.entries_are z).0 c)) in
-    s.is_text.text ∙ (λ i. whole (Parted v.origin (notes i) (pairs i) (entries i))) ∙ sym t.is_text.text
+    s.is_text.text ∙ (λ i. whole (VersionTwo v.origin (notes i) (pairs i) (entries i))) ∙ sym t.is_text.text
 
 pub old_is_saved_as_new : OldIsSavedAsNew
 old_is_saved_as_new digest origin keys v loaded old new saved h text loads s t =

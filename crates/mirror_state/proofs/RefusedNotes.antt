@@ -19,7 +19,7 @@ use Rattle.tlog_mirror.specs.Restored.{IsOpenNote, KeepsHeld, strings_alone}
 use Rattle.tlog_mirror.specs.declared.fault.RestoreFault.{RestoreFault}
 use Rattle.tlog_mirror.specs.declared.fault.RestoreFault.TheVariants as restoring
 use Rattle.tlog_mirror.proofs.RestoredMirrors.{not_open, open_note}
-use Rattle.mirror_state.specs.StateText.{Parts, Parted, Tagged, AreParts}
+use Rattle.mirror_state.specs.StateText.{Parts, VersionTwo, VersionOne, AreParts}
 use Rattle.mirror_state.specs.Loading.{listed_notes, listed_strings, listed_view, HasStrings, Loads}
 use Rattle.mirror_state.specs.LoadLaws.{IsOfBytes}
 use Rattle.mirror_state.specs.LoadSteps.{ChecksLists}
@@ -112,10 +112,10 @@ module _ (digest : List ℕ → List ℕ) (origin : List ℕ) (keys : List Key) 
       other_answer (Ok v) (record { was_read = λ e. cc e; has_memory = λ e. cc e }) h (λ e. cc e) (λ e. cc e)
 
 -- the first note that does not open
-pub closed_told : (digest : List ℕ → List ℕ) (origin : List ℕ) (keys : List Key) (bytes : List ℕ) (parts : Parts)
+pub closed_recorded : (digest : List ℕ → List ℕ) (origin : List ℕ) (keys : List Key) (bytes : List ℕ) (parts : Parts)
     (listed : HasStrings origin bytes parts) (notes : List (List ℕ)) → notes ≡ listed_notes parts → (index : ℕ)
     (note : List ℕ) → IsFirstNot (IsOpenNote origin keys) notes index note → Refuses digest origin keys bytes index note
-closed_told digest origin keys bytes parts listed notes notes_are index note first = inl (record {
+closed_recorded digest origin keys bytes parts listed notes notes_are index note first = inl (record {
   parts = parts;
   has_strings = listed;
   is_first = subst (λ ns. IsFirstNot (IsOpenNote origin keys) ns index note) notes_are first;
@@ -145,8 +145,8 @@ module _ (digest : List ℕ → List ℕ) (origin : List ℕ) (keys : List Key) 
 
 -- there are fewer notes than a number of 64 bits can tell
 few_notes : (parts : Parts) → AreParts parts → length (listed_notes parts) < 2 ^ 64
-few_notes (Parted o notes pairs entries) fit = fit.notes_fit.count
-few_notes (Tagged o notes strings) fit = fit.notes_fit.count
+few_notes (VersionTwo o notes pairs entries) fit = fit.notes_fit.count
+few_notes (VersionOne o notes strings) fit = fit.notes_fit.count
 
 index_within : (P : List ℕ → Type 0) (parts : Parts) (index : ℕ) (note : List ℕ) → AreParts parts →
     IsFirstNot P (listed_notes parts) index note → index < 18446744073709551615

@@ -22,7 +22,7 @@ use Rattle.mirror_state.specs.declared.fault.SaveFault.TheVariants.{WriteFault}
 use Rattle.mirror_state.specs.Saving.{Saves}
 use Rattle.mirror_state.specs.Loading.{IsStateString}
 use Rattle.mirror_state.specs.Putting.{EndsText, IsUnderWay, Puts, WritesText, pair_bytes, state_text}
-use Rattle.mirror_state.specs.StateText.{AreParted, AreParts, Parted, Parts, StateText}
+use Rattle.mirror_state.specs.StateText.{AreParted, AreParts, VersionTwo, Parts, StateText}
 use Rattle.mirror_state.proofs.Listed.{state_string}
 use Rattle.mirror_state.proofs.Gathered.{lent_bytes}
 use Rattle.mirror_state.proofs.Putting.{front_longer}
@@ -95,7 +95,7 @@ module _ (digest : List ℕ → List ℕ) (state : State) (sound : IsSound diges
   }
 
   pub is_state_text : AreParted state.view.origin notes pairs entries →
-      StateText state.view (state_text (Parted state.view.origin notes pairs entries))
+      StateText state.view (state_text (VersionTwo state.view.origin notes pairs entries))
   is_state_text are = record {
     notes = notes;
     pairs = pairs;
@@ -120,7 +120,7 @@ few_mapped f v = omega (arith, few v, length-map v.items f)
 module _ (digest : List ℕ → List ℕ) (state : State) (sound : IsSound digest state) (held : Sorted)
     (lists : ListsView state.view held) where
   abbrev own : Parts
-  own = Parted state.view.origin (map lent_bytes held.notes.items) (map pair_bytes held.pairs.items)
+  own = VersionTwo state.view.origin (map lent_bytes held.notes.items) (map pair_bytes held.pairs.items)
       (map lent_bytes held.entries.items)
 
   pub own_parts : AreParts own

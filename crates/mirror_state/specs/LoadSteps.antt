@@ -17,7 +17,7 @@ use Rattle.tlog_mirror.specs.Adding.{with_notes}
 use Rattle.mirror_model.specs.declared.notes.HeadNote.{HeadNote}
 use Rattle.tlog_mirror.specs.Opened.{SaysHead}
 use Rattle.tlog_mirror.specs.Restored.{IsOpenNote, strings_alone}
-use Rattle.mirror_state.specs.StateText.{Parts, Parted, Tagged}
+use Rattle.mirror_state.specs.StateText.{Parts, VersionTwo, VersionOne}
 use Rattle.mirror_state.specs.Reading.{ReadsParts}
 use Rattle.mirror_state.specs.declared.parts.PartsFault.{PartsFault}
 use Rattle.mirror_state.specs.declared.parts.PartsFault.TheVariants as reading
@@ -78,9 +78,9 @@ IsListable Tags item = IsStateString item
 
 -- all strings of a state text can be listed in its way
 abbrev pub AreListable : Parts → Type 0
-AreListable (Parted origin notes pairs entries) =
+AreListable (VersionTwo origin notes pairs entries) =
     All (IsListable Entries) entries × All (IsListable Pairs) pairs
-AreListable (Tagged origin notes strings) = All (IsListable Tags) strings
+AreListable (VersionOne origin notes strings) = All (IsListable Tags) strings
 
 -- what each answer of adding strings to a set says: they are added, if none collides
 abbrev pub AddsListed : (List ℕ → List ℕ) → Strings → List (List ℕ) → Result (Unit {0}) AddFault →

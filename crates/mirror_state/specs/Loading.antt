@@ -13,7 +13,7 @@ use Rattle.mirror_model.specs.View.{View}
 use Rattle.mirror_model.specs.Strings.{HasClash}
 use Rattle.mirror_model.specs.Complete.{HasEdge, IsLawful}
 use Rattle.tlog_mirror.specs.Restored.{IsOpenNote}
-use Rattle.mirror_state.specs.StateText.{Parts, Parted, Tagged, IsText, StateText, OldStateText}
+use Rattle.mirror_state.specs.StateText.{Parts, VersionTwo, VersionOne, IsText, StateText, OldStateText}
 use Rattle.mirror_state.specs.Reading.{ReadsParts}
 use Rattle.mirror_state.specs.declared.parts.PartsFault.TheVariants as reading
 use Rattle.mirror_state.specs.declared.fault.LoadFault.{LoadFault}
@@ -28,19 +28,19 @@ use Rattle.mirror_state.specs.declared.fault.LoadFault.TheVariants.{OutOfMemory}
 
 -- the origin that a state text names
 abbrev pub listed_origin : Parts → List ℕ
-listed_origin (Parted origin notes pairs entries) = origin
-listed_origin (Tagged origin notes strings) = origin
+listed_origin (VersionTwo origin notes pairs entries) = origin
+listed_origin (VersionOne origin notes strings) = origin
 
 -- the notes that a state text lists
 abbrev pub listed_notes : Parts → List (List ℕ)
-listed_notes (Parted origin notes pairs entries) = notes
-listed_notes (Tagged origin notes strings) = notes
+listed_notes (VersionTwo origin notes pairs entries) = notes
+listed_notes (VersionOne origin notes strings) = notes
 
 -- the strings that a state text lists, with their tags
 abbrev pub listed_strings : Parts → List (List ℕ)
-listed_strings (Parted origin notes pairs entries) =
+listed_strings (VersionTwo origin notes pairs entries) =
     map (λ (entry : List ℕ). 0 ∷ entry) entries ++ map (λ (pair : List ℕ). 1 ∷ pair) pairs
-listed_strings (Tagged origin notes strings) = strings
+listed_strings (VersionOne origin notes strings) = strings
 
 -- the view that holds just what a state text lists
 abbrev pub listed_view : Parts → View
@@ -57,8 +57,8 @@ Rises items = IsStrictlySortedBy (slice_cmp nat_cmp) items
 
 -- each list of a state text rises
 abbrev pub AllRise : Parts → Type 0
-AllRise (Parted origin notes pairs entries) = Rises notes × Rises pairs × Rises entries
-AllRise (Tagged origin notes strings) = Rises notes × Rises strings
+AllRise (VersionTwo origin notes pairs entries) = Rises notes × Rises pairs × Rises entries
+AllRise (VersionOne origin notes strings) = Rises notes × Rises strings
 
 -- a string of version 1: of an entry of at most 65,535 bytes, or of two hashes
 abbrev pub IsStateString : List ℕ → Type 0
@@ -67,8 +67,8 @@ IsStateString (tag ∷ rest) = ((tag ≡ 0) × (length rest ≤ 65535)) ⊎ ((ta
 
 -- each string of version 1 is one of a tree; in version 2 the tags are not written
 abbrev pub AllTaggedWell : Parts → Type 0
-AllTaggedWell (Parted origin notes pairs entries) = ⊤
-AllTaggedWell (Tagged origin notes strings) = All IsStateString strings
+AllTaggedWell (VersionTwo origin notes pairs entries) = ⊤
+AllTaggedWell (VersionOne origin notes strings) = All IsStateString strings
 
 -- ---- how far bytes are in order, and why they are refused
 

@@ -3,7 +3,7 @@
 use Rattle.std.specs.Prelude.{◌≡◌, ◌≢◌, ◌<◌, ℕ, List, ◌++◌, length, map, All, Result, Ok, Err, ⊤}
 use Rattle.sha2.specs.Sha256.{sha256}
 use Rattle.mirror_state.specs.declared.items.Form.{Form}
-use Rattle.mirror_state.specs.StateText.{Parts, Parted, Tagged, AreParts, lists_text}
+use Rattle.mirror_state.specs.StateText.{Parts, VersionTwo, VersionOne, AreParts, lists_text}
 use Rattle.mirror_state.specs.declared.lists.Lists.{Lists}
 use Rattle.mirror_state.specs.declared.lists.Lists.TheVariants as lists
 use Rattle.mirror_state.specs.declared.parts.PartsFault.{PartsFault}
@@ -33,11 +33,11 @@ pub record HasLists (bytes : List ℕ) (parts : Parts) (rest : List ℕ) : Type 
 
 -- what a state text lists, as a value, of what is lent
 abbrev pub parts_of : Lists → Parts
-parts_of (lists.Parted origin notes pairs entries) =
-    Parted origin.now (map (λ x. x.now) notes.items) (map (λ x. x.now) pairs.items)
+parts_of (lists.VersionTwo origin notes pairs entries) =
+    VersionTwo origin.now (map (λ x. x.now) notes.items) (map (λ x. x.now) pairs.items)
     (map (λ x. x.now) entries.items)
-parts_of (lists.Tagged origin notes strings) =
-    Tagged origin.now (map (λ x. x.now) notes.items) (map (λ x. x.now) strings.items)
+parts_of (lists.VersionOne origin notes strings) =
+    VersionOne origin.now (map (λ x. x.now) notes.items) (map (λ x. x.now) strings.items)
 
 -- what each answer of the reader of the lists says of the bytes
 abbrev pub FindsLists : List ℕ → Result (Parts × List ℕ) PartsFault → Type 0

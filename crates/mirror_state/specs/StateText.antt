@@ -15,20 +15,20 @@ use Rattle.mirror_state.specs.Items.{item_text, list_text, IsItem, AreItems}
 -- what a state text lists: in version 2 pairs of hashes and entries apart, in version 1 strings
 -- with their tags
 pub data Parts : Type 0 where
-  Parted : (origin : List ℕ) (notes pairs entries : List (List ℕ)) → Parts
-  Tagged : (origin : List ℕ) (notes strings : List (List ℕ)) → Parts
+  VersionTwo : (origin : List ℕ) (notes pairs entries : List (List ℕ)) → Parts
+  VersionOne : (origin : List ℕ) (notes strings : List (List ℕ)) → Parts
 
 -- the first eight bytes of a state text: its version
 abbrev pub magic_of : Parts → List ℕ
-magic_of (Parted origin notes pairs entries) = codes "TLMIRR02"
-magic_of (Tagged origin notes strings) = codes "TLMIRR01"
+magic_of (VersionTwo origin notes pairs entries) = codes "TLMIRR02"
+magic_of (VersionOne origin notes strings) = codes "TLMIRR01"
 
 -- the bytes of what a state text lists
 abbrev pub lists_text : Parts → List ℕ
-lists_text (Parted origin notes pairs entries) =
+lists_text (VersionTwo origin notes pairs entries) =
     item_text Short origin
     ++ (list_text Long notes ++ (list_text Hashes pairs ++ list_text Short entries))
-lists_text (Tagged origin notes strings) =
+lists_text (VersionOne origin notes strings) =
     item_text Short origin ++ (list_text Long notes ++ list_text Long strings)
 
 -- the text up to its digest
@@ -50,8 +50,8 @@ pub record AreTagged (origin : List ℕ) (notes strings : List (List ℕ)) : Typ
 
 -- each part of a state text can be written
 abbrev pub AreParts : Parts → Type 0
-AreParts (Parted origin notes pairs entries) = AreParted origin notes pairs entries
-AreParts (Tagged origin notes strings) = AreTagged origin notes strings
+AreParts (VersionTwo origin notes pairs entries) = AreParted origin notes pairs entries
+AreParts (VersionOne origin notes strings) = AreTagged origin notes strings
 
 -- the bytes are the state text of these parts: the body, and its SHA-256
 pub record IsText (bytes : List ℕ) (parts : Parts) : Type 0 where
@@ -63,7 +63,7 @@ pub record StateText (v : View) (bytes : List ℕ) : Type 0 where
   pub notes : List (List ℕ)
   pub pairs : List (List ℕ)
   pub entries : List (List ℕ)
-  pub is_text : IsText bytes (Parted v.origin notes pairs entries)
+  pub is_text : IsText bytes (VersionTwo v.origin notes pairs entries)
   pub notes_are : ListsNotes v notes
   pub pairs_rise : IsStrictlySortedBy (slice_cmp nat_cmp) pairs
   pub pairs_are : (pair : List ℕ) → Contains pairs pair ↔ Has v.strings (1 ∷ pair)
@@ -74,7 +74,7 @@ pub record StateText (v : View) (bytes : List ℕ) : Type 0 where
 pub record OldStateText (v : View) (bytes : List ℕ) : Type 0 where
   pub notes : List (List ℕ)
   pub strings : List (List ℕ)
-  pub is_text : IsText bytes (Tagged v.origin notes strings)
+  pub is_text : IsText bytes (VersionOne v.origin notes strings)
   pub notes_are : ListsNotes v notes
   pub strings_rise : IsStrictlySortedBy (slice_cmp nat_cmp) strings
   pub strings_are : (string : List ℕ) → Contains strings string ↔ Has v.strings string

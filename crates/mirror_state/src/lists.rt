@@ -1,6 +1,6 @@
 //! What a state text lists, lent from its bytes.
 ghost use Rattle.std.specs.Prelude.{◌≡◌, ◌↔◌, codes, ℕ, List, map, IfNone, IfOk, IfSome, IsTrue};
-ghost use Rattle.mirror_state.specs.StateText.{Parted, Tagged, magic_of};
+ghost use Rattle.mirror_state.specs.StateText.{VersionTwo, VersionOne, magic_of};
 ghost use Rattle.mirror_state.specs.Loading.{AllRise, AllTaggedWell, listed_notes, listed_origin};
 ghost use Rattle.mirror_state.specs.Stands.{parts_of, HasLists};
 
@@ -12,9 +12,9 @@ use std::alloc::{AllocError, Global};
 #[derive(Drop)]
 pub(crate) enum Lists<'a> {
     /// Version 2: pairs of hashes, and entries.
-    Parted(&'a [u8], Vec<&'a [u8]>, Vec<&'a [u8]>, Vec<&'a [u8]>),
+    VersionTwo(&'a [u8], Vec<&'a [u8]>, Vec<&'a [u8]>, Vec<&'a [u8]>),
     /// Version 1: strings with their tags.
-    Tagged(&'a [u8], Vec<&'a [u8]>, Vec<&'a [u8]>),
+    VersionOne(&'a [u8], Vec<&'a [u8]>, Vec<&'a [u8]>),
 }
 
 impl<'a> Lists<'a> {
@@ -23,8 +23,8 @@ impl<'a> Lists<'a> {
         ensures { result.now ≡ listed_origin (parts_of self.now) }
     {
         match self {
-            Lists::Parted(origin, _, _, _) => origin,
-            Lists::Tagged(origin, _, _) => origin,
+            Lists::VersionTwo(origin, _, _, _) => origin,
+            Lists::VersionOne(origin, _, _) => origin,
         }
     }
 
@@ -33,8 +33,8 @@ impl<'a> Lists<'a> {
         ensures { map (λ n. n.now) result.now ≡ listed_notes (parts_of self.now) }
     {
         match self {
-            Lists::Parted(_, notes, _, _) => notes.as_slice(),
-            Lists::Tagged(_, notes, _) => notes.as_slice(),
+            Lists::VersionTwo(_, notes, _, _) => notes.as_slice(),
+            Lists::VersionOne(_, notes, _) => notes.as_slice(),
         }
     }
 
@@ -43,10 +43,10 @@ impl<'a> Lists<'a> {
         ensures { IsTrue result ↔ AllRise (parts_of self.now) }
     {
         match self {
-            Lists::Parted(_, notes, pairs, entries) => {
+            Lists::VersionTwo(_, notes, pairs, entries) => {
                 rises(notes) && rises(pairs) && rises(entries)
             }
-            Lists::Tagged(_, notes, strings) => rises(notes) && rises(strings),
+            Lists::VersionOne(_, notes, strings) => rises(notes) && rises(strings),
         }
     }
 
@@ -55,8 +55,8 @@ impl<'a> Lists<'a> {
         ensures { IsTrue result ↔ AllTaggedWell (parts_of self.now) }
     {
         match self {
-            Lists::Parted(_, _, _, _) => true,
-            Lists::Tagged(_, _, strings) => all_state_strings(strings),
+            Lists::VersionTwo(_, _, _, _) => true,
+            Lists::VersionOne(_, _, strings) => all_state_strings(strings),
         }
     }
 }
@@ -71,7 +71,7 @@ pub(crate) fn parted_at(
         ≡ codes "TLMIRR02")) }
     ensures none { IfOk result (λ o. IfNone o
         ((origin : List ℕ) (notes pairs entries : List (List ℕ)) (rest : List ℕ)
-        → ¬ HasLists bytes.now (Parted origin notes pairs entries) rest)) }
+        → ¬ HasLists bytes.now (VersionTwo origin notes pairs entries) rest)) }
 {
     let Some((origin, after)) = item_at(Form::Short, bytes) else {
         return Ok(None);
@@ -85,7 +85,7 @@ pub(crate) fn parted_at(
     let Some((entries, rest)) = list_at(alloc, Form::Short, after)? else {
         return Ok(None);
     };
-    Ok(Some((Lists::Parted(origin, notes, pairs, entries), rest)))
+    Ok(Some((Lists::VersionTwo(origin, notes, pairs, entries), rest)))
 }
 
 // The lists of version 1 at the start, and the bytes behind them.
@@ -97,7 +97,7 @@ pub(crate) fn tagged_at(
     ensures version { IfOk result (λ o. IfSome o (λ x. magic_of (parts_of x.0)
         ≡ codes "TLMIRR01")) }
     ensures none { IfOk result (λ o. IfNone o ((origin : List ℕ) (notes strings : List (List ℕ))
-        (rest : List ℕ) → ¬ HasLists bytes.now (Tagged origin notes strings) rest)) }
+        (rest : List ℕ) → ¬ HasLists bytes.now (VersionOne origin notes strings) rest)) }
 {
     let Some((origin, after)) = item_at(Form::Short, bytes) else {
         return Ok(None);
@@ -108,5 +108,5 @@ pub(crate) fn tagged_at(
     let Some((strings, rest)) = list_at(alloc, Form::Long, after)? else {
         return Ok(None);
     };
-    Ok(Some((Lists::Tagged(origin, notes, strings), rest)))
+    Ok(Some((Lists::VersionOne(origin, notes, strings), rest)))
 }

@@ -300,8 +300,8 @@ fn add_listed<H: TreeHash>(
 // How many strings are listed. Each has its bytes in the text, so that no text makes room for more than it has.
 fn count_of(lists: &Lists) -> usize {
     match lists {
-        Lists::Parted(_, _, pairs, entries) => pairs.len().saturating_add(entries.len()),
-        Lists::Tagged(_, _, strings) => strings.len(),
+        Lists::VersionTwo(_, _, pairs, entries) => pairs.len().saturating_add(entries.len()),
+        Lists::VersionOne(_, _, strings) => strings.len(),
     }
 }
 
@@ -324,8 +324,8 @@ fn add_lists<H: TreeHash>(store: &mut Store<H>, lists: &Lists) -> Result<(), Add
     ensures { AddsListed H.digest store.old (listed_strings (parts_of lists.now)) result store.new }
 {
     match lists {
-        Lists::Parted(_, _, pairs, entries) => add_both(store, pairs, entries),
-        Lists::Tagged(_, _, strings) => add_strings(store, strings),
+        Lists::VersionTwo(_, _, pairs, entries) => add_both(store, pairs, entries),
+        Lists::VersionOne(_, _, strings) => add_strings(store, strings),
     }
 }
 

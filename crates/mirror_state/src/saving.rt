@@ -3,7 +3,7 @@ ghost use Rattle.std.specs.Prelude.{map};
 ghost use Rattle.mirror_state.specs.Listing.{ListsView};
 ghost use Rattle.mirror_state.specs.Putting.{pair_bytes, state_text, Puts, WritesText};
 ghost use Rattle.mirror_state.specs.Saving.{Saves};
-ghost use Rattle.mirror_state.specs.StateText.{body_text, AreParted, Parted};
+ghost use Rattle.mirror_state.specs.StateText.{body_text, AreParted, VersionTwo};
 
 use crate::fault::SaveFault;
 use crate::items::Form;
@@ -74,7 +74,7 @@ fn write_text<W: Write>(
     requires { AreParted origin.now (map (λ n. n.now) notes.now) (map pair_bytes pairs.now)
         (map (λ e. e.now) entries.now) }
     ensures { WritesText (W.contents writer.old) (W.contents writer.new)
-        (state_text (Parted origin.now (map (λ n. n.now) notes.now) (map pair_bytes pairs.now)
+        (state_text (VersionTwo origin.now (map (λ n. n.now) notes.now) (map pair_bytes pairs.now)
         (map (λ e. e.now) entries.now))) result }
 {
     let mut page = Page::new(alloc);
@@ -94,7 +94,7 @@ fn put_body<W: Write>(
     requires { AreParted origin.now (map (λ n. n.now) notes.now) (map pair_bytes pairs.now)
         (map (λ e. e.now) entries.now) }
     ensures { Puts (W.contents writer.old) (W.contents writer.new) page.old page.new
-        (body_text (Parted origin.now (map (λ n. n.now) notes.now) (map pair_bytes pairs.now)
+        (body_text (VersionTwo origin.now (map (λ n. n.now) notes.now) (map pair_bytes pairs.now)
         (map (λ e. e.now) entries.now))) result }
 {
     put(writer, page, b"TLMIRR02".as_slice())?;

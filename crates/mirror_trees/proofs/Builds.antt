@@ -13,19 +13,19 @@ use Rattle.mirror_trees.proofs.Descents.{none-tree, tree-none, one-tree, tree-on
 use Rattle.mirror_trees.proofs.Descents.{right-tree}
 
 module _ (digest : List ℕ → List ℕ) (held : Strings) where
-  pub tells_none : (size : ℕ) (root : List ℕ) (b : Bool) → size ≡ 0 → b ≡ pointwise eqb (digest []) root →
+  pub records_none : (size : ℕ) (root : List ℕ) (b : Bool) → size ≡ 0 → b ≡ pointwise eqb (digest []) root →
       IsTrue b ↔ IsBuilt digest held size root
-  tells_none size root b zero_is is =
+  records_none size root b zero_is is =
       let decides = slice_eq-Decides Decides-eqb (digest []) root b is in
       subst (λ n. IsTrue b ↔ IsBuilt digest held n root) (sym zero_is) (
         λ h. record { entries = []; is = none-tree digest held root (decides.0 h) },
         λ t. decides.1 (tree-none digest held root t.entries t.is),
       )
 
-  pub tells_one : (size : ℕ) (root : List ℕ) (o : Option (Bor (List ℕ))) (b : Bool) → size ≡ 1 → b ≡ is_some o →
+  pub records_one : (size : ℕ) (root : List ℕ) (o : Option (Bor (List ℕ))) (b : Bool) → size ≡ 1 → b ≡ is_some o →
       IfSome o (λ e. IsHeldAt digest held root (0 ∷ e.now)) →
       IfNone o ((e : List ℕ) → IsHeldAt digest held root (0 ∷ e) → ⊥) → IsTrue b ↔ IsBuilt digest held size root
-  tells_one size root o b one_is is some none =
+  records_one size root o b one_is is some none =
       subst (λ n. IsTrue b ↔ IsBuilt digest held n root) (sym one_is) (at o is some none)
     where
       at : (o : Option (Bor (List ℕ))) → b ≡ is_some o → IfSome o (λ e. IsHeldAt digest held root (0 ∷ e.now)) →
@@ -49,9 +49,9 @@ module _ (digest : List ℕ → List ℕ) (held : Strings) where
       (b : Bool) (two : 2 ≤ n) (k_is : k ≡ split_of n) (len : length l ≡ 32)
       (h : IsHeldAt digest held root (1 ∷ l ++ r)) where
     -- both parts are walked, the right one if the left one is there
-    pub tells_both : IsBuilt digest held k l → IsTrue b ↔ IsBuilt digest held (n - k) r →
+    pub records_both : IsBuilt digest held k l → IsTrue b ↔ IsBuilt digest held (n - k) r →
         IsTrue b ↔ IsBuilt digest held n root
-    tells_both x y = (
+    records_both x y = (
       λ t. let z =
           y.0 t in record {
             entries =

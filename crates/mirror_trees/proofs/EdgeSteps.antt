@@ -504,19 +504,19 @@ module _ (digest : List ℕ → List ℕ) (held : Strings) (n level : ℕ) (root
           lowest_of width width_is some e in absurd (none l.above l.up),
     )
 
-    pub edge_told : (width : ℕ) (value : List ℕ) (o : Option (List ℕ)) (b : Bool) → width ≡ width_of n level →
+    pub edge_recorded : (width : ℕ) (value : List ℕ) (o : Option (List ℕ)) (b : Bool) → width ≡ width_of n level →
         0 < width → b ≡ is_some o → LeadsUp digest held n (level + 1) root value →
         ((other : List ℕ) → LeadsUp digest held n (level + 1) root other → other ≡ value) →
         IfSome o (λ last. HasRow digest held width value last) →
         IfNone o ((last : List ℕ) → HasRow digest held width value last → ⊥) →
         IsTrue b ↔ HoldsEdgeFrom digest held n level root
-    edge_told width value None b width_is some is up only found none = (
+    edge_recorded width value None b width_is some is up only found none = (
       λ h. absurd (cc (h, is)),
       λ e. let l =
           lowest_of width width_is some e in absurd
           (none l.last (subst (λ v. HasRow digest held width v l.last) (only l.above l.up) l.row)),
     )
-    edge_told width value (Some last) b width_is some is up only found none =
+    edge_recorded width value (Some last) b width_is some is up only found none =
         (λ _. edge_of width width_is some (record { above = value; up = up; last = last; row = found }), λ _. is)
 
 -- ---- rows as bytes

@@ -11,9 +11,9 @@ use Rattle.node_store.specs.Strings.{Strings, IsHeldAt, NoClash}
 use Rattle.mirror_model.specs.Complete.{IsBuilt}
 use Rattle.mirror_model.specs.Forks.{Point}
 use Rattle.mirror_model.specs.Marks.{Points}
-use Rattle.mirror_trees.specs.Known.{AreBuilt, AreKnown, HasMark}
-use Rattle.mirror_trees.specs.declared.known.Known.{Known}
-use Rattle.mirror_trees.proofs.Builds.{tells_both, tells_left}
+use Rattle.mirror_trees.specs.HeldTrees.{AreBuilt, AreKnown, HasMark}
+use Rattle.mirror_trees.specs.declared.known.HeldTrees.{HeldTrees}
+use Rattle.mirror_trees.proofs.Builds.{records_both, tells_left}
 use Rattle.mirror_trees.proofs.Descents.{one-tree, join-tree}
 use Rattle.mirror_trees.proofs.Settles.{mark_cases}
 use Rattle.mirror_trees.proofs.SliceSteps.{point_at}
@@ -26,15 +26,15 @@ noted (Err e) v w p is same q h = inr (subst (λ s. HasMark s q) same h)
 
 module _ (digest : List ℕ → List ℕ) (held : Strings) where
   -- what is known is held
-  pub known_built : (known : Known) (n : ℕ) (root : List ℕ) → AreKnown digest held known →
+  pub known_built : (known : HeldTrees) (n : ℕ) (root : List ℕ) → AreKnown digest held known →
       HasMark known.remembered (record { size = n; root = root }) ⊎ HasMark known.built (record { size = n; root = root }) → IsBuilt digest held n root
   known_built known n root k (inl h) = k.remembered.built n root h
   known_built known n root k (inr h) = k.built.built n root h
 
-  pub known_tells : (known : Known) (n : ℕ) (root : List ℕ) (b : Bool) → AreKnown digest held known →
+  pub known_decides : (known : HeldTrees) (n : ℕ) (root : List ℕ) (b : Bool) → AreKnown digest held known →
       (IsTrue b → HasMark known.remembered (record { size = n; root = root }) ⊎ HasMark known.built (record { size = n; root = root })) → b ≡ true →
       IsTrue true ↔ IsBuilt digest held n root
-  known_tells known n root b k has held_is = (λ _. known_built known n root k (has held_is), λ _. refl)
+  known_decides known n root b k has held_is = (λ _. known_built known n root k (has held_is), λ _. refl)
 
   -- a tree that is held is noted
   pub noted_built : (v w : Points) (n : ℕ) (root : List ℕ) → AreBuilt digest held v → IsBuilt digest held n root →
@@ -46,7 +46,7 @@ module _ (digest : List ℕ → List ℕ) (held : Strings) where
     ];
   }
 
-  pub noted_known : (known : Known) (w : Points) (n : ℕ) (root : List ℕ) → AreKnown digest held known →
+  pub noted_known : (known : HeldTrees) (w : Points) (n : ℕ) (root : List ℕ) → AreKnown digest held known →
       IsBuilt digest held n root → ((q : Point) → HasMark w q → (q ≡ point_at n root) ⊎ HasMark known.built q) →
       AreKnown digest held (record { remembered = known.remembered; built = w })
   noted_known known w n root k b only =
@@ -77,7 +77,7 @@ module _ (digest : List ℕ → List ℕ) (held : Strings) where
     -- the left part is held, and so is the right one, or not
     pub tells_right : (a b : Bool) → a ≡ true → IsTrue a ↔ IsBuilt digest held k l →
         IsTrue b ↔ IsBuilt digest held (n - k) r → IsTrue b ↔ IsBuilt digest held n root
-    tells_right a b held_is x y = tells_both digest held size clean n k root l r b two k_is len h (x.0 held_is) y
+    tells_right a b held_is x y = records_both digest held size clean n k root l r b two k_is len h (x.0 held_is) y
 
     pub tells_no_right : (a b : Bool) → a ≡ true → IsTrue a ↔ IsBuilt digest held k l → b ≡ false →
         IsTrue b ↔ IsBuilt digest held (n - k) r → IsTrue false ↔ IsBuilt digest held n root
@@ -90,10 +90,10 @@ module _ (digest : List ℕ → List ℕ) (held : Strings) where
     both_built a b left_is x right_is y = (tells_right a b left_is x y).0 right_is
 
     -- both parts are equal, and the left one is held
-    pub tells_equal : (a b : Bool) → a ≡ true → IsTrue a ↔ IsBuilt digest held k l → n - k ≡ k →
+    pub records_equal : (a b : Bool) → a ≡ true → IsTrue a ↔ IsBuilt digest held k l → n - k ≡ k →
         b ≡ pointwise eqb l r → b ≡ true → IsTrue true ↔ IsBuilt digest held n root
-    tells_equal a b held_is x half is equal =
-        tells_both digest held size clean n k root l r true two k_is len h (x.0 held_is) (
+    records_equal a b held_is x half is equal =
+        records_both digest held size clean n k root l r true two k_is len h (x.0 held_is) (
           λ _. subst (λ m. IsBuilt digest held m r) (sym half)
               (subst (IsBuilt digest held k) ((slice_eq-Decides Decides-eqb l r b is).0 equal) (x.0 held_is)),
           λ _. refl,

@@ -23,7 +23,7 @@ use Rattle.mirror_model.specs.Walk.{WalkFails, IsPairHeld}
 use Rattle.mirror_model.proofs.Missing.{IsLeafOf, IsPairOf, is_leaf, is_pair, search_set}
 use Rattle.mirror_model.specs.Forks.{Point}
 use Rattle.mirror_model.specs.Marks.{Points}
-use Rattle.mirror_trees.specs.Known.{HasMark}
+use Rattle.mirror_trees.specs.HeldTrees.{HasMark}
 use Rattle.mirror_trees.specs.Levels.{IsOfLevel, ListsNode, ListsLost, IsClear, AreClear}
 use Rattle.mirror_trees.proofs.EmptySets.{no_mark}
 use Rattle.mirror_trees.proofs.Losses.{built_not_fails}

@@ -15,7 +15,7 @@ use Rattle.mirror_model.specs.Forks.{Point}
 use Rattle.mirror_model.specs.Complete.{IsBuilt}
 use Rattle.mirror_model.specs.Marks.{IsMark, State, IsSound}
 use Rattle.mirror_model.proofs.StringSets.{all_from_held, held_from_all}
-use Rattle.mirror_trees.specs.Known.{AreBuilt}
+use Rattle.mirror_trees.specs.HeldTrees.{AreBuilt}
 use Rattle.mirror_trees.proofs.RangeSteps.{part-take, part-drop, part-whole, length-part}
 
 module _ (digest : List ℕ → List ℕ) (held : Strings) where

@@ -83,8 +83,8 @@ module _ (digest : List ℕ → List ℕ) (held : Strings) (m n : ℕ) (small la
 
   module _ (size : (s : List ℕ) → length (digest s) ≡ 32) (clean : NoClash digest held) where
     -- equal sizes: one hash is one list
-    pub tells_equal : m ≡ n → (b : Bool) → b ≡ pointwise eqb small large → IsTrue b ↔ IsPrefix xs ys
-    tells_equal equal b is =
+    pub records_equal : m ≡ n → (b : Bool) → b ≡ pointwise eqb small large → IsTrue b ↔ IsPrefix xs ys
+    records_equal equal b is =
         let decides = slice_eq-Decides Decides-eqb small large b is in (
           λ h.
               let root_is : small ≡ large = decides.0 h in

@@ -13,7 +13,7 @@ use Rattle.mirror_model.specs.Complete.{IsBuilt}
 use Rattle.mirror_model.specs.Forks.{Point, point_cmp}
 use Rattle.mirror_model.specs.Marks.{Points}
 use Rattle.mirror_model.proofs.StringSets.{held_more}
-use Rattle.mirror_trees.specs.Known.{AreBuilt, HasMark}
+use Rattle.mirror_trees.specs.HeldTrees.{AreBuilt, HasMark}
 use Rattle.mirror_trees.specs.Slices.{IsSliceOf, HasSlices, AreSettled, Gains, SettledStays, MarksAreSlices}
 use Rattle.mirror_trees.proofs.Marking.{point_total, point_same}
 use Rattle.mirror_trees.proofs.SliceSteps.{point_at, one_slice, whole_slice, left_slice, right_slice}

@@ -8,7 +8,7 @@ use Rattle.tlog_tiles.specs.declared.paths.Path.TheVariants.{Tile, Entries}
 use Rattle.node_store.specs.Strings.{Strings, IsHeldAt}
 use Rattle.mirror_model.specs.Marks.{Points}
 use Rattle.mirror_model.specs.Walk.{IsPairHeld}
-use Rattle.mirror_trees.specs.Known.{HasMark}
+use Rattle.mirror_trees.specs.HeldTrees.{HasMark}
 
 -- a file of that level has the strings of a node of this many entries
 pub record IsOfLevel (level many : ℕ) : Type 0 where

@@ -11,7 +11,7 @@ use Rattle.mirror_model.specs.Complete.{IsTreeOf}
 use Rattle.mirror_model.specs.Forks.{Point}
 use Rattle.mirror_model.specs.Marks.{Points, IsMark}
 use Rattle.mirror_model.specs.Strings.{IsDigest}
-use Rattle.mirror_trees.specs.Known.{HasMark, AreBuilt}
+use Rattle.mirror_trees.specs.HeldTrees.{HasMark, AreBuilt}
 
 module _ (digest : List ℕ → List ℕ) (held : Strings) where
   -- the point is a slice of a tree that is held: the number of entries and the tree hash of a part

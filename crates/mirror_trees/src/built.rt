@@ -1,9 +1,9 @@
 //! Whether a tree is held.
 ghost use Rattle.std.specs.Prelude.{◌≡◌, ◌↔◌, IsTrue, IfOk};
 ghost use Rattle.mirror_model.specs.Complete.{IsBuilt};
-ghost use Rattle.mirror_trees.specs.Known.{AreKnown};
+ghost use Rattle.mirror_trees.specs.HeldTrees.{AreKnown};
 
-use crate::known::{Known, note_built};
+use crate::known::{HeldTrees, note_built};
 use node_store::Store;
 use std::alloc::AllocError;
 use tlog_hash::{Hash, TreeHash};
@@ -14,7 +14,7 @@ use tlog_shape::split;
 ///
 /// It does not walk into what is known, each of which is to be held, nor into the second of two equal halves. It takes
 /// no memory.
-pub fn is_built<H: TreeHash>(store: &Store<H>, known: &Known, size: u64, root: &Hash) -> bool
+pub fn is_built<H: TreeHash>(store: &Store<H>, known: &HeldTrees, size: u64, root: &Hash) -> bool
     requires { AreKnown H.digest store.now known.now }
     ensures { IsTrue result ↔ IsBuilt H.digest store.now size root.now }
 {
@@ -51,7 +51,7 @@ pub fn is_built<H: TreeHash>(store: &Store<H>, known: &Known, size: u64, root: &
 /// `AllocError` comes only where a growth was refused. What was known before is known still.
 pub fn check_built<H: TreeHash>(
     store: &Store<H>,
-    known: &mut Known,
+    known: &mut HeldTrees,
     size: u64,
     root: &Hash,
 ) -> Result<bool, AllocError>

@@ -1,9 +1,9 @@
 //! How many paths may be missing of a tree, counted before they are listed.
 ghost use Rattle.std.specs.Prelude.{◌≡◌, ◌≤◌, ◌≢◌, IfOk, IfSome};
 ghost use Rattle.mirror_model.specs.Complete.{IsBuilt};
-ghost use Rattle.mirror_trees.specs.Known.{AreBuilt, AreKnown};
+ghost use Rattle.mirror_trees.specs.HeldTrees.{AreBuilt, AreKnown};
 
-use crate::known::{Known, MANY, is_noted, note_built};
+use crate::known::{HeldTrees, MANY, is_noted, note_built};
 use crate::mark_key::MarkKey;
 use crate::marks::Marks;
 use node_store::Store;
@@ -58,7 +58,7 @@ impl Counts {
 // longer than what is held is large, and the memory of the whole list can be asked for at once.
 pub(crate) fn count_lost<H: TreeHash>(
     store: &Store<H>,
-    known: &Known,
+    known: &HeldTrees,
     found: &mut Marks,
     counts: &mut Counts,
     size: u64,

@@ -2,7 +2,7 @@
 ghost use Rattle.std.specs.Prelude.{◌≡◌, ◌⊎◌, IsTrue};
 ghost use Rattle.std.specs.FinSet as set;
 ghost use Rattle.mirror_model.specs.Forks.{Point};
-ghost use Rattle.mirror_trees.specs.Known.{HasMark};
+ghost use Rattle.mirror_trees.specs.HeldTrees.{HasMark};
 
 use crate::marks::Marks;
 use std::alloc::{AllocError, Global};
@@ -14,25 +14,25 @@ pub(crate) const MANY: u64 = 32;
 /// What is known of the trees of a store, so that no walk goes into them.
 ///
 /// ```text
-/// let mut known = Known::new(alloc);
+/// let mut known = HeldTrees::new(alloc);
 /// settle(&store, &mut known, 3, &root)?;
 /// known.remembered.len()  // 5, where the tree of three different entries is held
 /// ```
 #[derive(Drop)]
-pub struct Known {
+pub struct HeldTrees {
     /// What is remembered: of each tree that was settled and is held whole all its slices.
     pub remembered: Marks,
     /// Trees of many entries that a walk found held whole, slices of trees that are not held among them.
     pub built: Marks,
 }
 
-impl Known {
+impl HeldTrees {
     /// Nothing is known. It takes no memory.
     pub fn new(alloc: Global) -> Self
         ensures remembered { result.remembered ≡ set.empty }
         ensures built { result.built ≡ set.empty }
     {
-        Known {
+        HeldTrees {
             remembered: Marks::new(alloc),
             built: Marks::new(alloc),
         }

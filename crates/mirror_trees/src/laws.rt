@@ -1,7 +1,7 @@
 //! Laws of what is remembered, and of prefixes.
 //!
 //! A law is the contract of a function with an empty body: the proof is all that there is of it.
-ghost use Rattle.mirror_trees.specs.Known.{RememberedIsHeld};
+ghost use Rattle.mirror_trees.specs.HeldTrees.{RememberedIsHeld};
 ghost use Rattle.mirror_trees.specs.Prefixes.{ForksGoOn, PrefixOfPrefix};
 ghost use Rattle.mirror_trees.specs.Slices.{MarksAreSlices, SettledStays};
 

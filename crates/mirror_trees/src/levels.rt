@@ -2,10 +2,10 @@
 ghost use Rattle.std.specs.Prelude.{◌≡◌, ◌+◌, ◌*◌, ◌^◌, ◌≤◌, ◌<◌, ℕ, List, IfOk, IfSome, IsTrue, ◌↔◌};
 ghost use Rattle.node_store.specs.Strings.{NoClash};
 ghost use Rattle.tlog_hash.specs.Shape.{shape};
-ghost use Rattle.mirror_trees.specs.Known.{AreKnown};
+ghost use Rattle.mirror_trees.specs.HeldTrees.{AreKnown};
 ghost use Rattle.mirror_trees.specs.Levels.{AreClear, IsClear, IsOfLevel, ListsLost, ListsNode, first_from};
 
-use crate::known::{Known, is_noted, note_built};
+use crate::known::{HeldTrees, is_noted, note_built};
 use crate::marks::Marks;
 use crate::rows::unit_of;
 use node_store::Store;
@@ -29,7 +29,7 @@ use tlog_shape::{edge_index, split};
 pub fn clear_of<H: TreeHash>(
     alloc: Global,
     store: &Store<H>,
-    known: &Known,
+    known: &HeldTrees,
     level: u32,
     size: u64,
     root: &Hash,
@@ -51,7 +51,7 @@ pub fn clear_of<H: TreeHash>(
 // clear, and each other one among those that it has seen.
 fn note_clear<H: TreeHash>(
     store: &Store<H>,
-    known: &Known,
+    known: &HeldTrees,
     seen: &mut Marks,
     clear: &mut Marks,
     level: u32,
@@ -107,7 +107,7 @@ fn note_clear<H: TreeHash>(
 /// It goes down to that file, and not into what is clear. It takes no memory.
 pub fn next_missing<H: TreeHash>(
     store: &Store<H>,
-    known: &Known,
+    known: &HeldTrees,
     clear: &Marks,
     level: u32,
     from: u64,
@@ -131,7 +131,7 @@ pub fn next_missing<H: TreeHash>(
 // The same of the subtree of `size` entries from `start` on.
 fn next_lost<H: TreeHash>(
     store: &Store<H>,
-    known: &Known,
+    known: &HeldTrees,
     clear: &Marks,
     level: u32,
     from: u64,

@@ -9,7 +9,7 @@
 //! ```text
 //! let mut store: Store<Sha256Tree> = Store::new(alloc);
 //! let root = add_entries(&mut store, &[b"a", b"b", b"c"])?;
-//! is_built(&store, &Known::new(alloc), 3, &root)  // true
+//! is_built(&store, &HeldTrees::new(alloc), 3, &root)  // true
 //! entries_at(alloc, &store, 3, &root, 0, 3)?      // Some of the three entries
 //! ```
 #![tactic(auto)]
@@ -36,7 +36,7 @@ pub use built::{check_built, is_built};
 pub use bundle::entries_at;
 pub use edge::holds_edge;
 pub use files::files_of;
-pub use known::Known;
+pub use known::HeldTrees;
 pub use laws::{forks_go_on_law, known_law, prefix_of_prefix_law, settled_law, slices_law};
 pub use levels::{clear_of, next_missing};
 pub use marks::Marks;

@@ -1,7 +1,7 @@
 //! The sizes and hashes that are remembered.
 ghost use Rattle.std.specs.Prelude.{◌≡◌, ◌↔◌, IsTrue, OnOk, OnErr};
 ghost use Rattle.std.specs.FinSet as set;
-ghost use Rattle.mirror_trees.specs.Known.{HasMark};
+ghost use Rattle.mirror_trees.specs.HeldTrees.{HasMark};
 
 use crate::mark_key::MarkKey;
 use std::alloc::{AllocError, Global};

@@ -7,11 +7,11 @@ ghost use Rattle.mirror_model.specs.Front.{path_cmp, IsPathOf};
 ghost use Rattle.mirror_model.specs.Walk.{IsMissing};
 ghost use Rattle.node_store.specs.Strings.{NoClash};
 ghost use Rattle.mirror_model.specs.Complete.{IsBuilt};
-ghost use Rattle.mirror_trees.specs.Known.{AreBuilt, AreKnown};
+ghost use Rattle.mirror_trees.specs.HeldTrees.{AreBuilt, AreKnown};
 ghost use Rattle.mirror_trees.specs.Lost.{IsLost};
 
 use crate::counting::{Counts, count_lost};
-use crate::known::{Known, is_noted, note_built};
+use crate::known::{HeldTrees, is_noted, note_built};
 use crate::marks::Marks;
 use crate::rows::unit_of;
 use node_store::Store;
@@ -38,7 +38,7 @@ use tlog_tiles::Path;
 pub fn missing_of<H: TreeHash>(
     alloc: Global,
     store: &Store<H>,
-    known: &Known,
+    known: &HeldTrees,
     size: u64,
     root: &Hash,
 ) -> Result<Vec<Path>, AllocError>
@@ -57,7 +57,7 @@ pub fn missing_of<H: TreeHash>(
 fn all_lost<H: TreeHash>(
     alloc: Global,
     store: &Store<H>,
-    known: &Known,
+    known: &HeldTrees,
     size: u64,
     root: &Hash,
 ) -> Result<Vec<Path>, AllocError>
@@ -119,7 +119,7 @@ fn order(a: &Path, b: &Path) -> Ordering
 // `total`. True where there are none. What it finds held whole it notes among what was found.
 fn push_lost<H: TreeHash>(
     store: &Store<H>,
-    known: &Known,
+    known: &HeldTrees,
     found: &mut Marks,
     total: u64,
     start: u64,

@@ -3,11 +3,11 @@ ghost use Rattle.std.specs.Prelude.{◌⊎◌, OnOk};
 ghost use Rattle.node_store.specs.Strings.{NoClash};
 ghost use Rattle.mirror_model.specs.Complete.{IsBuilt};
 ghost use Rattle.mirror_model.specs.Forks.{Point};
-ghost use Rattle.mirror_trees.specs.Known.{AreKnown, HasMark};
+ghost use Rattle.mirror_trees.specs.HeldTrees.{AreKnown, HasMark};
 ghost use Rattle.mirror_trees.specs.Slices.{AreSettled, Gains, HasSlices, IsSliceOf};
 
 use crate::built::check_built;
-use crate::known::Known;
+use crate::known::HeldTrees;
 use crate::marks::Marks;
 use node_store::Store;
 use std::alloc::AllocError;
@@ -26,7 +26,7 @@ use tlog_shape::split;
 /// tree some whole slices may be.
 pub fn settle<H: TreeHash>(
     store: &Store<H>,
-    known: &mut Known,
+    known: &mut HeldTrees,
     size: u64,
     root: &Hash,
 ) -> Result<(), AllocError>

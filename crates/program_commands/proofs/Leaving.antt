@@ -1,6 +1,6 @@
 -- What a command leaves in files, from what it made.
 use Rattle.std.proofs.Common.{ℕ, List, Option, Result, Ok, Err}
-use Rattle.mirror_sources.specs.Told.{KeepsTold}
+use Rattle.mirror_sources.specs.Recorded.{KeepsRecord}
 use Rattle.signed_note.specs.Keys.{Key}
 use Rattle.mirror_model.specs.View.{View}
 use Rattle.program_files.specs.Named.{NamedFile}
@@ -20,12 +20,12 @@ use Rattle.program_commands.specs.declared.fault.MergeFilesFault.TheVariants as 
 
 -- A fault says the same whatever type its answer has: that is written `Unit` here.
 
-module _ (digest : List ℕ → List ℕ) (origin : List ℕ) (keys : List Key) (told new : Option (List NamedFile)) where
+module _ (digest : List ℕ → List ℕ) (origin : List ℕ) (keys : List Key) (recorded new : Option (List NamedFile)) where
   -- nothing was taken, and nothing written
   pub left_untaken :
       (state : Option (List ℕ)) (files : ItemFiles) (out : List ℕ) (fault : TakeFilesFault) →
-      MakesTaken digest origin keys told state files (Err fault) → KeepsTold told new →
-      LeavesTaken digest origin keys told state files {T = Unit {0}} out new (Err fault)
+      MakesTaken digest origin keys recorded state files (Err fault) → KeepsRecord recorded new →
+      LeavesTaken digest origin keys recorded state files {T = Unit {0}} out new (Err fault)
   left_untaken state files out (taking.State fault) h kept = (h, kept)
   left_untaken state files out (taking.Item fault) h kept = (h, kept)
   left_untaken state files out (taking.Take fault) h kept = (h, kept)
@@ -34,39 +34,39 @@ module _ (digest : List ℕ → List ℕ) (origin : List ℕ) (keys : List Key) 
   -- the same of a merge
   pub left_unmerged :
       (first second out : List ℕ) (fault : MergeFilesFault) →
-      MakesMerged digest origin keys told first second (Err fault) → KeepsTold told new →
-      LeavesMerged digest origin keys told first second {T = Unit {0}} out new (Err fault)
+      MakesMerged digest origin keys recorded first second (Err fault) → KeepsRecord recorded new →
+      LeavesMerged digest origin keys recorded first second {T = Unit {0}} out new (Err fault)
   left_unmerged first second out (merging.First fault) h kept = (h, kept)
   left_unmerged first second out (merging.Second fault) h kept = (h, kept)
   left_unmerged first second out (merging.Merge fault) h kept = (h, kept)
   left_unmerged first second out (merging.Out fault) h kept = absurd h
 
-module _ (digest : List ℕ → List ℕ) (origin : List ℕ) (keys : List Key) (told : Option (List NamedFile))
+module _ (digest : List ℕ → List ℕ) (origin : List ℕ) (keys : List Key) (recorded : Option (List NamedFile))
     (state : Option (List ℕ)) (files : ItemFiles) where
   -- a mirror was begun with, and no item was taken into it
   pub begun_untaken :
-      (before after : View) (fault : TakeFilesFault) → BeginsWith digest origin keys told state (Ok before) →
-      TakesHeld digest keys told {T = Unit {0}} before files after (Err fault) →
-      MakesTaken digest origin keys told state files (Err fault)
+      (before after : View) (fault : TakeFilesFault) → BeginsWith digest origin keys recorded state (Ok before) →
+      TakesHeld digest keys recorded {T = Unit {0}} before files after (Err fault) →
+      MakesTaken digest origin keys recorded state files (Err fault)
   begun_untaken before after (taking.State fault) begun h = absurd h
   begun_untaken before after (taking.Item fault) begun h = ((before, begun), h)
   begun_untaken before after (taking.Take fault) begun h = (after, record { before = before; begun = begun; taken = h })
   begun_untaken before after (taking.Out fault) begun h = absurd h
 
-module _ (digest : List ℕ → List ℕ) (origin : List ℕ) (keys : List Key) (told new : Option (List NamedFile))
+module _ (digest : List ℕ → List ℕ) (origin : List ℕ) (keys : List Key) (recorded new : Option (List NamedFile))
     (state folder : List ℕ) (view : View) (listed heads : List HeadNote)
-    (opened : OpensFile digest origin keys told state (Ok view)) (has : HasHeads view listed)
-    (order : Reorders told folder listed heads) where
+    (opened : OpensFile digest origin keys recorded state (Ok view)) (has : HasHeads view listed)
+    (order : Reorders recorded folder listed heads) where
   abbrev Written : Result (Unit {0}) NamedFault → Type 0
-  Written answer = WritesThese digest origin keys told state folder new answer
+  Written answer = WritesThese digest origin keys recorded state folder new answer
 
-  written : (answer : Result (Unit {0}) NamedFault) → PutsNotes folder (files_of heads) told new answer → Written answer
+  written : (answer : Result (Unit {0}) NamedFault) → PutsNotes folder (files_of heads) recorded new answer → Written answer
   written answer puts =
       record { view = view; listed = listed; heads = heads; opened = opened; has = has; order = order; puts = puts }
 
   -- the notes of a mirror that was opened were put in that order
-  pub written_heads : (r : Result (Unit {0}) NotesFault) → PutsHeads folder heads told new r →
-      WritesNotes digest origin keys told state folder new r
+  pub written_heads : (r : Result (Unit {0}) NotesFault) → PutsHeads folder heads recorded new r →
+      WritesNotes digest origin keys recorded state folder new r
   written_heads (Ok x) h = written notes_put h
   written_heads (Err (notes.State fault)) h = absurd h
   written_heads (Err notes.OutOfMemory) h = ((view, opened), h)

@@ -8,9 +8,9 @@ use Rattle.std.proofs.lemmas.List.{append_assoc, map-append, take_more, take_all
 use Rattle.std.proofs.lemmas.Option.{none-some, same_Some}
 use Rattle.std.proofs.lemmas.Slice.Eq.{bytes_eq-Decides}
 use Rattle.program_files.specs.Named.{NamedFile}
-use Rattle.program_files.specs.Named.{FindsFile, HasContents, LacksFile, TellsReplace, contents_of}
+use Rattle.program_files.specs.Named.{FindsFile, HasContents, LacksFile, RecordsReplace, contents_of}
 use Rattle.program_files.specs.declared.named.TheConstants.{MAX_FILE_LEN}
-use Rattle.program_commands.specs.Notes.{IsTold, PutsEach, PutsFront, PutsOnce, PutsOne, TellsOther}
+use Rattle.program_commands.specs.Notes.{IsRecorded, PutsEach, PutsFront, PutsOnce, PutsOne, RecordsOther}
 use Rattle.program_commands.specs.NoteLaws.{KeepsFiles, NotesStand}
 use Rattle.program_files.specs.declared.fault.NamedFault.{NamedFault}
 use Rattle.program_files.specs.declared.fault.NamedFault.TheVariants as named
@@ -58,9 +58,9 @@ notes_stand files old new file puts listed = notes_stand_at files old new file l
 
 -- ---- as they are told
 
-pub told_none : (old : Option (List NamedFile)) → IsTold (PutsEach []) old old
-told_none None = tt
-told_none (Some puts) = refl
+pub recorded_none : (old : Option (List NamedFile)) → IsRecorded (PutsEach []) old old
+recorded_none None = tt
+recorded_none (Some puts) = refl
 
 each_push : (files : List NamedFile) (file : NamedFile) (old between new : List NamedFile) →
     PutsEach files old between → PutsOnce file between new → PutsEach (files ++ file ∷ []) old new
@@ -68,47 +68,47 @@ each_push [] file old between new is once = (new, subst (λ puts. PutsOnce file 
 each_push (first ∷ files) file old between new each once =
     (each.0, each.1, each_push files file each.0 between new each.2 once)
 
-pub told_more : (files : List NamedFile) (file : NamedFile) (old between new : Option (List NamedFile)) →
-    IsTold (PutsEach files) old between → IsTold (PutsOnce file) between new →
-    IsTold (PutsEach (files ++ file ∷ [])) old new
-told_more files file None between new each once = tt
-told_more files file (Some old) None new each once = absurd each
-told_more files file (Some old) (Some between) None each once = absurd once
-told_more files file (Some old) (Some between) (Some new) each once = each_push files file old between new each once
+pub recorded_more : (files : List NamedFile) (file : NamedFile) (old between new : Option (List NamedFile)) →
+    IsRecorded (PutsEach files) old between → IsRecorded (PutsOnce file) between new →
+    IsRecorded (PutsEach (files ++ file ∷ [])) old new
+recorded_more files file None between new each once = tt
+recorded_more files file (Some old) None new each once = absurd each
+recorded_more files file (Some old) (Some between) None each once = absurd once
+recorded_more files file (Some old) (Some between) (Some new) each once = each_push files file old between new each once
 
 -- ---- one note
 
 pub put_new : {T : Type 0} (old new : Option (List NamedFile)) (file : NamedFile) (r : Result T NamedFault) →
-    LacksFile old file.0 → TellsReplace old new file r → PutsOne old new file r
-put_new None new file (Ok x) absent told = tt
-put_new (Some old) None file (Ok x) absent told = absurd told
-put_new (Some old) (Some new) file (Ok x) absent told = inr (absent, told)
-put_new None new file (Err named.FileFault) absent told = (told.0, tt)
-put_new (Some old) new file (Err named.FileFault) absent told = absurd (none-some old (sym told.1))
-put_new old new file (Err named.OutOfMemory) absent told = (told.0, tt)
+    LacksFile old file.0 → RecordsReplace old new file r → PutsOne old new file r
+put_new None new file (Ok x) absent recorded = tt
+put_new (Some old) None file (Ok x) absent recorded = absurd recorded
+put_new (Some old) (Some new) file (Ok x) absent recorded = inr (absent, recorded)
+put_new None new file (Err named.FileFault) absent recorded = (recorded.0, tt)
+put_new (Some old) new file (Err named.FileFault) absent recorded = absurd (none-some old (sym recorded.1))
+put_new old new file (Err named.OutOfMemory) absent recorded = (recorded.0, tt)
 
-pub put_same : {T : Type 0} (told : Option (List NamedFile)) (file : NamedFile) (there : List ℕ) (x : T) →
-    HasContents told file.0 there → there ≡ file.1 → PutsOne told told file (Ok x)
+pub put_same : {T : Type 0} (recorded : Option (List NamedFile)) (file : NamedFile) (there : List ℕ) (x : T) →
+    HasContents recorded file.0 there → there ≡ file.1 → PutsOne recorded recorded file (Ok x)
 put_same None file there x stands same = tt
 put_same (Some puts) file there x stands same = inl (stands ∙ ap Some same, refl)
 
 -- a file that has other bytes
-pub other_told : (told : Option (List NamedFile)) (file : NamedFile) (there : List ℕ) → HasContents told file.0 there →
-    (there ≡ file.1 → ⊥) → TellsOther told file
-other_told None file there stands other = tt
-other_told (Some puts) file there stands other =
+pub other_recorded : (recorded : Option (List NamedFile)) (file : NamedFile) (there : List ℕ) → HasContents recorded file.0 there →
+    (there ≡ file.1 → ⊥) → RecordsOther recorded file
+other_recorded None file there stands other = tt
+other_recorded (Some puts) file there stands other =
     record {
       present = ap is_some stands;
       differs = λ is. absurd (other (same_Some there file.1 (sym stands ∙ is)));
     }
 
-pub put_other : (told : Option (List NamedFile)) (file : NamedFile) (there : List ℕ) →
-    HasContents told file.0 there → (there ≡ file.1 → ⊥) → PutsOne {T = Unit {0}} told told file (Err named.FileFault)
-put_other told file there stands other = (kept_itself told, other_told told file there stands other)
+pub put_other : (recorded : Option (List NamedFile)) (file : NamedFile) (there : List ℕ) →
+    HasContents recorded file.0 there → (there ≡ file.1 → ⊥) → PutsOne {T = Unit {0}} recorded recorded file (Err named.FileFault)
+put_other recorded file there stands other = (kept_itself recorded, other_recorded recorded file there stands other)
 
 -- a file that is not read
-pub put_unread : (told : Option (List NamedFile)) (file : NamedFile) (fault : NamedFault) →
-    FindsFile told file.0 (Err fault) → PutsOne {T = Unit {0}} told told file (Err fault)
+pub put_unread : (recorded : Option (List NamedFile)) (file : NamedFile) (fault : NamedFault) →
+    FindsFile recorded file.0 (Err fault) → PutsOne {T = Unit {0}} recorded recorded file (Err fault)
 put_unread None file named.FileFault long = (tt, tt)
 put_unread (Some puts) file named.FileFault long = (
   refl,
@@ -117,7 +117,7 @@ put_unread (Some puts) file named.FileFault long = (
     differs = λ is. subst (λ bytes. MAX_FILE_LEN < length bytes) (same_Some long.0 file.1 (sym long.1 ∙ is)) long.2;
   },
 )
-put_unread told file named.OutOfMemory long = (kept_itself told, tt)
+put_unread recorded file named.OutOfMemory long = (kept_itself recorded, tt)
 
 -- ---- several notes
 
@@ -136,13 +136,13 @@ module _ {X : Type 0} (seen : X → NamedFile) (xs : List X) (i : ℕ) (x : X) (
       ∙ (ap (λ list. list ++ map seen (drop (i + 1) xs)) more ∙
       append_assoc so_far (seen x ∷ []) (map seen (drop (i + 1) xs))))
 
-  pub puts_more : (old between new : Option (List NamedFile)) → IsTold (PutsEach so_far) old between →
-      IsTold (PutsOnce (seen x)) between new → IsTold (PutsEach (map seen (take (i + 1) xs))) old new
+  pub puts_more : (old between new : Option (List NamedFile)) → IsRecorded (PutsEach so_far) old between →
+      IsRecorded (PutsOnce (seen x)) between new → IsRecorded (PutsEach (map seen (take (i + 1) xs))) old new
   puts_more old between new each once =
-      subst (λ files. IsTold (PutsEach files) old new) (sym more) (told_more so_far (seen x) old between new each once)
+      subst (λ files. IsRecorded (PutsEach files) old new) (sym more) (recorded_more so_far (seen x) old between new each once)
 
   pub puts_front : (old between new : Option (List NamedFile)) (fault : NamedFault) →
-      IsTold (PutsEach so_far) old between → PutsOne {T = Unit {0}} between new (seen x) (Err fault) →
+      IsRecorded (PutsEach so_far) old between → PutsOne {T = Unit {0}} between new (seen x) (Err fault) →
       PutsFront (map seen xs) old new fault
   puts_front old between new fault each one =
       record {
@@ -154,11 +154,11 @@ module _ {X : Type 0} (seen : X → NamedFile) (xs : List X) (i : ℕ) (x : X) (
             map seen (drop (i + 1) xs);
         stopped = between;
         files_are = parts;
-        told = each;
+        recorded = each;
         stops = one.1;
         kept = one.0;
       }
 
 pub puts_all : {X : Type 0} (seen : X → NamedFile) (xs : List X) (i : ℕ) (old new : Option (List NamedFile)) →
-    length xs ≤ i → IsTold (PutsEach (map seen (take i xs))) old new → IsTold (PutsEach (map seen xs)) old new
-puts_all seen xs i old new le each = subst (λ list. IsTold (PutsEach (map seen list)) old new) (take_all i xs le) each
+    length xs ≤ i → IsRecorded (PutsEach (map seen (take i xs))) old new → IsRecorded (PutsEach (map seen xs)) old new
+puts_all seen xs i old new le each = subst (λ list. IsRecorded (PutsEach (map seen list)) old new) (take_all i xs le) each

@@ -6,15 +6,15 @@ use Rattle.std.proofs.lemmas.List.Sorted.{IsPermutation-refl, IsPermutation-tran
 use Rattle.program_files.specs.Named.{NamedFile, HasContents}
 use Rattle.program_files.proofs.NamedLemmas.{named_here}
 use Rattle.program_commands.specs.NoteFiles.{HeadNote, IsFileAt, files_of}
-use Rattle.program_commands.specs.Notes.{Reorders, TellsOther, files_in, in_folder}
+use Rattle.program_commands.specs.Notes.{Reorders, RecordsOther, files_in, in_folder}
 use Rattle.program_commands.proofs.NoteWalks.{file_listed}
-use Rattle.program_commands.proofs.Putting.{other_told}
+use Rattle.program_commands.proofs.Putting.{other_recorded}
 
-module _ (told : Option (List NamedFile)) (folder : List ℕ) where
+module _ (recorded : Option (List NamedFile)) (folder : List ℕ) where
   abbrev FindsOther : List HeadNote → Type 0
-  FindsOther heads = (file : NamedFile) × Contains (files_in folder heads) file × TellsOther told file
+  FindsOther heads = (file : NamedFile) × Contains (files_in folder heads) file × RecordsOther recorded file
 
-  pub reorders_none : (heads : List HeadNote) → Reorders told folder heads heads
+  pub reorders_none : (heads : List HeadNote) → Reorders recorded folder heads heads
   reorders_none heads = record { same_notes = IsPermutation-refl heads; reason = inl refl }
 
   reason_trans : (a b c : List HeadNote) → (b ≡ a) ⊎ FindsOther a → (c ≡ b) ⊎ FindsOther b → (c ≡ a) ⊎ FindsOther a
@@ -22,7 +22,7 @@ module _ (told : Option (List NamedFile)) (folder : List ℕ) where
   reason_trans a b c (inl same) (inr found) = inr (subst FindsOther same found)
   reason_trans a b c (inr found) more = inr found
 
-  pub reorders_more : (a b c : List HeadNote) → Reorders told folder a b → Reorders told folder b c → Reorders told folder a c
+  pub reorders_more : (a b c : List HeadNote) → Reorders recorded folder a b → Reorders recorded folder b c → Reorders recorded folder a c
   reorders_more a b c first more = record {
     same_notes = IsPermutation-trans a b c first.same_notes more.same_notes;
     reason = reason_trans a b c first.reason more.reason;
@@ -37,12 +37,12 @@ module _ (told : Option (List NamedFile)) (folder : List ℕ) where
   -- a file of the name of a note has other bytes
   pub reorders_found :
       (old new : List HeadNote) (i : ℕ) (file : NamedFile) (there : List ℕ) → IsFileAt old i file → IsPermutation old new →
-      HasContents told (in_folder folder file).0 there → (there ≡ file.1 → ⊥) → Reorders told folder old new
+      HasContents recorded (in_folder folder file).0 there → (there ≡ file.1 → ⊥) → Reorders recorded folder old new
   reorders_found old new i file there at moved stands other = record {
     same_notes = moved;
     reason = inr (
       in_folder folder file,
       in_listed (files_of old) file (file_listed old i file at),
-      other_told told (in_folder folder file) there stands other,
+      other_recorded recorded (in_folder folder file) there stands other,
     );
   }

@@ -18,7 +18,7 @@ use Rattle.mirror_model.specs.View.{View, IsSubview}
 use Rattle.mirror_model.proofs.StringSets.{has_from_listed, listed_from_has}
 use Rattle.tlog_mirror.specs.NoteLists.{IsNoteAt}
 use Rattle.program_commands.specs.Gained.{IsHolding}
-use Rattle.program_commands.specs.declared.gained.Holding.{Holding}
+use Rattle.program_commands.specs.declared.gained.HeldCounts.{HeldCounts}
 
 -- ---- sets
 
@@ -158,7 +158,7 @@ none_more v i None at is = no_more_notes v i at
 
 -- a view that holds what an old one does, and as many strings, has gained something exactly where
 -- there is one note more
-pub gains_note : (old new : View) (holding : Holding) (note : Option (Bor (List ℕ))) → IsHolding old holding →
+pub gains_note : (old new : View) (holding : HeldCounts) (note : Option (Bor (List ℕ))) → IsHolding old holding →
     IsSubview old new → len new.strings ≡ holding.strings → IsNoteAt new holding.notes (option_copied note) →
     IsTrue (is_some note) ↔ (new ≢ old)
 gains_note old new holding note held sub strings at = (
@@ -178,7 +178,7 @@ gains_note old new holding note held sub strings at = (
 )
 
 -- and where there is none it is the old one
-pub same_unless : (old new : View) (holding : Holding) (note : Option (Bor (List ℕ))) → IsHolding old holding →
+pub same_unless : (old new : View) (holding : HeldCounts) (note : Option (Bor (List ℕ))) → IsHolding old holding →
     IsSubview old new → len new.strings ≡ holding.strings → IsNoteAt new holding.notes (option_copied note) →
     (IsTrue (is_some note) → ⊥) → new ≡ old
 same_unless old new holding note held sub strings at not =

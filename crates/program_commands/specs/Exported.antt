@@ -22,12 +22,12 @@ CountsFileExport old new (Err OutOfMemory) = new ≡ old
 CountsFileExport old new (Err (Export fault)) = CountsExport old new (failed fault)
 
 module _ (digest : List ℕ → List ℕ) (origin : List ℕ) (keys : List Key)
-    (told : Option (List NamedFile)) (name : List ℕ) (held before put : Option (List Put)) where
+    (recorded : Option (List NamedFile)) (name : List ℕ) (held before put : Option (List Put)) where
   -- a mirror was opened of the file, and what it serves was put, over what the folder held, as an
   -- export with that answer puts it
   pub record ExportsOpened (answer : Result (Unit {0}) ExportFault) : Type 0 where
     pub view : View
-    pub opened : OpensFile digest origin keys told name (Ok view)
+    pub opened : OpensFile digest origin keys recorded name (Ok view)
     pub puts : Exports digest view held put answer
     pub nothing : (answer ≡ Err NothingComplete) ↔ SaysServed digest view None
     pub last : CheckpointIsLast digest view held put
@@ -37,7 +37,7 @@ module _ (digest : List ℕ → List ℕ) (origin : List ℕ) (keys : List Key)
   abbrev pub ExportsFile : {T : Type 0} → Result T ExportFileFault → Type 0
   ExportsFile (Ok x) = ExportsOpened done
   ExportsFile (Err (State fault)) =
-      OpensFile digest origin keys told name (Err fault) × (put ≡ before)
+      OpensFile digest origin keys recorded name (Err fault) × (put ≡ before)
   ExportsFile (Err OutOfMemory) =
-      ((view : View) × OpensFile digest origin keys told name (Ok view)) × (put ≡ before)
+      ((view : View) × OpensFile digest origin keys recorded name (Ok view)) × (put ≡ before)
   ExportsFile (Err (Export fault)) = ExportsOpened (failed fault)

@@ -33,8 +33,8 @@ module _ (origin : List ℕ) (keys : List Key) where
   -- all are, why the first that is refused is
   abbrev pub ReadsHeads : Option (List NamedFile) → List (List ℕ) →
       Result (List (ℕ × List ℕ)) HeadFilesFault → Type 0
-  ReadsHeads told names (Ok heads) =
-      (notes : List (List ℕ)) × HaveContents told names notes × AreOpen notes heads
-  ReadsHeads told names (Err (File fault)) = FailsToRead told names fault
-  ReadsHeads told names (Err (Head fault)) =
-      (notes : List (List ℕ)) × HaveContents told names notes × RefusesNote notes fault
+  ReadsHeads recorded names (Ok heads) =
+      (notes : List (List ℕ)) × HaveContents recorded names notes × AreOpen notes heads
+  ReadsHeads recorded names (Err (File fault)) = FailsToRead recorded names fault
+  ReadsHeads recorded names (Err (Head fault)) =
+      (notes : List (List ℕ)) × HaveContents recorded names notes × RefusesNote notes fault

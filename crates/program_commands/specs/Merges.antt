@@ -1,6 +1,6 @@
 -- What the command `merge` makes of two state files, and what it leaves in them.
 use Rattle.std.specs.Prelude.{ℕ, List, Option, Result, Ok, Err}
-use Rattle.mirror_sources.specs.Told.{KeepsTold}
+use Rattle.mirror_sources.specs.Recorded.{KeepsRecord}
 use Rattle.signed_note.specs.Keys.{Key}
 use Rattle.mirror_model.specs.Answered.{merge_answer_of}
 use Rattle.mirror_model.specs.Steps.{Answer, Done, Merges}
@@ -14,25 +14,25 @@ use Rattle.program_commands.specs.declared.fault.MergeFilesFault.TheVariants.{Fi
 use Rattle.program_commands.specs.declared.fault.MergeFilesFault.TheVariants.{Out}
 
 module _ (digest : List ℕ → List ℕ) (origin : List ℕ) (keys : List Key)
-    (told : Option (List NamedFile)) (first second : List ℕ) where
+    (recorded : Option (List NamedFile)) (first second : List ℕ) where
   -- both files were loaded, and the second was merged so into the first
   pub record MergesFiles (answer : Answer) (after : View) : Type 0 where
     pub before : View
     pub other : View
-    pub first_is : OpensFile digest origin keys told first (Ok before)
-    pub second_is : OpensFile digest origin keys told second (Ok other)
+    pub first_is : OpensFile digest origin keys recorded first (Ok before)
+    pub second_is : OpensFile digest origin keys recorded second (Ok other)
     pub merges : Merges digest before other answer after
 
   -- the first file was loaded
   abbrev pub OpensFirst : Type 0
-  OpensFirst = (before : View) × OpensFile digest origin keys told first (Ok before)
+  OpensFirst = (before : View) × OpensFile digest origin keys recorded first (Ok before)
 
   -- the mirror of both, or the first reason why there is none
   abbrev pub MakesMerged : Result View MergeFilesFault → Type 0
   MakesMerged (Ok after) = MergesFiles Done after
-  MakesMerged (Err (First fault)) = OpensFile digest origin keys told first (Err fault)
+  MakesMerged (Err (First fault)) = OpensFile digest origin keys recorded first (Err fault)
   MakesMerged (Err (Second fault)) =
-      OpensFirst × OpensFile digest origin keys told second (Err fault)
+      OpensFirst × OpensFile digest origin keys recorded second (Err fault)
   MakesMerged (Err (Merge fault)) =
       (after : View) × MergesFiles (merge_answer_of (failed fault)) after
   MakesMerged (Err (Out fault)) = ⊥
@@ -41,9 +41,9 @@ module _ (digest : List ℕ → List ℕ) (origin : List ℕ) (keys : List Key)
   abbrev pub LeavesMerged : {T : Type 0} → List ℕ → Option (List NamedFile) →
       Result T MergeFilesFault → Type 0
   LeavesMerged out new (Ok x) =
-      (after : View) × MergesFiles Done after × WritesState after out told new
-  LeavesMerged out new (Err (First fault)) = MakesMerged (Err (First fault)) × KeepsTold told new
-  LeavesMerged out new (Err (Second fault)) = MakesMerged (Err (Second fault)) × KeepsTold told new
-  LeavesMerged out new (Err (Merge fault)) = MakesMerged (Err (Merge fault)) × KeepsTold told new
+      (after : View) × MergesFiles Done after × WritesState after out recorded new
+  LeavesMerged out new (Err (First fault)) = MakesMerged (Err (First fault)) × KeepsRecord recorded new
+  LeavesMerged out new (Err (Second fault)) = MakesMerged (Err (Second fault)) × KeepsRecord recorded new
+  LeavesMerged out new (Err (Merge fault)) = MakesMerged (Err (Merge fault)) × KeepsRecord recorded new
   LeavesMerged out new (Err (Out fault)) =
-      ((after : View) × MergesFiles Done after) × FailsToPut told new fault
+      ((after : View) × MergesFiles Done after) × FailsToPut recorded new fault

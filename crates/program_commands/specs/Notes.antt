@@ -3,12 +3,12 @@
 use Rattle.std.specs.Prelude.{◌≡◌, ◌⊎◌, ℕ, ◌<◌, List, [], ◌∷◌, ◌++◌, length, map, codes, true}
 use Rattle.std.specs.Prelude.{is_some, Contains, Option, Some, None, Result, Ok, Err, ⊤}
 use Rattle.std.specs.List.Sorted.{IsPermutation}
-use Rattle.mirror_sources.specs.Told.{KeepsTold}
+use Rattle.mirror_sources.specs.Recorded.{KeepsRecord}
 use Rattle.signed_note.specs.Keys.{Key}
 use Rattle.mirror_model.specs.View.{View}
 use Rattle.program_files.specs.Named.{NamedFile}
 use Rattle.program_commands.specs.NoteFiles.{HeadNote, HasHeads, files_of}
-use Rattle.program_files.specs.Named.{TellsFault, contents_of}
+use Rattle.program_files.specs.Named.{RecordsFault, contents_of}
 use Rattle.program_files.specs.declared.named.TheConstants.{MAX_FILE_LEN}
 use Rattle.program_commands.specs.States.{OpensFile}
 use Rattle.program_files.specs.declared.fault.NamedFault.{NamedFault}
@@ -52,36 +52,36 @@ pub record HasOther (puts : List NamedFile) (file : NamedFile) : Type 0 where
 -- ---- as far as it is recorded
 
 -- the puts before and after are so, where they are recorded
-abbrev pub IsTold : (List NamedFile → List NamedFile → Type 0) → Option (List NamedFile) →
+abbrev pub IsRecorded : (List NamedFile → List NamedFile → Type 0) → Option (List NamedFile) →
     Option (List NamedFile) → Type 0
-IsTold Holds None new = ⊤
-IsTold Holds (Some old) None = ⊥
-IsTold Holds (Some old) (Some new) = Holds old new
+IsRecorded Holds None new = ⊤
+IsRecorded Holds (Some old) None = ⊥
+IsRecorded Holds (Some old) (Some new) = Holds old new
 
 -- a file of that name has other bytes
-abbrev pub TellsOther : Option (List NamedFile) → NamedFile → Type 0
-TellsOther None file = ⊤
-TellsOther (Some puts) file = HasOther puts file
+abbrev pub RecordsOther : Option (List NamedFile) → NamedFile → Type 0
+RecordsOther None file = ⊤
+RecordsOther (Some puts) file = HasOther puts file
 
 -- the notes in another order, or in the same: in another only where, in the one before, a file of the
 -- name of a note has other bytes
-pub record Reorders (told : Option (List NamedFile)) (folder : List ℕ) (old new : List HeadNote)
+pub record Reorders (recorded : Option (List NamedFile)) (folder : List ℕ) (old new : List HeadNote)
     : Type 0 where
   pub same_notes : IsPermutation old new
   pub reason :
       (new ≡ old)
-      ⊎ ((file : NamedFile) × Contains (files_in folder old) file × TellsOther told file)
+      ⊎ ((file : NamedFile) × Contains (files_in folder old) file × RecordsOther recorded file)
 
 -- why a note is not put
 abbrev pub StopsAt : Option (List NamedFile) → NamedFile → NamedFault → Type 0
-StopsAt told file named.FileFault = TellsOther told file
-StopsAt told file named.OutOfMemory = ⊤
+StopsAt recorded file named.FileFault = RecordsOther recorded file
+StopsAt recorded file named.OutOfMemory = ⊤
 
 -- one file is put or left, or all is as it was
 abbrev pub PutsOne : {T : Type 0} → Option (List NamedFile) → Option (List NamedFile) →
     NamedFile → Result T NamedFault → Type 0
-PutsOne old new file (Ok x) = IsTold (PutsOnce file) old new
-PutsOne old new file (Err fault) = KeepsTold old new × StopsAt old file fault
+PutsOne old new file (Ok x) = IsRecorded (PutsOnce file) old new
+PutsOne old new file (Err fault) = KeepsRecord old new × StopsAt old file fault
 
 -- a front of the files was put or left; the next one was not, and all stayed as it was then
 pub record PutsFront (files : List NamedFile) (old new : Option (List NamedFile))
@@ -91,14 +91,14 @@ pub record PutsFront (files : List NamedFile) (old new : Option (List NamedFile)
   pub after : List NamedFile
   pub stopped : Option (List NamedFile)
   pub files_are : files ≡ before ++ file ∷ after
-  pub told : IsTold (PutsEach before) old stopped
+  pub recorded : IsRecorded (PutsEach before) old stopped
   pub stops : StopsAt stopped file fault
-  pub kept : KeepsTold stopped new
+  pub kept : KeepsRecord stopped new
 
 -- the notes as they lie in the folder, or a front of them
 abbrev pub PutsNotes : {T : Type 0} → List ℕ → List NamedFile → Option (List NamedFile) →
     Option (List NamedFile) → Result T NamedFault → Type 0
-PutsNotes folder notes old new (Ok x) = IsTold (PutsEach (map (in_folder folder) notes)) old new
+PutsNotes folder notes old new (Ok x) = IsRecorded (PutsEach (map (in_folder folder) notes)) old new
 PutsNotes folder notes old new (Err fault) = PutsFront (map (in_folder folder) notes) old new fault
 
 -- the answer of a call that put the notes
@@ -114,18 +114,18 @@ abbrev pub PutsHeads : {T : Type 0} → List ℕ → List HeadNote → Option (L
     Option (List NamedFile) → Result T NotesFault → Type 0
 PutsHeads folder heads old new (Ok x) = PutsNotes folder (files_of heads) old new notes_put
 PutsHeads folder heads old new (Err (State fault)) = ⊥
-PutsHeads folder heads old new (Err OutOfMemory) = KeepsTold old new
+PutsHeads folder heads old new (Err OutOfMemory) = KeepsRecord old new
 PutsHeads folder heads old new (Err (Folder fault)) = ⊥
 PutsHeads folder heads old new (Err (Note fault)) =
     PutsNotes folder (files_of heads) old new (notes_stopped fault)
 PutsHeads folder heads old new (Err (Flush fault)) =
-    PutsNotes folder (files_of heads) old new notes_put × TellsFault old fault
+    PutsNotes folder (files_of heads) old new notes_put × RecordsFault old fault
 
 module _ (digest : List ℕ → List ℕ) (origin : List ℕ) (keys : List Key)
-    (told : Option (List NamedFile)) (state folder : List ℕ) (new : Option (List NamedFile)) where
+    (recorded : Option (List NamedFile)) (state folder : List ℕ) (new : Option (List NamedFile)) where
   -- the state file was loaded
   abbrev pub OpensState : Type 0
-  OpensState = (view : View) × OpensFile digest origin keys told state (Ok view)
+  OpensState = (view : View) × OpensFile digest origin keys recorded state (Ok view)
 
   -- the state file was loaded, and its notes were put so: in the order of `note_files`, but where a
   -- file of the name of one has other bytes
@@ -133,17 +133,17 @@ module _ (digest : List ℕ → List ℕ) (origin : List ℕ) (keys : List Key)
     pub view : View
     pub listed : List HeadNote
     pub heads : List HeadNote
-    pub opened : OpensFile digest origin keys told state (Ok view)
+    pub opened : OpensFile digest origin keys recorded state (Ok view)
     pub has : HasHeads view listed
-    pub order : Reorders told folder listed heads
-    pub puts : PutsNotes folder (files_of heads) told new answer
+    pub order : Reorders recorded folder listed heads
+    pub puts : PutsNotes folder (files_of heads) recorded new answer
 
   -- what each answer of `notes` says of its state file, and of what it put into the folder
   abbrev pub WritesNotes : {T : Type 0} → Result T NotesFault → Type 0
   WritesNotes (Ok x) = WritesThese notes_put
   WritesNotes (Err (State fault)) =
-      OpensFile digest origin keys told state (Err fault) × KeepsTold told new
-  WritesNotes (Err OutOfMemory) = OpensState × KeepsTold told new
-  WritesNotes (Err (Folder fault)) = OpensState × TellsFault told fault × KeepsTold told new
+      OpensFile digest origin keys recorded state (Err fault) × KeepsRecord recorded new
+  WritesNotes (Err OutOfMemory) = OpensState × KeepsRecord recorded new
+  WritesNotes (Err (Folder fault)) = OpensState × RecordsFault recorded fault × KeepsRecord recorded new
   WritesNotes (Err (Note fault)) = WritesThese (notes_stopped fault)
-  WritesNotes (Err (Flush fault)) = WritesThese notes_put × TellsFault told fault
+  WritesNotes (Err (Flush fault)) = WritesThese notes_put × RecordsFault recorded fault

@@ -6,10 +6,10 @@ use Rattle.program_files.specs.Named.{NamedFile, HasContents}
 
 -- the file of that name has the state of the view, as it is written
 abbrev pub HoldsState : View → List ℕ → Option (List NamedFile) → Type 0
-HoldsState v name told = (text : List ℕ) × StateText v text × HasContents told name text
+HoldsState v name recorded = (text : List ℕ) × StateText v text × HasContents recorded name text
 
 -- the file that is to be written is the one that is named, and has the state of the view
-pub record IsSaved (state : Option (List ℕ)) (v : View) (out : List ℕ) (told : Option (List NamedFile))
+pub record IsSaved (state : Option (List ℕ)) (v : View) (out : List ℕ) (recorded : Option (List NamedFile))
     : Type 0 where
   pub named : state ≡ Some out
-  pub holds : HoldsState v out told
+  pub holds : HoldsState v out recorded

@@ -1,6 +1,6 @@
 -- What is made of state files, and what is left in them.
 use Rattle.std.specs.Prelude.{◌≡◌, ◌≢◌, ℕ, List, [], ◌∷◌, Option, Some, None, Result, Ok, Err, ⊤}
-use Rattle.mirror_sources.specs.Told.{AddsTold}
+use Rattle.mirror_sources.specs.Recorded.{AddsToRecord}
 use Rattle.signed_note.specs.Keys.{Key}
 use Rattle.mirror_model.specs.Origin.{IsOrigin}
 use Rattle.mirror_model.specs.View.{View, nothing}
@@ -16,11 +16,11 @@ use Rattle.program_commands.specs.declared.fault.StateFault.{StateFault}
 use Rattle.program_commands.specs.declared.fault.StateFault.TheVariants.{Origin, File, Load}
 
 module _ (digest : List ℕ → List ℕ) (origin : List ℕ) (keys : List Key)
-    (told : Option (List NamedFile)) where
+    (recorded : Option (List NamedFile)) where
   -- some bytes, which the file of that name has, are loaded so
   abbrev pub LoadsFile : List ℕ → Result View LoadFault → Type 0
   LoadsFile name answer =
-      (bytes : List ℕ) × HasContents told name bytes × Loads digest origin keys bytes answer
+      (bytes : List ℕ) × HasContents recorded name bytes × Loads digest origin keys bytes answer
 
   -- the origin is judged first, then the file is read, and then it is loaded: its bytes are there, so
   -- that no read fails any more
@@ -28,7 +28,7 @@ module _ (digest : List ℕ → List ℕ) (origin : List ℕ) (keys : List Key)
   OpensFile name (Ok v) = IsOrigin origin × LoadsFile name (Ok v)
   OpensFile name (Err (Origin made.BadOrigin)) = ¬ IsOrigin origin
   OpensFile name (Err (Origin made.OutOfMemory)) = ⊤
-  OpensFile name (Err (File fault)) = IsOrigin origin × ReadsFile told name (Err fault)
+  OpensFile name (Err (File fault)) = IsOrigin origin × ReadsFile recorded name (Err fault)
   OpensFile name (Err (Load fault)) =
       IsOrigin origin × LoadsFile name (Err fault) × (fault ≢ ReadFault)
 
@@ -43,7 +43,7 @@ module _ (digest : List ℕ → List ℕ) (origin : List ℕ) (keys : List Key)
 -- the state of the view was written to the file of that name, and nothing else was
 abbrev pub WritesState : View → List ℕ → Option (List NamedFile) → Option (List NamedFile) → Type 0
 WritesState v name old new =
-    (text : List ℕ) × StateText v text × AddsTold old new ((name, text) ∷ [])
+    (text : List ℕ) × StateText v text × AddsToRecord old new ((name, text) ∷ [])
 
 -- it was written, or nothing was
 abbrev pub SavesFile : {T : Type 0} → View → List ℕ → Option (List NamedFile) →

@@ -1,6 +1,6 @@
 -- What the command `take` makes of files, and what it leaves in them.
 use Rattle.std.specs.Prelude.{◌≡◌, ◌≤◌, ℕ, List, [], ◌∷◌, map, Option, Result, Ok, Err, ⊤}
-use Rattle.mirror_sources.specs.Told.{KeepsTold}
+use Rattle.mirror_sources.specs.Recorded.{KeepsRecord}
 use Rattle.signed_note.specs.Keys.{Key}
 use Rattle.mirror_model.specs.Answered.{answer_of}
 use Rattle.mirror_model.specs.Steps.{Takes}
@@ -33,48 +33,48 @@ item_names (Bundle width file) = file.now ∷ []
 
 -- the files hold the item, as far as it is recorded
 abbrev pub HoldItem : Option (List NamedFile) → ItemFiles → Item → Type 0
-HoldItem told (Head note rows) (item.Head bytes edge) =
-    HasContents told note.now bytes × HaveContents told (map (λ row. row.now) rows.now) edge
-HoldItem told (Tile width file) (item.Tile size bytes) =
-    (size ≡ width) × HasContents told file.now bytes
-HoldItem told (Bundle width file) (item.Bundle size bytes) =
-    (size ≡ width) × HasContents told file.now bytes
-HoldItem told files other = ⊥
+HoldItem recorded (Head note rows) (item.Head bytes edge) =
+    HasContents recorded note.now bytes × HaveContents recorded (map (λ row. row.now) rows.now) edge
+HoldItem recorded (Tile width file) (item.Tile size bytes) =
+    (size ≡ width) × HasContents recorded file.now bytes
+HoldItem recorded (Bundle width file) (item.Bundle size bytes) =
+    (size ≡ width) × HasContents recorded file.now bytes
+HoldItem recorded files other = ⊥
 
-module _ (digest : List ℕ → List ℕ) (keys : List Key) (told : Option (List NamedFile)) where
+module _ (digest : List ℕ → List ℕ) (keys : List Key) (recorded : Option (List NamedFile)) where
   -- the item that the files hold was taken with that answer, which is the first refusal that applies
   -- to an item of its kind
   pub record TakesOf (before : View) (files : ItemFiles) (answer : Result (Unit {0}) TakeFault)
       (after : View) : Type 0 where
     pub item : Item
-    pub held : HoldItem told files item
+    pub held : HoldItem recorded files item
     pub takes : Takes digest keys before item (answer_of answer) after
     pub judged : JudgesItem digest keys before.origin item answer
 
   -- the files are read, and then the item is taken
   abbrev pub TakesHeld : {T : Type 0} → View → ItemFiles → View → Result T TakeFilesFault → Type 0
   TakesHeld before files after (Ok x) = TakesOf before files done after
-  TakesHeld before files after (Err (Unread fault)) = FailsToRead told (item_names files) fault
+  TakesHeld before files after (Err (Unread fault)) = FailsToRead recorded (item_names files) fault
   TakesHeld before files after (Err (Take fault)) = TakesOf before files (failed fault) after
   TakesHeld before files after (Err other) = ⊥
 
 module _ (digest : List ℕ → List ℕ) (origin : List ℕ) (keys : List Key)
-    (told : Option (List NamedFile)) (state : Option (List ℕ)) (files : ItemFiles) where
+    (recorded : Option (List NamedFile)) (state : Option (List ℕ)) (files : ItemFiles) where
   -- a mirror was begun with, and the item that the files hold was taken into it with that answer
   pub record TakesBegun (answer : Result (Unit {0}) TakeFault) (after : View) : Type 0 where
     pub before : View
-    pub begun : BeginsWith digest origin keys told state (Ok before)
-    pub taken : TakesOf digest keys told before files answer after
+    pub begun : BeginsWith digest origin keys recorded state (Ok before)
+    pub taken : TakesOf digest keys recorded before files answer after
 
   -- a mirror was begun with
   abbrev pub HasBegun : Type 0
-  HasBegun = (before : View) × BeginsWith digest origin keys told state (Ok before)
+  HasBegun = (before : View) × BeginsWith digest origin keys recorded state (Ok before)
 
   -- the mirror with the item, or the first reason why there is none
   abbrev pub MakesTaken : Result View TakeFilesFault → Type 0
   MakesTaken (Ok after) = TakesBegun done after
-  MakesTaken (Err (State fault)) = BeginsWith digest origin keys told state (Err fault)
-  MakesTaken (Err (Unread fault)) = HasBegun × FailsToRead told (item_names files) fault
+  MakesTaken (Err (State fault)) = BeginsWith digest origin keys recorded state (Err fault)
+  MakesTaken (Err (Unread fault)) = HasBegun × FailsToRead recorded (item_names files) fault
   MakesTaken (Err (Take fault)) = (after : View) × TakesBegun (failed fault) after
   MakesTaken (Err (Out fault)) = ⊥
 
@@ -82,9 +82,9 @@ module _ (digest : List ℕ → List ℕ) (origin : List ℕ) (keys : List Key)
   abbrev pub LeavesTaken : {T : Type 0} → List ℕ → Option (List NamedFile) →
       Result T TakeFilesFault → Type 0
   LeavesTaken out new (Ok x) =
-      (after : View) × TakesBegun done after × WritesState after out told new
-  LeavesTaken out new (Err (State fault)) = MakesTaken (Err (State fault)) × KeepsTold told new
-  LeavesTaken out new (Err (Unread fault)) = MakesTaken (Err (Unread fault)) × KeepsTold told new
-  LeavesTaken out new (Err (Take fault)) = MakesTaken (Err (Take fault)) × KeepsTold told new
+      (after : View) × TakesBegun done after × WritesState after out recorded new
+  LeavesTaken out new (Err (State fault)) = MakesTaken (Err (State fault)) × KeepsRecord recorded new
+  LeavesTaken out new (Err (Unread fault)) = MakesTaken (Err (Unread fault)) × KeepsRecord recorded new
+  LeavesTaken out new (Err (Take fault)) = MakesTaken (Err (Take fault)) × KeepsRecord recorded new
   LeavesTaken out new (Err (Out fault)) =
-      ((after : View) × TakesBegun done after) × FailsToPut told new fault
+      ((after : View) × TakesBegun done after) × FailsToPut recorded new fault

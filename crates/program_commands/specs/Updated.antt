@@ -22,12 +22,12 @@ CountsFileUpdate old new (Err OutOfMemory) = new ≡ old
 CountsFileUpdate old new (Err (Update fault)) = CountsUpdate old new (failed fault)
 
 module _ (digest : List ℕ → List ℕ) (origin : List ℕ) (keys : List Key)
-    (told : Option (List NamedFile)) (name : List ℕ) (held before put : Option (List Put)) where
+    (recorded : Option (List NamedFile)) (name : List ℕ) (held before put : Option (List Put)) where
   -- a mirror was opened of the file, and what the folder lacks of what it serves was put, over what
   -- the folder held, as an update with that answer puts it; a whole log stands there at each moment
   pub record UpdatesOpened (answer : Result (Unit {0}) UpdateFault) : Type 0 where
     pub view : View
-    pub opened : OpensFile digest origin keys told name (Ok view)
+    pub opened : OpensFile digest origin keys recorded name (Ok view)
     pub puts : Updates digest view held put answer
     pub nothing : (answer ≡ Err NothingComplete) ↔ SaysServed digest view None
     pub whole : StaysWhole digest view held put answer
@@ -37,7 +37,7 @@ module _ (digest : List ℕ → List ℕ) (origin : List ℕ) (keys : List Key)
   abbrev pub UpdatesFile : {T : Type 0} → Result T UpdateFileFault → Type 0
   UpdatesFile (Ok x) = UpdatesOpened done
   UpdatesFile (Err (State fault)) =
-      OpensFile digest origin keys told name (Err fault) × (put ≡ before)
+      OpensFile digest origin keys recorded name (Err fault) × (put ≡ before)
   UpdatesFile (Err OutOfMemory) =
-      ((view : View) × OpensFile digest origin keys told name (Ok view)) × (put ≡ before)
+      ((view : View) × OpensFile digest origin keys recorded name (Ok view)) × (put ≡ before)
   UpdatesFile (Err (Update fault)) = UpdatesOpened (failed fault)

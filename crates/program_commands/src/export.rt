@@ -8,7 +8,7 @@ ghost use Rattle.program_commands.specs.States.{OpensFile};
 use crate::fault::ExportFileFault;
 use crate::state::open_state;
 use mirror_export::export;
-use mirror_progress::ToldFolders;
+use mirror_progress::CountedFolders;
 use program_files::NamedFiles;
 use signed_note::Verifier;
 use std::alloc::Global;
@@ -26,7 +26,7 @@ use tlog_mirror::Mirror;
 ///
 /// In this order: `State`, those of `open_state`; `OutOfMemory`, where memory for the folder's name was refused; nothing is
 /// put then. `Export`, those of `mirror_export::export`. What was put before a fault stays.
-pub fn run_export<H: TreeHash, F: NamedFiles, D: ToldFolders>(
+pub fn run_export<H: TreeHash, F: NamedFiles, D: CountedFolders>(
     files: &F,
     folders: &mut D,
     alloc: Global,
@@ -50,15 +50,15 @@ pub fn run_export<H: TreeHash, F: NamedFiles, D: ToldFolders>(
 }
 
 // Opens the folder, and puts what the mirror of a state file serves into it.
-fn export_into<H: TreeHash, D: ToldFolders>(
+fn export_into<H: TreeHash, D: CountedFolders>(
     alloc: Global,
     mirror: &Mirror<H>,
     folders: &mut D,
     folder: &str,
 ) -> Result<(), ExportFileFault>
-    ensures answer { (origin : List ℕ) (keys : List Key) (told : Option (List NamedFile))
-        (state : List ℕ) → OpensFile H.digest origin keys told state (Ok mirror.now.view)
-        → ExportsFile H.digest origin keys told state (D.held folders.old folder.now)
+    ensures answer { (origin : List ℕ) (keys : List Key) (recorded : Option (List NamedFile))
+        (state : List ℕ) → OpensFile H.digest origin keys recorded state (Ok mirror.now.view)
+        → ExportsFile H.digest origin keys recorded state (D.held folders.old folder.now)
         (D.puts folders.old) (D.puts folders.new) result }
     ensures blamed { CountsFileExport (D.failed folders.old) (D.failed folders.new) result }
 {

@@ -11,7 +11,7 @@ use tlog_mirror::Mirror;
 
 /// How much a mirror holds.
 #[derive(Debug, Drop, PartialEq, Eq, Clone, Copy)]
-pub struct Holding {
+pub struct HeldCounts {
     /// How many notes.
     pub notes: usize,
     /// How many strings.
@@ -42,18 +42,18 @@ fn count_notes<H: TreeHash>(mirror: &Mirror<H>) -> Result<usize, AllocError>
 /// # Errors
 ///
 /// More notes than a `usize` counts, which no memory holds.
-pub fn holding_of<H: TreeHash>(mirror: &Mirror<H>) -> Result<Holding, AllocError>
+pub fn holding_of<H: TreeHash>(mirror: &Mirror<H>) -> Result<HeldCounts, AllocError>
     ensures holds { IfOk result (IsHolding mirror.now.view) }
     ensures lawful { IsLawful H.digest mirror.now.view }
 {
     let strings = mirror.strings().len();
     let notes = count_notes(mirror)?;
-    Ok(Holding { notes, strings })
+    Ok(HeldCounts { notes, strings })
 }
 
 /// Whether a mirror that held so much has gained a note or a string. What it held it has to hold still. It takes no
 /// memory.
-pub fn has_gained<H: TreeHash>(mirror: &Mirror<H>, before: &Holding) -> bool
+pub fn has_gained<H: TreeHash>(mirror: &Mirror<H>, before: &HeldCounts) -> bool
     ensures gained { (old : View) → IsHolding old before.now → IsSubview old mirror.now.view
         → (IsTrue result ↔ (mirror.now.view ≢ old)) }
     ensures same { (old : View) → IsHolding old before.now → IsSubview old mirror.now.view

@@ -39,14 +39,14 @@ pub fn read_heads<H: TreeHash, F: NamedFiles>(
     match check_notes(alloc, mirror, keys, notes.as_slice()) {
         Ok(heads) => Ok(heads),
         Err(fault) => {
-            tell_name(files, alloc, mirror, keys, names, notes.as_slice());
+            keep_name(files, alloc, mirror, keys, names, notes.as_slice());
             Err(HeadFilesFault::Head(fault))
         }
     }
 }
 
-// Tells the files the name of the first whose note is refused.
-fn tell_name<H: TreeHash, F: NamedFiles>(
+// DecidesFork the files the name of the first whose note is refused.
+fn keep_name<H: TreeHash, F: NamedFiles>(
     files: &F,
     alloc: Global,
     mirror: &Mirror<H>,

@@ -33,7 +33,7 @@ pub use fault::{
     ExportFileFault, HeadFilesFault, MergeFilesFault, NotesFault, StateFault, TakeFilesFault,
     UpdateFileFault,
 };
-pub use gained::{Holding, has_gained, holding_of};
+pub use gained::{HeldCounts, has_gained, holding_of};
 pub use heads::read_heads;
 pub use item::ItemFiles;
 pub use laws::{kept_files_law, standing_notes_law};

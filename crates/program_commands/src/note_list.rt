@@ -27,7 +27,7 @@ pub(crate) struct HeadNote<'a> {
 }
 
 // The note of those bytes. A mirror holds no others than heads, so that nothing but `OutOfMemory` comes here.
-fn head_of(alloc: Global, bytes: &[u8]) -> Result<HeadNote<'_>, AllocError>
+fn read_head_note(alloc: Global, bytes: &[u8]) -> Result<HeadNote<'_>, AllocError>
     ensures note { IfOk result (λ head. head.bytes.now ≡ bytes.now) }
     ensures head { IfOk result (λ head. IsHeadNote (head_note head)) }
 {
@@ -120,7 +120,7 @@ pub(crate) fn head_notes<H: TreeHash>(
         let Some(bytes) = mirror.note_at(i) else {
             return Ok(heads);
         };
-        heads.push(head_of(alloc, bytes)?)?;
+        heads.push(read_head_note(alloc, bytes)?)?;
     }
     // No memory holds that many.
     Err(AllocError)

@@ -103,7 +103,7 @@ fn exchange_found<F: NamedFiles>(
         (map head_note heads.new) }
 {
     let file = file_at(alloc, heads, i)?;
-    let place = place_of(alloc, folder, &file.name)?;
+    let place = note_path(alloc, folder, &file.name)?;
     match files.find(&place) {
         Ok(Some(there)) => {
             if there.as_slice() != file.bytes {
@@ -197,14 +197,14 @@ fn put_note<F: NamedFiles>(
     ensures { PutsOne (F.puts files.old) (F.puts files.new)
         (in_folder folder.now (note_file note.now)) result }
 {
-    let Ok(place) = place_of(alloc, folder, &note.name) else {
+    let Ok(place) = note_path(alloc, folder, &note.name) else {
         return Err(NamedFault::OutOfMemory);
     };
     put_once(files, &place, note.bytes)
 }
 
 // Where the note of that name lies.
-fn place_of(alloc: Global, folder: &str, name: &str) -> Result<String, AllocError>
+fn note_path(alloc: Global, folder: &str, name: &str) -> Result<String, AllocError>
     ensures { IfOk result (λ place. string_bytes place ≡ note_place folder.now name.now) }
 {
     format!(in alloc; "{folder}/{name}")

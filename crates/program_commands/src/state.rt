@@ -66,14 +66,14 @@ fn open_as_saved<H: TreeHash, F: NamedFiles>(
     match load_bytes::<H>(alloc, origin, keys, &state) {
         Ok(mirror) => Ok((mirror, is_saved)),
         Err(fault) => {
-            tell_reason::<H, F>(files, alloc, origin, keys, &state, fault);
+            print_reason::<H, F>(files, alloc, origin, keys, &state, fault);
             Err(StateFault::Load(fault))
         }
     }
 }
 
-// Tells the files what of a state is wrong: its origin, or one of its notes.
-fn tell_reason<H: TreeHash, F: NamedFiles>(
+// DecidesFork the files what of a state is wrong: its origin, or one of its notes.
+fn print_reason<H: TreeHash, F: NamedFiles>(
     files: &F,
     alloc: Global,
     origin: &str,
@@ -82,16 +82,16 @@ fn tell_reason<H: TreeHash, F: NamedFiles>(
     fault: LoadFault,
 ) {
     match fault {
-        LoadFault::OtherOrigin => tell_origin(files, alloc, state),
+        LoadFault::OtherOrigin => keep_origin(files, alloc, state),
         LoadFault::StateHead | LoadFault::StateEdge => {
-            tell_note::<H, F>(files, alloc, origin, keys, state)
+            keep_note_at::<H, F>(files, alloc, origin, keys, state)
         }
         _ => {}
     }
 }
 
-// Tells the files of which origin a state is.
-fn tell_origin<F: NamedFiles>(files: &F, alloc: Global, state: &[u8]) {
+// DecidesFork the files of which origin a state is.
+fn keep_origin<F: NamedFiles>(files: &F, alloc: Global, state: &[u8]) {
     if let Some(origin) = origin_in(state) {
         if let Ok(reason) = format!(in alloc; "its origin is {origin}") {
             files.keep_reason(reason);
@@ -113,8 +113,8 @@ fn origin_in(state: &[u8]) -> Option<&str> {
     str::from_utf8(origin).ok()
 }
 
-// Tells the files which note a state is refused for.
-fn tell_note<H: TreeHash, F: NamedFiles>(
+// DecidesFork the files which note a state is refused for.
+fn keep_note_at<H: TreeHash, F: NamedFiles>(
     files: &F,
     alloc: Global,
     origin: &str,

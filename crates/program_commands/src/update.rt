@@ -8,7 +8,7 @@ ghost use Rattle.program_commands.specs.Updated.{CountsFileUpdate, UpdatesFile};
 use crate::fault::UpdateFileFault;
 use crate::state::open_state;
 use mirror_export::update;
-use mirror_progress::ToldFolders;
+use mirror_progress::CountedFolders;
 use program_files::NamedFiles;
 use signed_note::Verifier;
 use std::alloc::Global;
@@ -27,7 +27,7 @@ use tlog_mirror::Mirror;
 ///
 /// In this order: `State`, those of `open_state`; `OutOfMemory`, where memory for the folder's name was refused; nothing is
 /// put then. `Update`, those of `mirror_export::update`. What was put before a fault stays.
-pub fn run_update<H: TreeHash, F: NamedFiles, D: ToldFolders>(
+pub fn run_update<H: TreeHash, F: NamedFiles, D: CountedFolders>(
     files: &F,
     folders: &mut D,
     alloc: Global,
@@ -51,15 +51,15 @@ pub fn run_update<H: TreeHash, F: NamedFiles, D: ToldFolders>(
 }
 
 // Opens the folder, and brings it up to date with what the mirror of a state file serves.
-fn update_into<H: TreeHash, D: ToldFolders>(
+fn update_into<H: TreeHash, D: CountedFolders>(
     alloc: Global,
     mirror: &Mirror<H>,
     folders: &mut D,
     folder: &str,
 ) -> Result<(), UpdateFileFault>
-    ensures answer { (origin : List ℕ) (keys : List Key) (told : Option (List NamedFile))
-        (state : List ℕ) → OpensFile H.digest origin keys told state (Ok mirror.now.view)
-        → UpdatesFile H.digest origin keys told state (D.held folders.old folder.now)
+    ensures answer { (origin : List ℕ) (keys : List Key) (recorded : Option (List NamedFile))
+        (state : List ℕ) → OpensFile H.digest origin keys recorded state (Ok mirror.now.view)
+        → UpdatesFile H.digest origin keys recorded state (D.held folders.old folder.now)
         (D.puts folders.old) (D.puts folders.new) result }
     ensures blamed { CountsFileUpdate (D.failed folders.old) (D.failed folders.new) result }
 {

@@ -8,7 +8,7 @@ use Rattle.program_copies.specs.Statuses.{HasPoint, reader_point}
 use Rattle.signed_note.specs.Keys.{Key}
 use Rattle.mirror_folders.specs.Shelf.{Put}
 use Rattle.copy_reader.specs.Copies.{HasCheckpoint, IsRefused, OpensCopy}
-use Rattle.mirror_sources.specs.Told.{KeepsTold}
+use Rattle.mirror_sources.specs.Recorded.{KeepsRecord}
 use Rattle.program_reports.specs.declared.reports.Report.{Report as Printout}
 use Rattle.copy_reader.specs.Faults.{CountsRead}
 use Rattle.copy_reader.specs.WholeCopies.{GivesOr, HoldsWhole, IsShelfFailure, OpensWhole, ReadsCopyOf}
@@ -19,7 +19,7 @@ use Rattle.copy_reader.specs.declared.fault.CopyFault.TheVariants.{Origin, Head,
 
 -- where a read of a copy that was opened ended by a fault, that is why
 pub read_refused : {T : Type 0} (digest : List ℕ → List ℕ) (origin : List ℕ) (keys : List Key) (held after : Option (List Put))
-    (old new : Reader) (claim : List (List ℕ) → T → Type 0) (a b : ℕ) (fault : CopyFault) → KeepsTold held after →
+    (old new : Reader) (claim : List (List ℕ) → T → Type 0) (a b : ℕ) (fault : CopyFault) → KeepsRecord held after →
     OpensWhole digest origin held (Some old) → CountsRead {T = T} a b (Err fault) →
     ReadsCopyOf IsShelfFailure digest old new after (Err fault) claim → IsRefused digest origin keys held fault
 read_refused digest origin keys held after old new claim a b (Origin f) kept opens counts reads = absurd counts
@@ -31,7 +31,7 @@ read_refused digest origin keys held after old new claim a b OutOfMemory kept op
 
 -- what was compared with the log that was opened was compared with that of each whole copy
 pub compared_whole : (digest : List ℕ → List ℕ) (origin : List ℕ) (held after : Option (List Put)) (reader : Reader) (size : ℕ)
-    (root : List ℕ) (given : Option (List (ℕ × List ℕ))) (report : Printout) → KeepsTold held after →
+    (root : List ℕ) (given : Option (List (ℕ × List ℕ))) (report : Printout) → KeepsRecord held after →
     OpensWhole digest origin held (Some reader) →
     IsComparisonOf digest size root given (IsLogRead digest reader after) report →
     IsComparisonOf digest size root given (HoldsWhole digest origin held) report

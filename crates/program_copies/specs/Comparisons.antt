@@ -77,7 +77,7 @@ module _ (origin : List ℕ) (keys : List Key) (files : Option (List NamedFile))
 
   module _ (digest : List ℕ → List ℕ) (held : Option (List Put)) where
     -- the report on the heads that are given, compared with the log of the copy's checkpoint
-    pub record TellsCompared (report : Printout) : Type 0 where
+    pub record IsComparedPrint (report : Printout) : Type 0 where
       pub size : ℕ
       pub root : List ℕ
       pub checkpoint : HasCheckpoint origin keys held size root
@@ -87,7 +87,7 @@ module _ (origin : List ℕ) (keys : List Key) (files : Option (List NamedFile))
 
     -- what each answer of the reporter says
     abbrev pub ReportsCompared : Result Printout CopyAskFault → Type 0
-    ReportsCompared (Ok report) = TellsCompared report
+    ReportsCompared (Ok report) = IsComparedPrint report
     ReportsCompared (Err (asking.Copy fault)) = IsRefused digest origin keys held fault
     ReportsCompared (Err (asking.Heads fault)) = ReadsHeads origin keys files names (Err fault)
     ReportsCompared (Err (asking.Ask (Report NothingComplete))) = IsEmptyCopy origin keys held

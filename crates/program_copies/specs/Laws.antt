@@ -17,7 +17,7 @@ RefusesAsMirror =
     IsRefusedOf ask (length entries) fault → asked_proof digest entries ask ≡ Err fault
 
 -- a mirror whose one head is complete and served, or that has none, tells its status by the same text
-abbrev pub TellsAsMirror : Type 0
-TellsAsMirror =
+abbrev pub PrintsAsMirror : Type 0
+PrintsAsMirror =
     (digest : List ℕ → List ℕ) (v : View) (point : Option Point) → ReportsHeads digest v (copy_heads point) →
     SaysServed digest v point → IsStatusText digest v (copy_status v.origin point)

@@ -30,28 +30,28 @@ IsStatus status = (status ≡ 0) ⊎ (status ≡ 3)
 abbrev pub HasStatus : Printout → Type 0
 HasStatus report = IsStatus report.status
 
-module _ (old new : Option (List ℕ)) (told : Result Printout CopyAskFault) where
+module _ (old new : Option (List ℕ)) (recorded : Result Printout CopyAskFault) where
   -- the report was written whole, and the exit status is its own
   pub record PrintsWhole (status : ℕ) : Type 0 where
     pub report : Printout
-    pub told_is : told ≡ Ok report
+    pub recorded_is : recorded ≡ Ok report
     pub written : Appends old new (printed report)
     pub status_is : status ≡ report.status
 
   -- a prefix of the report was written, as a write that failed leaves it
   pub record PrintsPrefix : Type 0 where
     pub report : Printout
-    pub told_is : told ≡ Ok report
+    pub recorded_is : recorded ≡ Ok report
     pub written : AppendsPrefix old new (printed report)
 
   -- what each answer says of a report, and of what was written: at a fault nothing, or a prefix where a write failed
-  abbrev pub PrintsTold : Result ℕ CopyAskFault → Type 0
-  PrintsTold (Ok status) = PrintsWhole status
-  PrintsTold (Err fault) = ((told ≡ Err fault) × Keeps old new) ⊎ (IsWriteFault fault × PrintsPrefix)
+  abbrev pub PrintsText : Result ℕ CopyAskFault → Type 0
+  PrintsText (Ok status) = PrintsWhole status
+  PrintsText (Err fault) = ((recorded ≡ Err fault) × Keeps old new) ⊎ (IsWriteFault fault × PrintsPrefix)
 
 -- what was answered and written is a report of which that is said
 pub record Prints (Reports : Result Printout CopyAskFault → Type 0) (old new : Option (List ℕ))
     (answer : Result ℕ CopyAskFault) : Type 0 where
-  pub told : Result Printout CopyAskFault
-  pub reports : Reports told
-  pub prints : PrintsTold old new told answer
+  pub recorded : Result Printout CopyAskFault
+  pub reports : Reports recorded
+  pub prints : PrintsText old new recorded answer

@@ -53,7 +53,7 @@ module _ (digest : List ℕ → List ℕ) (origin : List ℕ) (keys : List Key) 
   where
     -- the report is the proof that was asked for, which is accepted against the copy's checkpoint, or against the root of as many
     -- of its entries
-    pub record TellsProof (report : Printout) : Type 0 where
+    pub record IsProofPrint (report : Printout) : Type 0 where
       pub size : ℕ
       pub root : List ℕ
       pub checkpoint : HasCheckpoint origin keys held size root
@@ -68,7 +68,7 @@ module _ (digest : List ℕ → List ℕ) (origin : List ℕ) (keys : List Key) 
 
     -- what each answer of the reporter says
     abbrev pub ReportsProof : Result Printout CopyAskFault → Type 0
-    ReportsProof (Ok report) = TellsProof report
+    ReportsProof (Ok report) = IsProofPrint report
     ReportsProof (Err (asking.Copy fault)) = IsRefused digest origin keys held fault ⊎ IsReadFault fault
     ReportsProof (Err (asking.Heads fault)) = ⊥
     ReportsProof (Err (asking.Ask (Report NothingComplete))) = IsEmptyCopy origin keys held

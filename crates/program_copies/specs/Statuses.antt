@@ -32,7 +32,7 @@ module _ (origin : List ℕ) (keys : List Key) (held : Option (List Put)) where
   HasPoint (Some point) = HasCheckpoint origin keys held point.size point.root
 
   -- the report on the copy
-  pub record TellsStatus (report : Printout) : Type 0 where
+  pub record IsStatusPrint (report : Printout) : Type 0 where
     pub point : Option Point
     pub has : HasPoint point
     pub is : IsStatusOf origin point report
@@ -40,7 +40,7 @@ module _ (origin : List ℕ) (keys : List Key) (held : Option (List Put)) where
 module _ (digest : List ℕ → List ℕ) (origin : List ℕ) (keys : List Key) (held : Option (List Put)) where
   -- what each answer of the reporter says
   abbrev pub ReportsStatus : Result Printout CopyAskFault → Type 0
-  ReportsStatus (Ok report) = TellsStatus origin keys held report
+  ReportsStatus (Ok report) = IsStatusPrint origin keys held report
   ReportsStatus (Err (Copy fault)) = IsRefused digest origin keys held fault
   ReportsStatus (Err (Heads fault)) = ⊥
   ReportsStatus (Err (Ask fault)) = ⊥

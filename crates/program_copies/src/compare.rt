@@ -1,7 +1,7 @@
 //! Checkpoints compared with a copy.
 ghost use Rattle.std.specs.Prelude.{◌≡◌, ◌↔◌, ⊤, All, IfErr, IfOk, IsTrue, map, option_map};
 ghost use Rattle.tlog_text.specs.Answers.{seen};
-ghost use Rattle.mirror_sources.specs.Told.{KeepsTold};
+ghost use Rattle.mirror_sources.specs.Recorded.{KeepsRecord};
 ghost use Rattle.copy_reader.specs.Copies.{LeavesPuts};
 ghost use Rattle.copy_reader.specs.Faults.{CountsRead};
 ghost use Rattle.copy_reader.specs.WholeCopies.{IsShelfFailure, ReadsCopyOf};
@@ -14,7 +14,7 @@ ghost use Rattle.program_copies.specs.Printed.{CountsAsk, HasStatus, IsStatus, I
 
 use crate::fault::CopyAskFault;
 use crate::opened::open_copy;
-use crate::printing::print_told;
+use crate::printing::print_text;
 use copy_reader::{CopyFault, read_root};
 use log_reader::LogReader;
 use mirror_folders::{NamedFolders, ReadableShelf};
@@ -47,7 +47,7 @@ fn compare_one<H: TreeHash, D: ReadableShelf>(
     ensures is { IfOk result (IsComparedTo H.digest reader.old.edge.size reader.old.root) }
     ensures edge { reader.new.edge ≡ reader.old.edge }
     ensures root { reader.new.root ≡ reader.old.root }
-    ensures same { KeepsTold (D.puts shelf.old) (D.puts shelf.new) }
+    ensures same { KeepsRecord (D.puts shelf.old) (D.puts shelf.new) }
     ensures counted { CountsRead (D.failed shelf.old) (D.failed shelf.new) result }
     ensures honest { ReadsCopyOf IsShelfFailure H.digest reader.old reader.new
         (D.puts shelf.old) result (IsCompared H.digest) }
@@ -77,7 +77,7 @@ fn compare_all<H: TreeHash, D: ReadableShelf>(
 ) -> Result<Vec<Compared>, CopyFault>
     ensures compared { IfOk result (λ compared. AreCompared H.digest reader.old.edge.size
         reader.old.root heads.now compared.items) }
-    ensures same { KeepsTold (D.puts shelf.old) (D.puts shelf.new) }
+    ensures same { KeepsRecord (D.puts shelf.old) (D.puts shelf.new) }
     ensures counted { CountsRead (D.failed shelf.old) (D.failed shelf.new) result }
     ensures honest { ReadsCopyOf IsShelfFailure H.digest reader.old reader.new
         (D.puts shelf.old) result
@@ -129,7 +129,7 @@ fn compare_report<H: TreeHash, D: ReadableShelf>(
     ensures report { IfOk result (IsComparisonOf H.digest reader.old.edge.size reader.old.root
         (option_map (λ v. v.items) given)
         (IsLogRead H.digest reader.old (D.puts shelf.old))) }
-    ensures same { KeepsTold (D.puts shelf.old) (D.puts shelf.new) }
+    ensures same { KeepsRecord (D.puts shelf.old) (D.puts shelf.new) }
     ensures counted { CountsRead (D.failed shelf.old) (D.failed shelf.new) result }
     ensures honest { ReadsCopyOf IsShelfFailure H.digest reader.old reader.new
         (D.puts shelf.old) result (λ _ _. ⊤) }
@@ -167,7 +167,7 @@ fn given_heads<H: TreeHash, F: NamedFiles>(
 }
 
 // The report on the copy in the folder.
-fn told_compared<H: TreeHash, F: NamedFiles, D: NamedFolders>(
+fn compare_text<H: TreeHash, F: NamedFiles, D: NamedFolders>(
     files: &F,
     folders: &mut D,
     alloc: Global,
@@ -235,6 +235,6 @@ pub fn compare_copy<H: TreeHash, F: NamedFiles, D: NamedFolders, W: Write>(
         (D.puts folders.new) }
     ensures counted { CountsAsk (D.failed folders.old) (D.failed folders.new) result }
 {
-    let told = told_compared::<H, F, D>(files, folders, alloc, origin, keys, folder, names);
-    print_told(output, told)
+    let recorded = compare_text::<H, F, D>(files, folders, alloc, origin, keys, folder, names);
+    print_text(output, recorded)
 }

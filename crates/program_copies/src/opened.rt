@@ -1,6 +1,6 @@
 //! A copy in a folder, opened.
 ghost use Rattle.std.specs.Prelude.{IfOk, OnOk, map};
-ghost use Rattle.mirror_sources.specs.Told.{KeepsTold};
+ghost use Rattle.mirror_sources.specs.Recorded.{KeepsRecord};
 ghost use Rattle.copy_reader.specs.Copies.{LeavesPuts, OpensCopy};
 ghost use Rattle.copy_reader.specs.Faults.{CountsCopy};
 ghost use Rattle.copy_reader.specs.WholeCopies.{OpensWhole};
@@ -36,7 +36,7 @@ pub fn open_copy<H: TreeHash, D: NamedFolders>(
 ) -> Result<Option<LogReader<H>>, CopyFault>
     ensures answer { OpensCopy H.digest origin.now (map (λ k. key k) keys.now)
         (D.held folders.old folder.now) result }
-    ensures opened { OnOk result (KeepsTold (D.held folders.old folder.now)
+    ensures opened { OnOk result (KeepsRecord (D.held folders.old folder.now)
         (D.puts folders.new)) }
     ensures kept { LeavesPuts (D.held folders.old folder.now) (D.puts folders.old)
         (D.puts folders.new) }

@@ -3,7 +3,7 @@ ghost use Rattle.std.specs.Prelude.{IfErr, IfOk, OnErr, OnOk};
 ghost use Rattle.std.specs.Io.KnownBytes.{Appends, Keeps};
 ghost use Rattle.byte_streams.specs.Streams.{AppendsPrefix};
 ghost use Rattle.program_reports.specs.Reports.{printed};
-ghost use Rattle.program_copies.specs.Printed.{HasStatus, IsStatus, IsWriteFault, PrintsTold};
+ghost use Rattle.program_copies.specs.Printed.{HasStatus, IsStatus, IsWriteFault, PrintsText};
 
 use crate::fault::CopyAskFault;
 use byte_streams::{StreamFault, write_whole};
@@ -21,16 +21,16 @@ fn write_report<W: Write>(output: &mut W, report: &Report) -> Result<(), StreamF
 }
 
 /// Writes the report, and answers its exit status; or its fault, and then nothing is written.
-pub(crate) fn print_told<W: Write>(
+pub(crate) fn print_text<W: Write>(
     output: &mut W,
-    told: Result<Report, CopyAskFault>,
+    recorded: Result<Report, CopyAskFault>,
 ) -> Result<u8, CopyAskFault>
-    ensures prints { PrintsTold (W.contents output.old) (W.contents output.new) told result }
+    ensures prints { PrintsText (W.contents output.old) (W.contents output.new) recorded result }
     ensures quiet { IfErr result
         (λ fault. (¬ IsWriteFault fault) → Keeps (W.contents output.old) (W.contents output.new)) }
-    ensures status { IfOk told HasStatus → IfOk result IsStatus }
+    ensures status { IfOk recorded HasStatus → IfOk result IsStatus }
 {
-    match told {
+    match recorded {
         Ok(report) => match write_report(output, &report) {
             Ok(()) => Ok(report.status),
             Err(_) => Err(CopyAskFault::Ask(AskFault::WriteFault)),

@@ -1,6 +1,6 @@
 //! Proofs of a copy's entries.
 ghost use Rattle.std.specs.Prelude.{◌≡◌, IfErr, IfOk, OnOk, map};
-ghost use Rattle.mirror_sources.specs.Told.{KeepsTold};
+ghost use Rattle.mirror_sources.specs.Recorded.{KeepsRecord};
 ghost use Rattle.std.specs.Io.KnownBytes.{Keeps};
 ghost use Rattle.copy_reader.specs.Copies.{LeavesPuts};
 ghost use Rattle.copy_reader.specs.Faults.{CountsRead};
@@ -10,7 +10,7 @@ ghost use Rattle.program_copies.specs.Proofs.{IsRefusedOf, PrintsProof, ReportsA
 
 use crate::fault::CopyAskFault;
 use crate::opened::open_copy;
-use crate::printing::print_told;
+use crate::printing::print_text;
 use copy_reader::{CopyFault, read_proof_text};
 use log_reader::LogReader;
 use mirror_folders::{NamedFolders, ReadableShelf};
@@ -60,7 +60,7 @@ fn read_report<H: TreeHash, D: ReadableShelf>(
 ) -> Result<Report, CopyFault>
     requires { IsWithin ask reader.old.edge.size }
     ensures report { IfOk result (PrintsProof H.digest reader.old.edge.size reader.old.root ask) }
-    ensures same { KeepsTold (D.puts shelf.old) (D.puts shelf.new) }
+    ensures same { KeepsRecord (D.puts shelf.old) (D.puts shelf.new) }
     ensures counted { CountsRead (D.failed shelf.old) (D.failed shelf.new) result }
 {
     let text = read_proof_text::<H, D>(alloc, shelf, reader, ask)?;
@@ -76,7 +76,7 @@ fn ask_reader<H: TreeHash, D: ReadableShelf>(
     ask: Ask,
 ) -> Result<Report, CopyAskFault>
     ensures answer { ReportsAsk H.digest reader.old.edge.size reader.old.root ask result }
-    ensures same { KeepsTold (D.puts shelf.old) (D.puts shelf.new) }
+    ensures same { KeepsRecord (D.puts shelf.old) (D.puts shelf.new) }
     ensures counted { CountsAsk (D.failed shelf.old) (D.failed shelf.new) result }
 {
     match refusal(ask, reader.size()) {
@@ -91,7 +91,7 @@ fn ask_reader<H: TreeHash, D: ReadableShelf>(
 
 // The report on the copy in the folder.
 #[tactic(auto, using(log_reader::proofs::Kept::kept_twice))]
-fn told_proof<H: TreeHash, D: NamedFolders>(
+fn text_of_proof<H: TreeHash, D: NamedFolders>(
     folders: &mut D,
     alloc: Global,
     origin: &str,
@@ -150,6 +150,6 @@ pub fn prove_copy<H: TreeHash, D: NamedFolders, W: Write>(
         (D.puts folders.new) }
     ensures counted { CountsAsk (D.failed folders.old) (D.failed folders.new) result }
 {
-    let told = told_proof::<H, D>(folders, alloc, origin, keys, folder, ask);
-    print_told(output, told)
+    let recorded = text_of_proof::<H, D>(folders, alloc, origin, keys, folder, ask);
+    print_text(output, recorded)
 }

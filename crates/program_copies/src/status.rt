@@ -8,7 +8,7 @@ ghost use Rattle.program_copies.specs.Statuses.{IsStatusOf, ReportsStatus, reade
 
 use crate::fault::CopyAskFault;
 use crate::opened::open_copy;
-use crate::printing::print_told;
+use crate::printing::print_text;
 use copy_reader::{CopyFault, status_text};
 use log_reader::LogReader;
 use mirror_folders::NamedFolders;
@@ -46,7 +46,7 @@ fn opened_point<H: TreeHash>(opened: Option<LogReader<H>>) -> Option<(u64, Hash)
 
 // The report on the copy in the folder.
 #[tactic(auto, using(crate::proofs::Reading::opened_has))]
-fn told_status<H: TreeHash, D: NamedFolders>(
+fn status_of_copy<H: TreeHash, D: NamedFolders>(
     folders: &mut D,
     alloc: Global,
     origin: &str,
@@ -103,6 +103,6 @@ pub fn status_copy<H: TreeHash, D: NamedFolders, W: Write>(
         (D.puts folders.new) }
     ensures counted { CountsAsk (D.failed folders.old) (D.failed folders.new) result }
 {
-    let told = told_status::<H, D>(folders, alloc, origin, keys, folder);
-    print_told(output, told)
+    let recorded = status_of_copy::<H, D>(folders, alloc, origin, keys, folder);
+    print_text(output, recorded)
 }

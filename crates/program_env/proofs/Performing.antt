@@ -14,7 +14,7 @@ use Rattle.program_env.specs.declared.fault.RunFault.TheVariants.{OutOfMemory, P
 use Rattle.program_env.specs.Done.{Executes, IsWriteFault, LeavesFiles, LeavesFolders, verdict_status}
 use Rattle.program_env.specs.Moment.{Moment}
 use Rattle.program_env.specs.Performing.{Performs}
-use Rattle.program_env.specs.Works.{IsStatus, TellsPort}
+use Rattle.program_env.specs.Works.{IsStatus, PrintsPort}
 use Rattle.program_env.proofs.Written.{keeps_itself}
 
 -- nothing was written but at a write fault, whatever that is called
@@ -72,7 +72,7 @@ module _ (digest : List ℕ → List ℕ) (keys : List Key) (key_bytes : List �
   }
 
 -- nothing was written by `serve` but the line of its port
-quiet_port : (port : ℕ) (old new : Option (List ℕ)) (fault : RunFault) → TellsPort {T = Unit {0}} port old new (Err fault) →
+quiet_port : (port : ℕ) (old new : Option (List ℕ)) (fault : RunFault) → PrintsPort {T = Unit {0}} port old new (Err fault) →
     (¬ IsWriteFault fault) → Keeps old new
 quiet_port port old new WriteFault h other = absurd (other tt)
 quiet_port port old new PortFault h other = absurd (other tt)
@@ -84,7 +84,7 @@ pub serves : (digest : List ℕ → List ℕ) (keys : List Key) (key_bytes : Lis
     new.files ≡ old.files → new.puts ≡ old.puts → (v : View) →
     OpensFile digest c.mirror.log.origin.now keys old.files c.mirror.state.now (Ok v) →
     (was : Result (Unit {0}) RunFault) (is : Result ℕ RunFault) → is ≡ result_map_both (λ _. 0) (λ fault. fault) was →
-    TellsPort c.port old.output new.output was → Performs digest keys key_bytes old new (order.Serve c) is
+    PrintsPort c.port old.output new.output was → Performs digest keys key_bytes old new (order.Serve c) is
 serves digest keys key_bytes old new c files folders v opened (Ok x) is same tells =
     rw same (performs_done digest keys key_bytes old new (order.Serve c) files folders 0 (inl refl)
     (inr record { view = v; opened = opened; tells = tells }, refl))

@@ -2,21 +2,21 @@
 use Rattle.std.proofs.Common.{ℕ, List, Option, Bool, IsTrue, inl, inr}
 use Rattle.byte_streams.specs.Streams.{AppendsPrefix}
 use Rattle.program_files.specs.Why.{IsWhyLine}
-use Rattle.program_env.specs.Whys.{TellsLine, TellsWhy}
+use Rattle.program_env.specs.Whys.{PrintsLine, PrintsWhy}
 use Rattle.program_env.proofs.Written.{keeps_itself}
 
 -- nothing
-pub no_line : (c : Option (List ℕ)) → TellsLine c c
+pub no_line : (c : Option (List ℕ)) → PrintsLine c c
 no_line c = inl (keeps_itself c)
 
-pub nothing_told : (asked : Bool) (c : Option (List ℕ)) → TellsWhy asked c c
-nothing_told asked c = inl (keeps_itself c)
+pub nothing_recorded : (asked : Bool) (c : Option (List ℕ)) → PrintsWhy asked c c
+nothing_recorded asked c = inl (keeps_itself c)
 
 -- a line
-pub one_line : (line : List ℕ) (old new : Option (List ℕ)) → IsWhyLine line → AppendsPrefix old new line → TellsLine old new
+pub one_line : (line : List ℕ) (old new : Option (List ℕ)) → IsWhyLine line → AppendsPrefix old new line → PrintsLine old new
 one_line line old new is front = inr (line, is, front)
 
 -- a line, where it is asked for
-pub asked_told : (asked : Bool) (old new : Option (List ℕ)) → IsTrue asked → TellsLine old new → TellsWhy asked old new
-asked_told asked old new is (inl keeps) = inl keeps
-asked_told asked old new is (inr writes) = inr (is, writes)
+pub asked_recorded : (asked : Bool) (old new : Option (List ℕ)) → IsTrue asked → PrintsLine old new → PrintsWhy asked old new
+asked_recorded asked old new is (inl keeps) = inl keeps
+asked_recorded asked old new is (inr writes) = inr (is, writes)

@@ -72,18 +72,18 @@ use Rattle.program_commands.specs.Check.{AnswersCheck}
 use Rattle.program_env.specs.Builds.{BuildsFrom, RefusesOrigin}
 use Rattle.program_env.specs.Moment.{Moment}
 use Rattle.program_env.specs.Named.{TakesWords}
-use Rattle.program_env.specs.Pulls.{TellsPull}
-use Rattle.program_env.specs.Works.{AsksState, ComparesState, ServesState, TellsPort}
+use Rattle.program_env.specs.Pulls.{PrintsPull}
+use Rattle.program_env.specs.Works.{AsksState, ComparesState, ServesState, PrintsPort}
 
 -- the files that a command reads alone are left as they are; what the others leave is said by
 -- `Executes`
 abbrev pub LeavesFiles : Order → Option (List NamedFile) → Option (List NamedFile) → Type 0
-LeavesFiles (order.Take c) told left = ⊤
-LeavesFiles (order.Merge c) told left = ⊤
-LeavesFiles (order.Pull c) told left = ⊤
-LeavesFiles (order.Notes c) told left = ⊤
-LeavesFiles (order.Follow c) told left = ⊤
-LeavesFiles other told left = left ≡ told
+LeavesFiles (order.Take c) recorded left = ⊤
+LeavesFiles (order.Merge c) recorded left = ⊤
+LeavesFiles (order.Pull c) recorded left = ⊤
+LeavesFiles (order.Notes c) recorded left = ⊤
+LeavesFiles (order.Follow c) recorded left = ⊤
+LeavesFiles other recorded left = left ≡ recorded
 
 -- the commands that put nothing into a folder leave what was put as it was; what the others put is
 -- said by `Executes`
@@ -134,8 +134,8 @@ IsDoable other = ⊤
 
 -- the note is that of the named file; where none is named it is any, since a place of the system may give any
 abbrev pub MayFollow : Option (List NamedFile) → Option (List ℕ) → List ℕ → Type 0
-MayFollow told None note = ⊤
-MayFollow told (Some name) note = HasContents told name note
+MayFollow recorded None note = ⊤
+MayFollow recorded (Some name) note = HasContents recorded name note
 
 -- a place of the system was audited with that answer. It records nothing and may answer anything, so this says that there are
 -- such replies
@@ -204,7 +204,7 @@ module _ (digest : List ℕ → List ℕ) (keys : List Key) (key_bytes : List �
 
   abbrev pub DoesPull : PullWords → Result ℕ RunFault → Type 0
   DoesPull c answer =
-      TellsPull digest c.mirror.log.origin.now keys (option_map (λ name. name.now) c.state) c.place
+      PrintsPull digest c.mirror.log.origin.now keys (option_map (λ name. name.now) c.state) c.place
       old.files c.keep c.mirror.out.now new.files old.output new.output answer
 
   -- -- status, missing, forks, prove
@@ -361,7 +361,7 @@ module _ (digest : List ℕ → List ℕ) (keys : List Key) (key_bytes : List �
   -- the line of the port was written, as by that answer, and nothing was put
   abbrev pub ServesCopy : CopyServeWords → Result (Unit {0}) RunFault → Type 0
   ServesCopy c answer =
-      TellsPort c.port old.output new.output answer × LeavesPuts (old.held c.copy.folder.now) old.puts new.puts
+      PrintsPort c.port old.output new.output answer × LeavesPuts (old.held c.copy.folder.now) old.puts new.puts
 
   abbrev pub DoesCopyServe : CopyServeWords → Result ℕ RunFault → Type 0
   DoesCopyServe c (Ok status) = ServesCopy c done × (status ≡ 0)

@@ -1,4 +1,4 @@
--- What is told of why a command failed. `TellsLine` is cited by the contract of a private function
+-- What is told of why a command failed. `PrintsLine` is cited by the contract of a private function
 -- alone.
 use Rattle.std.specs.Prelude.{◌⊎◌, ℕ, List, Option, Bool, IsTrue}
 use Rattle.std.specs.Io.KnownBytes.{Keeps}
@@ -10,9 +10,9 @@ abbrev pub WritesWhy : Option (List ℕ) → Option (List ℕ) → Type 0
 WritesWhy old new = (line : List ℕ) × IsWhyLine line × AppendsPrefix old new line
 
 -- nothing was written, or one line
-abbrev pub TellsLine : Option (List ℕ) → Option (List ℕ) → Type 0
-TellsLine old new = Keeps old new ⊎ WritesWhy old new
+abbrev pub PrintsLine : Option (List ℕ) → Option (List ℕ) → Type 0
+PrintsLine old new = Keeps old new ⊎ WritesWhy old new
 
 -- the same, and a line only where it is asked for
-abbrev pub TellsWhy : Bool → Option (List ℕ) → Option (List ℕ) → Type 0
-TellsWhy asked old new = Keeps old new ⊎ (IsTrue asked × WritesWhy old new)
+abbrev pub PrintsWhy : Bool → Option (List ℕ) → Option (List ℕ) → Type 0
+PrintsWhy asked old new = Keeps old new ⊎ (IsTrue asked × WritesWhy old new)

@@ -29,16 +29,16 @@ IsStatus status = (status ≡ 0) ⊎ (status ≡ 3)
 -- ---- status, missing, forks, prove
 
 module _
-    (digest : List ℕ → List ℕ) (keys : List Key) (told : Option (List NamedFile)) (name : List ℕ)
+    (digest : List ℕ → List ℕ) (keys : List Key) (recorded : Option (List NamedFile)) (name : List ℕ)
     (origin : List ℕ) (question : Question) (old new : Option (List ℕ)) where
   -- a mirror was opened of the state file, and it answers what was answered and written
   abbrev pub AsksState : Result ℕ RunFault → Type 0
   AsksState (Ok status) =
-      (v : View) × OpensFile digest origin keys told name (Ok v) ×
+      (v : View) × OpensFile digest origin keys recorded name (Ok v) ×
       AnswersQuestion digest question v old new (Ok status)
-  AsksState (Err (State fault)) = OpensFile digest origin keys told name (Err fault)
+  AsksState (Err (State fault)) = OpensFile digest origin keys recorded name (Err fault)
   AsksState (Err (Ask fault)) =
-      (v : View) × OpensFile digest origin keys told name (Ok v) ×
+      (v : View) × OpensFile digest origin keys recorded name (Ok v) ×
       AnswersQuestion digest question v old new (Err fault)
   AsksState (Err other) = ⊥
 
@@ -47,46 +47,46 @@ module _
 -- the heads that are given: those of the files, and none where no file is named
 abbrev pub FindsHeads : List Key → Option (List NamedFile) → List ℕ → List (List ℕ) →
     Result (Option (List (ℕ × List ℕ))) HeadFilesFault → Type 0
-FindsHeads keys told origin files (Ok None) = files ≡ []
-FindsHeads keys told origin files (Ok (Some heads)) =
-    (files ≢ []) × ReadsHeads origin keys told files (Ok heads)
-FindsHeads keys told origin files (Err fault) = ReadsHeads origin keys told files (Err fault)
+FindsHeads keys recorded origin files (Ok None) = files ≡ []
+FindsHeads keys recorded origin files (Ok (Some heads)) =
+    (files ≢ []) × ReadsHeads origin keys recorded files (Ok heads)
+FindsHeads keys recorded origin files (Err fault) = ReadsHeads origin keys recorded files (Err fault)
 
 module _
-    (digest : List ℕ → List ℕ) (keys : List Key) (told : Option (List NamedFile)) (name : List ℕ)
+    (digest : List ℕ → List ℕ) (keys : List Key) (recorded : Option (List NamedFile)) (name : List ℕ)
     (origin : List ℕ) (files : List (List ℕ)) (old new : Option (List ℕ)) where
   -- a mirror was opened of the state file, and what was answered and written is what it tells of the
   -- heads that are given
   pub record OpensAndCompares (answer : Result ℕ AskFault) : Type 0 where
     pub view : View
     pub heads : Option (List (ℕ × List ℕ))
-    pub opened : OpensFile digest origin keys told name (Ok view)
-    pub given : FindsHeads keys told view.origin files (Ok heads)
+    pub opened : OpensFile digest origin keys recorded name (Ok view)
+    pub given : FindsHeads keys recorded view.origin files (Ok heads)
     pub answers : AnswersCompared digest view heads old new answer
 
   -- what each answer of `compare` says of the files, and of what was written
   abbrev pub ComparesState : Result ℕ RunFault → Type 0
   ComparesState (Ok status) = OpensAndCompares (Ok status)
-  ComparesState (Err (State fault)) = OpensFile digest origin keys told name (Err fault)
+  ComparesState (Err (State fault)) = OpensFile digest origin keys recorded name (Err fault)
   ComparesState (Err (Heads fault)) =
-      (v : View) × OpensFile digest origin keys told name (Ok v) ×
-      FindsHeads keys told v.origin files (Err fault)
+      (v : View) × OpensFile digest origin keys recorded name (Ok v) ×
+      FindsHeads keys recorded v.origin files (Err fault)
   ComparesState (Err (Ask fault)) = OpensAndCompares (Err fault)
   ComparesState (Err other) = ⊥
 
 module _
-    (digest : List ℕ → List ℕ) (keys : List Key) (told : Option (List NamedFile))
+    (digest : List ℕ → List ℕ) (keys : List Key) (recorded : Option (List NamedFile))
     (files : List (List ℕ)) (old new : Option (List ℕ)) where
   -- heads are given, and what was answered and written is what a mirror of this view tells of them
   pub record ComparesGiven (v : View) (answer : Result ℕ AskFault) : Type 0 where
     pub heads : Option (List (ℕ × List ℕ))
-    pub given : FindsHeads keys told v.origin files (Ok heads)
+    pub given : FindsHeads keys recorded v.origin files (Ok heads)
     pub answers : AnswersCompared digest v heads old new answer
 
   -- what each answer of `compare` says of a mirror of this view
   abbrev pub ComparesView : View → Result ℕ RunFault → Type 0
   ComparesView v (Ok status) = ComparesGiven v (Ok status)
-  ComparesView v (Err (Heads fault)) = FindsHeads keys told v.origin files (Err fault)
+  ComparesView v (Err (Heads fault)) = FindsHeads keys recorded v.origin files (Err fault)
   ComparesView v (Err (Ask fault)) = ComparesGiven v (Err fault)
   ComparesView v (Err other) = ⊥
 
@@ -104,29 +104,29 @@ listening_text port = codes "listening 127.0.0.1:" ++ (decimal port ++ codes "\n
 
 -- what each answer of serving says of that line: it was written, or at a fault a prefix of it;
 -- where the port cannot be had, or a connection be accepted, nothing or all of it
-abbrev pub TellsPort : {T : Type 0} → ℕ → Option (List ℕ) → Option (List ℕ) → Result T RunFault →
+abbrev pub PrintsPort : {T : Type 0} → ℕ → Option (List ℕ) → Option (List ℕ) → Result T RunFault →
     Type 0
-TellsPort port old new (Ok x) = Appends old new (listening_text port)
-TellsPort port old new (Err WriteFault) = AppendsPrefix old new (listening_text port)
-TellsPort port old new (Err PortFault) =
+PrintsPort port old new (Ok x) = Appends old new (listening_text port)
+PrintsPort port old new (Err WriteFault) = AppendsPrefix old new (listening_text port)
+PrintsPort port old new (Err PortFault) =
     Keeps old new ⊎ Appends old new (listening_text port)
-TellsPort port old new (Err OutOfMemory) = Keeps old new
-TellsPort port old new (Err other) = ⊥
+PrintsPort port old new (Err OutOfMemory) = Keeps old new
+PrintsPort port old new (Err other) = ⊥
 
 module _
-    (digest : List ℕ → List ℕ) (keys : List Key) (told : Option (List NamedFile)) (name : List ℕ)
+    (digest : List ℕ → List ℕ) (keys : List Key) (recorded : Option (List NamedFile)) (name : List ℕ)
     (origin : List ℕ) where
   -- no mirror was opened of the state file, as the fault says
   abbrev pub OpensNothing : {T : Type 0} → Result T RunFault → Type 0
-  OpensNothing (Err (State fault)) = OpensFile digest origin keys told name (Err fault)
+  OpensNothing (Err (State fault)) = OpensFile digest origin keys recorded name (Err fault)
   OpensNothing other = ⊥
 
   module _ (port : ℕ) (old new : Option (List ℕ)) where
     -- a mirror was opened of the state file, and the port was told so
     pub record OpensAndTells {T : Type 0} (answer : Result T RunFault) : Type 0 where
       pub view : View
-      pub opened : OpensFile digest origin keys told name (Ok view)
-      pub tells : TellsPort port old new answer
+      pub opened : OpensFile digest origin keys recorded name (Ok view)
+      pub tells : PrintsPort port old new answer
 
     -- what each answer of `serve` says: a mirror was opened, and its port told; or none was, and
     -- nothing was written

@@ -1,6 +1,6 @@
 //! What of a run's files and folders failed, and why.
 use mirror_folders::{DirShelf, FailedFile, MemShelf};
-use mirror_progress::{CountingShelf, ToldFolders};
+use mirror_progress::{CountedFolders, CountingShelf};
 use program_files::{FailedName, MemoryFiles, NamedFiles, SystemFiles};
 use std::fs::Files;
 use std::io::Write;
@@ -12,7 +12,7 @@ pub trait RunFiles: NamedFiles {
     fn failed_name(&self) -> Option<FailedName>;
 
     /// The last remark on bytes that were read, once; None if there was none, or it is not kept.
-    fn told_reason(&self) -> Option<String>;
+    fn failed_reason(&self) -> Option<String>;
 }
 
 impl<'a, R: Files> RunFiles for SystemFiles<'a, R> {
@@ -20,7 +20,7 @@ impl<'a, R: Files> RunFiles for SystemFiles<'a, R> {
         self.take_failed()
     }
 
-    fn told_reason(&self) -> Option<String> {
+    fn failed_reason(&self) -> Option<String> {
         self.take_reason()
     }
 }
@@ -30,13 +30,13 @@ impl RunFiles for MemoryFiles {
         None
     }
 
-    fn told_reason(&self) -> Option<String> {
+    fn failed_reason(&self) -> Option<String> {
         None
     }
 }
 
 /// Folders by their names that keep what failed. Contracts see nothing of it.
-pub trait RunFolders: ToldFolders {
+pub trait RunFolders: CountedFolders {
     /// The file of the last call that failed, and why; None if none has failed, or it is not kept.
     fn failed_file(&self) -> Option<FailedFile>;
 }

@@ -2,7 +2,7 @@
 ghost use Rattle.std.specs.Prelude.{◌≡◌, IfOk, string_bytes};
 ghost use Rattle.byte_streams.specs.Streams.{AppendsPrefix};
 ghost use Rattle.program_env.specs.FaultLines.{fault_line};
-ghost use Rattle.program_env.specs.Works.{TellsPort, connection_fault, listening_text};
+ghost use Rattle.program_env.specs.Works.{PrintsPort, connection_fault, listening_text};
 
 use crate::error::Error;
 use crate::fault::RunFault;
@@ -27,7 +27,7 @@ pub fn port_fault(alloc: Global, port: u16, error: &io::Error) -> Error
 ///
 /// `OutOfMemory`, where nothing was written; `WriteFault`, where a prefix of the line was.
 pub fn print_port<O: Write>(alloc: Global, port: u16, output: &mut O) -> Result<(), Error>
-    ensures line { TellsPort port (O.contents output.old) (O.contents output.new) result }
+    ensures line { PrintsPort port (O.contents output.old) (O.contents output.new) result }
 {
     let Ok(line) = listening_line(alloc, port) else {
         return Err(Error::new(RunFault::OutOfMemory, None));

@@ -1,10 +1,10 @@
 //! How far the work is, reported where the words ask for it.
 ghost use Rattle.std.specs.Prelude.{◌≡◌};
 
-use mirror_progress::{Task, ToldFolders};
+use mirror_progress::{CountedFolders, Task};
 
 /// From now on the folders report how many files are put, where the words ask for it.
-pub fn report_puts<D: ToldFolders>(folders: &mut D, progress: bool, task: Task)
+pub fn report_puts<D: CountedFolders>(folders: &mut D, progress: bool, task: Task)
     ensures puts { D.puts folders.new ≡ D.puts folders.old }
     ensures held { D.held folders.new ≡ D.held folders.old }
 {
@@ -14,7 +14,7 @@ pub fn report_puts<D: ToldFolders>(folders: &mut D, progress: bool, task: Task)
 }
 
 /// The work is done: a last line says how many files were put, where the words ask for it.
-pub fn report_end<D: ToldFolders>(folders: &mut D, progress: bool)
+pub fn report_end<D: CountedFolders>(folders: &mut D, progress: bool)
     ensures puts { D.puts folders.new ≡ D.puts folders.old }
     ensures held { D.held folders.new ≡ D.held folders.old }
 {

@@ -66,7 +66,7 @@ pub fn of_note<F: RunFiles>(alloc: Global, files: &F, name: &str, fault: TakeFau
 pub fn of_heads<F: RunFiles>(alloc: Global, files: &F, fault: HeadFilesFault) -> Option<Why> {
     match fault {
         HeadFilesFault::File(fault) => of_named(alloc, files, fault),
-        HeadFilesFault::Head(fault) => of_note(alloc, files, &files.told_reason()?, fault),
+        HeadFilesFault::Head(fault) => of_note(alloc, files, &files.failed_reason()?, fault),
     }
 }
 

@@ -1,5 +1,5 @@
 //! What `--why` prints: the thing that a fault is about, and what is wrong with it.
-ghost use Rattle.program_env.specs.Whys.{TellsLine, TellsWhy};
+ghost use Rattle.program_env.specs.Whys.{PrintsLine, PrintsWhy};
 
 use crate::failing::{RunFiles, RunFolders};
 use crate::front::write_front;
@@ -109,9 +109,9 @@ impl Why {
 }
 
 /// Writes the line of what is known, if it is asked for.
-#[tactic(auto, using(crate::proofs::Whys::nothing_told, crate::proofs::Whys::asked_told))]
-pub fn tell_why<E: Write>(alloc: Global, asked: bool, why: Option<Why>, errors: &mut E)
-    ensures { TellsWhy asked (E.contents errors.old) (E.contents errors.new) }
+#[tactic(auto, using(crate::proofs::Whys::nothing_recorded, crate::proofs::Whys::asked_recorded))]
+pub fn print_why<E: Write>(alloc: Global, asked: bool, why: Option<Why>, errors: &mut E)
+    ensures { PrintsWhy asked (E.contents errors.old) (E.contents errors.new) }
 {
     if asked {
         if let Some(why) = why {
@@ -123,7 +123,7 @@ pub fn tell_why<E: Write>(alloc: Global, asked: bool, why: Option<Why>, errors: 
 // Writes the line, as far as the stream takes it; none without memory for it.
 #[tactic(auto, using(crate::proofs::Whys::no_line, crate::proofs::Whys::one_line))]
 fn write_why<E: Write>(alloc: Global, why: &Why, errors: &mut E)
-    ensures { TellsLine (E.contents errors.old) (E.contents errors.new) }
+    ensures { PrintsLine (E.contents errors.old) (E.contents errors.new) }
 {
     if let Ok(line) = why_line(alloc, &why.thing, &why.reason) {
         write_front(errors, line.as_bytes());
@@ -155,7 +155,7 @@ pub fn of_state<F: RunFiles>(
         StateFault::Origin(fault) => of_origin(alloc, fault),
         StateFault::File(fault) => of_named(alloc, files, fault),
         StateFault::Load(LoadFault::OutOfMemory) => None,
-        StateFault::Load(_) => match files.told_reason() {
+        StateFault::Load(_) => match files.failed_reason() {
             Some(reason) => Why::of_reason(alloc, name?, &reason),
             None => Why::of_thing(alloc, name?),
         },

@@ -5,14 +5,14 @@ use Rattle.std.specs.Prelude.{if◌then◌else◌, Contains}
 use Rattle.std.specs.List.{AllZip}
 use Rattle.std.specs.Str.{bytes_eq}
 use Rattle.std.proofs.lemmas.List.{map-append, take_more, take_all, get_or-map, length-map}
-use Rattle.mirror_sources.specs.Told.{KeepsTold}
+use Rattle.mirror_sources.specs.Recorded.{KeepsRecord}
 use Rattle.program_files.specs.Named.{NamedFile}
 use Rattle.program_files.specs.Named.{FailsToRead, ReadsShort, last_put, contents_of, HasContents, HaveContents}
 use Rattle.program_files.specs.declared.fault.NamedFault.{NamedFault}
 use Rattle.program_files.specs.declared.fault.NamedFault.TheVariants as named
 
 -- what is told stays as it is
-pub kept_itself : {X : Type 0} (told : Option (List X)) → KeepsTold told told
+pub kept_itself : {X : Type 0} (recorded : Option (List X)) → KeepsRecord recorded recorded
 kept_itself None = tt
 kept_itself (Some xs) = refl
 
@@ -64,17 +64,17 @@ zip_push R (a ∷ xs) [] x y h r = absurd h
 zip_push R (a ∷ xs) (b ∷ ys) x y h r = (h.0, zip_push R xs ys x y h.1 r)
 
 pub tells_more :
-    {A B : Type 0} (told : Option (List NamedFile)) (f : A → List ℕ) (g : B → List ℕ) (xs ys : List A) (a : A)
+    {A B : Type 0} (recorded : Option (List NamedFile)) (f : A → List ℕ) (g : B → List ℕ) (xs ys : List A) (a : A)
     (names : List B) (i : ℕ) (d : B) →
-    ys ≡ xs ++ a ∷ [] → HasContents told (g (get_or names i d)) (f a) → i < length names →
-    HaveContents told (map g (take i names)) (map f xs) →
-    HaveContents told (map g (take (i + 1) names)) (map f ys)
-tells_more told f g xs ys a names i d grown is lt before =
+    ys ≡ xs ++ a ∷ [] → HasContents recorded (g (get_or names i d)) (f a) → i < length names →
+    HaveContents recorded (map g (take i names)) (map f xs) →
+    HaveContents recorded (map g (take (i + 1) names)) (map f ys)
+tells_more recorded f g xs ys a names i d grown is lt before =
     let named : map g (take (i + 1) names) ≡ map g (take i names) ++ g (get_or names i d) ∷ [] =
     ap (map g) (take_more names i d lt) ∙ map-append g (take i names) (get_or names i d ∷ []) in
     let held : map f ys ≡ map f xs ++ f a ∷ [] = ap (map f) grown ∙ map-append f xs (a ∷ []) in
     rw (named, held)
-    (zip_push (HasContents told) (map g (take i names)) (map f xs) (g (get_or names i d)) (f a) before is)
+    (zip_push (HasContents recorded) (map g (take i names)) (map f xs) (g (get_or names i d)) (f a) before is)
 
 pub named_here : {B C : Type 0} (g : B → C) (names : List B) (i : ℕ) (d : B) → i < length names →
     Contains (map g names) (g (get_or names i d))
@@ -85,21 +85,21 @@ pub named_behind : (first : List ℕ) (names : List (List ℕ)) (name : List ℕ
 named_behind first names name h = (suc h.0, omega (arith, h.1), h.2)
 
 -- one of the files cannot be read
-pub read_failed : (told : Option (List NamedFile)) (names : List (List ℕ)) (name : List ℕ) (fault : NamedFault) →
-    Contains names name → ReadsShort told name (Err fault) → FailsToRead told names fault
-read_failed told names name named.FileFault listed h = (name, listed, h)
-read_failed told names name named.OutOfMemory listed h = tt
+pub read_failed : (recorded : Option (List NamedFile)) (names : List (List ℕ)) (name : List ℕ) (fault : NamedFault) →
+    Contains names name → ReadsShort recorded name (Err fault) → FailsToRead recorded names fault
+read_failed recorded names name named.FileFault listed h = (name, listed, h)
+read_failed recorded names name named.OutOfMemory listed h = tt
 
 -- a longer list of names has it too
-pub behind_failed : (told : Option (List NamedFile)) (first : List ℕ) (names : List (List ℕ)) (fault : NamedFault) →
-    FailsToRead told names fault → FailsToRead told (first ∷ names) fault
-behind_failed told first names named.FileFault h = (h.0, named_behind first names h.0 h.1, h.2)
-behind_failed told first names named.OutOfMemory h = tt
+pub behind_failed : (recorded : Option (List NamedFile)) (first : List ℕ) (names : List (List ℕ)) (fault : NamedFault) →
+    FailsToRead recorded names fault → FailsToRead recorded (first ∷ names) fault
+behind_failed recorded first names named.FileFault h = (h.0, named_behind first names h.0 h.1, h.2)
+behind_failed recorded first names named.OutOfMemory h = tt
 
 -- the first file, or the only one
-pub first_failed : (told : Option (List NamedFile)) (first : List ℕ) (names : List (List ℕ)) (fault : NamedFault) →
-    ReadsShort told first (Err fault) → FailsToRead told (first ∷ names) fault
-first_failed told first names fault h = read_failed told (first ∷ names) first fault (0, omega arith, refl) h
+pub first_failed : (recorded : Option (List NamedFile)) (first : List ℕ) (names : List (List ℕ)) (fault : NamedFault) →
+    ReadsShort recorded first (Err fault) → FailsToRead recorded (first ∷ names) fault
+first_failed recorded first names fault h = read_failed recorded (first ∷ names) first fault (0, omega arith, refl) h
 
 -- ---- what was found
 

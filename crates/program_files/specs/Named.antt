@@ -4,7 +4,7 @@ use Rattle.std.specs.Prelude.{Err}
 use Rattle.std.specs.Prelude.{if◌then◌else◌, Contains, ⊤}
 use Rattle.std.specs.List.{AllZip}
 use Rattle.std.specs.Str.{bytes_eq}
-use Rattle.mirror_sources.specs.Told.{AddsTold, KeepsTold}
+use Rattle.mirror_sources.specs.Recorded.{AddsToRecord, KeepsRecord}
 use Rattle.program_files.specs.declared.named.TheConstants.{MAX_FILE_LEN}
 use Rattle.program_files.specs.declared.fault.NamedFault.{NamedFault}
 use Rattle.program_files.specs.declared.fault.NamedFault.TheVariants.{FileFault, OutOfMemory}
@@ -36,73 +36,73 @@ LacksFile None name = ⊤
 LacksFile (Some puts) name = contents_of puts name ≡ None
 
 -- there is none that is short enough to be read
-abbrev pub TellsNoShort : Option (List NamedFile) → List ℕ → Type 0
-TellsNoShort None name = ⊤
-TellsNoShort (Some puts) name =
+abbrev pub RecordsNoShort : Option (List NamedFile) → List ℕ → Type 0
+RecordsNoShort None name = ⊤
+RecordsNoShort (Some puts) name =
     (bytes : List ℕ) → contents_of puts name ≡ Some bytes → MAX_FILE_LEN < length bytes
 
 -- there is one that is too long to be read
-abbrev pub TellsLong : Option (List NamedFile) → List ℕ → Type 0
-TellsLong None name = ⊤
-TellsLong (Some puts) name =
+abbrev pub RecordsLong : Option (List NamedFile) → List ℕ → Type 0
+RecordsLong None name = ⊤
+RecordsLong (Some puts) name =
     (bytes : List ℕ) × (contents_of puts name ≡ Some bytes) × (MAX_FILE_LEN < length bytes)
 
 -- of files that record what was put memory alone can be wanting
-abbrev pub TellsFault : Option (List NamedFile) → NamedFault → Type 0
-TellsFault told FileFault = told ≡ None
-TellsFault told OutOfMemory = ⊤
+abbrev pub RecordsFault : Option (List NamedFile) → NamedFault → Type 0
+RecordsFault recorded FileFault = recorded ≡ None
+RecordsFault recorded OutOfMemory = ⊤
 
 -- ---- what each call answers
 
 -- the bytes of a file of any length
 abbrev pub ReadsFile : Option (List NamedFile) → List ℕ → Result (List ℕ) NamedFault → Type 0
-ReadsFile told name (Ok bytes) = HasContents told name bytes
-ReadsFile told name (Err FileFault) = LacksFile told name
-ReadsFile told name (Err OutOfMemory) = ⊤
+ReadsFile recorded name (Ok bytes) = HasContents recorded name bytes
+ReadsFile recorded name (Err FileFault) = LacksFile recorded name
+ReadsFile recorded name (Err OutOfMemory) = ⊤
 
 -- the bytes of a file that may not be too long
 abbrev pub ReadsShort : Option (List NamedFile) → List ℕ → Result (List ℕ) NamedFault → Type 0
-ReadsShort told name (Ok bytes) = HasContents told name bytes
-ReadsShort told name (Err FileFault) = TellsNoShort told name
-ReadsShort told name (Err OutOfMemory) = ⊤
+ReadsShort recorded name (Ok bytes) = HasContents recorded name bytes
+ReadsShort recorded name (Err FileFault) = RecordsNoShort recorded name
+ReadsShort recorded name (Err OutOfMemory) = ⊤
 
 -- the bytes of a file that may not be too long, or that there is none
 abbrev pub FindsFile : Option (List NamedFile) → List ℕ → Result (Option (List ℕ)) NamedFault →
     Type 0
-FindsFile told name (Ok None) = LacksFile told name
-FindsFile told name (Ok (Some bytes)) = HasContents told name bytes
-FindsFile told name (Err FileFault) = TellsLong told name
-FindsFile told name (Err OutOfMemory) = ⊤
+FindsFile recorded name (Ok None) = LacksFile recorded name
+FindsFile recorded name (Ok (Some bytes)) = HasContents recorded name bytes
+FindsFile recorded name (Err FileFault) = RecordsLong recorded name
+FindsFile recorded name (Err OutOfMemory) = ⊤
 
 -- a file was not written: all is as it was
 abbrev pub FailsToPut : Option (List NamedFile) → Option (List NamedFile) → NamedFault → Type 0
-FailsToPut old new fault = KeepsTold old new × TellsFault old fault
+FailsToPut old new fault = KeepsRecord old new × RecordsFault old fault
 
 -- a file that is replaced is recorded last
-abbrev pub TellsReplace : {T : Type 0} → Option (List NamedFile) → Option (List NamedFile) →
+abbrev pub RecordsReplace : {T : Type 0} → Option (List NamedFile) → Option (List NamedFile) →
     NamedFile → Result T NamedFault → Type 0
-TellsReplace old new file (Ok x) = AddsTold old new (file ∷ [])
-TellsReplace old new file (Err fault) = FailsToPut old new fault
+RecordsReplace old new file (Ok x) = AddsToRecord old new (file ∷ [])
+RecordsReplace old new file (Err fault) = FailsToPut old new fault
 
 -- a folder is made, or flushed, which tells nothing
-abbrev pub TellsFolder : {T : Type 0} → Option (List NamedFile) → Result T NamedFault → Type 0
-TellsFolder told (Ok x) = ⊤
-TellsFolder told (Err fault) = TellsFault told fault
+abbrev pub RecordsFolder : {T : Type 0} → Option (List NamedFile) → Result T NamedFault → Type 0
+RecordsFolder recorded (Ok x) = ⊤
+RecordsFolder recorded (Err fault) = RecordsFault recorded fault
 
 -- ---- several files
 
 -- the files of these names, as named, have these bytes
 abbrev pub HaveContents : Option (List NamedFile) → List (List ℕ) → List (List ℕ) → Type 0
-HaveContents told names held = AllZip (HasContents told) names held
+HaveContents recorded names held = AllZip (HasContents recorded) names held
 
 -- one of these files cannot be read
 abbrev pub FailsToRead : Option (List NamedFile) → List (List ℕ) → NamedFault → Type 0
-FailsToRead told names FileFault =
-    (name : List ℕ) × Contains names name × TellsNoShort told name
-FailsToRead told names OutOfMemory = ⊤
+FailsToRead recorded names FileFault =
+    (name : List ℕ) × Contains names name × RecordsNoShort recorded name
+FailsToRead recorded names OutOfMemory = ⊤
 
 -- the bytes of each of these files
 abbrev pub ReadsFiles : Option (List NamedFile) → List (List ℕ) →
     Result (List (List ℕ)) NamedFault → Type 0
-ReadsFiles told names (Ok held) = HaveContents told names held
-ReadsFiles told names (Err fault) = FailsToRead told names fault
+ReadsFiles recorded names (Ok held) = HaveContents recorded names held
+ReadsFiles recorded names (Err fault) = FailsToRead recorded names fault

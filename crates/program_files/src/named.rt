@@ -14,7 +14,7 @@ pub trait NamedFiles {
     ghost use Rattle.std.specs.Prelude.{◌≡◌, ◌≤◌, Option, List, None, IfOk, option_map, vec_len};
     ghost use Rattle.tlog_text.specs.Answers.{seen};
     ghost use Rattle.program_files.specs.Named.{NamedFile};
-    ghost use Rattle.program_files.specs.Named.{FindsFile, ReadsFile, ReadsShort, TellsFolder, TellsReplace};
+    ghost use Rattle.program_files.specs.Named.{FindsFile, ReadsFile, ReadsShort, RecordsFolder, RecordsReplace};
     ghost use Rattle.program_files.specs.declared.named.TheConstants.{MAX_FILE_LEN};
 
     /// What was put, the oldest first, where it is recorded. What was put last under a name is what its file has.
@@ -53,7 +53,7 @@ pub trait NamedFiles {
     ///
     /// `FileFault` where it cannot be written, `OutOfMemory` where memory was refused. A plain file is then as it was.
     fn replace(&mut self, name: &str, bytes: &[u8]) -> Result<(), NamedFault>
-        ensures { TellsReplace (puts self.old) (puts self.new) (name.now, bytes.now) result };
+        ensures { RecordsReplace (puts self.old) (puts self.new) (name.now, bytes.now) result };
 
     /// Makes the folder of that name, where it is missing, and opens it for `put`.
     ///
@@ -61,7 +61,7 @@ pub trait NamedFiles {
     ///
     /// `FileFault` where it cannot be made, `OutOfMemory` where memory was refused.
     fn make_folder(&mut self, name: &str) -> Result<(), NamedFault>
-        ensures made { TellsFolder (puts self.old) result }
+        ensures made { RecordsFolder (puts self.old) result }
         ensures same { puts self.new ≡ puts self.old };
 
     /// Puts the file of that name, which lies in the folder that was made last, as `replace` does; `flush` flushes it.
@@ -70,7 +70,7 @@ pub trait NamedFiles {
     ///
     /// Those of `replace`.
     fn put(&mut self, name: &str, bytes: &[u8]) -> Result<(), NamedFault>
-        ensures { TellsReplace (puts self.old) (puts self.new) (name.now, bytes.now) result };
+        ensures { RecordsReplace (puts self.old) (puts self.new) (name.now, bytes.now) result };
 
     /// Flushes to the device what was put into the folder of that name since it was made.
     ///
@@ -78,7 +78,7 @@ pub trait NamedFiles {
     ///
     /// `FileFault` where it cannot be flushed, `OutOfMemory` where memory was refused. What was put stands.
     fn flush(&mut self, folder: &str) -> Result<(), NamedFault>
-        ensures flushed { TellsFolder (puts self.old) result }
+        ensures flushed { RecordsFolder (puts self.old) result }
         ensures same { puts self.new ≡ puts self.old };
 
     /// Is told what is wrong with the bytes of a file that was read. Files that tell people of it keep it; contracts see

@@ -1,7 +1,7 @@
 //! The files of the system.
 ghost use Rattle.std.specs.Prelude.{◌≤◌, ◌≢◌, [], IfOk, None, vec_len};
 ghost use Rattle.tlog_text.specs.Answers.{seen};
-ghost use Rattle.program_files.specs.Named.{ReadsFile, ReadsShort, TellsFolder, TellsReplace};
+ghost use Rattle.program_files.specs.Named.{ReadsFile, ReadsShort, RecordsFolder, RecordsReplace};
 ghost use Rattle.program_files.specs.declared.named.TheConstants.{MAX_FILE_LEN};
 
 use crate::fault::NamedFault;
@@ -133,7 +133,7 @@ impl<'a, R: Files> NamedFiles for SystemFiles<'a, R> {
     }
 
     fn replace(&mut self, name: &str, bytes: &[u8]) -> Result<(), NamedFault>
-        ensures put { TellsReplace None None (name.now, bytes.now) result }
+        ensures put { RecordsReplace None None (name.now, bytes.now) result }
         ensures named { IfOk result (λ _. name.now ≢ []) }
     {
         if name.is_empty() {
@@ -151,7 +151,7 @@ impl<'a, R: Files> NamedFiles for SystemFiles<'a, R> {
     }
 
     fn make_folder(&mut self, name: &str) -> Result<(), NamedFault>
-        ensures made { TellsFolder None result }
+        ensures made { RecordsFolder None result }
         ensures named { IfOk result (λ _. name.now ≢ []) }
     {
         if name.is_empty() {

@@ -18,23 +18,23 @@ use Rattle.mirror_follow.specs.declared.fault.FollowFault.TheVariants as followi
 use Rattle.mirror_follow.specs.declared.report.Followed.{Followed}
 use Rattle.program_files.specs.Named.{HasContents, NamedFile}
 use Rattle.program_follow.specs.Following.{AreRunCandidates, CopyFollowed, CountsRun, EndsFollowing, Follows, FollowsIn, IsNoteOf}
-use Rattle.program_follow.specs.Following.{PrintsSettled, ReadsNote, TellsDone}
+use Rattle.program_follow.specs.Following.{PrintsSettled, ReadsNote, PrintsDone}
 use Rattle.program_follow.specs.declared.fault.FollowRunFault.{FollowRunFault}
 use Rattle.program_follow.specs.declared.fault.FollowRunFault.TheVariants.{File, OutOfMemory, Follow, WriteFault, Evidence}
 
 -- the note that was given is that of the named file
-pub note_had : {S : Type 0} (may : S → Path → Option (List ℕ) → Type 0) (told : Option (List NamedFile))
-    (name : Option (List ℕ)) (places : Places S) (given : Option (List ℕ)) → ReadsNote told name (Ok given) →
-    (note : List ℕ) → IsGivenOrMayGive may given places note → IsNoteOf may told name places note
-note_had may told None places None reads note had = had
-note_had may told None places (Some bytes) reads note had = absurd (none-some bytes (sym reads))
-note_had may told (Some name) places None reads note had = absurd reads
-note_had may told (Some name) places (Some bytes) reads note had =
-    subst (λ (given : List ℕ). HasContents told name given) (sym had) reads
+pub note_had : {S : Type 0} (may : S → Path → Option (List ℕ) → Type 0) (recorded : Option (List NamedFile))
+    (name : Option (List ℕ)) (places : Places S) (given : Option (List ℕ)) → ReadsNote recorded name (Ok given) →
+    (note : List ℕ) → IsGivenOrMayGive may given places note → IsNoteOf may recorded name places note
+note_had may recorded None places None reads note had = had
+note_had may recorded None places (Some bytes) reads note had = absurd (none-some bytes (sym reads))
+note_had may recorded (Some name) places None reads note had = absurd reads
+note_had may recorded (Some name) places (Some bytes) reads note had =
+    subst (λ (given : List ℕ). HasContents recorded name given) (sym had) reads
 
 module _ (digest : List ℕ → List ℕ) (origin : List ℕ) (keys : List Key) (so other : List ℕ → Type 0)
     (weaker : (note : List ℕ) → so note → other note) (held before put : Option (List Put))
-    (forks : Option (List ℕ)) (told left : Option (List NamedFile)) (old new : Option (List ℕ)) where
+    (forks : Option (List ℕ)) (recorded left : Option (List NamedFile)) (old new : Option (List ℕ)) where
   follows_had : FollowsCandidates digest origin keys so held put → FollowsCandidates digest origin keys other held put
   follows_had follows = record {
     candidates = follows.candidates;
@@ -49,20 +49,20 @@ module _ (digest : List ℕ → List ℕ) (origin : List ℕ) (keys : List Key) 
   copy_had done copy = record { whole = follows_had copy.whole; brought = copy.brought; forks = copy.forks }
 
   -- the copy was followed, and then it was told
-  pub follows_told : (done : Followed) (r : Result ℕ FollowRunFault) → CopyFollowed digest origin keys so held put done →
-      TellsDone forks done told left old new r →
-      Follows digest origin keys other forks held before put told left old new r
-  follows_told done (Ok status) copy tells = record { done = done; copy = copy_had done copy; tells = tells }
-  follows_told done (Err (File fault)) copy tells = absurd tells
-  follows_told done (Err OutOfMemory) copy tells = absurd tells
-  follows_told done (Err (Follow fault)) copy tells =
+  pub follows_recorded : (done : Followed) (r : Result ℕ FollowRunFault) → CopyFollowed digest origin keys so held put done →
+      PrintsDone forks done recorded left old new r →
+      Follows digest origin keys other forks held before put recorded left old new r
+  follows_recorded done (Ok status) copy tells = record { done = done; copy = copy_had done copy; tells = tells }
+  follows_recorded done (Err (File fault)) copy tells = absurd tells
+  follows_recorded done (Err OutOfMemory) copy tells = absurd tells
+  follows_recorded done (Err (Follow fault)) copy tells =
       record { copy = follows_had copy.whole; text = tells.text; files = tells.files }
-  follows_told done (Err WriteFault) copy tells = record { done = done; copy = copy_had done copy; tells = tells }
-  follows_told done (Err (Evidence fault)) copy tells = record { done = done; copy = copy_had done copy; tells = tells }
+  follows_recorded done (Err WriteFault) copy tells = record { done = done; copy = copy_had done copy; tells = tells }
+  follows_recorded done (Err (Evidence fault)) copy tells = record { done = done; copy = copy_had done copy; tells = tells }
 
   -- it was not followed, and nothing was told
   pub follows_ended : (fault : FollowRunFault) → FollowsIn digest origin keys so held before put (Err fault) →
-      Keeps old new → left ≡ told → Follows digest origin keys other forks held before put told left old new (Err fault)
+      Keeps old new → left ≡ recorded → Follows digest origin keys other forks held before put recorded left old new (Err fault)
   follows_ended (File fault) copy text files = absurd copy
   follows_ended OutOfMemory copy text files = record { copy = copy; text = text; files = files }
   follows_ended (Follow fault) copy text files = record { copy = follows_had copy; text = text; files = files }
@@ -71,8 +71,8 @@ module _ (digest : List ℕ → List ℕ) (origin : List ℕ) (keys : List Key) 
 
   -- what a run says of notes that were had so, it says of notes that were had in a wider sense
   pub follows_weaker : (r : Result ℕ FollowRunFault) →
-      Follows digest origin keys so forks held before put told left old new r →
-      Follows digest origin keys other forks held before put told left old new r
+      Follows digest origin keys so forks held before put recorded left old new r →
+      Follows digest origin keys other forks held before put recorded left old new r
   follows_weaker (Ok status) h = record { done = h.done; copy = copy_had h.done h.copy; tells = h.tells }
   follows_weaker (Err (File fault)) h = record { copy = h.copy; text = h.text; files = h.files }
   follows_weaker (Err OutOfMemory) h = record { copy = h.copy; text = h.text; files = h.files }
@@ -80,29 +80,29 @@ module _ (digest : List ℕ → List ℕ) (origin : List ℕ) (keys : List Key) 
   follows_weaker (Err WriteFault) h = record { done = h.done; copy = copy_had h.done h.copy; tells = h.tells }
   follows_weaker (Err (Evidence fault)) h = record { done = h.done; copy = copy_had h.done h.copy; tells = h.tells }
 
-module _ (forks : Option (List ℕ)) (done : Followed) (told left : Option (List NamedFile)) (old new : Option (List ℕ)) where
+module _ (forks : Option (List ℕ)) (done : Followed) (recorded left : Option (List NamedFile)) (old new : Option (List ℕ)) where
   -- what is told after a run counts no failure
-  pub told_counts : (r : Result ℕ FollowRunFault) (count counted : ℕ) → TellsDone forks done told left old new r →
+  pub recorded_counts : (r : Result ℕ FollowRunFault) (count counted : ℕ) → PrintsDone forks done recorded left old new r →
       counted ≡ count → CountsRun count counted r
-  told_counts (Ok status) count counted tells same = same
-  told_counts (Err (File fault)) count counted tells same = same
-  told_counts (Err OutOfMemory) count counted tells same = same
-  told_counts (Err (Follow fault)) count counted tells same =
+  recorded_counts (Ok status) count counted tells same = same
+  recorded_counts (Err (File fault)) count counted tells same = same
+  recorded_counts (Err OutOfMemory) count counted tells same = same
+  recorded_counts (Err (Follow fault)) count counted tells same =
       subst (λ (f : FollowFault). CountsFollowFault count counted f) (sym tells.fault_is) same
-  told_counts (Err WriteFault) count counted tells same = same
-  told_counts (Err (Evidence fault)) count counted tells same = same
+  recorded_counts (Err WriteFault) count counted tells same = same
+  recorded_counts (Err (Evidence fault)) count counted tells same = same
 
 -- an answer that says so of candidates that were gathered so says it of those of the run, and that is what is printed
 pub says_printed : {S : Type 0} (digest : List ℕ → List ℕ) (origin : List ℕ) (keys : List Key)
     (may : S → Path → Option (List ℕ) → Type 0) (places left_places : Places S) (files : Option (List NamedFile))
     (name given : Option (List ℕ)) (held put : Option (List Put)) (forks : Option (List ℕ)) (done : Followed)
-    (told left : Option (List NamedFile)) (old new : Option (List ℕ)) (r : Result ℕ FollowRunFault) →
+    (recorded left : Option (List NamedFile)) (old new : Option (List ℕ)) (r : Result ℕ FollowRunFault) →
     ReadsNote files name (Ok given) →
     Says digest origin (AreCandidates may origin keys places left_places given) held put done →
-    TellsDone forks done told left old new r →
+    PrintsDone forks done recorded left old new r →
     IfOk r (λ _. PrintsSettled digest origin (AreRunCandidates may origin keys places left_places files name)
     held put old new)
-says_printed digest origin keys may places left_places files name given held put forks done told left old new
+says_printed digest origin keys may places left_places files name given held put forks done recorded left old new
     (Ok status) reads says tells = record {
       done = done;
       says = record {
@@ -117,33 +117,33 @@ says_printed digest origin keys may places left_places files name given held put
       };
       text = tells.whole.text;
     }
-says_printed digest origin keys may places left_places files name given held put forks done told left old new
+says_printed digest origin keys may places left_places files name given held put forks done recorded left old new
     (Err fault) reads says tells = tt
 
 -- ---- why following ends
 
 module _ (digest : List ℕ → List ℕ) {S : Type 0} (may : S → Path → Option (List ℕ) → Type 0) (origin : List ℕ)
-    (keys : List Key) (held : Option (List Put)) (x y : Places S) (told : Option (List NamedFile)) (name : Option (List ℕ))
-    (given : Option (List ℕ)) (reads : ReadsNote told name (Ok given)) where
+    (keys : List Key) (held : Option (List Put)) (x y : Places S) (recorded : Option (List NamedFile)) (name : Option (List ℕ))
+    (given : Option (List ℕ)) (reads : ReadsNote recorded name (Ok given)) where
   memory_ends : (g : Option (List ℕ)) → EndsFor digest may origin keys held x y g following.OutOfMemory
   memory_ends None = tt
   memory_ends (Some note) = tt
 
   pub ends_so : (fault : FollowFault) → EndsFor digest may origin keys held x y given fault →
-      EndsFollowing digest may origin keys held x y told name fault
+      EndsFollowing digest may origin keys held x y recorded name fault
   ends_so fault ends = record { given = given; reads = reads; ends = ends }
 
   -- the text was refused memory, after the copy was followed
-  pub ends_told : (forks : Option (List ℕ)) (done : Followed) (from left : Option (List NamedFile)) (old new : Option (List ℕ))
-      (r : Result ℕ FollowRunFault) → TellsDone forks done from left old new r →
+  pub ends_recorded : (forks : Option (List ℕ)) (done : Followed) (from left : Option (List NamedFile)) (old new : Option (List ℕ))
+      (r : Result ℕ FollowRunFault) → PrintsDone forks done from left old new r →
       IfErr r (λ e. (fault : FollowFault) → e ≡ Follow fault →
-      EndsFollowing digest may origin keys held x y told name fault)
-  ends_told forks done from left old new (Ok status) tells = tt
-  ends_told forks done from left old new (Err (File f)) tells = λ fault e. absurd tells
-  ends_told forks done from left old new (Err OutOfMemory) tells = λ fault e. absurd tells
-  ends_told forks done from left old new (Err (Follow f)) tells = λ fault e.
+      EndsFollowing digest may origin keys held x y recorded name fault)
+  ends_recorded forks done from left old new (Ok status) tells = tt
+  ends_recorded forks done from left old new (Err (File f)) tells = λ fault e. absurd tells
+  ends_recorded forks done from left old new (Err OutOfMemory) tells = λ fault e. absurd tells
+  ends_recorded forks done from left old new (Err (Follow f)) tells = λ fault e.
       let same : f ≡ fault = cc in
       ends_so fault
       (subst (λ g. EndsFor digest may origin keys held x y given g) (sym tells.fault_is ∙ same) (memory_ends given))
-  ends_told forks done from left old new (Err WriteFault) tells = λ fault e. absurd cc
-  ends_told forks done from left old new (Err (Evidence f)) tells = λ fault e. absurd cc
+  ends_recorded forks done from left old new (Err WriteFault) tells = λ fault e. absurd cc
+  ends_recorded forks done from left old new (Err (Evidence f)) tells = λ fault e. absurd cc

@@ -5,32 +5,32 @@ use Rattle.std.specs.Prelude.{is_some}
 use Rattle.std.specs.List.{flat_map}
 use Rattle.std.proofs.lemmas.List.{append_assoc, append-nil, flat_map_more, take_more, take-append-drop}
 use Rattle.std.proofs.lemmas.List.Concat.{flat_map-append}
-use Rattle.mirror_sources.specs.Told.{KeepsTold}
-use Rattle.program_files.specs.Named.{NamedFile, HasContents, LacksFile, TellsReplace}
+use Rattle.mirror_sources.specs.Recorded.{KeepsRecord}
+use Rattle.program_files.specs.Named.{NamedFile, HasContents, LacksFile, RecordsReplace}
 use Rattle.program_files.specs.declared.fault.NamedFault.{NamedFault}
-use Rattle.program_follow.specs.Evidence.{PutsEach, PutsFiles, PutsFront, TellsEach}
+use Rattle.program_follow.specs.Evidence.{PutsEach, PutsFiles, PutsFront, RecordsEach}
 
 -- ---- nothing, and one after the other
 
-pub told_nothing : (told : Option (List NamedFile)) → TellsEach [] told told
-told_nothing None = tt
-told_nothing (Some puts) = refl
+pub recorded_nothing : (recorded : Option (List NamedFile)) → RecordsEach [] recorded recorded
+recorded_nothing None = tt
+recorded_nothing (Some puts) = refl
 
-kept_nothing : (old new : Option (List NamedFile)) → KeepsTold old new → TellsEach [] old new
+kept_nothing : (old new : Option (List NamedFile)) → KeepsRecord old new → RecordsEach [] old new
 kept_nothing None new kept = tt
 kept_nothing (Some old) None kept = absurd kept
 kept_nothing (Some old) (Some new) kept = kept
 
-pub front_kept : (files : List NamedFile) (old new : Option (List NamedFile)) → KeepsTold old new →
+pub front_kept : (files : List NamedFile) (old new : Option (List NamedFile)) → KeepsRecord old new →
     PutsFront files old new
-front_kept files old new kept = record { front = []; rest = files; files_are = refl; told = kept_nothing old new kept }
+front_kept files old new kept = record { front = []; rest = files; files_are = refl; recorded = kept_nothing old new kept }
 
-pub front_none : (files : List NamedFile) (told : Option (List NamedFile)) → PutsFront files told told
-front_none files told = record { front = []; rest = files; files_are = refl; told = told_nothing told }
+pub front_none : (files : List NamedFile) (recorded : Option (List NamedFile)) → PutsFront files recorded recorded
+front_none files recorded = record { front = []; rest = files; files_are = refl; recorded = recorded_nothing recorded }
 
-pub front_all : (files : List NamedFile) (old new : Option (List NamedFile)) → TellsEach files old new →
+pub front_all : (files : List NamedFile) (old new : Option (List NamedFile)) → RecordsEach files old new →
     PutsFront files old new
-front_all files old new each = record { front = files; rest = []; files_are = sym (append-nil files); told = each }
+front_all files old new each = record { front = files; rest = []; files_are = sym (append-nil files); recorded = each }
 
 each_both : (xs ys : List NamedFile) (old between new : List NamedFile) → PutsEach xs old between →
     PutsEach ys between new → PutsEach (xs ++ ys) old new
@@ -38,20 +38,20 @@ each_both [] ys old between new first second = subst (λ puts. PutsEach ys puts 
 each_both (x ∷ xs) ys old between new first second =
     (first.0, first.1, each_both xs ys first.0 between new first.2 second)
 
-pub told_both : (xs ys : List NamedFile) (old between new : Option (List NamedFile)) → TellsEach xs old between →
-    TellsEach ys between new → TellsEach (xs ++ ys) old new
-told_both xs ys None between new first second = tt
-told_both xs ys (Some old) None new first second = absurd first
-told_both xs ys (Some old) (Some between) None first second = absurd second
-told_both xs ys (Some old) (Some between) (Some new) first second = each_both xs ys old between new first second
+pub recorded_both : (xs ys : List NamedFile) (old between new : Option (List NamedFile)) → RecordsEach xs old between →
+    RecordsEach ys between new → RecordsEach (xs ++ ys) old new
+recorded_both xs ys None between new first second = tt
+recorded_both xs ys (Some old) None new first second = absurd first
+recorded_both xs ys (Some old) (Some between) None first second = absurd second
+recorded_both xs ys (Some old) (Some between) (Some new) first second = each_both xs ys old between new first second
 
-pub front_both : (xs ys : List NamedFile) (old between new : Option (List NamedFile)) → TellsEach xs old between →
+pub front_both : (xs ys : List NamedFile) (old between new : Option (List NamedFile)) → RecordsEach xs old between →
     PutsFront ys between new → PutsFront (xs ++ ys) old new
 front_both xs ys old between new first second = record {
   front = xs ++ second.front;
   rest = second.rest;
   files_are = ap (λ files. xs ++ files) second.files_are ∙ sym (append_assoc xs second.front second.rest);
-  told = told_both xs second.front old between new first second.told;
+  recorded = recorded_both xs second.front old between new first second.recorded;
 }
 
 -- a call that ended early after others that did not
@@ -61,26 +61,26 @@ front_more xs ys old new first = record {
   front = first.front;
   rest = first.rest ++ ys;
   files_are = ap (λ files. files ++ ys) first.files_are ∙ append_assoc first.front first.rest ys;
-  told = first.told;
+  recorded = first.recorded;
 }
 
 -- the last of several calls
 pub files_then : {T : Type 0} (xs ys : List NamedFile) (old between new : Option (List NamedFile))
-    (r : Result T NamedFault) → TellsEach xs old between → PutsFiles ys between new r → PutsFiles (xs ++ ys) old new r
-files_then xs ys old between new (Ok x) first second = told_both xs ys old between new first second
+    (r : Result T NamedFault) → RecordsEach xs old between → PutsFiles ys between new r → PutsFiles (xs ++ ys) old new r
+files_then xs ys old between new (Ok x) first second = recorded_both xs ys old between new first second
 files_then xs ys old between new (Err fault) first second = front_both xs ys old between new first second
 
 -- ---- one file
 
 pub put_new : {T : Type 0} (old new : Option (List NamedFile)) (file : NamedFile) (r : Result T NamedFault) →
-    LacksFile old file.0 → TellsReplace old new file r → PutsFiles (file ∷ []) old new r
-put_new None new file (Ok x) absent told = tt
-put_new (Some old) None file (Ok x) absent told = absurd told
-put_new (Some old) (Some new) file (Ok x) absent told = (new, inr (absent, told), refl)
-put_new old new file (Err fault) absent told = front_kept (file ∷ []) old new told.0
+    LacksFile old file.0 → RecordsReplace old new file r → PutsFiles (file ∷ []) old new r
+put_new None new file (Ok x) absent recorded = tt
+put_new (Some old) None file (Ok x) absent recorded = absurd recorded
+put_new (Some old) (Some new) file (Ok x) absent recorded = (new, inr (absent, recorded), refl)
+put_new old new file (Err fault) absent recorded = front_kept (file ∷ []) old new recorded.0
 
-pub put_kept : (told : Option (List NamedFile)) (file : NamedFile) (there : List ℕ) → HasContents told file.0 there →
-    TellsEach (file ∷ []) told told
+pub put_kept : (recorded : Option (List NamedFile)) (file : NamedFile) (there : List ℕ) → HasContents recorded file.0 there →
+    RecordsEach (file ∷ []) recorded recorded
 put_kept None file there stands = tt
 put_kept (Some puts) file there stands = (puts, inl (ap is_some stands, refl), refl)
 
@@ -101,14 +101,14 @@ module _ {X : Type 0} (files_of : X → List NamedFile) (xs : List X) (i : ℕ) 
       ∙ ap (λ files. files ++ flat_map files_of (drop (i + 1) xs)) more)
 
   pub each_more : (old between new : Option (List NamedFile)) →
-      TellsEach (flat_map files_of (take i xs)) old between → TellsEach (files_of x) between new →
-      TellsEach (flat_map files_of (take (i + 1) xs)) old new
+      RecordsEach (flat_map files_of (take i xs)) old between → RecordsEach (files_of x) between new →
+      RecordsEach (flat_map files_of (take (i + 1) xs)) old new
   each_more old between new each one =
-      subst (λ files. TellsEach files old new) (sym more)
-      (told_both (flat_map files_of (take i xs)) (files_of x) old between new each one)
+      subst (λ files. RecordsEach files old new) (sym more)
+      (recorded_both (flat_map files_of (take i xs)) (files_of x) old between new each one)
 
   pub front_here : (old between new : Option (List NamedFile)) →
-      TellsEach (flat_map files_of (take i xs)) old between → PutsFront (files_of x) between new →
+      RecordsEach (flat_map files_of (take i xs)) old between → PutsFront (files_of x) between new →
       PutsFront (flat_map files_of xs) old new
   front_here old between new each one =
       subst (λ files. PutsFront files old new) (sym parts)

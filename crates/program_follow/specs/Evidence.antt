@@ -80,20 +80,20 @@ PutsEach (file ∷ files) old new =
     (between : List NamedFile) × PutsMissing file old between × PutsEach files between new
 
 -- the same, as far as it is recorded
-abbrev pub TellsEach : List NamedFile → Option (List NamedFile) → Option (List NamedFile) → Type 0
-TellsEach files None new = ⊤
-TellsEach files (Some old) None = ⊥
-TellsEach files (Some old) (Some new) = PutsEach files old new
+abbrev pub RecordsEach : List NamedFile → Option (List NamedFile) → Option (List NamedFile) → Type 0
+RecordsEach files None new = ⊤
+RecordsEach files (Some old) None = ⊥
+RecordsEach files (Some old) (Some new) = PutsEach files old new
 
 -- a front of the files, and no others
 pub record PutsFront (files : List NamedFile) (old new : Option (List NamedFile)) : Type 0 where
   pub front : List NamedFile
   pub rest : List NamedFile
   pub files_are : files ≡ front ++ rest
-  pub told : TellsEach front old new
+  pub recorded : RecordsEach front old new
 
 -- what each answer of a call that puts the files says: all of them, or where it ends early a front
 abbrev pub PutsFiles : {T : Type 0} → List NamedFile → Option (List NamedFile) → Option (List NamedFile) →
     Result T NamedFault → Type 0
-PutsFiles files old new (Ok x) = TellsEach files old new
+PutsFiles files old new (Ok x) = RecordsEach files old new
 PutsFiles files old new (Err fault) = PutsFront files old new

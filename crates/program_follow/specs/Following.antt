@@ -28,43 +28,43 @@ use Rattle.program_follow.specs.declared.fault.FollowRunFault.TheVariants.{File,
 
 -- the bytes of the named file, if one is named
 abbrev pub ReadsNote : Option (List NamedFile) → Option (List ℕ) → Result (Option (List ℕ)) NamedFault → Type 0
-ReadsNote told None (Ok note) = note ≡ None
-ReadsNote told None (Err fault) = ⊥
-ReadsNote told (Some name) (Ok None) = ⊥
-ReadsNote told (Some name) (Ok (Some bytes)) = HasContents told name bytes
-ReadsNote told (Some name) (Err fault) = ReadsShort told name (Err fault)
+ReadsNote recorded None (Ok note) = note ≡ None
+ReadsNote recorded None (Err fault) = ⊥
+ReadsNote recorded (Some name) (Ok None) = ⊥
+ReadsNote recorded (Some name) (Ok (Some bytes)) = HasContents recorded name bytes
+ReadsNote recorded (Some name) (Err fault) = ReadsShort recorded name (Err fault)
 
 -- the named file was read, or that is the fault
 abbrev pub ReadsGiven : {T : Type 0} → Option (List NamedFile) → Option (List ℕ) → Result T FollowRunFault → Type 0
-ReadsGiven told name (Err (File fault)) = ReadsNote told name (Err fault)
-ReadsGiven told name (Err OutOfMemory) = (note : Option (List ℕ)) × ReadsNote told name (Ok note)
-ReadsGiven told name (Err (Follow fault)) = (note : Option (List ℕ)) × ReadsNote told name (Ok note)
-ReadsGiven told name (Err WriteFault) = (note : Option (List ℕ)) × ReadsNote told name (Ok note)
-ReadsGiven told name (Err (Evidence fault)) = (note : Option (List ℕ)) × ReadsNote told name (Ok note)
-ReadsGiven told name (Ok x) = (note : Option (List ℕ)) × ReadsNote told name (Ok note)
+ReadsGiven recorded name (Err (File fault)) = ReadsNote recorded name (Err fault)
+ReadsGiven recorded name (Err OutOfMemory) = (note : Option (List ℕ)) × ReadsNote recorded name (Ok note)
+ReadsGiven recorded name (Err (Follow fault)) = (note : Option (List ℕ)) × ReadsNote recorded name (Ok note)
+ReadsGiven recorded name (Err WriteFault) = (note : Option (List ℕ)) × ReadsNote recorded name (Ok note)
+ReadsGiven recorded name (Err (Evidence fault)) = (note : Option (List ℕ)) × ReadsNote recorded name (Ok note)
+ReadsGiven recorded name (Ok x) = (note : Option (List ℕ)) × ReadsNote recorded name (Ok note)
 
 -- the note of the named file, or where none is named one that a place may give for its checkpoint
 abbrev pub IsNoteOf : {S : Type 0} → (S → Path → Option (List ℕ) → Type 0) → Option (List NamedFile) →
     Option (List ℕ) → Places S → List ℕ → Type 0
-IsNoteOf may told None places note = MayGive may places note
-IsNoteOf may told (Some name) places note = HasContents told name note
+IsNoteOf may recorded None places note = MayGive may places note
+IsNoteOf may recorded (Some name) places note = HasContents recorded name note
 
 -- ---- the candidates
 
 -- the candidates are the note of the named file, or where none is named exactly the notes that the places gave and that open
 pub record AreRunCandidates {S : Type 0} (may : S → Path → Option (List ℕ) → Type 0) (origin : List ℕ) (keys : List Key)
-    (old new : Places S) (told : Option (List NamedFile)) (name : Option (List ℕ)) (candidates : List Candidate)
+    (old new : Places S) (recorded : Option (List NamedFile)) (name : Option (List ℕ)) (candidates : List Candidate)
     : Type 0 where
   pub given : Option (List ℕ)
-  pub reads : ReadsNote told name (Ok given)
+  pub reads : ReadsNote recorded name (Ok given)
   pub are : AreCandidates may origin keys old new given candidates
 
 -- a fault of following comes for its reason, where the note is that of the named file, if one is named
 pub record EndsFollowing (digest : List ℕ → List ℕ) {S : Type 0} (may : S → Path → Option (List ℕ) → Type 0)
-    (origin : List ℕ) (keys : List Key) (held : Option (List Put)) (old new : Places S) (told : Option (List NamedFile))
+    (origin : List ℕ) (keys : List Key) (held : Option (List Put)) (old new : Places S) (recorded : Option (List NamedFile))
     (name : Option (List ℕ)) (fault : FollowFault) : Type 0 where
   pub given : Option (List ℕ)
-  pub reads : ReadsNote told name (Ok given)
+  pub reads : ReadsNote recorded name (Ok given)
   pub ends : EndsFor digest may origin keys held old new given fault
 
 -- what was printed says of each candidate how it was settled
@@ -113,60 +113,60 @@ files_put = Ok tt
 abbrev pub files_failed : NamedFault → Result (Unit {0}) NamedFault
 files_failed fault = Err fault
 
-module _ (forks : Option (List ℕ)) (done : Followed) (told : Option (List NamedFile)) (left : Option (List NamedFile))
+module _ (forks : Option (List ℕ)) (done : Followed) (recorded : Option (List NamedFile)) (left : Option (List NamedFile))
     (old new : Option (List ℕ)) where
   -- the text was written whole, and the evidence was put, as by that answer
-  pub record TellsWhole (answer : Result (Unit {0}) NamedFault) : Type 0 where
+  pub record PrintsAllText (answer : Result (Unit {0}) NamedFault) : Type 0 where
     pub text : Appends old new (followed_lines done)
-    pub evidence : PutsFiles (evidence_of forks done.forks.items) told left answer
+    pub evidence : PutsFiles (evidence_of forks done.forks.items) recorded left answer
 
   -- the text was written whole, all of the evidence was put, and the status is that of what came of following
-  pub record TellsAll (status : ℕ) : Type 0 where
-    pub whole : TellsWhole files_put
+  pub record PrintsAll (status : ℕ) : Type 0 where
+    pub whole : PrintsAllText files_put
     pub status_is : status ≡ followed_status_of done
 
   -- a front of the text was written, and no file
-  pub record TellsFront : Type 0 where
+  pub record PrintsFront : Type 0 where
     pub text : AppendsPrefix old new (followed_lines done)
-    pub files : left ≡ told
+    pub files : left ≡ recorded
 
   -- memory for the text was refused, and nothing was written
-  pub record TellsNothing (fault : FollowFault) : Type 0 where
+  pub record PrintsNothing (fault : FollowFault) : Type 0 where
     pub fault_is : fault ≡ following.OutOfMemory
     pub text : Keeps old new
-    pub files : left ≡ told
+    pub files : left ≡ recorded
 
   -- what each answer says of what was written: first the text, and then the evidence of the forks
-  abbrev pub TellsDone : Result ℕ FollowRunFault → Type 0
-  TellsDone (Ok status) = TellsAll status
-  TellsDone (Err (File fault)) = ⊥
-  TellsDone (Err OutOfMemory) = ⊥
-  TellsDone (Err (Follow fault)) = TellsNothing fault
-  TellsDone (Err WriteFault) = TellsFront
-  TellsDone (Err (Evidence fault)) = TellsWhole (files_failed fault)
+  abbrev pub PrintsDone : Result ℕ FollowRunFault → Type 0
+  PrintsDone (Ok status) = PrintsAll status
+  PrintsDone (Err (File fault)) = ⊥
+  PrintsDone (Err OutOfMemory) = ⊥
+  PrintsDone (Err (Follow fault)) = PrintsNothing fault
+  PrintsDone (Err WriteFault) = PrintsFront
+  PrintsDone (Err (Evidence fault)) = PrintsAllText (files_failed fault)
 
 -- ---- the command
 
 module _ (digest : List ℕ → List ℕ) (origin : List ℕ) (keys : List Key) (so : List ℕ → Type 0) (forks : Option (List ℕ))
-    (held before put : Option (List Put)) (told : Option (List NamedFile)) (left : Option (List NamedFile))
+    (held before put : Option (List Put)) (recorded : Option (List NamedFile)) (left : Option (List NamedFile))
     (old new : Option (List ℕ)) where
   -- the copy was followed, and what came of it was written, as by that answer
   pub record FollowsAndTells (answer : Result ℕ FollowRunFault) : Type 0 where
     pub done : Followed
     pub copy : CopyFollowed digest origin keys so held put done
-    pub tells : TellsDone forks done told left old new answer
+    pub tells : PrintsDone forks done recorded left old new answer
 
   -- nothing was put into the folder, and nothing was written
   pub record LeavesAll : Type 0 where
     pub copy : put ≡ before
     pub text : Keeps old new
-    pub files : left ≡ told
+    pub files : left ≡ recorded
 
   -- the copy was followed as far as it went, and nothing was written
   pub record FollowsOnly : Type 0 where
     pub copy : FollowsCandidates digest origin keys so held put
     pub text : Keeps old new
-    pub files : left ≡ told
+    pub files : left ≡ recorded
 
   -- what each answer of the command says: the file of the note is read first, then the folder is opened and the copy is
   -- followed, then the text is written, and last the evidence

@@ -10,7 +10,7 @@ ghost use Rattle.mirror_follow.specs.Says.{Says};
 ghost use Rattle.mirror_follow.specs.Shown.{ShowsLine};
 ghost use Rattle.mirror_follow.specs.Standing.{IsFollowed};
 ghost use Rattle.program_follow.specs.Following.{AreRunCandidates, CountsRun, EndsFollowing, Follows, FollowsIn, IsNoteOf, PrintsSettled};
-ghost use Rattle.program_follow.specs.Following.{ReadsGiven, ReadsNote, TellsDone};
+ghost use Rattle.program_follow.specs.Following.{ReadsGiven, ReadsNote, PrintsDone};
 
 use crate::evidence::write_evidence;
 use crate::fault::FollowRunFault;
@@ -18,7 +18,7 @@ use crate::text::{followed_status, followed_text};
 use byte_streams::write_whole;
 use mirror_copy::Places;
 use mirror_follow::{FollowFault, Followed, follow};
-use mirror_progress::{Task, ToldFolders};
+use mirror_progress::{CountedFolders, Task};
 use mirror_sources::Source;
 use program_files::{NamedFault, NamedFiles};
 use signed_note::Verifier;
@@ -56,7 +56,7 @@ fn read_given<F: NamedFiles>(files: &F, name: Option<&str>) -> Result<Option<Vec
 }
 
 // Follows the places into the folder that is open, with lines of progress if these are asked for.
-fn follow_told<H: TreeHash, D: ToldFolders, S: Source + Drop>(
+fn follow_reporting<H: TreeHash, D: CountedFolders, S: Source + Drop>(
     folders: &mut D,
     alloc: Global,
     keys: &[Box<dyn Verifier>],
@@ -93,7 +93,7 @@ fn follow_told<H: TreeHash, D: ToldFolders, S: Source + Drop>(
 }
 
 // Opens the folder, and follows the places into it.
-fn follow_into<H: TreeHash, D: ToldFolders, S: Source + Drop>(
+fn follow_into<H: TreeHash, D: CountedFolders, S: Source + Drop>(
     folders: &mut D,
     alloc: Global,
     keys: &[Box<dyn Verifier>],
@@ -120,21 +120,21 @@ fn follow_into<H: TreeHash, D: ToldFolders, S: Source + Drop>(
         Ok(()) => {}
         Err(_) => return Err(FollowRunFault::OutOfMemory),
     }
-    match follow_told::<H, D, S>(folders, alloc, keys, following, places, given) {
+    match follow_reporting::<H, D, S>(folders, alloc, keys, following, places, given) {
         Ok(done) => Ok(done),
         Err(fault) => Err(FollowRunFault::Follow(fault)),
     }
 }
 
 // Writes the text of what came of following, and then the evidence of its forks. Answers the exit status.
-fn tell_done<F: NamedFiles, W: Write>(
+fn report_done<F: NamedFiles, W: Write>(
     files: &mut F,
     alloc: Global,
     forks: Option<&str>,
     done: &Followed,
     output: &mut W,
 ) -> Result<u8, FollowRunFault>
-    ensures tells { TellsDone (option_map (λ name. name.now) forks.entry) done.now
+    ensures tells { PrintsDone (option_map (λ name. name.now) forks.entry) done.now
         (F.puts files.old) (F.puts files.new) (W.contents output.old) (W.contents output.new)
         result }
     ensures status { IfOk result (λ status. (status ≡ 0) ⊎ (status ≡ 3)) }
@@ -169,7 +169,7 @@ fn tell_done<F: NamedFiles, W: Write>(
 /// In this order: `File`, where the named file of a note is not read; `OutOfMemory`, where memory for the folder's name was refused;
 /// nothing is put then. `Follow`, those of `mirror_follow::follow`; what was put before it stays. `WriteFault`, where the output cannot
 /// be written. `Evidence`, where the output was written, and the evidence was not, or only a part of it.
-pub fn run_follow<H: TreeHash, F: NamedFiles, D: ToldFolders, S: Source + Drop, W: Write>(
+pub fn run_follow<H: TreeHash, F: NamedFiles, D: CountedFolders, S: Source + Drop, W: Write>(
     files: &mut F,
     folders: &mut D,
     alloc: Global,
@@ -206,7 +206,7 @@ pub fn run_follow<H: TreeHash, F: NamedFiles, D: ToldFolders, S: Source + Drop, 
         Err(fault) => return Err(FollowRunFault::File(fault)),
     };
     match follow_into::<H, D, S>(folders, alloc, keys, following, places, given) {
-        Ok(done) => tell_done(files, alloc, following.forks, &done, output),
+        Ok(done) => report_done(files, alloc, following.forks, &done, output),
         Err(fault) => Err(fault),
     }
 }

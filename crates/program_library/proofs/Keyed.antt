@@ -27,16 +27,16 @@ pub line_doable : (words : List (List ℕ)) (line : Line) → IsLine words line 
 line_doable words line h = doable words line.command h.command
 
 -- what is found of the key file that the words name
-pub keys_found : (told : Option (List NamedFile)) (words : List (List ℕ)) (name : Option (List ℕ)) (bytes lent : List ℕ) →
-    lent ≡ bytes → ReadsKeyFile words (Ok name) → FindsKeys told name (Ok bytes) → AreKeyBytes told words lent
-keys_found told words (Some name) bytes lent same has finds =
-    subst (AreKeyBytes told words) (sym same) (inl record { name = name; has = has; tells = finds })
-keys_found told words None bytes lent same has finds = subst (AreKeyBytes told words) (sym same) (inr (has, finds))
+pub keys_found : (printed : Option (List NamedFile)) (words : List (List ℕ)) (name : Option (List ℕ)) (bytes lent : List ℕ) →
+    lent ≡ bytes → ReadsKeyFile words (Ok name) → FindsKeys printed name (Ok bytes) → AreKeyBytes printed words lent
+keys_found printed words (Some name) bytes lent same has finds =
+    subst (AreKeyBytes printed words) (sym same) (inl record { name = name; has = has; tells = finds })
+keys_found printed words None bytes lent same has finds = subst (AreKeyBytes printed words) (sym same) (inr (has, finds))
 
-pub keys_missed : (told : Option (List NamedFile)) (words : List (List ℕ)) (name : Option (List ℕ)) (fault : RunFault) →
-    ReadsKeyFile words (Ok name) → FindsKeys told name (Err fault) → FailsAtKeys told words fault
-keys_missed told words (Some name) (KeyFile fault) has reads = record { name = name; has = has; reads = reads }
-keys_missed told words name fault has finds = absurd finds
+pub keys_missed : (printed : Option (List NamedFile)) (words : List (List ℕ)) (name : Option (List ℕ)) (fault : RunFault) →
+    ReadsKeyFile words (Ok name) → FindsKeys printed name (Err fault) → FailsAtKeys printed words fault
+keys_missed printed words (Some name) (KeyFile fault) has reads = record { name = name; has = has; reads = reads }
+keys_missed printed words name fault has finds = absurd finds
 
 -- nothing was written, and the run failed
 pub nothing_done : (now : Option (List ℕ)) (fault : RunFault) → Ends now now (Err fault)

@@ -25,11 +25,11 @@ module _ (digest : List ℕ → List ℕ) (origin : List ℕ) (keys : List Key) 
     opened : (note : List ℕ) → Has v.notes note → IsOpenNote origin keys note
 
   -- so is that of a state file, and of a mirror that holds nothing
-  begins_open : (told : Option (List NamedFile)) (state : Option (List ℕ)) (start : View) →
-      BeginsWith digest origin keys told state (Ok start) → IsOpen start
-  begins_open told (Some name) start begun =
+  begins_open : (printed : Option (List NamedFile)) (state : Option (List ℕ)) (start : View) →
+      BeginsWith digest origin keys printed state (Ok start) → IsOpen start
+  begins_open printed (Some name) start begun =
       let loaded = begun.1.2 in record { origin_is = loaded.origin_is; opened = loaded.opened }
-  begins_open told None start begun = subst IsOpen (sym begun.1) record {
+  begins_open printed None start begun = subst IsOpen (sym begun.1) record {
     origin_is = refl;
     opened = λ note has. absurd (let none = contains-empty (slice_cmp nat_cmp) note in false≢true (sym none ∙ has));
   }
@@ -62,8 +62,8 @@ module _ (digest : List ℕ → List ℕ) (origin : List ℕ) (keys : List Key) 
   pulls_grow start v (Err pull.OutOfMemory) h = h
 
 pub pulled_states_are_loaded : PulledStatesAreLoaded
-pulled_states_are_loaded digest origin keys state place told v answer text pulls is =
-    let begun = begins_open digest origin keys told state pulls.start pulls.begun in
+pulled_states_are_loaded digest origin keys state place printed v answer text pulls is =
+    let begun = begins_open digest origin keys printed state pulls.start pulls.begun in
     let grown = grown_open digest origin keys pulls.start v begun
     (pulls_grow digest origin keys pulls.start v answer pulls.pulls) in
     record { text = inl is; lawful = pulls.lawful; origin_is = grown.origin_is; opened = grown.opened }

@@ -12,7 +12,7 @@ use Rattle.program_library.specs.declared.ending.Message.{Message}
 use Rattle.program_library.specs.declared.ending.Message.TheVariants.{Made, Fixed}
 use Rattle.program_library.specs.declared.ending.Stream.{Stream}
 use Rattle.program_library.specs.declared.ending.Stream.TheVariants.{Output, Errors}
-use Rattle.program_library.specs.declared.ending.Ending.{Ending}
+use Rattle.program_library.specs.declared.ending.ProgramEnd.{ProgramEnd}
 
 -- the bytes of what is said
 abbrev pub message_bytes : Message → List ℕ
@@ -24,41 +24,41 @@ abbrev pub IsFaultLine : List ℕ → Type 0
 IsFaultLine text = (name : List ℕ) × (text ≡ fault_line name)
 
 -- the program ends with this status, and with this text on this stream
-pub record IsEnding (status : ℕ) (stream : Stream) (text : List ℕ) (told : Ending) : Type 0 where
-  pub status_is : told.status ≡ status
-  pub stream_is : told.stream ≡ stream
-  pub text_is : message_bytes told.text ≡ text
+pub record IsEnding (status : ℕ) (stream : Stream) (text : List ℕ) (printed : ProgramEnd) : Type 0 where
+  pub status_is : printed.status ≡ status
+  pub stream_is : printed.stream ≡ stream
+  pub text_is : message_bytes printed.text ≡ text
 
 -- what the program tells of each answer of a run
-abbrev pub TellsRun : Result ℕ RunFault → Ending → Type 0
-TellsRun (Ok status) told = IsEnding status Output [] told
-TellsRun (Err (Command (Help text))) told = IsEnding 0 Output (string_bytes text) told
-TellsRun (Err (Command (Words text))) told = IsEnding 2 Errors (string_bytes text) told
-TellsRun (Err (Command BadArgument)) told = IsEnding 2 Errors (fault_line (codes "BadArgument")) told
-TellsRun (Err fault) told = (name : List ℕ) × IsEnding 1 Errors (fault_line name) told
+abbrev pub PrintsRun : Result ℕ RunFault → ProgramEnd → Type 0
+PrintsRun (Ok status) printed = IsEnding status Output [] printed
+PrintsRun (Err (Command (Help text))) printed = IsEnding 0 Output (string_bytes text) printed
+PrintsRun (Err (Command (Words text))) printed = IsEnding 2 Errors (string_bytes text) printed
+PrintsRun (Err (Command BadArgument)) printed = IsEnding 2 Errors (fault_line (codes "BadArgument")) printed
+PrintsRun (Err fault) printed = (name : List ℕ) × IsEnding 1 Errors (fault_line name) printed
 
 -- the text was written whole, and the status stays
-pub record SaysWhole (told : Ending) (status : ℕ) (output output' errors errors' : Option (List ℕ))
+pub record SaysWhole (printed : ProgramEnd) (status : ℕ) (output output' errors errors' : Option (List ℕ))
     : Type 0 where
-  pub whole : Appends output output' (message_bytes told.text)
+  pub whole : Appends output output' (message_bytes printed.text)
   pub quiet : Keeps errors errors'
-  pub status_is : status ≡ told.status
+  pub status_is : status ≡ printed.status
 
 -- the text could not be written whole, which is told on the stream of errors as far as that goes
-pub record SaysPrefix (told : Ending) (status : ℕ) (output output' errors errors' : Option (List ℕ))
+pub record SaysPrefix (printed : ProgramEnd) (status : ℕ) (output output' errors errors' : Option (List ℕ))
     : Type 0 where
-  pub front : AppendsPrefix output output' (message_bytes told.text)
+  pub front : AppendsPrefix output output' (message_bytes printed.text)
   pub fault : AppendsPrefix errors errors' (fault_line (codes "WriteFault"))
   pub status_is : status ≡ 1
 
 -- what is written to both streams at an ending, and the exit status
-abbrev pub PrintsEnding : Ending → ℕ → Option (List ℕ) → Option (List ℕ) → Option (List ℕ) →
+abbrev pub PrintsEnding : ProgramEnd → ℕ → Option (List ℕ) → Option (List ℕ) → Option (List ℕ) →
     Option (List ℕ) → Type 0
-PrintsEnding told status output output' errors errors' = (
-    (told.stream ≡ Output)
-    × (SaysWhole told status output output' errors errors'
-    ⊎ SaysPrefix told status output output' errors errors')
+PrintsEnding printed status output output' errors errors' = (
+    (printed.stream ≡ Output)
+    × (SaysWhole printed status output output' errors errors'
+    ⊎ SaysPrefix printed status output output' errors errors')
     ) ⊎ (
-    (told.stream ≡ Errors) × Keeps output output'
-    × AppendsPrefix errors errors' (message_bytes told.text) × (status ≡ told.status)
+    (printed.stream ≡ Errors) × Keeps output output'
+    × AppendsPrefix errors errors' (message_bytes printed.text) × (status ≡ printed.status)
     )

@@ -28,7 +28,7 @@ SignersAreKeys =
 abbrev pub PulledStatesAreLoaded : Type 0
 PulledStatesAreLoaded =
     (digest : List ℕ → List ℕ) (origin : List ℕ) (keys : List Key) (state : Option (List ℕ))
-    (place : Place) (told : Option (List NamedFile)) (v : View)
+    (place : Place) (printed : Option (List NamedFile)) (v : View)
     (answer : Result Pulled PullFault) (text : List ℕ) →
-    PullsFromFile digest origin keys state place told v answer →
+    PullsFromFile digest origin keys state place printed v answer →
     StateText v text → Loads digest origin keys text (Ok v)

@@ -64,18 +64,18 @@ NamesKeyFile words (Err other) = ⊥
 abbrev pub no_bytes : NamedFault → Result (List ℕ) NamedFault
 no_bytes fault = Err fault
 
-module _ (told : Option (List NamedFile)) (words : List (List ℕ)) where
+module _ (printed : Option (List NamedFile)) (words : List (List ℕ)) where
   -- the command that the words name has a key file, which has these bytes as far as files record it
   pub record NamesKeys (bytes : List ℕ) : Type 0 where
     pub name : List ℕ
     pub has : HasKeys words name
-    pub tells : HasContents told name bytes
+    pub tells : HasContents printed name bytes
 
   -- the command that the words name has a key file, which is not read, as the fault says
   pub record LacksKeyFile (fault : NamedFault) : Type 0 where
     pub name : List ℕ
     pub has : HasKeys words name
-    pub reads : ReadsShort told name (no_bytes fault)
+    pub reads : ReadsShort printed name (no_bytes fault)
 
   -- the bytes of the key file that the words name, or none where the command has no keys
   abbrev pub AreKeyBytes : List ℕ → Type 0
@@ -97,10 +97,10 @@ module _ (told : Option (List NamedFile)) (words : List (List ℕ)) where
 
 -- what each answer of the reader of the key file of this name says of it: its bytes, or none where there is no name
 abbrev pub FindsKeys : Option (List NamedFile) → Option (List ℕ) → Result (List ℕ) RunFault → Type 0
-FindsKeys told (Some name) (Ok bytes) = HasContents told name bytes
-FindsKeys told None (Ok bytes) = bytes ≡ []
-FindsKeys told (Some name) (Err (KeyFile fault)) = ReadsShort told name (no_bytes fault)
-FindsKeys told name (Err other) = ⊥
+FindsKeys printed (Some name) (Ok bytes) = HasContents printed name bytes
+FindsKeys printed None (Ok bytes) = bytes ≡ []
+FindsKeys printed (Some name) (Err (KeyFile fault)) = ReadsShort printed name (no_bytes fault)
+FindsKeys printed name (Err other) = ⊥
 
 -- the bytes are those of a key file, whose lines come to these when their pins are joined
 pub record JoinsLines (bytes : List ℕ) (joined : List KeyLine) : Type 0 where

@@ -1,7 +1,7 @@
 //! How the program ends: its exit status, and what it says on which stream.
 ghost use Rattle.std.specs.Prelude.{◌≡◌, IfOk, string_bytes};
 ghost use Rattle.byte_streams.specs.Streams.{AppendsPrefix};
-ghost use Rattle.program_library.specs.Endings.{PrintsEnding, IsFaultLine, TellsRun, message_bytes};
+ghost use Rattle.program_library.specs.Endings.{PrintsEnding, IsFaultLine, PrintsRun, message_bytes};
 
 use byte_streams::write_whole;
 use program_env::{RunFault, write_front};
@@ -41,7 +41,7 @@ impl Message {
 
 /// How the program ends.
 #[derive(Debug, Drop)]
-pub struct Ending {
+pub struct ProgramEnd {
     /// The exit status: 0 done, 1 a fault, 2 words that ask for nothing that can be done, 3 a no.
     pub status: u8,
     /// Where the text goes.
@@ -73,8 +73,8 @@ fn line_of(alloc: Global, fault: &RunFault) -> Message
 /// Help goes to standard output, and what is wrong with the words, as `clap` says it, to standard
 /// error. Each other fault is told on standard error as one line: `tlogmirror: ` and the fault's name,
 /// or `OutOfMemory` where there is no memory for that line.
-pub fn ending_of(alloc: Global, answer: Result<u8, RunFault>) -> Ending
-    ensures { TellsRun answer result }
+pub fn ending_of(alloc: Global, answer: Result<u8, RunFault>) -> ProgramEnd
+    ensures { PrintsRun answer result }
 {
     let (status, stream, text) = match answer {
         Ok(status) => (status, Stream::Output, Message::Fixed("")),
@@ -91,7 +91,7 @@ pub fn ending_of(alloc: Global, answer: Result<u8, RunFault>) -> Ending
         ),
         Err(fault) => (1, Stream::Errors, line_of(alloc, &fault)),
     };
-    Ending {
+    ProgramEnd {
         status,
         stream,
         text,
@@ -102,7 +102,7 @@ pub fn ending_of(alloc: Global, answer: Result<u8, RunFault>) -> Ending
 ///
 /// Help that cannot be written is a fault: `tlogmirror: WriteFault` on the other stream, status 1.
 /// A fault that cannot be written leaves the status what it is.
-pub fn print_ending<O: Write, E: Write>(ending: &Ending, output: &mut O, errors: &mut E) -> u8
+pub fn print_ending<O: Write, E: Write>(ending: &ProgramEnd, output: &mut O, errors: &mut E) -> u8
     ensures { PrintsEnding ending.now result (O.contents output.old) (O.contents output.new)
         (E.contents errors.old) (E.contents errors.new) }
 {

@@ -14,7 +14,7 @@ mod keys;
 mod laws;
 mod running;
 
-pub use ending::{Ending, Message, Stream, ending_of, print_ending};
+pub use ending::{Message, ProgramEnd, Stream, ending_of, print_ending};
 pub use keys::{Keys, key_file};
 pub use laws::{pulled_state_law, signing_key_law};
 pub use program_commands::{CheckFault, RootFault, run_check, run_root};

@@ -14,7 +14,7 @@ use crate::commands::run_command;
 use crate::keys::{Keys, joined_lines, key_bytes, why_of_lines};
 use mirror_folders::DirShelf;
 use mirror_progress::{CountingShelf, Progress, StandardError};
-use program_env::why::{Why, tell_why};
+use program_env::why::{Why, print_why};
 use program_env::{Env, Error, RunFault, RunFiles, RunFolders};
 use program_files::SystemFiles;
 use program_words::{BadWord, CommandFault, Line, read_line};
@@ -124,14 +124,14 @@ where
         Ok(line) => {
             let asked = line.why;
             let answer = run_line(env, line);
-            told(env.alloc, asked, answer, env.errors)
+            printed(env.alloc, asked, answer, env.errors)
         }
         Err(fault) => Err(RunFault::Command(fault)),
     }
 }
 
 // The answer of a run, and a line on what its fault is about, where it is asked for.
-fn told<E: Write>(
+fn printed<E: Write>(
     alloc: Global,
     asked: bool,
     answer: Result<u8, Error>,
@@ -143,7 +143,7 @@ fn told<E: Write>(
         Ok(status) => Ok(status),
         Err(error) => {
             let (fault, why) = error.into_parts();
-            tell_why(alloc, asked, why, errors);
+            print_why(alloc, asked, why, errors);
             Err(fault)
         }
     }
@@ -384,7 +384,7 @@ where
         Ok(line) => {
             let asked = line.why;
             let answer = obey(env, keys, line);
-            told(env.alloc, asked, answer, env.errors)
+            printed(env.alloc, asked, answer, env.errors)
         }
         Err(fault) => Err(RunFault::Command(fault)),
     }

@@ -3,8 +3,8 @@ use Rattle.std.specs.Prelude.{◌≡◌, ◌⊎◌, ℕ, ◌<◌, ◌≤◌, Lis
 use Rattle.std.specs.Io.KnownBytes.{Keeps}
 use Rattle.signed_note.specs.Keys.{Key}
 use Rattle.tlog_tiles.specs.declared.paths.Path.TheVariants.{Checkpoint}
-use Rattle.mirror_sources.specs.Told.{one_more}
-use Rattle.mirror_folders.specs.Shelf.{Put, TellsRead}
+use Rattle.mirror_sources.specs.Recorded.{one_more}
+use Rattle.mirror_folders.specs.Shelf.{Put, RecordsRead}
 use Rattle.log_reader.specs.EdgeRows.{Edge, hash_of_edge}
 use Rattle.log_reader.specs.Ways.{HasEdgeHashes}
 use Rattle.copy_reader.specs.Copies.{HasCheckpoint, RefusesCheckpoint}
@@ -84,7 +84,7 @@ EndsWritten entries base64 from to old new (Err fault) =
 module _ (digest : List ℕ → List ℕ) (origin : List ℕ) (keys : List Key) (held : Option (List Put)) where
   -- why a copy is not opened, of what the folder holds
   abbrev pub RefusesCopy : CopyEntriesFault → Type 0
-  RefusesCopy NothingComplete = TellsRead held Checkpoint None
+  RefusesCopy NothingComplete = RecordsRead held Checkpoint None
   RefusesCopy (Head fault) = RefusesCheckpoint origin keys held fault
   RefusesCopy (CopyDamaged path) = IsDamaged digest origin held
   RefusesCopy ShelfFault = ⊤

@@ -1,6 +1,6 @@
 //! The command `entries` over a copy: entries of the log in a folder, each verified before it is written.
 ghost use Rattle.std.specs.Prelude.{◌≡◌, ◌<◌, ◌≤◌, ℕ, List, IfErr, OnErr, OnOk, map};
-ghost use Rattle.mirror_sources.specs.Told.{KeepsTold};
+ghost use Rattle.mirror_sources.specs.Recorded.{KeepsRecord};
 ghost use Rattle.log_reader.specs.Ways.{HasEdgeHashes};
 ghost use Rattle.copy_reader.specs.Copies.{LeavesPuts};
 ghost use Rattle.copy_reader.specs.WholeCopies.{HasFilesOf};
@@ -39,7 +39,7 @@ fn write_copied<H: TreeHash, D: ReadableShelf, W: Write>(
     ensures honest { (entries : List (List ℕ)) → IsReaderOf H.digest entries reader.old
         → HasFilesOf H.digest entries (D.puts shelf.old) → EndsWritten entries range.now.base64
         range.now.from range.now.to (W.contents output.old) (W.contents output.new) result }
-    ensures same { KeepsTold (D.puts shelf.old) (D.puts shelf.new) }
+    ensures same { KeepsRecord (D.puts shelf.old) (D.puts shelf.new) }
     ensures counted { CountsCopy (D.failed shelf.old) (D.failed shelf.new) result }
 {
     let size = reader.size();
@@ -67,7 +67,7 @@ fn write_range<H: TreeHash, D: ReadableShelf, W: Write>(
     ensures answer { AnswersCopied H.digest origin.now (map (λ k. key k) keys.now)
         (D.puts shelf.old) range.now.from range.now.to range.now.base64 (W.contents output.old)
         (W.contents output.new) result }
-    ensures same { KeepsTold (D.puts shelf.old) (D.puts shelf.new) }
+    ensures same { KeepsRecord (D.puts shelf.old) (D.puts shelf.new) }
     ensures counted { CountsCopy (D.failed shelf.old) (D.failed shelf.new) result }
 {
     let mut reader = open_copy::<H, D>(shelf, alloc, origin, keys)?;

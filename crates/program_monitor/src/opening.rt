@@ -1,7 +1,7 @@
 //! A copy, opened, and its bundles.
 ghost use Rattle.std.specs.Prelude.{◌≡◌, ◌*◌, ◌<◌, IfErr, IfOk, Some, length, map};
 ghost use Rattle.tlog_tiles.specs.Tiles.{bundle_bytes};
-ghost use Rattle.mirror_sources.specs.Told.{KeepsTold};
+ghost use Rattle.mirror_sources.specs.Recorded.{KeepsRecord};
 ghost use Rattle.log_reader.specs.Ways.{IsShownBundle};
 ghost use Rattle.copy_reader.specs.WholeCopies.{OpensWhole, ReadsCopyOf};
 ghost use Rattle.program_monitor.specs.Copied.{CountsCopy, IsOfFiles, IsOpenCopy, IsUndamaged, RefusesCopy};
@@ -29,7 +29,7 @@ pub(crate) fn open_copy<H: TreeHash, D: ReadableShelf>(
         (D.puts shelf.old)) }
     ensures whole { IfOk result
         (λ reader. OpensWhole H.digest origin.now (D.puts shelf.old) (Some reader)) }
-    ensures same { KeepsTold (D.puts shelf.old) (D.puts shelf.new) }
+    ensures same { KeepsRecord (D.puts shelf.old) (D.puts shelf.new) }
     ensures counted { CountsCopy (D.failed shelf.old) (D.failed shelf.new) result }
 {
     match open_shelf::<H, D>(alloc, shelf, origin, keys) {
@@ -54,7 +54,7 @@ pub(crate) fn bundle_on<H: TreeHash, D: ReadableShelf>(
     ensures edge { reader.new.edge ≡ reader.old.edge }
     ensures shown { IfOk result
         (λ bytes. IsShownBundle H.digest reader.old.edge index bytes.items) }
-    ensures same { KeepsTold (D.puts shelf.old) (D.puts shelf.new) }
+    ensures same { KeepsRecord (D.puts shelf.old) (D.puts shelf.new) }
     ensures counted { CountsCopy (D.failed shelf.old) (D.failed shelf.new) result }
     ensures fault { IfErr result IsOfFiles }
     ensures honest { ReadsCopyOf IsUndamaged H.digest reader.old reader.new (D.puts shelf.old)

@@ -19,14 +19,14 @@ use Rattle.program_reports.specs.declared.fault.AskFault.{AskFault}
 use Rattle.program_reports.specs.declared.fault.AskFault.TheVariants.{Report, WriteFault}
 
 -- a head is a fork or larger, and so not known to be a beginning of what is served
-abbrev pub told_other : Compared → Bool
-told_other (Same size root) = false
-told_other (Fork size root own) = true
-told_other (Larger size root) = true
+abbrev pub recorded_other : Compared → Bool
+recorded_other (Same size root) = false
+recorded_other (Fork size root own) = true
+recorded_other (Larger size root) = true
 
 -- the exit status: 0 where each head is the same, else 3
 abbrev pub compare_status : List Compared → ℕ
-compare_status compared = if list_any told_other compared then 3 else 0
+compare_status compared = if list_any recorded_other compared then 3 else 0
 
 module _ (digest : List ℕ → List ℕ) where
   -- the heads that were given, one for one, or else those of the view, are compared so
@@ -35,7 +35,7 @@ module _ (digest : List ℕ → List ℕ) where
   ComparesHeads v (Some heads) compared = ReportsCompared digest v (map point_of heads) compared
 
   -- the report of `compare`
-  pub record TellsCompared (v : View) (heads : Option (List (ℕ × List ℕ))) (report : Printout)
+  pub record IsComparedPrint (v : View) (heads : Option (List (ℕ × List ℕ))) (report : Printout)
       : Type 0 where
     pub compared : List Compared
     pub compares : ComparesHeads v heads compared
@@ -45,7 +45,7 @@ module _ (digest : List ℕ → List ℕ) where
   -- what each answer to `compare` says
   abbrev pub ReportsComparison : View → Option (List (ℕ × List ℕ)) → Result Printout ReportFault →
       Type 0
-  ReportsComparison v heads (Ok report) = TellsCompared v heads report
+  ReportsComparison v heads (Ok report) = IsComparedPrint v heads report
   ReportsComparison v heads (Err NothingComplete) = SaysServed digest v None
   ReportsComparison v heads (Err OutOfMemory) = ⊤
   ReportsComparison v heads (Err other) = ⊥
@@ -55,14 +55,14 @@ module _ (digest : List ℕ → List ℕ) (v : View) (heads : Option (List (ℕ 
   -- the report was written whole, and the exit status is the report's
   pub record PrintsCompared (status : ℕ) : Type 0 where
     pub report : Printout
-    pub tells : TellsCompared digest v heads report
+    pub tells : IsComparedPrint digest v heads report
     pub written : Appends old new (printed report)
     pub status_is : status ≡ report.status
 
   -- a prefix of the report was written, as a write that failed leaves it
   pub record PrintsComparedPrefix : Type 0 where
     pub report : Printout
-    pub tells : TellsCompared digest v heads report
+    pub tells : IsComparedPrint digest v heads report
     pub written : AppendsPrefix old new (printed report)
 
   -- what each answer of the command says of the view, and of what was written

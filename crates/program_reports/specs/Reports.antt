@@ -24,8 +24,8 @@ abbrev pub printed : Report → List ℕ
 printed report = string_bytes report.text
 
 -- the exit status of a text that tells something or nothing: 0 for no bytes, 3 for some
-abbrev pub TellsNothing : List ℕ → ℕ → Type 0
-TellsNothing text status = ((text ≡ []) × (status ≡ 0)) ⊎ ((text ≢ []) × (status ≡ 3))
+abbrev pub PrintsNothing : List ℕ → ℕ → Type 0
+PrintsNothing text status = ((text ≡ []) × (status ≡ 0)) ⊎ ((text ≢ []) × (status ≡ 3))
 
 -- a fault of a proof among those of reports
 abbrev pub of_proof : ProofFault → ReportFault
@@ -34,40 +34,40 @@ of_proof fault = Refused fault
 
 module _ (digest : List ℕ → List ℕ) (v : View) where
   -- the exit status of `status`: 0 where something is served, 3 where nothing is
-  abbrev pub TellsServed : ℕ → Type 0
-  TellsServed status =
+  abbrev pub IsServedPrint : ℕ → Type 0
+  IsServedPrint status =
       ((point : Point) × SaysServed digest v (Some point) × (status ≡ 0))
       ⊎ (SaysServed digest v None × (status ≡ 3))
 
   -- the text and the exit status of `status`
-  pub record TellsStatus (told : List ℕ) (ended : ℕ) : Type 0 where
-    pub text : IsStatusText digest v told
-    pub status : TellsServed ended
+  pub record IsStatusPrint (printed : List ℕ) (ended : ℕ) : Type 0 where
+    pub text : IsStatusText digest v printed
+    pub status : IsServedPrint ended
 
   -- the text and the exit status of `forks`
-  pub record TellsForks (told : List ℕ) (ended : ℕ) : Type 0 where
-    pub text : IsForksText digest v told
-    pub status : TellsNothing told ended
+  pub record IsForksPrint (printed : List ℕ) (ended : ℕ) : Type 0 where
+    pub text : IsForksText digest v printed
+    pub status : PrintsNothing printed ended
 
   -- the text and the exit status of `missing`, for a head
-  pub record TellsMissing (size : ℕ) (root : List ℕ) (told : List ℕ) (ended : ℕ) : Type 0 where
-    pub text : IsMissingText digest v size root told
-    pub status : TellsNothing told ended
+  pub record IsMissingPrint (size : ℕ) (root : List ℕ) (printed : List ℕ) (ended : ℕ) : Type 0 where
+    pub text : IsMissingText digest v size root printed
+    pub status : PrintsNothing printed ended
 
   -- what each answer to `missing` says
   abbrev pub ReportsMissing : ℕ → List ℕ → Result Report ReportFault → Type 0
-  ReportsMissing size root (Ok report) = TellsMissing size root (printed report) report.status
+  ReportsMissing size root (Ok report) = IsMissingPrint size root (printed report) report.status
   ReportsMissing size root (Err NoSuchHead) = ¬ HasHead v size root
   ReportsMissing size root (Err OutOfMemory) = ⊤
   ReportsMissing size root (Err other) = ⊥
 
   -- the text and the exit status of `prove`: the proof of the entries that are served
-  pub record TellsProof (ask : Ask) (told : List ℕ) (ended : ℕ) : Type 0 where
+  pub record IsProofPrint (ask : Ask) (printed : List ℕ) (ended : ℕ) : Type 0 where
     pub entries : List (List ℕ)
     pub served : IsServedList digest v entries
     pub proof : Proof
     pub made : asked_proof digest entries ask ≡ Ok proof
-    pub text : IsProofText told proof
+    pub text : IsProofText printed proof
     pub status : ended ≡ 0
 
   -- the proof that was asked for is refused, with that fault
@@ -78,7 +78,7 @@ module _ (digest : List ℕ → List ℕ) (v : View) where
 
   -- what each answer to `prove` says
   abbrev pub ReportsProof : Ask → Result Report ReportFault → Type 0
-  ReportsProof ask (Ok report) = TellsProof ask (printed report) report.status
+  ReportsProof ask (Ok report) = IsProofPrint ask (printed report) report.status
   ReportsProof ask (Err NothingComplete) = SaysServed digest v None
   ReportsProof ask (Err OutOfMemory) = ⊤
   ReportsProof ask (Err NoSuchHead) = ⊥

@@ -2,7 +2,7 @@
 ghost use Rattle.std.specs.Prelude.{◌≡◌, ◌≢◌, ◌⊎◌, IfErr, IfOk, option_map};
 ghost use Rattle.std.specs.Io.KnownBytes.{Keeps};
 ghost use Rattle.std.specs.List.{list_any};
-ghost use Rattle.program_reports.specs.Comparisons.{AnswersCompared, ReportsComparison, compare_status, told_other};
+ghost use Rattle.program_reports.specs.Comparisons.{AnswersCompared, ReportsComparison, compare_status, recorded_other};
 
 use crate::fault::{AskFault, ReportFault};
 use crate::printing::write_report;
@@ -51,13 +51,13 @@ pub fn comparison_status(compared: &[Compared]) -> u8
 
 // Whether a head is a fork or larger.
 fn has_other(compared: &[Compared]) -> bool
-    ensures { result ≡ list_any told_other compared.now }
+    ensures { result ≡ list_any recorded_other compared.now }
 {
     compared.iter().any(|one| is_other(one))
 }
 
 fn is_other(one: &Compared) -> bool
-    ensures { result ≡ told_other one.now }
+    ensures { result ≡ recorded_other one.now }
 {
     match one {
         Compared::Same { .. } => false,

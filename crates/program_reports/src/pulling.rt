@@ -21,7 +21,7 @@ use tlog_text::push_hash;
 pub fn pulled_text(alloc: Global, pulled: &Pulled) -> Result<String, AllocError>
     ensures { IfOk result (λ text. string_bytes text ≡ pulled_lines pulled.now) }
 {
-    let mut text = head_of(alloc, pulled.size, &pulled.root)?;
+    let mut text = pulled_point(alloc, pulled.size, &pulled.root)?;
     let counts = counts_of(alloc, pulled.rounds, pulled.refused)?;
     text.push_str(counts.as_str())?;
     text.push_str(if pulled.complete {
@@ -33,7 +33,7 @@ pub fn pulled_text(alloc: Global, pulled: &Pulled) -> Result<String, AllocError>
 }
 
 // The beginning of the first line.
-fn head_of(alloc: Global, size: u64, root: &Hash) -> Result<String, AllocError>
+fn pulled_point(alloc: Global, size: u64, root: &Hash) -> Result<String, AllocError>
     ensures { IfOk result (λ text. string_bytes text ≡ head_text size root.now) }
 {
     let mut text = format!(in alloc; "pulled {size} ")?;

@@ -1,6 +1,6 @@
 //! What may be asked of a state, and the report that answers it.
 ghost use Rattle.std.specs.Prelude.{◌≡◌, IfOk};
-ghost use Rattle.program_reports.specs.Reports.{ReportsProof, TellsStatus, printed};
+ghost use Rattle.program_reports.specs.Reports.{ReportsProof, IsStatusPrint, printed};
 ghost use Rattle.program_reports.specs.Questions.{IsMade, ReportsOn};
 
 use crate::fault::ReportFault;
@@ -31,7 +31,7 @@ pub enum Question {
 // The report on heads and on what is served, of a mirror that notes first what is held of each head: so no tree is walked
 // twice.
 fn noted_status<H: TreeHash>(alloc: Global, mirror: &mut Mirror<H>) -> Result<Report, AllocError>
-    ensures tells { IfOk result (λ report. TellsStatus H.digest mirror.old.view (printed report)
+    ensures tells { IfOk result (λ report. IsStatusPrint H.digest mirror.old.view (printed report)
         report.status) }
     ensures kept { mirror.new.view ≡ mirror.old.view }
 {

@@ -1,6 +1,6 @@
 //! The reports, a command each.
 ghost use Rattle.std.specs.Prelude.{IfOk};
-ghost use Rattle.program_reports.specs.Reports.{ReportsProof, TellsServed, TellsStatus, printed};
+ghost use Rattle.program_reports.specs.Reports.{ReportsProof, IsServedPrint, IsStatusPrint, printed};
 
 use crate::fault::ReportFault;
 use std::alloc::{AllocError, Global};
@@ -23,7 +23,7 @@ pub struct Report {
 ///
 /// Memory was refused.
 pub fn status_report<H: TreeHash>(alloc: Global, mirror: &Mirror<H>) -> Result<Report, AllocError>
-    ensures { IfOk result (λ report. TellsStatus H.digest mirror.now.view (printed report)
+    ensures { IfOk result (λ report. IsStatusPrint H.digest mirror.now.view (printed report)
         report.status) }
 {
     let text = mirror.status_text(alloc)?;
@@ -33,7 +33,7 @@ pub fn status_report<H: TreeHash>(alloc: Global, mirror: &Mirror<H>) -> Result<R
 
 // 0 where something is served, 3 where nothing is.
 fn served_status<H: TreeHash>(mirror: &Mirror<H>) -> u8
-    ensures { TellsServed H.digest mirror.now.view result }
+    ensures { IsServedPrint H.digest mirror.now.view result }
 {
     match mirror.top_ranges() {
         Some(_) => 0,

@@ -1,6 +1,6 @@
 //! When the lines that say how far long work is are written, and what they count.
 use mirror_folders::{MemShelf, Shelf, ShelfError};
-use mirror_progress::{CountingShelf, Progress, Task, ToldFolders};
+use mirror_progress::{CountedFolders, CountingShelf, Progress, Task};
 use std::alloc::Global;
 use std::cell::Cell;
 use std::io;
@@ -45,7 +45,7 @@ fn text_of(line: &[u8]) -> &str {
 }
 
 // So many files of 100 bytes put onto a shelf in memory by such a clock, and what is told of them.
-fn told_of<W: Write + Drop>(
+fn text_of_progress<W: Write + Drop>(
     rt: &impl Abort,
     alloc: Global,
     clock: &Ticking,
@@ -115,7 +115,7 @@ fn lines_come_a_second_apart(rt: HostRuntime) -> Result<(), Fail> {
     for &(step, begins, files, want) in &APART {
         let mut lines = Vec::new(alloc);
         let clock = clock_with(step);
-        assert!(&rt; told_of(&rt, alloc, &clock, &mut lines, begins, files) == Ok(()));
+        assert!(&rt; text_of_progress(&rt, alloc, &clock, &mut lines, begins, files) == Ok(()));
         assert!(&rt; text_of(&lines) == want, "{want}");
     }
     Ok(())

@@ -57,12 +57,12 @@ nothing_named words m name options matches r calls =
 -- a fault of the parser, as the program tells it
 pub refused : (words : List Text) (e : Error) (fault : CommandFault) → HasKind (faults words) e →
     IsFaultOf (kind_of e) fault → ReadsKeyFile words (no_keys fault)
-refused words e (Help text) (inl memory) told = absurd (elim told [ inl h ↦ cc | inr h ↦ cc ])
-refused words e (Help text) (inr among) told = (kind_of e, among, told)
-refused words e (Words text) (inl memory) told = absurd (told.0 memory)
-refused words e (Words text) (inr among) told = (kind_of e, among, told.1)
-refused words e BadArgument h told = absurd told
-refused words e OutOfMemory h told = tt
+refused words e (Help text) (inl memory) recorded = absurd (elim recorded [ inl h ↦ cc | inr h ↦ cc ])
+refused words e (Help text) (inr among) recorded = (kind_of e, among, recorded)
+refused words e (Words text) (inl memory) recorded = absurd (recorded.0 memory)
+refused words e (Words text) (inr among) recorded = (kind_of e, among, recorded.1)
+refused words e BadArgument h recorded = absurd recorded
+refused words e OutOfMemory h recorded = tt
 
 -- the same, of the reader of the words
 pub read_refused : (words : List Text) (fault : CommandFault) → ReadsKeyFile words (no_keys fault) →

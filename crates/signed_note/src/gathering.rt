@@ -58,7 +58,7 @@ fn order(a: &KeyLine, b: &KeyLine) -> Ordering
 }
 
 // Where the pins of the name and id of pinned texts are. Lines are gathered in order, so only the last can be these.
-fn place_of(gathered: &[PinLines], texts: &PinnedTexts) -> Option<usize>
+fn find_gathered(gathered: &[PinLines], texts: &PinnedTexts) -> Option<usize>
     ensures within { IfSome result (λ at. at < length gathered.now) }
     ensures found { IfSome result (HoldsAt (λ k. (k.name ≡ texts.now.name) × (k.id ≡ texts.now.id))
         gathered.now) }
@@ -76,7 +76,7 @@ fn gather(gathered: &mut Vec<PinLines>, texts: PinnedTexts) -> Result<(), AllocE
     ensures { OnOk result (AcceptsAlike (map pinned_key gathered.new.items)
         (map pinned_key gathered.old.items ++ pinned_key texts ∷ [])) }
 {
-    if let Some(at) = place_of(gathered, &texts) {
+    if let Some(at) = find_gathered(gathered, &texts) {
         return gathered[at].append(&texts);
     }
     let PinnedTexts { name, id, digests } = texts;

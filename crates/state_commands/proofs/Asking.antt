@@ -38,20 +38,20 @@ pub asked_quietly : (was : Result ℕ AskFault) (is : Result ℕ RunFault) (old 
     IfErr is (λ fault. (¬ IsWriteFault fault) → Keeps old new)
 asked_quietly was is old new same h = rw same (quiet_ask was old new h)
 
-module _ (digest : List ℕ → List ℕ) (keys : List Key) (told : Option (List NamedFile)) (name origin : List ℕ)
-    (old new : Option (List ℕ)) (v : View) (opened : OpensFile digest origin keys told name (Ok v)) where
+module _ (digest : List ℕ → List ℕ) (keys : List Key) (recorded : Option (List NamedFile)) (name origin : List ℕ)
+    (old new : Option (List ℕ)) (v : View) (opened : OpensFile digest origin keys recorded name (Ok v)) where
   asks : (question : Question) (was : Result ℕ AskFault) → AnswersQuestion digest question v old new was →
-      AsksState digest keys told name origin question old new (asked was)
+      AsksState digest keys recorded name origin question old new (asked was)
   asks question (Ok status) h = (v, opened, h)
   asks question (Err fault) h = (v, opened, h)
 
   pub asks_state : (question : Question) (was : Result ℕ AskFault) (is : Result ℕ RunFault) → is ≡ asked was →
-      AnswersQuestion digest question v old new was → AsksState digest keys told name origin question old new is
+      AnswersQuestion digest question v old new was → AsksState digest keys recorded name origin question old new is
   asks_state question was is same h = rw same (asks question was h)
 
   pub compares_state : (files : List (List ℕ)) (answer : Result ℕ RunFault) →
-      ComparesView digest keys told files old new v answer →
-      ComparesState digest keys told name origin files old new answer
+      ComparesView digest keys recorded files old new v answer →
+      ComparesState digest keys recorded name origin files old new answer
   compares_state files (Ok status) h =
       record { view = v; heads = h.heads; opened = opened; given = h.given; answers = h.answers }
   compares_state files (Err (Heads fault)) h = (v, opened, h)
@@ -59,14 +59,14 @@ module _ (digest : List ℕ → List ℕ) (keys : List Key) (told : Option (List
       record { view = v; heads = h.heads; opened = opened; given = h.given; answers = h.answers }
   compares_state files (Err other) h = absurd h
 
-module _ (digest : List ℕ → List ℕ) (keys : List Key) (told : Option (List NamedFile)) (files : List (List ℕ))
+module _ (digest : List ℕ → List ℕ) (keys : List Key) (recorded : Option (List NamedFile)) (files : List (List ℕ))
     (old new : Option (List ℕ)) (v : View) (heads : Option (List (ℕ × List ℕ)))
-    (given : FindsHeads keys told v.origin files (Ok heads)) where
+    (given : FindsHeads keys recorded v.origin files (Ok heads)) where
   compares : (was : Result ℕ AskFault) → AnswersCompared digest v heads old new was →
-      ComparesView digest keys told files old new v (asked was)
+      ComparesView digest keys recorded files old new v (asked was)
   compares (Ok status) h = record { heads = heads; given = given; answers = h }
   compares (Err fault) h = record { heads = heads; given = given; answers = h }
 
   pub compares_view : (was : Result ℕ AskFault) (is : Result ℕ RunFault) → is ≡ asked was →
-      AnswersCompared digest v heads old new was → ComparesView digest keys told files old new v is
+      AnswersCompared digest v heads old new was → ComparesView digest keys recorded files old new v is
   compares_view was is same h = rw same (compares was h)

@@ -9,12 +9,12 @@ use Rattle.program_reports.specs.Comparisons.{AnswersCompared}
 use Rattle.program_reports.specs.declared.fault.AskFault.{AskFault}
 use Rattle.program_env.specs.Works.{FindsHeads}
 
-pub names_same : {A : Type 0} (text_of : A → List ℕ) (keys : List Key) (told : Option (List NamedFile))
+pub names_same : {A : Type 0} (text_of : A → List ℕ) (keys : List Key) (recorded : Option (List NamedFile))
     (origin : List ℕ) (names others : List A) (answer : Result (Option (List (ℕ × List ℕ))) HeadFilesFault) →
-    names ≡ others → FindsHeads keys told origin (map text_of names) answer →
-    FindsHeads keys told origin (map text_of others) answer
-names_same text_of keys told origin names others answer same h =
-    subst (λ n. FindsHeads keys told origin (map text_of n) answer) same h
+    names ≡ others → FindsHeads keys recorded origin (map text_of names) answer →
+    FindsHeads keys recorded origin (map text_of others) answer
+names_same text_of keys recorded origin names others answer same h =
+    subst (λ n. FindsHeads keys recorded origin (map text_of n) answer) same h
 
 pub heads_same : (digest : List ℕ → List ℕ) (v : View) (heads others : Option (List (ℕ × List ℕ)))
     (old new : Option (List ℕ)) (answer : Result ℕ AskFault) → heads ≡ others →

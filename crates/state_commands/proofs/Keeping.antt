@@ -37,10 +37,10 @@ pub pulled_on : (digest : List ℕ → List ℕ) (keys : List Key) (old new : Vi
     PullsTo digest keys old new (Ok pulled) → IsSubview old new
 pulled_on digest keys old new pulled h = h.0.grows
 
-module _ (keep : Bool) (out : List ℕ) (told : Option (List NamedFile)) (start v : View) (fault : PullFault)
+module _ (keep : Bool) (out : List ℕ) (recorded : Option (List NamedFile)) (start v : View) (fault : PullFault)
     (written : Result (Unit {0}) NamedFault) where
   -- nothing was to be kept, or nothing was gained
-  pub leaves_all : (IsKept keep fault → v ≢ start → ⊥) → LeavesEarly keep out told told start v fault written
+  pub leaves_all : (IsKept keep fault → v ≢ start → ⊥) → LeavesEarly keep out recorded recorded start v fault written
   leaves_all never =
       record {
         gained = λ kept more. absurd (never kept more);
@@ -50,7 +50,7 @@ module _ (keep : Bool) (out : List ℕ) (told : Option (List NamedFile)) (start 
 
   -- something was gained, and its state was written or could not be
   pub leaves_state : (left : Option (List NamedFile)) → IsKept keep fault → v ≢ start →
-      SavesFile v out told left written → LeavesEarly keep out told left start v fault written
+      SavesFile v out recorded left written → LeavesEarly keep out recorded left start v fault written
   leaves_state left kept more saves =
       record {
         gained = λ _ _. saves;
@@ -60,13 +60,13 @@ module _ (keep : Bool) (out : List ℕ) (told : Option (List NamedFile)) (start 
 
 -- what is written of a mirror that has pulled is left
 pub saves_pulled : {T : Type 0} (state : Option (List ℕ)) (start v : View) (out : List ℕ)
-    (told left : Option (List NamedFile)) (answer : Result T NamedFault) → SavesFile v out told left answer →
-    SavesPulled state start v out told left answer
-saves_pulled state start v out told left (Ok x) h = inl h
-saves_pulled state start v out told left (Err fault) h = h
+    (recorded left : Option (List NamedFile)) (answer : Result T NamedFault) → SavesFile v out recorded left answer →
+    SavesPulled state start v out recorded left answer
+saves_pulled state start v out recorded left (Ok x) h = inl h
+saves_pulled state start v out recorded left (Err fault) h = h
 
 -- what the file had when the pull began it has still
-pub held_still : (state : Option (List ℕ)) (start v : View) (out : List ℕ) (told later : Option (List NamedFile)) →
-    later ≡ told → IsSaved state start out told → v ≡ start → IsHeld state start v out later
-held_still state start v out told later same saved nothing =
+pub held_still : (state : Option (List ℕ)) (start v : View) (out : List ℕ) (recorded later : Option (List NamedFile)) →
+    later ≡ recorded → IsSaved state start out recorded → v ≡ start → IsHeld state start v out later
+held_still state start v out recorded later same saved nothing =
     record { saved = subst (IsSaved state start out) (sym same) saved; nothing = nothing }

@@ -12,7 +12,7 @@ ghost use Rattle.mirror_client.specs.declared.limits.TheConstants.{MAX_REPLY_LEN
 ghost use Rattle.program_env.specs.Done.{IsWriteFault};
 ghost use Rattle.program_env.specs.Envs.{IsSameEnv, moment};
 ghost use Rattle.program_env.specs.Performing.{Performs};
-ghost use Rattle.program_env.specs.Pulls.{FollowsShortReplies, IsHeld, LeavesEarly, SavesPulled, TellsPull, TellsPulled, most_replied};
+ghost use Rattle.program_env.specs.Pulls.{FollowsShortReplies, IsHeld, LeavesEarly, SavesPulled, PrintsPull, PrintsPulled, most_replied};
 ghost use Rattle.program_env.specs.Works.{IsStatus};
 
 use crate::pulling::pull_from;
@@ -20,7 +20,7 @@ use byte_streams::write_whole;
 use mirror_client::{FailedGet, HttpSource, Site, TcpDial};
 use mirror_folders::{DirSource, FailedFile};
 use mirror_pull::{PullFault, Pulled};
-use program_commands::{Holding, has_gained, holding_of, open_to_save, write_state};
+use program_commands::{HeldCounts, has_gained, holding_of, open_to_save, write_state};
 use program_env::places::{of_edge, of_refused};
 use program_env::why::{Why, of_named};
 use program_env::{Env, Error, RunFault, RunFiles, RunFolders};
@@ -77,7 +77,7 @@ fn run_pull<R: Files + Clock + Eprint + Net<Stream = TcpStream>, F: RunFiles, W:
     keys: &[Box<dyn Verifier>],
     output: &mut W,
 ) -> Result<u8, Error>
-    ensures answer { TellsPull sha256 words.now.mirror.log.origin.now (map (λ k. key k) keys.now)
+    ensures answer { PrintsPull sha256 words.now.mirror.log.origin.now (map (λ k. key k) keys.now)
         (option_map (λ name. name.now) words.now.state) words.now.place (F.puts files.old)
         words.now.keep words.now.mirror.out.now (F.puts files.new) (W.contents output.old)
         (W.contents output.new) result }
@@ -101,7 +101,7 @@ fn run_pull<R: Files + Clock + Eprint + Net<Stream = TcpStream>, F: RunFiles, W:
     match pull_kept(rt, files, alloc, words, keys, &mut mirror) {
         Ok((pulled, gained)) => {
             let held = is_held(rt, out, is_saved, gained);
-            let answer = tell_pulled(files, alloc, out, &mirror, &pulled, held, output);
+            let answer = report_pulled(files, alloc, out, &mirror, &pulled, held, output);
             drop(mirror);
             answer
         }
@@ -180,7 +180,7 @@ fn save_pulled<H: TreeHash, F: RunFiles>(
 }
 
 // Writes the state of a mirror that has pulled, unless its file has it already, and then prints what the pull came to.
-fn tell_pulled<H: TreeHash, F: RunFiles, W: Write>(
+fn report_pulled<H: TreeHash, F: RunFiles, W: Write>(
     files: &mut F,
     alloc: Global,
     out: &str,
@@ -191,7 +191,7 @@ fn tell_pulled<H: TreeHash, F: RunFiles, W: Write>(
 ) -> Result<u8, Error>
     ensures answer { (state : Option (List ℕ)) (start : View)
         → (IsTrue is_held → IsHeld state start mirror.now.view out.now (F.puts files.old))
-        → TellsPulled state start mirror.now.view pulled.now out.now (F.puts files.old)
+        → PrintsPulled state start mirror.now.view pulled.now out.now (F.puts files.old)
         (F.puts files.new) (W.contents output.old) (W.contents output.new) result }
     ensures status { IfOk result IsStatus }
     ensures quiet { IfErr result (λ fault. (¬ IsWriteFault fault) → Keeps (W.contents output.old)
@@ -269,7 +269,7 @@ fn keep_gained<H: TreeHash, F: RunFiles>(
     alloc: Global,
     words: &Pull<'_>,
     mirror: &Mirror<H>,
-    before: &Holding,
+    before: &HeldCounts,
     fault: PullFault,
 ) -> Result<(), NamedFault>
     ensures { (start : View) → IsHolding start before.now → IsSubview start mirror.now.view

@@ -32,7 +32,7 @@ pub(crate) fn pull_from<H: TreeHash, S: Source + Drop, R: Clock + Eprint>(
         mirror.new.view (S.may_answer source) (S.asked source) (S.asked result.1) result.0 }
 {
     if progress {
-        pull_told(rt, alloc, mirror, keys, source)
+        pull_reporting(rt, alloc, mirror, keys, source)
     } else {
         pull_silent(alloc, mirror, keys, source)
     }
@@ -67,7 +67,7 @@ fn largest_size<H: TreeHash>(alloc: Global, mirror: &Mirror<H>) -> u64 {
 }
 
 // Pulls from the source into the mirror, and reports the progress, and at its end the total.
-fn pull_told<H: TreeHash, S: Source + Drop, R: Clock + Eprint>(
+fn pull_reporting<H: TreeHash, S: Source + Drop, R: Clock + Eprint>(
     rt: &R,
     alloc: Global,
     mirror: &mut Mirror<H>,
@@ -85,7 +85,7 @@ fn pull_told<H: TreeHash, S: Source + Drop, R: Clock + Eprint>(
     let mut source = CountingSource::new(source, progress);
     let pulled = pull(alloc, mirror, keys, &mut source);
     if let Ok(done) = &pulled {
-        source.progress.tell_pulled(held, done.size);
+        source.progress.report_pulled(held, done.size);
     }
     (pulled, source.into_source())
 }

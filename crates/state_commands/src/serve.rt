@@ -5,7 +5,7 @@ ghost use Rattle.sha2.specs.Sha256.{sha256};
 ghost use Rattle.state_commands.specs.Clients.{AnswersClients};
 ghost use Rattle.program_env.specs.Envs.{IsSameEnv, moment};
 ghost use Rattle.program_env.specs.Performing.{Performs};
-ghost use Rattle.program_env.specs.Works.{TellsPort};
+ghost use Rattle.program_env.specs.Works.{PrintsPort};
 
 use crate::clients::Clients;
 use program_commands::open_state;
@@ -87,7 +87,8 @@ fn serve_ready<H: TreeHash, R, O: Write, E: Write>(
 ) -> Result<(), Error>
 where
     R: Clock + Net<Stream = TcpStream, Listener = TcpListener>,
-    ensures line { TellsPort serve.now.port (O.contents output.old) (O.contents output.new) result }
+    ensures line { PrintsPort serve.now.port (O.contents output.old) (O.contents output.new)
+        result }
 {
     match make_ready(alloc, mirror) {
         Ok(()) => serve_mirror(rt, alloc, mirror, serve, output, errors),
@@ -118,7 +119,8 @@ fn serve_mirror<H: TreeHash, R, O: Write, E: Write>(
 ) -> Result<(), Error>
 where
     R: Clock + Net<Stream = TcpStream, Listener = TcpListener>,
-    ensures line { TellsPort serve.now.port (O.contents output.old) (O.contents output.new) result }
+    ensures line { PrintsPort serve.now.port (O.contents output.old) (O.contents output.new)
+        result }
 {
     let mut listener = match TcpListener::bind(rt, (Ipv4Addr::LOCALHOST, serve.port)) {
         Ok(listener) => listener,

@@ -10,7 +10,7 @@ use Rattle.mirror_model.specs.declared.fault.TakeFault.{TakeFault}
 use Rattle.mirror_pull.specs.Answering.{of_take}
 use Rattle.mirror_pull.proofs.HeadsRead.{read_fault}
 use Rattle.mirror_sources.specs.ListSource.{IsHonestAnywhere}
-use Rattle.mirror_sources.specs.Told.{KeepsTold}
+use Rattle.mirror_sources.specs.Recorded.{KeepsRecord}
 use Rattle.mirror_pull.specs.declared.fault.PullFault.{PullFault}
 use Rattle.mirror_pull.specs.declared.fault.PullFault.TheVariants as pull
 use Rattle.mirror_folders.specs.Shelf.{Put}
@@ -21,7 +21,7 @@ use Rattle.tlog_build.specs.Building.{IsLogNote, AreLogFiles, BuildsLog, PutsFil
 use Rattle.tlog_build.specs.Faults.{of_export, of_pull}
 
 -- what was told stays told
-kept : (told : Option (List Put)) → KeepsTold told told
+kept : (recorded : Option (List Put)) → KeepsRecord recorded recorded
 kept None = tt
 kept (Some puts) = refl
 

@@ -7,7 +7,7 @@ use Rattle.tlog_tiles.specs.declared.paths.Path.TheVariants.{Checkpoint}
 use Rattle.mirror_export.specs.Files.{paths_of}
 use Rattle.mirror_export.specs.FileLaws.{FilesAreAll}
 use Rattle.tlog_tiles.specs.declared.paths.Path.{Path}
-use Rattle.mirror_sources.specs.Told.{AddsTold}
+use Rattle.mirror_sources.specs.Recorded.{AddsToRecord}
 use Rattle.mirror_folders.specs.Shelf.{Put}
 use Rattle.mirror_export.specs.Exports.{AddsPrefix}
 use Rattle.mirror_export.proofs.Prefixes.{adds_then, front_more, front_then}
@@ -20,13 +20,13 @@ module _ (file : Path → Put) (a b c : Option (List Put)) (paths : List Path) (
       ∙ ap (map file) (sym (ap (λ n. take n paths) (add-one i) ∙ take-suc paths i d lt))
 
   -- one more was put
-  pub path_put : AddsTold a b (map file (take i paths)) → AddsTold b c (map file (get_or paths i d ∷ [])) →
-      AddsTold a c (map file (take (i + 1) paths))
-  path_put p q = subst (λ (l : List Put). AddsTold a c l) next
+  pub path_put : AddsToRecord a b (map file (take i paths)) → AddsToRecord b c (map file (get_or paths i d ∷ [])) →
+      AddsToRecord a c (map file (take (i + 1) paths))
+  path_put p q = subst (λ (l : List Put). AddsToRecord a c l) next
       (adds_then a b c (map file (take i paths)) (map file (get_or paths i d ∷ [])) p q)
 
   -- the next was not put
-  pub path_cut : AddsTold a b (map file (take i paths)) → AddsPrefix b c (map file (get_or paths i d ∷ [])) →
+  pub path_cut : AddsToRecord a b (map file (take i paths)) → AddsPrefix b c (map file (get_or paths i d ∷ [])) →
       AddsPrefix a c (map file paths)
   path_cut p f =
       let front : AddsPrefix a c (map file (take (i + 1) paths)) =

@@ -6,8 +6,8 @@ use Rattle.tlog_hash.specs.Tree.{mth}
 use Rattle.tlog_tiles.specs.declared.paths.Path.TheVariants.{Checkpoint}
 use Rattle.mirror_model.specs.Origin.{IsOrigin}
 use Rattle.mirror_sources.specs.ListSource.{OpensAnywhere}
-use Rattle.mirror_sources.specs.Told.{KeepsTold, AddsTold}
-use Rattle.mirror_folders.specs.Shelf.{Put, TellsNone, TellsSome}
+use Rattle.mirror_sources.specs.Recorded.{KeepsRecord, AddsToRecord}
+use Rattle.mirror_folders.specs.Shelf.{Put, RecordsNone, RecordsSome}
 use Rattle.mirror_export.specs.Files.{paths_of, files_at}
 use Rattle.mirror_export.specs.Exports.{AddsPrefix}
 use Rattle.mirror_export.specs.declared.fault.ExportFault.{ExportFault}
@@ -28,10 +28,10 @@ module _ (digest : List ℕ → List ℕ) (note : List ℕ) (entries : List (Lis
   abbrev pub PutsFiles : {T : Type 0} → Option (List Put) → Option (List Put) →
       Result T ExportFault → Type 0
   PutsFiles old new (Ok x) =
-      TellsNone old Checkpoint
-      × AddsTold old new (files_at digest note entries (paths_of (length entries)))
+      RecordsNone old Checkpoint
+      × AddsToRecord old new (files_at digest note entries (paths_of (length entries)))
   PutsFiles old new (Err export.NothingComplete) = ⊥
-  PutsFiles old new (Err export.ShelfInUse) = KeepsTold old new × TellsSome old Checkpoint
+  PutsFiles old new (Err export.ShelfInUse) = KeepsRecord old new × RecordsSome old Checkpoint
   PutsFiles old new (Err export.ShelfFault) =
       AddsPrefix old new (files_at digest note entries (paths_of (length entries)))
   PutsFiles old new (Err export.OutOfMemory) =
@@ -53,14 +53,14 @@ module _ (digest : List ℕ → List ℕ) where
     abbrev pub BuildsLog : {T : Type 0} → Option (List Put) → Option (List Put) →
         Result T BuildFault → Type 0
     BuildsLog old new (Ok x) =
-        (files : List Put) × AreLogFiles files × TellsNone old Checkpoint × AddsTold old new files
-    BuildsLog old new (Err BadOrigin) = (¬ IsOrigin origin) × KeepsTold old new
+        (files : List Put) × AreLogFiles files × RecordsNone old Checkpoint × AddsToRecord old new files
+    BuildsLog old new (Err BadOrigin) = (¬ IsOrigin origin) × KeepsRecord old new
     BuildsLog old new (Err (Export export.ShelfInUse)) =
-        KeepsTold old new × TellsSome old Checkpoint
+        KeepsRecord old new × RecordsSome old Checkpoint
     BuildsLog old new (Err (Export export.ShelfFault)) =
         (files : List Put) × AreLogFiles files × AddsPrefix old new files
     BuildsLog old new (Err OutOfMemory) =
-        KeepsTold old new ⊎ ((files : List Put) × AreLogFiles files × AddsPrefix old new files)
+        KeepsRecord old new ⊎ ((files : List Put) × AreLogFiles files × AddsPrefix old new files)
     BuildsLog old new (Err fault) = ⊥
 
     -- so is said where the log's key is among these keys

@@ -1,6 +1,6 @@
 //! A log built of entries.
 ghost use Rattle.std.specs.Prelude.{◌≡◌, ℕ, List, IfErr, IfOk, map};
-ghost use Rattle.mirror_sources.specs.Told.{Rose};
+ghost use Rattle.mirror_sources.specs.Recorded.{Rose};
 ghost use Rattle.mirror_model.specs.Origin.{IsOrigin};
 ghost use Rattle.mirror_model.specs.TrueLaws.{AreShort};
 ghost use Rattle.mirror_model.specs.View.{nothing};

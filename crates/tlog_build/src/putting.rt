@@ -20,7 +20,7 @@ fn put_path<H: TreeHash, S: Shelf>(
     path: Path,
 ) -> Result<(), ShelfError>
     requires { IsFileOf (length source.now.entries) path }
-    ensures told { AddsFiles (S.puts shelf.old) (S.puts shelf.new)
+    ensures recorded { AddsFiles (S.puts shelf.old) (S.puts shelf.new)
         (files_at H.digest source.now.note source.now.entries (path ∷ [])) result }
     ensures counted { CountsFailures (S.failed shelf.old) (S.failed shelf.new) result }
 {
@@ -37,7 +37,7 @@ fn put_paths<H: TreeHash, S: Shelf>(
     paths: &[Path],
 ) -> Result<(), ShelfError>
     requires { paths.now ≡ paths_of (length source.now.entries) }
-    ensures told { AddsFiles (S.puts shelf.old) (S.puts shelf.new)
+    ensures recorded { AddsFiles (S.puts shelf.old) (S.puts shelf.new)
         (files_at H.digest source.now.note source.now.entries paths.now) result }
     ensures counted { CountsFailures (S.failed shelf.old) (S.failed shelf.new) result }
 {

@@ -17,7 +17,7 @@ use Rattle.mirror_model.specs.Forks.{Point}
 use Rattle.mirror_trees.specs.Marked.{point_of}
 use Rattle.tlog_mirror.specs.Best.{served_cmp, kept_point, IsAhead, HasKept, IsBuiltAt, IsBestOf}
 use Rattle.tlog_mirror.specs.Best.{IsFirstWith}
-use Rattle.tlog_mirror.specs.declared.kept.KeptNote.{KeptNote}
+use Rattle.tlog_mirror.specs.declared.kept.HeldNote.{HeldNote}
 use Rattle.mirror_model.proofs.Listing.{head_or, later, here}
 
 pub served_total : IsTotalOrder served_cmp
@@ -46,10 +46,10 @@ module _ (digest : List ℕ → List ℕ) (held : Strings) where
       at Equal back e n = ap is_gt e
       at Greater back e n = ap is_gt e
 
-  module _ (one : KeptNote) (rest : List KeptNote) where
-    itself : (other : KeptNote) → one ≡ other → is_gt (served_cmp (kept_point one) (kept_point other)) ≡ false
+  module _ (one : HeldNote) (rest : List HeldNote) where
+    itself : (other : HeldNote) → one ≡ other → is_gt (served_cmp (kept_point one) (kept_point other)) ≡ false
     itself other same =
-        ap (λ (k : KeptNote). is_gt (served_cmp (kept_point one) (kept_point k))) (sym same) ∙
+        ap (λ (k : HeldNote). is_gt (served_cmp (kept_point one) (kept_point k))) (sym same) ∙
         ap is_gt (tied_itself served_total (kept_point one))
 
     -- a better one
@@ -78,7 +78,7 @@ module _ (digest : List ℕ → List ℕ) (held : Strings) where
       | inl same ↦ elim not [
         | inl behind ↦ behind tt
         | inr not_built ↦ not_built
-            (subst (λ (k : KeptNote). Built (kept_point k)) (sym same) b)
+            (subst (λ (k : HeldNote). Built (kept_point k)) (sym same) b)
       ]
       | inr there ↦ h other there b
     ]
@@ -87,15 +87,15 @@ module _ (digest : List ℕ → List ℕ) (held : Strings) where
       built = h.built;
       first = λ other c b. elim (head_or one rest other c) [
         | inl same ↦ elim not [
-          | inl behind ↦ ap (λ (k : KeptNote). is_gt (served_cmp (point_of q) (kept_point k))) (sym same) ∙
+          | inl behind ↦ ap (λ (k : HeldNote). is_gt (served_cmp (point_of q) (kept_point k))) (sym same) ∙
               not_before (kept_point one) (point_of q) behind
-          | inr not_built ↦ absurd (not_built (subst (λ (k : KeptNote). Built (kept_point k)) (sym same) b))
+          | inr not_built ↦ absurd (not_built (subst (λ (k : HeldNote). Built (kept_point k)) (sym same) b))
         ]
         | inr there ↦ h.first other there b
       ];
     }
 
-  module _ (kept : List KeptNote) (at : ℕ) (one : KeptNote) (some : 0 < at) (fits : at ≤ length kept)
+  module _ (kept : List HeldNote) (at : ℕ) (one : HeldNote) (some : 0 < at) (fits : at ≤ length kept)
       (is : one ≡ slice_index_or kept (at - 1) one) where
     step : drop (at - 1) kept ≡ one ∷ drop at kept
     step =
@@ -115,21 +115,21 @@ module _ (digest : List ℕ → List ℕ) (held : Strings) where
     no_better_at found h not =
         subst (λ xs. IsBestOf digest held xs found) (sym step) (no_better one (drop at kept) found h not)
 
-  pub best_of_all : (kept : List KeptNote) (at : ℕ) (found : Option (ℕ × List ℕ)) → at ≤ 0 →
+  pub best_of_all : (kept : List HeldNote) (at : ℕ) (found : Option (ℕ × List ℕ)) → at ≤ 0 →
       IsBestOf digest held (drop at kept) found → IsBestOf digest held kept found
   best_of_all kept at found zero_at h =
       let none : at ≡ 0 = omega (arith, zero_at) in subst (λ n. IsBestOf digest held (drop n kept) found) none h
 
 -- ---- the first of a size and root
 
-module _ (kept : List KeptNote) (size : ℕ) (root : List ℕ) where
+module _ (kept : List HeldNote) (size : ℕ) (root : List ℕ) where
   abbrev point : Point
   point = record { size = size; root = root }
 
   abbrev pub NoneBefore : ℕ → Type 0
-  NoneBefore n = (k : ℕ) (other : KeptNote) → k < n → slice_index_or kept k other ≡ other → kept_point other ≡ point → ⊥
+  NoneBefore n = (k : ℕ) (other : HeldNote) → k < n → slice_index_or kept k other ≡ other → kept_point other ≡ point → ⊥
 
-  pub none_more : (at : ℕ) (one : KeptNote) → at < length kept → one ≡ slice_index_or kept at one → NoneBefore at →
+  pub none_more : (at : ℕ) (one : HeldNote) → at < length kept → one ≡ slice_index_or kept at one → NoneBefore at →
       (kept_point one ≡ point → ⊥) → NoneBefore (at + 1)
   none_more at one fits is before differ k other lt there same =
       elim (cases_lt k at) [
@@ -145,7 +145,7 @@ module _ (kept : List KeptNote) (size : ℕ) (root : List ℕ) where
   pub none_at_all : (at : ℕ) → length kept ≤ at → NoneBefore at → HasKept kept point → ⊥
   none_at_all at all before has = before has.is_kept.0 has.one (omega (arith, has.is_kept.1, all)) has.is_kept.2 has.is
 
-  pub first_at : (at : ℕ) (one : KeptNote) → at < length kept → one ≡ slice_index_or kept at one → NoneBefore at →
+  pub first_at : (at : ℕ) (one : HeldNote) → at < length kept → one ≡ slice_index_or kept at one → NoneBefore at →
       one.size ≡ size → one.root ≡ root → IsFirstWith kept point one
   first_at at one fits is before s r = record {
     at = at;
@@ -155,10 +155,10 @@ module _ (kept : List KeptNote) (size : ℕ) (root : List ℕ) where
     none = before;
   }
 
-  pub other_size : (one : KeptNote) → one.size ≢ size → kept_point one ≡ point → ⊥
+  pub other_size : (one : HeldNote) → one.size ≢ size → kept_point one ≡ point → ⊥
   other_size one differ same = differ (ap (λ (p : Point). p.size) same)
 
-  pub other_root : (one : KeptNote) (b : Bool) → b ≡ pointwise nat_eq one.root root → b ≡ false →
+  pub other_root : (one : HeldNote) (b : Bool) → b ≡ pointwise nat_eq one.root root → b ≡ false →
       kept_point one ≡ point → ⊥
   other_root one b is differs same =
       let equal : b ≡ true = (slice_eq-Decides Decides-eqb one.root root b is).1 (ap (λ (p : Point). p.root) same) in

@@ -56,24 +56,24 @@ rising (x ∷ xs) s (suc k) (suc l) a b lt fits p q =
 
 module _ (digest : List ℕ → List ℕ) (held : Strings) where
   -- the test tells of the entries whether the first begin the second
-  abbrev pub Tells : Bool → ℕ × List ℕ → ℕ × List ℕ → Type 0
-  Tells b small large =
+  abbrev pub DecidesFork : Bool → ℕ × List ℕ → ℕ × List ℕ → Type 0
+  DecidesFork b small large =
       (first second : List (List ℕ)) → IsTreeOf digest held small.0 small.1 first →
       IsTreeOf digest held large.0 large.1 second → IsTrue b ↔ IsPrefix first second
 
   abbrev pub Built : ℕ × List ℕ → Type 0
   Built head = IsBuilt digest held head.0 head.1
 
-  departs : (b : Bool) (small large : ℕ × List ℕ) → Tells b small large → b ≡ false → Built small → Built large →
+  departs : (b : Bool) (small large : ℕ × List ℕ) → DecidesFork b small large → b ≡ false → Built small → Built large →
       Departs digest held small large
-  departs b small large tells told_no p q = record {
+  departs b small large tells recorded_no p q = record {
     first = p.entries;
     second = q.entries;
     first_tree = p.is;
     second_tree = q.is;
     not_prefix =
         λ pre. let yes_is : b ≡ true =
-        (tells p.entries q.entries p.is q.is).1 pre in let wrong : true ≡ false = sym yes_is ∙ told_no in cc wrong;
+        (tells p.entries q.entries p.is q.is).1 pre in let wrong : true ≡ false = sym yes_is ∙ recorded_no in cc wrong;
   }
 
   -- where the entries of the second begin those of the third, the third departs from no longer a list exactly where
@@ -132,20 +132,20 @@ module _ (digest : List ℕ → List ℕ) (held : Strings) where
           | inr more ↦ rest k other more lt there whole
         ]
 
-    pub not_begun : (b : Bool) → Tells b one.head head → b ≡ false → one.whole ≡ true →
+    pub not_begun : (b : Bool) → DecidesFork b one.head head → b ≡ false → one.whole ≡ true →
         Departs digest held one.head head
-    not_begun b tells told_no whole = departs b one.head head tells told_no (is_built whole) built
+    not_begun b tells recorded_no whole = departs b one.head head tells recorded_no (is_built whole) built
 
     -- this is the last one that begins the head
-    pub last_is : (b : Bool) → Tells b one.head head → b ≡ true → one.whole ≡ true → (n : ℕ) → n ≡ at - 1 →
+    pub last_is : (b : Bool) → DecidesFork b one.head head → b ≡ true → one.whole ≡ true → (n : ℕ) → n ≡ at - 1 →
         (other : Branch) → get_or before n other ≡ other →
         (other.whole ≡ true) × Precedes digest held other.head head
-    last_is b tells told_yes whole n place other there =
+    last_is b tells recorded_yes whole n place other there =
         let same : one ≡ other =
         is ∙ any_default before (at - 1) one other (omega (arith, some, fits)) ∙
         ap (λ m. get_or before m other) (sym place) ∙ there in
         subst (λ (o : Branch). (o.whole ≡ true) × Precedes digest held o.head head) same
-        (whole, λ first second p q. (tells first second p q).0 told_yes)
+        (whole, λ first second p q. (tells first second p q).0 recorded_yes)
 
   -- the place of the last that begins a head is one of the list
   pub fits_all : (branches : List Branch) → AreBranches digest held branches →

@@ -17,8 +17,8 @@ module _ (branches : List Branch) where
       (k : ℕ) (b : Branch) → from ≤ k → k < length branches → get_or branches k b ≡ b → IsTrue b.whole → least ≤ b.after
 
   -- what is told from a place on is so
-  abbrev pub IsToldFrom : ℕ → List Bool → Type 0
-  IsToldFrom from calm =
+  abbrev pub IsDecidedFrom : ℕ → List Bool → Type 0
+  IsDecidedFrom from calm =
       (p k : ℕ) (a b : Branch) → from ≤ p → IsTrue (get_or calm p false) → p < k → k < length branches →
       get_or branches p a ≡ a → get_or branches k b ≡ b → AreCalmTwo p a b
 
@@ -69,8 +69,8 @@ module _ (branches : List Branch) where
             let own = past yes_calm in omega (arith, old, own);
       }
 
-      pub told_more : IsToldFrom at calm → IsToldFrom (at - 1) (set calm (at - 1) v)
-      told_more old p k a b from yes_calm lt fits_k is_a is_b =
+      pub recorded_more : IsDecidedFrom at calm → IsDecidedFrom (at - 1) (set calm (at - 1) v)
+      recorded_more old p k a b from yes_calm lt fits_k is_a is_b =
           elim (cases_lt p at) [
             | inl before ↦
                 let place : p ≡ at - 1 = omega (arith, before, from) in

@@ -131,12 +131,12 @@ module _ (a b : Branch) (u : Bool) where
   one_fork holds = ap (λ t. cond t (pair_of a b ∷ []) []) holds
 
   -- whether there is a fork
-  pub tells_none : (before : Bool) → apart_of a b u ≡ false →
+  pub records_none : (before : Bool) → apart_of a b u ≡ false →
       IsTrue before ↔ (IsTrue before ⊎ (fork_of a b u ≢ []))
-  tells_none before not = (λ h. inl h, λ h. elim h [ inl was ↦ was | inr some ↦ absurd (some (no_fork not)) ])
+  records_none before not = (λ h. inl h, λ h. elim h [ inl was ↦ was | inr some ↦ absurd (some (no_fork not)) ])
 
-  pub tells_one : (before : Bool) → apart_of a b u ≡ true → IsTrue true ↔ (IsTrue before ⊎ (fork_of a b u ≢ []))
-  tells_one before holds = (
+  pub records_one : (before : Bool) → apart_of a b u ≡ true → IsTrue true ↔ (IsTrue before ⊎ (fork_of a b u ≢ []))
+  records_one before holds = (
     λ h. inr (λ none. let wrong : pair_of a b ∷ [] ≡ [] = sym (one_fork holds) ∙ none in cc wrong),
     λ h. refl,
   )

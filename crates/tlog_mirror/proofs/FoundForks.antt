@@ -26,7 +26,7 @@ use Rattle.tlog_mirror.specs.Branches.{AreBranches, AreCalm, Departs, IsForkOf, 
 use Rattle.tlog_mirror.specs.ForksWritten.{WritesForks}
 use Rattle.tlog_mirror.specs.Kept.{state_of, IsKeptWell}
 use Rattle.tlog_mirror.specs.declared.branches.Branch.{Branch}
-use Rattle.tlog_mirror.specs.declared.kept.KeptNote.{KeptNote}
+use Rattle.tlog_mirror.specs.declared.kept.HeldNote.{HeldNote}
 use Rattle.tlog_mirror.proofs.AllForks.{all_exact, all_sorted}
 use Rattle.tlog_mirror.proofs.BranchSteps.{head_of, not_both, less_size}
 use Rattle.tlog_mirror.proofs.HeadLists.{mapped, source_of, sorted_out}
@@ -34,7 +34,7 @@ use Rattle.tlog_mirror.proofs.ServedNotes.{head_from_kept, kept_head}
 
 -- ---- the forks of the view
 
-module _ (digest : List ℕ → List ℕ) (origin : List ℕ) (kept : List KeptNote) (strings : Strings) (remembered : Points)
+module _ (digest : List ℕ → List ℕ) (origin : List ℕ) (kept : List HeldNote) (strings : Strings) (remembered : Points)
     (ok : IsKeptWell digest origin kept strings remembered) (points : List (ℕ × List ℕ))
     (exact : (p : ℕ × List ℕ) → Contains points p ↔ HasKept kept (point_of p)) where
   abbrev own : View

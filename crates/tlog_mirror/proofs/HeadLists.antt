@@ -24,7 +24,7 @@ use Rattle.mirror_trees.proofs.Orders.{equal_is}
 use Rattle.tlog_mirror.specs.Kept.{state_of, IsKeptWell}
 use Rattle.mirror_trees.specs.Marked.{point_of}
 use Rattle.tlog_mirror.specs.Best.{HasKept, by_point, IsBuiltFlag}
-use Rattle.tlog_mirror.specs.declared.kept.KeptNote.{KeptNote}
+use Rattle.tlog_mirror.specs.declared.kept.HeldNote.{HeldNote}
 use Rattle.tlog_mirror.proofs.ServedNotes.{unmapped, head_from_kept, kept_head, with_head}
 
 -- ---- the order of sizes and roots, and the test that is equality
@@ -81,24 +81,24 @@ module _ {X Y : Type 0} (f : X → Y) (cmp : Y → Y → Ordering) where
   sorted_in (x ∷ xs) s = (all_in x xs s.0, sorted_in xs s.1)
 
 -- the sizes and roots of the notes that are kept
-pub kept_points : (kept : List KeptNote) (p : ℕ × List ℕ) →
-    Contains (map (λ (one : KeptNote). (one.size, one.root)) kept) p ↔ HasKept kept (point_of p)
+pub kept_points : (kept : List HeldNote) (p : ℕ × List ℕ) →
+    Contains (map (λ (one : HeldNote). (one.size, one.root)) kept) p ↔ HasKept kept (point_of p)
 kept_points kept p = (
   λ c. let s =
-      source_of (λ (one : KeptNote). (one.size, one.root)) kept p c in record
+      source_of (λ (one : HeldNote). (one.size, one.root)) kept p c in record
       { one = s.0; is_kept = s.1; is = ap point_of s.2 },
   λ h.
       let pair : ℕ × List ℕ = (h.one.size, h.one.root) in
       let s : h.one.size ≡ p.0 = ap (λ (q : Point). q.size) h.is in
       let r : h.one.root ≡ p.1 = ap (λ (q : Point). q.root) h.is in
       let same : pair ≡ p = λ i. (s i, r i) in
-      subst (Contains (map (λ (one : KeptNote). (one.size, one.root)) kept)) same
-      (mapped (λ (one : KeptNote). (one.size, one.root)) kept h.one h.is_kept),
+      subst (Contains (map (λ (one : HeldNote). (one.size, one.root)) kept)) same
+      (mapped (λ (one : HeldNote). (one.size, one.root)) kept h.one h.is_kept),
 )
 
 -- ---- the heads
 
-module _ (digest : List ℕ → List ℕ) (origin : List ℕ) (kept : List KeptNote) (strings : Strings) (remembered : Points)
+module _ (digest : List ℕ → List ℕ) (origin : List ℕ) (kept : List HeldNote) (strings : Strings) (remembered : Points)
     (ok : IsKeptWell digest origin kept strings remembered) (old : State)
     (old_is : state_of origin kept strings remembered ≡ old) (points : List (ℕ × List ℕ))
     (sorted : IsStrictlySortedBy by_point points)

@@ -30,7 +30,7 @@ use Rattle.mirror_model.proofs.StringSets.{has_from_listed}
 use Rattle.mirror_model.proofs.Views.{edge_stays, marks_stay}
 use Rattle.tlog_mirror.specs.Adding.{with_note}
 use Rattle.tlog_mirror.specs.Kept.{state_of, note_bytes, IsKeptWell}
-use Rattle.tlog_mirror.specs.declared.kept.KeptNote.{KeptNote}
+use Rattle.tlog_mirror.specs.declared.kept.HeldNote.{HeldNote}
 
 abbrev pub by_bytes : List ℕ → List ℕ → Ordering
 by_bytes = slice_cmp nat_cmp
@@ -40,8 +40,8 @@ by_bytes = slice_cmp nat_cmp
 is_lt_after : (a b : List ℕ) → by_bytes a b ≡ Less → is_lt (by_bytes b a) ≡ false
 is_lt_after a b e = ap is_lt (nat_list_cmp_total.antisymm b a) ∙ ap (λ o. is_lt (ordering_reverse o)) e
 
-module _ (kept : List KeptNote) (rising : IsStrictlySortedBy by_bytes (map note_bytes kept)) where
-  less_at : (d : KeptNote) (i j : ℕ) → i < j → j < length kept →
+module _ (kept : List HeldNote) (rising : IsStrictlySortedBy by_bytes (map note_bytes kept)) where
+  less_at : (d : HeldNote) (i j : ℕ) → i < j → j < length kept →
       by_bytes (note_bytes (get_or kept i d)) (note_bytes (get_or kept j d)) ≡ Less
   less_at d i j lt in_range =
       sym (λ t. by_bytes (get_or-map note_bytes kept i d t) (get_or-map note_bytes kept j d t))
@@ -57,7 +57,7 @@ module _ (kept : List KeptNote) (rising : IsStrictlySortedBy by_bytes (map note_
   comparisons_rise bytes = searchable_from_sorted nat_list_cmp_total note_bytes kept bytes rises
 
   -- a note that is not found goes between the lesser and the greater
-  module _ (k : KeptNote) (at : ℕ) (within : at ≤ length kept)
+  module _ (k : HeldNote) (at : ℕ) (within : at ≤ length kept)
       (gap : IsBinarySearchResult (λ x. by_bytes (note_bytes x) (note_bytes k)) kept (Err at)) where
     below : (j : ℕ) → j < at → by_bytes (note_bytes (get_or kept j k)) (note_bytes k) ≡ Less
     below j lt = (gap (comparisons_rise (note_bytes k))).0 j k (omega arith) lt
@@ -67,7 +67,7 @@ module _ (kept : List KeptNote) (rising : IsStrictlySortedBy by_bytes (map note_
         nat_list_cmp_total.antisymm (note_bytes k) (note_bytes (get_or kept j k))
         ∙ ap ordering_reverse ((gap (comparisons_rise (note_bytes k))).1 j k le lt)
 
-    abbrev new : List KeptNote
+    abbrev new : List HeldNote
     new = insert kept at k
 
     rises_at : (j : ℕ) → j + 1 < length new →
@@ -110,7 +110,7 @@ module _ (kept : List KeptNote) (rising : IsStrictlySortedBy by_bytes (map note_
 
 -- a note that is found is kept
 pub found_is_kept :
-    (kept : List KeptNote) (bytes : List ℕ) (at : ℕ) → at < length kept →
+    (kept : List HeldNote) (bytes : List ℕ) (at : ℕ) → at < length kept →
     IsBinarySearchResult (λ k. by_bytes (note_bytes k) bytes) kept (Ok at) →
     Has (set.from_list (map note_bytes kept)) bytes
 found_is_kept [] bytes at lt found = absurd (omega arith)
@@ -123,11 +123,11 @@ found_is_kept (x ∷ xs) bytes at lt found =
 
 -- ---- one note more
 
-module _ (kept : List KeptNote) (at : ℕ) (k : KeptNote) where
+module _ (kept : List HeldNote) (at : ℕ) (k : HeldNote) where
   same_notes : IsPermutation (map note_bytes (k ∷ kept)) (map note_bytes (insert kept at k))
   same_notes = IsPermutation-map note_bytes (k ∷ kept) (insert kept at k) (IsPermutation-insert kept at k)
 
-  abbrev notes_of : List KeptNote → Strings
+  abbrev notes_of : List HeldNote → Strings
   notes_of notes = set.from_list (map note_bytes notes)
 
   pub notes_inserted : notes_of (insert kept at k) ≡ set.union (notes_of kept) (set.from_list (note_bytes k ∷ []))
@@ -162,8 +162,8 @@ kept_already notes note held = same_strings _ _
           (sym (only_listed note q b)) held
     ])
 
-module _ (digest : List ℕ → List ℕ) (origin : List ℕ) (kept : List KeptNote) (strings : Strings) (remembered : Points)
-    (ok : IsKeptWell digest origin kept strings remembered) (k : KeptNote) (at : ℕ) where
+module _ (digest : List ℕ → List ℕ) (origin : List ℕ) (kept : List HeldNote) (strings : Strings) (remembered : Points)
+    (ok : IsKeptWell digest origin kept strings remembered) (k : HeldNote) (at : ℕ) where
   abbrev before : View
   before = (state_of origin kept strings remembered).view
 
@@ -201,9 +201,9 @@ module _ (digest : List ℕ → List ℕ) (origin : List ℕ) (kept : List KeptN
     };
     settled = ok.settled;
     rising = inserted_rises kept ok.rising k at within gap;
-    said = All-permutation (λ (x : KeptNote). IsHead (note_bytes x) origin x.size x.root) (k ∷ kept) (insert kept at k)
+    said = All-permutation (λ (x : HeldNote). IsHead (note_bytes x) origin x.size x.root) (k ∷ kept) (insert kept at k)
         (IsPermutation-insert kept at k)
-        (All-cons (λ (x : KeptNote). IsHead (note_bytes x) origin x.size x.root) k kept said ok.said);
+        (All-cons (λ (x : HeldNote). IsHead (note_bytes x) origin x.size x.root) k kept said ok.said);
   }
 
   pub inserted_view : (state_of origin (insert kept at k) strings remembered).view ≡ with_note before (note_bytes k)

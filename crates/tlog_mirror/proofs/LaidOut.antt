@@ -5,11 +5,11 @@ use Rattle.mirror_model.specs.Complete.{IsTreeOf}
 use Rattle.tlog_mirror.specs.Kept.{note_bytes}
 use Rattle.tlog_mirror.specs.LaidOut.{IsLaidOut}
 use Rattle.tlog_mirror.specs.Tops.{IsServedAs}
-use Rattle.tlog_mirror.specs.declared.kept.KeptNote.{KeptNote}
+use Rattle.tlog_mirror.specs.declared.kept.HeldNote.{HeldNote}
 
 -- the note that is served, with the entries of its tree as they were found
 pub laid_anew :
-    (digest : List ℕ → List ℕ) (v : View) (kept : KeptNote) (entries : List (List ℕ)) →
+    (digest : List ℕ → List ℕ) (v : View) (kept : HeldNote) (entries : List (List ℕ)) →
     IsServedAs digest v (note_bytes kept) kept.size kept.root →
     IsTreeOf digest v.strings kept.size kept.root entries → IsLaidOut digest v (Some (kept, entries))
 laid_anew digest v kept entries is tree = record {

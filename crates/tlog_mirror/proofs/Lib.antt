@@ -25,5 +25,5 @@ pub mod ForkSteps
 pub mod FoundForks
 pub mod RestoredMirrors
 pub mod ComparedHeads
-pub mod ToldLines
+pub mod AnswerLines
 pub mod LaidOut

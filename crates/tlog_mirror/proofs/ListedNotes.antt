@@ -8,9 +8,9 @@ use Rattle.mirror_model.specs.Marks.{Points, State}
 use Rattle.mirror_model.proofs.StringSets.{has_from_listed, listed_from_has}
 use Rattle.tlog_mirror.specs.Kept.{state_of, note_bytes, IsKeptWell}
 use Rattle.tlog_mirror.specs.NoteLists.{IsNoteAt}
-use Rattle.tlog_mirror.specs.declared.kept.KeptNote.{KeptNote}
+use Rattle.tlog_mirror.specs.declared.kept.HeldNote.{HeldNote}
 
-module _ (digest : List ℕ → List ℕ) (origin : List ℕ) (kept : List KeptNote) (strings : Strings) (remembered : Points)
+module _ (digest : List ℕ → List ℕ) (origin : List ℕ) (kept : List HeldNote) (strings : Strings) (remembered : Points)
     (ok : IsKeptWell digest origin kept strings remembered) (state : State)
     (is : state_of origin kept strings remembered ≡ state) (i : ℕ) where
   lists_notes : ListsNotes state.view (map note_bytes kept)
@@ -19,7 +19,7 @@ module _ (digest : List ℕ → List ℕ) (origin : List ℕ) (kept : List KeptN
     exact = λ note. (has_from_listed (map note_bytes kept) note, listed_from_has (map note_bytes kept) note);
   })
 
-  pub note_found : (k : KeptNote) (bytes : List ℕ) → i < length kept → k ≡ get_or kept i k → bytes ≡ note_bytes k →
+  pub note_found : (k : HeldNote) (bytes : List ℕ) → i < length kept → k ≡ get_or kept i k → bytes ≡ note_bytes k →
       IsNoteAt state.view i (Some bytes)
   note_found k bytes lt at same = (
     map note_bytes kept,

@@ -15,10 +15,10 @@ use Rattle.mirror_model.proofs.StringSets.{has_left, has_right, has_cases, has_f
 use Rattle.mirror_trees.proofs.BuiltTrees.{added_both, added_none}
 use Rattle.tlog_mirror.specs.Adding.{with_note, with_notes, with_strings}
 use Rattle.tlog_mirror.specs.Kept.{state_of, note_bytes, IsKeptWell}
-use Rattle.tlog_mirror.specs.declared.kept.KeptNote.{KeptNote}
+use Rattle.tlog_mirror.specs.declared.kept.HeldNote.{HeldNote}
 
 -- the bytes of the first notes
-abbrev pub first_notes : ℕ → List KeptNote → List (List ℕ)
+abbrev pub first_notes : ℕ → List HeldNote → List (List ℕ)
 first_notes n kept = map note_bytes (take n kept)
 
 -- the edge of a note is held where its strings are
@@ -39,10 +39,10 @@ edge_moves digest v w note same more e = record {
 -- ---- notes, one after the other
 
 -- no note yet
-pub noted_none : (v : View) (kept : List KeptNote) → v ≡ with_notes v (first_notes 0 kept)
+pub noted_none : (v : View) (kept : List HeldNote) → v ≡ with_notes v (first_notes 0 kept)
 noted_none v kept i = record { origin = v.origin; notes = added_none v.notes i; strings = v.strings }
 
-module _ (v : View) (kept : List KeptNote) (i : ℕ) (k : KeptNote) (lt : i < length kept)
+module _ (v : View) (kept : List HeldNote) (i : ℕ) (k : HeldNote) (lt : i < length kept)
     (at : k ≡ get_or kept i k) where
   -- one note more
   pub noted_more :
@@ -51,7 +51,7 @@ module _ (v : View) (kept : List KeptNote) (i : ℕ) (k : KeptNote) (lt : i < le
   noted_more between new before is =
       let more : first_notes (i + 1) kept ≡ first_notes i kept ++ note_bytes k ∷ [] =
       ap (map note_bytes) (take_more kept i k lt) ∙ map-append note_bytes (take i kept) (get_or kept i k ∷ []) ∙
-      ap (λ (x : KeptNote). first_notes i kept ++ note_bytes x ∷ []) (sym at) in
+      ap (λ (x : HeldNote). first_notes i kept ++ note_bytes x ∷ []) (sym at) in
       is ∙ ap (λ w. with_note w (note_bytes k)) before
       ∙ (λ t. record {
         origin =
@@ -70,18 +70,18 @@ module _ (v : View) (kept : List KeptNote) (i : ℕ) (k : KeptNote) (lt : i < le
         IsHead (note_bytes k) between.origin k.size k.root
     note_said said =
         subst (λ (w : View). IsHead (note_bytes k) w.origin k.size k.root) (sym before)
-        (All-contains (λ (x : KeptNote). IsHead (note_bytes x) v.origin x.size x.root) kept k said is_listed)
+        (All-contains (λ (x : HeldNote). IsHead (note_bytes x) v.origin x.size x.root) kept k said is_listed)
 
     pub note_edge : (digest : List ℕ → List ℕ) → All (λ x. HasEdge digest v (note_bytes x)) kept →
         HasEdge digest between (note_bytes k)
     note_edge digest edges =
         subst (λ (w : View). HasEdge digest w (note_bytes k)) (sym before)
         (edge_moves digest v (with_notes v (first_notes i kept)) (note_bytes k) refl (λ q h. h)
-        (All-contains (λ (x : KeptNote). HasEdge digest v (note_bytes x)) kept k edges is_listed))
+        (All-contains (λ (x : HeldNote). HasEdge digest v (note_bytes x)) kept k edges is_listed))
 
 -- ---- the merge
 
-module _ (digest : List ℕ → List ℕ) (old : View) (origin : List ℕ) (kept : List KeptNote) (strings : Strings)
+module _ (digest : List ℕ → List ℕ) (old : View) (origin : List ℕ) (kept : List HeldNote) (strings : Strings)
     (remembered : Points) where
   abbrev other : View
   other = (state_of origin kept strings remembered).view
@@ -89,12 +89,12 @@ module _ (digest : List ℕ → List ℕ) (old : View) (origin : List ℕ) (kept
   -- the edges of its notes are held where its strings are
   pub others_edges :
       IsKeptWell digest origin kept strings remembered → old.origin ≡ origin → (between : View) →
-      between ≡ with_strings old strings → (notes : List KeptNote) → notes ≡ kept →
+      between ≡ with_strings old strings → (notes : List HeldNote) → notes ≡ kept →
       All (λ k. HasEdge digest between (note_bytes k)) notes
   others_edges ok same between is notes all =
-      subst (λ (v : View). All (λ (k : KeptNote). HasEdge digest v (note_bytes k)) notes) (sym is)
-      (subst (λ (xs : List KeptNote). All
-      (λ (k : KeptNote). HasEdge digest (with_strings old strings) (note_bytes k)) xs) (sym all)
+      subst (λ (v : View). All (λ (k : HeldNote). HasEdge digest v (note_bytes k)) notes) (sym is)
+      (subst (λ (xs : List HeldNote). All
+      (λ (k : HeldNote). HasEdge digest (with_strings old strings) (note_bytes k)) xs) (sym all)
       (λ i k lt.
       let note = note_bytes (get_or kept i k) in
       edge_moves digest other (with_strings old strings) note (sym same) (λ q h. has_right old.strings strings q h)

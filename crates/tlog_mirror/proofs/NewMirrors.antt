@@ -11,7 +11,7 @@ use Rattle.mirror_model.specs.Marks.{Points}
 use Rattle.mirror_model.proofs.Views.{nothing_is_lawful}
 use Rattle.mirror_trees.proofs.EmptySets.{empty_settled}
 use Rattle.tlog_mirror.specs.Kept.{note_bytes, IsKeptWell}
-use Rattle.tlog_mirror.specs.declared.kept.KeptNote.{KeptNote}
+use Rattle.tlog_mirror.specs.declared.kept.HeldNote.{HeldNote}
 
 module _ (digest : List ℕ → List ℕ) (origin : List ℕ) where
   empty_well : IsOrigin origin → IsKeptWell digest origin [] set.empty set.empty
@@ -24,11 +24,11 @@ module _ (digest : List ℕ → List ℕ) (origin : List ℕ) where
     };
     settled = empty_settled digest set.empty set.empty (λ i. set.empty);
     rising = tt;
-    said = All-nil (λ (k : KeptNote). IsHead (note_bytes k) origin k.size k.root);
+    said = All-nil (λ (k : HeldNote). IsHead (note_bytes k) origin k.size k.root);
   }
 
   pub new_well :
-      IsOrigin origin → (kept : List KeptNote) (strings : Strings) (remembered : Points) → kept ≡ [] →
+      IsOrigin origin → (kept : List HeldNote) (strings : Strings) (remembered : Points) → kept ≡ [] →
       strings ≡ set.empty → remembered ≡ set.empty → IsKeptWell digest origin kept strings remembered
   new_well is kept strings remembered no_notes no_strings no_marks =
       subst (λ k. IsKeptWell digest origin k strings remembered) (sym no_notes)

@@ -21,7 +21,7 @@ use Rattle.mirror_trees.proofs.EmptySets.{empty_settled}
 use Rattle.tlog_mirror.specs.Kept.{note_bytes, IsKeptWell}
 use Rattle.tlog_mirror.specs.Restored.{IsOpenNote, KeepsHeld, held_fault_of}
 use Rattle.tlog_mirror.specs.declared.fault.RestoreFault.{RestoreFault}
-use Rattle.tlog_mirror.specs.declared.kept.KeptNote.{KeptNote}
+use Rattle.tlog_mirror.specs.declared.kept.HeldNote.{HeldNote}
 
 -- ---- a mirror of strings
 
@@ -39,12 +39,12 @@ module _ (digest : List ℕ → List ℕ) (origin : List ℕ) (strings : Strings
     };
     settled = empty_settled digest strings set.empty (λ i. set.empty);
     rising = tt;
-    said = All-nil (λ (k : KeptNote). IsHead (note_bytes k) origin k.size k.root);
+    said = All-nil (λ (k : HeldNote). IsHead (note_bytes k) origin k.size k.root);
   }
 
   pub restored_well :
       IsOrigin origin → NoClash digest strings → AllTagged strings →
-      ((entry : List ℕ) → Has strings (0 ∷ entry) → length entry ≤ 65535) → (kept : List KeptNote)
+      ((entry : List ℕ) → Has strings (0 ∷ entry) → length entry ≤ 65535) → (kept : List HeldNote)
       (remembered : Points) → kept ≡ [] → remembered ≡ set.empty → IsKeptWell digest origin kept strings remembered
   restored_well is clean tagged short kept remembered no_notes no_marks =
       subst (λ k. IsKeptWell digest origin k strings remembered) (sym no_notes)

@@ -33,7 +33,7 @@ use Rattle.tlog_mirror.specs.Best.{served_cmp, kept_point, HasKept, IsBuiltAt, I
 use Rattle.tlog_mirror.specs.Best.{IsFirstWith}
 use Rattle.mirror_model.specs.Reports.{SaysServed}
 use Rattle.tlog_mirror.specs.Tops.{IsServedAs}
-use Rattle.tlog_mirror.specs.declared.kept.KeptNote.{KeptNote}
+use Rattle.tlog_mirror.specs.declared.kept.HeldNote.{HeldNote}
 use Rattle.tlog_mirror.proofs.BestNotes.{any_default}
 
 -- ---- lists and orders
@@ -94,18 +94,18 @@ same_at_most a b e = subst (IsAtMost a) e (ap is_le (tied_itself nat_list_cmp_to
 
 -- ---- the notes that are kept
 
-module _ (digest : List ℕ → List ℕ) (origin : List ℕ) (kept : List KeptNote) (strings : Strings) (remembered : Points)
+module _ (digest : List ℕ → List ℕ) (origin : List ℕ) (kept : List HeldNote) (strings : Strings) (remembered : Points)
     (ok : IsKeptWell digest origin kept strings remembered) where
   abbrev v : View
   v = (state_of origin kept strings remembered).view
 
-  abbrev says : KeptNote → Type 0
+  abbrev says : HeldNote → Type 0
   says k = IsHead (note_bytes k) origin k.size k.root
 
   -- the kept note of a head that is held
   record KeptOf (note : List ℕ) (point : Point) : Type 0 where
     at : ℕ
-    one : KeptNote
+    one : HeldNote
     within : at < length kept
     is_there : slice_index_or kept at one ≡ one
     bytes_are : note_bytes one ≡ note
@@ -133,7 +133,7 @@ module _ (digest : List ℕ → List ℕ) (origin : List ℕ) (kept : List KeptN
         is = λ i. record { size = same.size_is i; root = same.root_is i };
       }
 
-  holds_at : (at : ℕ) (one : KeptNote) → at < length kept → slice_index_or kept at one ≡ one →
+  holds_at : (at : ℕ) (one : HeldNote) → at < length kept → slice_index_or kept at one ≡ one →
       HoldsHead v (note_bytes one) one.size one.root
   holds_at at one fits there =
       let within : at < length (map note_bytes kept) = subst (λ n. at < n) (sym (length-map kept note_bytes)) fits in
@@ -145,7 +145,7 @@ module _ (digest : List ℕ → List ℕ) (origin : List ℕ) (kept : List KeptN
       }
 
   -- a note that is kept further on is not less
-  later_note : (i j : ℕ) (a b : KeptNote) → i ≤ j → j < length kept → slice_index_or kept i a ≡ a →
+  later_note : (i j : ℕ) (a b : HeldNote) → i ≤ j → j < length kept → slice_index_or kept i a ≡ a →
       slice_index_or kept j b ≡ b → IsAtMost (note_bytes a) (note_bytes b)
   later_note i j a b upto fits at_a at_b =
       elim (cases_lt i j) [
@@ -169,7 +169,7 @@ module _ (digest : List ℕ → List ℕ) (origin : List ℕ) (kept : List KeptN
 
   -- ---- what is served
 
-  module _ (point : Point) (one : KeptNote) (best : IsBest digest strings kept point)
+  module _ (point : Point) (one : HeldNote) (best : IsBest digest strings kept point)
       (f : IsFirstWith kept point one) where
     own : IsBest digest strings kept (kept_point one)
     own = subst (IsBest digest strings kept) (sym f.is) best
@@ -211,7 +211,7 @@ module _ (digest : List ℕ → List ℕ) (origin : List ℕ) (kept : List KeptN
 
   -- ---- what is complete
 
-  pub head_of : (size : ℕ) (root : List ℕ) (one : KeptNote) →
+  pub head_of : (size : ℕ) (root : List ℕ) (one : HeldNote) →
       IsFirstWith kept (record { size = size; root = root }) one → HasHead v size root
   head_of size root one f =
       let h = holds_at f.at one f.within f.is_there in
@@ -236,10 +236,10 @@ module _ (digest : List ℕ → List ℕ) (origin : List ℕ) (kept : List KeptN
 
 -- ---- in the words of the calls
 
-module _ (digest : List ℕ → List ℕ) (origin : List ℕ) (kept : List KeptNote) (strings : Strings) (remembered : Points)
+module _ (digest : List ℕ → List ℕ) (origin : List ℕ) (kept : List HeldNote) (strings : Strings) (remembered : Points)
     (ok : IsKeptWell digest origin kept strings remembered) (old : State)
     (old_is : state_of origin kept strings remembered ≡ old) where
-  pub first_served : (p : ℕ × List ℕ) (r : Option (Bor KeptNote)) → IsBestOf digest strings kept (Some p) →
+  pub first_served : (p : ℕ × List ℕ) (r : Option (Bor HeldNote)) → IsBestOf digest strings kept (Some p) →
       IfSome r (λ one. IsFirstWith kept (point_of p) one.now) →
       IfSome r (λ one. IsServedAs digest old.view one.now.note.bytes one.now.size one.now.root)
   first_served p None best f = f
@@ -247,7 +247,7 @@ module _ (digest : List ℕ → List ℕ) (origin : List ℕ) (kept : List KeptN
       subst (λ (o : State). IsServedAs digest o.view one.now.note.bytes one.now.size one.now.root) old_is
       (is_served digest origin kept strings remembered ok (point_of p) one.now best f)
 
-  pub first_found : (p : ℕ × List ℕ) (r : Option (Bor KeptNote)) → IsBestOf digest strings kept (Some p) →
+  pub first_found : (p : ℕ × List ℕ) (r : Option (Bor HeldNote)) → IsBestOf digest strings kept (Some p) →
       IfNone r (HasKept kept (point_of p) → ⊥) → IfNone r (SaysServed digest old.view None)
   first_found p None best none = absurd (none best.has)
   first_found p (Some one) best none = none
@@ -269,14 +269,14 @@ module _ (digest : List ℕ → List ℕ) (origin : List ℕ) (kept : List KeptN
           λ c. tells.1 (record { entries = c.entries; is = c.complete.tree }),
         )
 
-    pub found_complete : (r : Option (Bor KeptNote)) (b : Bool) → is_some r ≡ true →
+    pub found_complete : (r : Option (Bor HeldNote)) (b : Bool) → is_some r ≡ true →
         IfSome r (λ one. IsFirstWith kept at one.now) → IsTrue b ↔ IsBuilt digest strings size root →
         IsTrue b ↔ IsComplete digest old.view size root
     found_complete None b some f tells = absurd (let wrong : false ≡ true = some in cc wrong)
     found_complete (Some one) b some f tells =
         with_head b (head_of digest origin kept strings remembered ok size root one.now f) tells
 
-    pub no_head : (r : Option (Bor KeptNote)) (b : Bool) → b ≡ is_some r → b ≡ false → IfNone r (HasKept kept at → ⊥) →
+    pub no_head : (r : Option (Bor HeldNote)) (b : Bool) → b ≡ is_some r → b ≡ false → IfNone r (HasKept kept at → ⊥) →
         IsTrue b ↔ IsComplete digest old.view size root
     no_head (Some one) b is not_found none = absurd (let wrong : true ≡ false = sym is ∙ not_found in cc wrong)
     no_head None b is not_found none =
@@ -285,7 +285,7 @@ module _ (digest : List ℕ → List ℕ) (origin : List ℕ) (kept : List KeptN
           λ c. absurd (none (kept_head digest origin kept strings remembered ok size root c.complete.head)),
         )
 
-    pub no_head_held : (r : Option (Bor KeptNote)) (b : Bool) → is_some r ≡ not b → b ≡ true →
+    pub no_head_held : (r : Option (Bor HeldNote)) (b : Bool) → is_some r ≡ not b → b ≡ true →
         IfNone r (HasKept kept at → ⊥) → HasHead old.view size root → ⊥
     no_head_held (Some one) b is none_found none h =
         absurd (let wrong : true ≡ false = is ∙ ap not none_found in cc wrong)
@@ -293,7 +293,7 @@ module _ (digest : List ℕ → List ℕ) (origin : List ℕ) (kept : List KeptN
         none (kept_head digest origin kept strings remembered ok size root
         (subst (λ (o : State). HasHead o.view size root) (sym old_is) h))
 
-    pub head_held : (r : Option (Bor KeptNote)) (b : Bool) → is_some r ≡ not b → b ≡ false →
+    pub head_held : (r : Option (Bor HeldNote)) (b : Bool) → is_some r ≡ not b → b ≡ false →
         IfSome r (λ one. IsFirstWith kept at one.now) → HasHead old.view size root
     head_held None b is found f = absurd (let wrong : false ≡ true = is ∙ ap not found in cc wrong)
     head_held (Some one) b is found f =

@@ -9,14 +9,14 @@ use Rattle.node_store.specs.Strings.{Strings}
 use Rattle.mirror_model.specs.View.{View}
 use Rattle.mirror_model.specs.Forks.{Point}
 use Rattle.mirror_model.specs.Marks.{Points, IsMark}
-use Rattle.mirror_trees.specs.Known.{HasMark}
+use Rattle.mirror_trees.specs.HeldTrees.{HasMark}
 use Rattle.mirror_trees.specs.Slices.{HasSlices, IsSliceOf, AreSettled}
 use Rattle.mirror_trees.proofs.Settles.{marks_are_slices}
 use Rattle.mirror_trees.specs.Marked.{point_of}
 use Rattle.tlog_mirror.specs.Best.{HasKept}
 use Rattle.tlog_mirror.specs.Kept.{state_of, IsKeptWell}
 use Rattle.tlog_mirror.specs.Settled.{HasSlicesOf, GainsAny}
-use Rattle.tlog_mirror.specs.declared.kept.KeptNote.{KeptNote}
+use Rattle.tlog_mirror.specs.declared.kept.HeldNote.{HeldNote}
 use Rattle.tlog_mirror.proofs.ServedNotes.{head_from_kept, kept_head}
 
 module _ (digest : List ℕ → List ℕ) (held : Strings) where
@@ -84,7 +84,7 @@ module _ (digest : List ℕ → List ℕ) (held : Strings) where
 
 -- ---- a mirror that has settled its heads
 
-module _ (digest : List ℕ → List ℕ) (origin : List ℕ) (kept : List KeptNote) (strings : Strings)
+module _ (digest : List ℕ → List ℕ) (origin : List ℕ) (kept : List HeldNote) (strings : Strings)
     (remembered now : Points) (ok : IsKeptWell digest origin kept strings remembered) (heads : List (ℕ × List ℕ))
     (exact : (p : ℕ × List ℕ) → Contains heads p ↔ HasKept kept (point_of p))
     (gains : GainsAny digest strings heads remembered now) where

@@ -24,7 +24,7 @@ use Rattle.mirror_model.specs.Marks.{Points, State}
 use Rattle.tlog_mirror.specs.Kept.{state_of, IsKeptWell}
 use Rattle.tlog_mirror.specs.Adding.{with_strings, added, taken_of}
 use Rattle.mirror_model.specs.Strings.{IsDigest}
-use Rattle.tlog_mirror.specs.declared.kept.KeptNote.{KeptNote}
+use Rattle.tlog_mirror.specs.declared.kept.HeldNote.{HeldNote}
 use Rattle.node_store.proofs.Sets.{decide}
 use Rattle.mirror_model.proofs.StringSets.{has_right, has_cases, has_empty, same_strings, listed_from_has}
 use Rattle.mirror_model.proofs.Views.{edge_stays, marks_stay}
@@ -67,7 +67,7 @@ module _ (digest : List ℕ → List ℕ) (v w : Strings) where
 
 -- ---- a mirror to whose strings more are added
 
-module _ (digest : List ℕ → List ℕ) (origin : List ℕ) (kept : List KeptNote) (strings more now : Strings)
+module _ (digest : List ℕ → List ℕ) (origin : List ℕ) (kept : List HeldNote) (strings more now : Strings)
     (remembered : Points) (ok : IsKeptWell digest origin kept strings remembered) where
   abbrev before : View
   before = (state_of origin kept strings remembered).view

@@ -93,5 +93,5 @@ module _ {X : Type 0} (line : X → List ℕ) where
       pub all_sends : Sends old now held (had ++ lines_of all)
       all_sends = subst (λ xs. Sends old now held (had ++ lines_of xs)) (sym all_is) w.sends
 
-      pub all_tells : IsTrue any ↔ (IsTrue before ⊎ (all ≢ []))
-      all_tells = subst (λ xs. IsTrue any ↔ (IsTrue before ⊎ (xs ≢ []))) (sym all_is) w.tells
+      pub all_records : IsTrue any ↔ (IsTrue before ⊎ (all ≢ []))
+      all_records = subst (λ xs. IsTrue any ↔ (IsTrue before ⊎ (xs ≢ []))) (sym all_is) w.tells

@@ -13,10 +13,10 @@ use Rattle.mirror_model.specs.Complete.{IsBuilt}
 use Rattle.mirror_model.specs.Forks.{Point, point_cmp}
 use Rattle.mirror_model.specs.declared.reports.Head.{Head}
 use Rattle.mirror_trees.specs.Marked.{point_of}
-use Rattle.tlog_mirror.specs.declared.kept.KeptNote.{KeptNote}
+use Rattle.tlog_mirror.specs.declared.kept.HeldNote.{HeldNote}
 
 -- the size and the root that a kept note says
-abbrev pub kept_point : KeptNote → Point
+abbrev pub kept_point : HeldNote → Point
 kept_point kept = record { size = kept.size; root = kept.root }
 
 -- the order of pairs of a size and a root: by size, and then by root
@@ -34,8 +34,8 @@ IsAhead point None = ⊤
 IsAhead point (Some found) = served_cmp point (point_of found) ≡ Less
 
 -- a kept note has that size and root
-pub record HasKept (kept : List KeptNote) (point : Point) : Type 0 where
-  pub one : KeptNote
+pub record HasKept (kept : List HeldNote) (point : Point) : Type 0 where
+  pub one : HeldNote
   pub is_kept : Contains kept one
   pub is : kept_point one ≡ point
 
@@ -49,23 +49,23 @@ module _ (digest : List ℕ → List ℕ) (held : Strings) where
   IsBuiltFlag head = IsTrue head.complete ↔ IsBuilt digest held head.size head.root
 
   -- of the kept notes whose tree is held one has that size and root, and none is served before it
-  pub record IsBest (kept : List KeptNote) (point : Point) : Type 0 where
+  pub record IsBest (kept : List HeldNote) (point : Point) : Type 0 where
     pub has : HasKept kept point
     pub built : IsBuiltAt point
-    pub first : (other : KeptNote) → Contains kept other → IsBuiltAt (kept_point other) →
+    pub first : (other : HeldNote) → Contains kept other → IsBuiltAt (kept_point other) →
         is_gt (served_cmp point (kept_point other)) ≡ false
 
   -- what is found among the kept notes: None where the tree of none is held, else the size and root
   -- of which none is served before it
-  abbrev pub IsBestOf : List KeptNote → Option (ℕ × List ℕ) → Type 0
-  IsBestOf kept None = (other : KeptNote) → Contains kept other → ¬ IsBuiltAt (kept_point other)
+  abbrev pub IsBestOf : List HeldNote → Option (ℕ × List ℕ) → Type 0
+  IsBestOf kept None = (other : HeldNote) → Contains kept other → ¬ IsBuiltAt (kept_point other)
   IsBestOf kept (Some found) = IsBest kept (point_of found)
 
 -- the note is the first of the kept notes of that size and root
-pub record IsFirstWith (kept : List KeptNote) (point : Point) (one : KeptNote) : Type 0 where
+pub record IsFirstWith (kept : List HeldNote) (point : Point) (one : HeldNote) : Type 0 where
   pub at : ℕ
   pub within : at < length kept
   pub is_there : slice_index_or kept at one ≡ one
   pub is : kept_point one ≡ point
-  pub none : (k : ℕ) (other : KeptNote) → k < at → slice_index_or kept k other ≡ other →
+  pub none : (k : ℕ) (other : HeldNote) → k < at → slice_index_or kept k other ≡ other →
       ¬ (kept_point other ≡ point)

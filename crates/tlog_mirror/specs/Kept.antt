@@ -8,14 +8,14 @@ use Rattle.node_store.specs.Strings.{Strings}
 use Rattle.mirror_model.specs.Heads.{IsHead}
 use Rattle.mirror_model.specs.Marks.{Points, State, IsSound}
 use Rattle.mirror_trees.specs.Slices.{AreSettled}
-use Rattle.tlog_mirror.specs.declared.kept.KeptNote.{KeptNote}
+use Rattle.tlog_mirror.specs.declared.kept.HeldNote.{HeldNote}
 
 -- the bytes of a kept note
-abbrev pub note_bytes : KeptNote → List ℕ
+abbrev pub note_bytes : HeldNote → List ℕ
 note_bytes kept = kept.note.bytes
 
 -- what a mirror of these parts stands for
-abbrev pub state_of : List ℕ → List KeptNote → Strings → Points → State
+abbrev pub state_of : List ℕ → List HeldNote → Strings → Points → State
 state_of origin kept strings remembered =
     record {
       view =
@@ -31,7 +31,7 @@ state_of origin kept strings remembered =
 -- remembered all slices are; the kept notes rise by their bytes, and each stands beside the size
 -- and the root that it says
 pub record IsKeptWell
-    (digest : List ℕ → List ℕ) (origin : List ℕ) (kept : List KeptNote) (strings : Strings)
+    (digest : List ℕ → List ℕ) (origin : List ℕ) (kept : List HeldNote) (strings : Strings)
     (remembered : Points) : Type 0 where
   pub sound : IsSound digest (state_of origin kept strings remembered)
   pub settled : AreSettled digest strings remembered

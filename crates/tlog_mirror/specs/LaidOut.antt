@@ -4,11 +4,11 @@ use Rattle.std.specs.Prelude.{ℕ, List, Option, Some, None, ⊤}
 use Rattle.mirror_model.specs.View.{View}
 use Rattle.mirror_model.specs.Served.{Served}
 use Rattle.tlog_mirror.specs.Kept.{note_bytes}
-use Rattle.tlog_mirror.specs.declared.kept.KeptNote.{KeptNote}
+use Rattle.tlog_mirror.specs.declared.kept.HeldNote.{HeldNote}
 
 -- what is laid out of a view, if anything is: the note that it serves, and the entries of that
 abbrev pub IsLaidOut :
-    (List ℕ → List ℕ) → View → Option (KeptNote × List (List ℕ)) → Type 0
+    (List ℕ → List ℕ) → View → Option (HeldNote × List (List ℕ)) → Type 0
 IsLaidOut digest v None = ⊤
 IsLaidOut digest v (Some laid) =
     Served digest v (note_bytes laid.0) laid.0.size laid.0.root laid.1

@@ -4,7 +4,7 @@ use Rattle.std.specs.List.{Contains}
 use Rattle.node_store.specs.Strings.{Strings}
 use Rattle.mirror_model.specs.Forks.{Point}
 use Rattle.mirror_model.specs.Marks.{Points}
-use Rattle.mirror_trees.specs.Known.{HasMark}
+use Rattle.mirror_trees.specs.HeldTrees.{HasMark}
 use Rattle.mirror_trees.specs.Slices.{HasSlices, IsSliceOf, AreSettled}
 
 module _ (digest : List ℕ → List ℕ) (held : Strings) where

@@ -1,10 +1,10 @@
 //! Which of the kept notes is served.
 ghost use Rattle.std.specs.Prelude.{◌↔◌, IsTrue, IfSome, IfNone};
-ghost use Rattle.mirror_trees.specs.Known.{AreKnown};
+ghost use Rattle.mirror_trees.specs.HeldTrees.{AreKnown};
 ghost use Rattle.tlog_mirror.specs.Best.{HasKept, IsAhead, IsBestOf, IsFirstWith};
 
-use crate::kept::KeptNote;
-use mirror_trees::{Known, is_built};
+use crate::kept::HeldNote;
+use mirror_trees::{HeldTrees, is_built};
 use node_store::Store;
 use std::cmp::Ordering;
 use tlog_hash::{Hash, TreeHash};
@@ -14,8 +14,8 @@ use tlog_hash::{Hash, TreeHash};
 // The notes rise by their bytes, so from the back the larger sizes mostly come first, and few heads are walked.
 pub(crate) fn best_of<H: TreeHash>(
     store: &Store<H>,
-    known: &Known,
-    kept: &[KeptNote],
+    known: &HeldTrees,
+    kept: &[HeldNote],
 ) -> Option<(u64, Hash)>
     requires { AreKnown H.digest store.now known.now }
     ensures { IsBestOf H.digest store.now kept.now result }
@@ -41,7 +41,7 @@ fn is_ahead(size: u64, root: &Hash, best: &Option<(u64, Hash)>) -> bool
 }
 
 // The first kept note of that size and root.
-pub(crate) fn first_with<'a>(kept: &'a [KeptNote], size: u64, root: &Hash) -> Option<&'a KeptNote>
+pub(crate) fn first_with<'a>(kept: &'a [HeldNote], size: u64, root: &Hash) -> Option<&'a HeldNote>
     ensures some { IfSome result (λ one. IsFirstWith kept.now
         (record { size = size; root = root.now }) one.now) }
     ensures none { IfNone result (¬ HasKept kept.now (record { size = size; root = root.now })) }

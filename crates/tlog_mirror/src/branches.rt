@@ -4,12 +4,12 @@ ghost use Rattle.std.specs.List.{Contains};
 ghost use Rattle.node_store.specs.Strings.{NoClash};
 ghost use Rattle.mirror_model.specs.Complete.{IsBuilt};
 ghost use Rattle.mirror_model.specs.Texts.{point_text};
-ghost use Rattle.mirror_trees.specs.Known.{AreKnown};
+ghost use Rattle.mirror_trees.specs.HeldTrees.{AreKnown};
 ghost use Rattle.tlog_mirror.specs.Branches.{AreBranches, Departs, IsBranch, IsSpelled, Precedes};
 ghost use Rattle.tlog_mirror.specs.declared.branches.Branch.{Branch as AnyBranch};
 
 use crate::texts::push_point;
-use mirror_trees::{Known, is_built, is_prefix};
+use mirror_trees::{HeldTrees, is_built, is_prefix};
 use node_store::Store;
 use std::alloc::{AllocError, Global};
 use tlog_hash::{Hash, TreeHash};
@@ -31,7 +31,7 @@ pub(crate) struct Branch {
 pub(crate) fn branches_of<H: TreeHash>(
     alloc: Global,
     store: &Store<H>,
-    known: &Known,
+    known: &HeldTrees,
     heads: &[(u64, Hash)],
 ) -> Result<Vec<Branch>, AllocError>
     requires known { AreKnown H.digest store.now known.now }
@@ -52,7 +52,7 @@ pub(crate) fn branches_of<H: TreeHash>(
 fn branch_of<H: TreeHash>(
     alloc: Global,
     store: &Store<H>,
-    known: &Known,
+    known: &HeldTrees,
     before: &[Branch],
     head: (u64, Hash),
 ) -> Result<Branch, AllocError>

@@ -16,12 +16,12 @@ pub(crate) fn calm_of(alloc: Global, branches: &[Branch]) -> Result<Vec<bool>, A
     ensures calm { IfOk result (λ calm. AreCalm branches.now calm.items) }
 {
     let mut calm = vec![in alloc; false; branches.len()]?;
-    tell_calm(calm.as_mut_slice(), branches);
+    find_calm(calm.as_mut_slice(), branches);
     Ok(calm)
 }
 
-// Tells of each head whether it is calm.
-fn tell_calm(calm: &mut [bool], branches: &[Branch])
+// DecidesFork of each head whether it is calm.
+fn find_calm(calm: &mut [bool], branches: &[Branch])
     requires len { length calm.old ≡ length branches.now }
     requires rising { IsStrictlySortedBy by_point (map (λ b. b.head) branches.now) }
     ensures { AreCalm branches.now calm.new }

@@ -4,15 +4,15 @@ ghost use Rattle.std.specs.List.{Contains};
 ghost use Rattle.std.specs.List.Sorted.{IsStrictlySortedBy};
 ghost use Rattle.mirror_model.specs.Complete.{IsComplete};
 ghost use Rattle.mirror_model.specs.Reports.{ReportsHeads, head_point};
-ghost use Rattle.mirror_trees.specs.Known.{AreKnown};
+ghost use Rattle.mirror_trees.specs.HeldTrees.{AreKnown};
 ghost use Rattle.mirror_trees.specs.Marked.{point_of};
 ghost use Rattle.tlog_mirror.specs.Best.{HasKept, by_point, IsBuiltFlag};
 
 use crate::best::first_with;
-use crate::kept::KeptNote;
+use crate::kept::HeldNote;
 use crate::mirror::Mirror;
 use mirror_model::Head;
-use mirror_trees::{Known, is_built};
+use mirror_trees::{HeldTrees, is_built};
 use node_store::Store;
 use std::alloc::{AllocError, Global};
 use tlog_hash::{Hash, TreeHash};
@@ -45,7 +45,7 @@ impl<H: TreeHash> Mirror<H> {
 pub(crate) fn flag_heads<H: TreeHash>(
     alloc: Global,
     store: &Store<H>,
-    known: &Known,
+    known: &HeldTrees,
     points: &[(u64, Hash)],
 ) -> Result<Vec<Head>, AllocError>
     requires { AreKnown H.digest store.now known.now }
@@ -60,7 +60,7 @@ pub(crate) fn flag_heads<H: TreeHash>(
 }
 
 // A size and root with whether its tree is held.
-fn flag_head<H: TreeHash>(store: &Store<H>, known: &Known, size: u64, root: &Hash) -> Head
+fn flag_head<H: TreeHash>(store: &Store<H>, known: &HeldTrees, size: u64, root: &Hash) -> Head
     requires { AreKnown H.digest store.now known.now }
     ensures point { head_point result ≡ record { size = size; root = root.now } }
     ensures flag { IsBuiltFlag H.digest store.now result }
@@ -75,7 +75,7 @@ fn flag_head<H: TreeHash>(store: &Store<H>, known: &Known, size: u64, root: &Has
 }
 
 // The sizes and roots of kept notes in order, each once.
-pub(crate) fn points_of(alloc: Global, kept: &[KeptNote]) -> Result<Vec<(u64, Hash)>, AllocError>
+pub(crate) fn points_of(alloc: Global, kept: &[HeldNote]) -> Result<Vec<(u64, Hash)>, AllocError>
     ensures sorted { IfOk result (λ points. IsStrictlySortedBy by_point points.items) }
     ensures exact { IfOk result (λ points. (p : ℕ × List ℕ) → Contains points.items p
         ↔ HasKept kept.now (point_of p)) }
@@ -86,7 +86,7 @@ pub(crate) fn points_of(alloc: Global, kept: &[KeptNote]) -> Result<Vec<(u64, Ha
 }
 
 // The sizes and roots of kept notes.
-fn all_points(alloc: Global, kept: &[KeptNote]) -> Result<Vec<(u64, Hash)>, AllocError>
+fn all_points(alloc: Global, kept: &[HeldNote]) -> Result<Vec<(u64, Hash)>, AllocError>
     ensures { IfOk result (λ points. points.items ≡ map (λ one. (one.size, one.root)) kept.now) }
 {
     kept.iter().map(|one| (one.size, one.root)).collect(alloc)

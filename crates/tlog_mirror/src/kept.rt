@@ -12,19 +12,19 @@ use tlog_hash::Hash;
 
 // A note, with the size and the root that its text says.
 #[derive(Drop)]
-pub(crate) struct KeptNote {
+pub(crate) struct HeldNote {
     pub(crate) note: Note,
     pub(crate) size: u64,
     pub(crate) root: Hash,
 }
 
-impl KeptNote {
+impl HeldNote {
     // An equal one.
-    pub(crate) fn copy(&self, alloc: Global) -> Result<KeptNote, AllocError>
+    pub(crate) fn copy(&self, alloc: Global) -> Result<HeldNote, AllocError>
         ensures { IfOk result (λ kept. kept ≡ self.now) }
     {
         let note = self.note.copy(alloc)?;
-        Ok(KeptNote {
+        Ok(HeldNote {
             note,
             size: self.size,
             root: self.root,
@@ -33,7 +33,7 @@ impl KeptNote {
 }
 
 // Where the note of those bytes is among kept notes that rise, or where it would go.
-pub(crate) fn place_of(kept: &[KeptNote], bytes: &[u8]) -> Result<usize, usize>
+pub(crate) fn find_note(kept: &[HeldNote], bytes: &[u8]) -> Result<usize, usize>
     ensures bound { IsSearchInRange result (length kept.now) }
     ensures place { IsBinarySearchResult (λ k. slice_cmp nat_cmp (note_bytes k) bytes.now) kept.now
         result }
@@ -42,7 +42,7 @@ pub(crate) fn place_of(kept: &[KeptNote], bytes: &[u8]) -> Result<usize, usize>
 }
 
 // How the bytes of a kept note compare to others.
-fn compare_bytes(kept: &KeptNote, bytes: &[u8]) -> Ordering
+fn compare_bytes(kept: &HeldNote, bytes: &[u8]) -> Ordering
     ensures { result ≡ slice_cmp nat_cmp (note_bytes kept.now) bytes.now }
 {
     kept.note.bytes().cmp(&bytes)

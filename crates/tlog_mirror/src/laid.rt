@@ -3,7 +3,7 @@ ghost use Rattle.std.specs.Prelude.{◌≡◌, length, IfOk, IfSome, IfNone};
 ghost use Rattle.tlog_tiles.specs.Tiles.{IsTileWithin, tile_bytes, bundle_bytes};
 ghost use Rattle.tlog_mirror.specs.LaidOut.{IsLaidOut};
 
-use crate::kept::KeptNote;
+use crate::kept::HeldNote;
 use crate::mirror::Mirror;
 use mirror_trees::files_of;
 use std::alloc::{AllocError, Global};
@@ -39,7 +39,7 @@ impl<H: TreeHash> Mirror<H> {
     }
 
     // What is served, laid out anew. None where nothing is served, or there is no room for it.
-    fn laid_now(&self, alloc: Global) -> Result<Option<(KeptNote, LogFiles<H>)>, AllocError>
+    fn laid_now(&self, alloc: Global) -> Result<Option<(HeldNote, LogFiles<H>)>, AllocError>
         ensures { IfOk result (λ laid. IsLaidOut H.digest self.now.view laid) }
     {
         if !self.has_room(alloc)? {

@@ -6,14 +6,14 @@ ghost use Rattle.node_store.specs.Strings.{NoClash};
 ghost use Rattle.tlog_tiles.specs.Path.{group_text, groups_text, index_text, three_digits};
 ghost use Rattle.tlog_tiles.specs.declared.paths.Path.{Path as AnyPath};
 ghost use Rattle.mirror_model.specs.Texts.{missing_text, path_line};
-ghost use Rattle.mirror_trees.specs.Known.{AreKnown};
+ghost use Rattle.mirror_trees.specs.HeldTrees.{AreKnown};
 ghost use Rattle.mirror_trees.specs.Levels.{AreClear, ListsLevels, path_at};
 ghost use Rattle.tlog_mirror.specs.MissingLines.{IsLevelOf, begin_text, part_text, paths_of};
 ghost use Rattle.tlog_mirror.specs.Pieces.{Sends};
 
 use crate::pieces::send;
 use byte_streams::{StreamFault, write_whole};
-use mirror_trees::{Known, Marks, clear_of, next_missing};
+use mirror_trees::{HeldTrees, Marks, clear_of, next_missing};
 use node_store::Store;
 use std::alloc::{AllocError, Global};
 use std::io::Write;
@@ -42,7 +42,7 @@ pub(crate) fn write_all<H: TreeHash, W: Write>(
     alloc: Global,
     output: &mut W,
     store: &Store<H>,
-    known: &Known,
+    known: &HeldTrees,
     size: u64,
     root: &Hash,
     part: &[u8],
@@ -77,7 +77,7 @@ fn write_levels<H: TreeHash, W: Write>(
     output: &mut W,
     held: &mut Vec<u8>,
     store: &Store<H>,
-    known: &Known,
+    known: &HeldTrees,
     size: u64,
     root: &Hash,
     part: &[u8],
@@ -139,7 +139,7 @@ fn write_level<H: TreeHash, W: Write>(
     output: &mut W,
     held: &mut Vec<u8>,
     store: &Store<H>,
-    known: &Known,
+    known: &HeldTrees,
     clear: &Marks,
     begin: &[u8],
     part: &[u8],

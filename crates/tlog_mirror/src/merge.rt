@@ -7,7 +7,7 @@ ghost use Rattle.mirror_model.specs.Steps.{Merges};
 ghost use Rattle.tlog_mirror.specs.Adding.{with_notes};
 ghost use Rattle.tlog_mirror.specs.Kept.{note_bytes};
 
-use crate::kept::KeptNote;
+use crate::kept::HeldNote;
 use crate::mirror::Mirror;
 use mirror_model::MergeFault;
 use node_store::AddFault;
@@ -43,7 +43,7 @@ impl<H: TreeHash> Mirror<H> {
     }
 
     // Enters notes, each in its place, one after the other.
-    fn keep_notes(&mut self, alloc: Global, notes: &[KeptNote]) -> Result<(), AllocError>
+    fn keep_notes(&mut self, alloc: Global, notes: &[HeldNote]) -> Result<(), AllocError>
         requires said { All (λ k. IsHead (note_bytes k) self.old.view.origin k.size k.root)
             notes.now }
         requires edges { All (λ k. HasEdge H.digest self.old.view (note_bytes k)) notes.now }

@@ -7,9 +7,9 @@ ghost use Rattle.mirror_model.specs.View.{nothing};
 ghost use Rattle.tlog_mirror.specs.NoteLists.{IsNoteAt};
 
 use crate::fault::NewFault;
-use crate::kept::KeptNote;
+use crate::kept::HeldNote;
 use mirror_model::is_origin;
-use mirror_trees::Known;
+use mirror_trees::HeldTrees;
 use node_store::Store;
 use std::alloc::Global;
 use std::marker::Model;
@@ -23,19 +23,19 @@ use tlog_hash::TreeHash;
 #[derive(Drop)]
 pub struct Mirror<H: TreeHash> {
     pub(crate) origin: String,
-    pub(crate) kept: Vec<KeptNote>,
+    pub(crate) kept: Vec<HeldNote>,
     pub(crate) strings: Store<H>,
-    pub(crate) known: Known,
+    pub(crate) known: HeldTrees,
     // What is served, laid out: its note, and the files of its entries. `lay_out` alone makes it, and whatever adds a
     // string or a note lets it go first. So, where it stands, it is of what is served now, and no change has to be shown
     // to keep it so.
-    pub(crate) laid: Option<(KeptNote, LogFiles<H>)>,
+    pub(crate) laid: Option<(HeldNote, LogFiles<H>)>,
 }
 
 impl<H: TreeHash> Model for Mirror<H> {
     ghost use Rattle.std.specs.Prelude.{string_bytes};
     ghost use Rattle.mirror_model.specs.Marks.{State, state_code};
-    ghost use Rattle.mirror_trees.specs.Known.{AreBuilt};
+    ghost use Rattle.mirror_trees.specs.HeldTrees.{AreBuilt};
     ghost use Rattle.tlog_mirror.specs.Kept.{state_of, IsKeptWell};
     ghost use Rattle.tlog_mirror.specs.LaidOut.{IsLaidOut};
 
@@ -71,7 +71,7 @@ impl<H: TreeHash> Mirror<H> {
             origin,
             kept: Vec::new(alloc),
             strings: Store::new(alloc),
-            known: Known::new(alloc),
+            known: HeldTrees::new(alloc),
             laid: None,
         })
     }

@@ -8,10 +8,10 @@ ghost use Rattle.tlog_mirror.specs.Opened.{KeepsOpened, SaysHead};
 ghost use Rattle.tlog_mirror.specs.Restored.{KeepsHeld, held_fault_of, strings_alone};
 
 use crate::fault::{NewFault, RestoreFault};
-use crate::kept::KeptNote;
+use crate::kept::HeldNote;
 use crate::mirror::Mirror;
 use mirror_model::{HeadNote, TakeFault, is_origin};
-use mirror_trees::{Known, holds_edge};
+use mirror_trees::{HeldTrees, holds_edge};
 use node_store::Store;
 use signed_note::Verifier;
 use std::alloc::{AllocError, Global};
@@ -48,7 +48,7 @@ impl<H: TreeHash> Mirror<H> {
             origin,
             kept: Vec::new(alloc),
             strings,
-            known: Known::new(alloc),
+            known: HeldTrees::new(alloc),
             laid: None,
         })
     }
@@ -103,7 +103,7 @@ impl<H: TreeHash> Mirror<H> {
             return Ok(false);
         }
         let note = head.note.copy(alloc)?;
-        self.keep_note(KeptNote { note, size, root })?;
+        self.keep_note(HeldNote { note, size, root })?;
         Ok(true)
     }
 

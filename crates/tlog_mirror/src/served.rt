@@ -7,7 +7,7 @@ ghost use Rattle.mirror_trees.specs.Marked.{point_of};
 ghost use Rattle.tlog_mirror.specs.Tops.{IsServedAs, IsServedTop};
 
 use crate::best::{best_of, first_with};
-use crate::kept::KeptNote;
+use crate::kept::HeldNote;
 use crate::laid::{laid_bundle, laid_tile};
 use crate::mirror::Mirror;
 use crate::top_ranges::TopRanges;
@@ -60,7 +60,7 @@ impl<H: TreeHash> Mirror<H> {
     }
 
     // The note that is served.
-    pub(crate) fn served_note(&self) -> Option<&KeptNote>
+    pub(crate) fn served_note(&self) -> Option<&HeldNote>
         ensures some { IfSome result (λ kept. IsServedAs H.digest self.now.view kept.now.note.bytes
             kept.now.size kept.now.root) }
         ensures none { IfNone result (SaysServed H.digest self.now.view None) }
@@ -72,7 +72,7 @@ impl<H: TreeHash> Mirror<H> {
     }
 
     // The kept note that is served, looked for among all.
-    fn found_note(&self) -> Option<&KeptNote>
+    fn found_note(&self) -> Option<&HeldNote>
         ensures some { IfSome result (λ kept. IsServedAs H.digest self.now.view kept.now.note.bytes
             kept.now.size kept.now.root) }
         ensures none { IfNone result (SaysServed H.digest self.now.view None) }

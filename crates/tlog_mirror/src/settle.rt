@@ -3,13 +3,13 @@ ghost use Rattle.std.specs.Prelude.{◌≡◌, ◌↔◌, All, OnOk};
 ghost use Rattle.node_store.specs.Strings.{NoClash};
 ghost use Rattle.mirror_model.specs.Forks.{Point};
 ghost use Rattle.mirror_model.specs.Marks.{IsMark};
-ghost use Rattle.mirror_trees.specs.Known.{AreKnown, HasMark};
+ghost use Rattle.mirror_trees.specs.HeldTrees.{AreKnown, HasMark};
 ghost use Rattle.mirror_trees.specs.Slices.{AreSettled};
 ghost use Rattle.tlog_mirror.specs.Settled.{GainsAny, HasSlicesOf};
 
 use crate::heads::points_of;
 use crate::mirror::Mirror;
-use mirror_trees::{Known, check_built};
+use mirror_trees::{HeldTrees, check_built};
 use node_store::Store;
 use std::alloc::{AllocError, Global};
 use tlog_hash::{Hash, TreeHash};
@@ -65,7 +65,7 @@ impl<H: TreeHash> Mirror<H> {
 // Notes what is held of these trees.
 fn note_all<H: TreeHash>(
     store: &Store<H>,
-    known: &mut Known,
+    known: &mut HeldTrees,
     heads: &[(u64, Hash)],
 ) -> Result<(), AllocError>
     requires { AreKnown H.digest store.now known.old }
@@ -81,7 +81,7 @@ fn note_all<H: TreeHash>(
 // Remembers those of these trees that are held.
 fn settle_all<H: TreeHash>(
     store: &Store<H>,
-    known: &mut Known,
+    known: &mut HeldTrees,
     heads: &[(u64, Hash)],
 ) -> Result<(), AllocError>
     requires clean { NoClash H.digest store.now }

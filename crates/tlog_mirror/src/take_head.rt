@@ -13,7 +13,7 @@ ghost use Rattle.tlog_mirror.specs.Adding.{added, with_note, with_strings};
 ghost use Rattle.tlog_mirror.specs.Opened.{IsOpenUnder, WasOpened};
 
 use crate::edge::take_edge;
-use crate::kept::{KeptNote, place_of};
+use crate::kept::{HeldNote, find_note};
 use crate::mirror::Mirror;
 use crate::takes::take_answer;
 use mirror_model::{HeadNote, TakeFault, open_head};
@@ -126,11 +126,11 @@ impl<H: TreeHash> Mirror<H> {
             Ok(()) => {}
             Err(fault) => return Err(fault),
         }
-        take_answer(self.keep_head(KeptNote { note, size, root }, &strings))
+        take_answer(self.keep_head(HeldNote { note, size, root }, &strings))
     }
 
     // Adds the strings of a head, and then its note.
-    fn keep_head(&mut self, kept: KeptNote, strings: &Store<H>) -> Result<(), AddFault>
+    fn keep_head(&mut self, kept: HeldNote, strings: &Store<H>) -> Result<(), AddFault>
         requires no_clash { NoClash H.digest strings.now }
         requires short { (entry : List ℕ) → Has strings.now (0 ∷ entry) → length entry ≤ 65535 }
         requires said { IsHead kept.note.bytes self.old.view.origin kept.size kept.root }
@@ -151,14 +151,14 @@ impl<H: TreeHash> Mirror<H> {
     }
 
     // Enters a note in its place, if it is not kept yet.
-    pub(crate) fn keep_note(&mut self, kept: KeptNote) -> Result<(), AllocError>
+    pub(crate) fn keep_note(&mut self, kept: HeldNote) -> Result<(), AllocError>
         requires said { IsHead kept.note.bytes self.old.view.origin kept.size kept.root }
         requires edge { HasEdge H.digest self.old.view kept.note.bytes }
         ensures ok { OnOk result (self.new.view ≡ with_note self.old.view kept.note.bytes) }
         ensures err { OnErr result (self.new.view ≡ self.old.view) }
         ensures remembered { self.new.remembered ≡ self.old.remembered }
     {
-        match place_of(self.kept.as_slice(), kept.note.bytes()) {
+        match find_note(self.kept.as_slice(), kept.note.bytes()) {
             Ok(_) => Ok(()),
             Err(at) => {
                 self.laid = None;

@@ -7,7 +7,7 @@ use Rattle.byte_streams.proofs.reading.read_all.Goals.{in-Ok+in_ok-extend_from_s
 
 pub returns-in_err-extend_from_slice-in-Ok-clause-limit : goal.returns-in_err-extend_from_slice-in-Ok-clause-limit
 returns-in_err-extend_from_slice-in-Ok-clause-limit g c =
-    let told = g.R.Read.remaining in
+    let recorded = g.R.Read.remaining in
     let had = c.loop.all.items in
     let given = take c.in-Ok.n c.read.new.buf in
     record {
@@ -23,13 +23,13 @@ returns-in_err-extend_from_slice-in-Ok-clause-limit g c =
         c.len.ensures,
         c.loop.invariant.within,
       );
-      consumes = Consumes-trans (told c.args.reader.now) (told c.loop.reader) (told c.read.new.self)
+      consumes = Consumes-trans (recorded c.args.reader.now) (recorded c.loop.reader) (recorded c.read.new.self)
           had given c.loop.invariant.taken c.in-Ok.ensures.bytes.0;
     }
 
 pub loop-preserved : goal.loop-preserved
 loop-preserved g c =
-    let told = g.R.Read.remaining in
+    let recorded = g.R.Read.remaining in
     let had = c.loop.all.items in
     elim c.match-read.branch [
       | in-Ok+in_ok-extend_from_slice-in-Ok w ↦
@@ -49,14 +49,14 @@ loop-preserved g c =
               c.len.ensures,
               c.loop.invariant.within,
             );
-            taken = consumes_more (told c.args.reader.now) (told c.loop.reader) (told c.read.new.self) had
+            taken = consumes_more (recorded c.args.reader.now) (recorded c.loop.reader) (recorded c.read.new.self) had
                 _ c.read.new.buf rest w.in-Ok.n c.loop.invariant.taken w.in-Ok.ensures.bound.0 w.in-Ok.ensures.bytes.0
                 (ap (λ v. v.items) w.all-is ∙ w.in_ok-extend_from_slice-in-Ok.ensures.items);
           }
       | in-Err+else-ne w ↦
           record {
             within = rw w.all-is c.loop.invariant.within;
-            taken = rw w.all-is (Consumes-kept (told c.args.reader.now) (told c.loop.reader) (told c.read.new.self)
+            taken = rw w.all-is (Consumes-kept (recorded c.args.reader.now) (recorded c.loop.reader) (recorded c.read.new.self)
                 had c.loop.invariant.taken w.in-Err.ensures.bytes);
           }
     ]
@@ -79,8 +79,8 @@ returns-then-room-eq0-clause-bytes g c =
 
 pub returns-in-Ok-eq0-clause-bytes : goal.returns-in-Ok-eq0-clause-bytes
 returns-in-Ok-eq0-clause-bytes g c =
-    let told = g.R.Read.remaining in
-    all_of_read (told c.args.reader.now) (told c.read.new.self) c.loop.all.items c.args.most (search rules)
+    let recorded = g.R.Read.remaining in
+    all_of_read (recorded c.args.reader.now) (recorded c.read.new.self) c.loop.all.items c.args.most (search rules)
     (c.in-Ok-eq0.ensures.bytes.1 c.in-Ok-eq0.field-0-test
     (omega (arith, c.if-room-eq0.false, c.read.auto.buf, length-take c.min-room.result c.loop.chunk, c.min-room.ensures)))
     (omega (arith, c.loop.invariant.within))
@@ -96,10 +96,10 @@ returns-in-Ok-eq0-clause-limit g c =
 
 pub returns-then-ne-clause-limit : goal.returns-then-ne-clause-limit
 returns-then-ne-clause-limit g c =
-    let told = g.R.Read.remaining in
+    let recorded = g.R.Read.remaining in
     record {
       taken = c.loop.all.items;
       within = omega (arith, c.loop.invariant.within);
-      consumes = Consumes-kept (told c.args.reader.now) (told c.loop.reader) (told c.read.new.self)
+      consumes = Consumes-kept (recorded c.args.reader.now) (recorded c.loop.reader) (recorded c.read.new.self)
           c.loop.all.items c.loop.invariant.taken c.in-Err.ensures.bytes;
     }

@@ -1,7 +1,7 @@
 use Rattle.std.proofs.Common.{◌≡◌, ◌<◌, ℕ, List, [], length, get_or}
 use Rattle.tlog_shape.specs.Edge.{width_of}
 use Rattle.mirror_sources.specs.Source.{StaysWithin}
-use Rattle.mirror_sources.specs.Told.{KeepsTold}
+use Rattle.mirror_sources.specs.Recorded.{KeepsRecord}
 use Rattle.log_reader.specs.Holding.{IsEdgeRowOf, IsSourceOf}
 use Rattle.log_reader.specs.Ways.{AreHashesOf}
 use Rattle.log_reader.proofs.RowLists.{items_of}
@@ -11,7 +11,7 @@ use Rattle.log_reader.proofs.edge_files.read_rows.Given as goal
 abbrev pub invariant-loop-level : goal.invariant-loop-level
 invariant-loop-level g l = record {
   later : StaysWithin (g.S.Source.may_answer l.fn.source) (g.S.Source.may_answer l.source);
-  kept : KeepsTold (g.S.Source.files l.fn.source) (g.S.Source.files l.source);
+  kept : KeepsRecord (g.S.Source.files l.fn.source) (g.S.Source.files l.source);
   counted : g.S.Source.failed l.source ≡ g.S.Source.failed l.fn.source;
   count : length l.rows.items ≡ l.level;
   widths : (k : ℕ) → k < l.level → AreHashesOf (width_of l.size k) (get_or (items_of l.rows.items) k []);

@@ -1,6 +1,6 @@
 use Rattle.std.proofs.Common.{◌≡◌, ◌<◌, ℕ, List, [], length, get_or, take}
 use Rattle.mirror_sources.specs.Source.{StaysWithin}
-use Rattle.mirror_sources.specs.Told.{KeepsTold}
+use Rattle.mirror_sources.specs.Recorded.{KeepsRecord}
 use Rattle.log_reader.specs.Holding.{IsEdgeRowOf, IsReaderOf, IsSourceOf}
 use Rattle.log_reader.specs.Ways.{IsShownPart}
 use Rattle.log_reader.proofs.RowLists.{items_of}
@@ -12,7 +12,7 @@ invariant-loop-level g l = record {
   edge : l.reader.edge ≡ l.fn.reader.edge;
   root : l.reader.root ≡ l.fn.reader.root;
   later : StaysWithin (g.S.Source.may_answer l.fn.source) (g.S.Source.may_answer l.source);
-  kept : KeepsTold (g.S.Source.files l.fn.source) (g.S.Source.files l.source);
+  kept : KeepsRecord (g.S.Source.files l.fn.source) (g.S.Source.files l.source);
   counted : g.S.Source.failed l.source ≡ g.S.Source.failed l.fn.source;
   count : length l.rows.items ≡ l.level;
   shown : (k : ℕ) → k < l.level →

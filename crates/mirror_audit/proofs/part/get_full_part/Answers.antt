@@ -15,7 +15,7 @@ returns-clause-given g c =
     cut_full a b x y c.args.path full c.in-Some-len_of_part.len c.truncate.new.self.items whole c.full_path.ensures
     c.truncate.ensures.items
     (given_one a b x y full (Some whole) c.in_ok-full.ensures.later
-    (may_some a full c.in_ok-full.field-0 c.in-Some.full c.in-Some.is c.in_ok-full.ensures.answer) c.in_ok-full.ensures.told)
+    (may_some a full c.in_ok-full.field-0 c.in-Some.full c.in-Some.is c.in_ok-full.ensures.answer) c.in_ok-full.ensures.recorded)
 
 pub returns-in_default-clause-honest : goal.returns-in_default-clause-honest
 returns-in_default-clause-honest g c = λ digest entries hash short file way.

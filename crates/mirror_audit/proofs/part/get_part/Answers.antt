@@ -14,7 +14,7 @@ returns-in-Some-clause-given g c =
     there a b x y c.args.path c.in-Some.bytes.items
     (given_one a b x y c.args.path (Some c.in-Some.bytes.items) c.in_ok-bytes.ensures.later
     (may_some a c.args.path c.in_ok-bytes.field-0 c.in-Some.bytes c.in-Some.is c.in_ok-bytes.ensures.answer)
-    c.in_ok-bytes.ensures.told)
+    c.in_ok-bytes.ensures.recorded)
 
 pub returns-in-None-clause-given : goal.returns-in-None-clause-given
 returns-in-None-clause-given g c =
@@ -29,7 +29,7 @@ returns-in-None-clause-given g c =
     c.get_full_part.result
     (λ v full. in_its_place a b d x y z path v.items c.requires
     (given_one a b x y path None c.in_ok-bytes.ensures.later
-    (may_none a path c.in_ok-bytes.field-0 c.in-None.is c.in_ok-bytes.ensures.answer) c.in_ok-bytes.ensures.told) full)
+    (may_none a path c.in_ok-bytes.field-0 c.in-None.is c.in_ok-bytes.ensures.answer) c.in_ok-bytes.ensures.recorded) full)
     c.get_full_part.ensures.given
 
 pub returns-in-None-clause-none : goal.returns-in-None-clause-none

@@ -47,7 +47,7 @@ audit_row-loop-i-preserved g t c = record {
       c.requires.above c.loop-i-test.true (get_or_default row i [] h c.loop-i-test.true)
       (row_hinted g.H.TreeHash.digest c.args.level c.args.index row i (may c.args.source.now) (may c.loop-i.source) (may hinted)
       (asked c.args.source.now) (asked c.loop-i.source) (asked hinted) c.expect_bundles.ensures.later
-      c.expect_bundles.ensures.told c.loop-i.invariant.covers)
+      c.expect_bundles.ensures.recorded c.loop-i.invariant.covers)
       c.in_ok-audit_tile.ensures.covers;
 }
 

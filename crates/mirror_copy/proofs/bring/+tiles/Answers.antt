@@ -3,10 +3,10 @@ use Rattle.std.proofs.lemmas.List.{get_or_default}
 use Rattle.std.proofs.lemmas.Result.{err_from_is_err_and}
 use Rattle.tlog_tiles.specs.Row.{IsRow}
 use Rattle.tlog_tiles.specs.declared.paths.Path.TheVariants.{Tile}
-use Rattle.mirror_copy.specs.Standing.{TellsStands}
+use Rattle.mirror_copy.specs.Standing.{RecordsStands}
 use Rattle.mirror_copy.specs.Growing.{IsRowBrought}
 use Rattle.mirror_copy.proofs.Growth.{left_none, left_then, brings_ok, kept_same}
-use Rattle.mirror_sources.specs.Told.{KeepsTold}
+use Rattle.mirror_sources.specs.Recorded.{KeepsRecord}
 use Rattle.mirror_copy.proofs.Earlier.{early_later}
 use Rattle.mirror_copy.proofs.Asking.{asks_same, asks_then, asks_weaker}
 use Rattle.mirror_copy.specs.Suffices.{IsTileRow}
@@ -168,7 +168,7 @@ bring_tile-returns-clause-brings g t c = λ known is.
     (subst (λ n. IsRowBrought digest tip level index row known w y n) long brought) in
     let is_row = subst (λ bytes. IsRow 256 bytes row) (sym c.deref-2.ensures.value) found.is_row in
     brings_ok digest tip level index c.args.hash.now known x z c.keep.result
-    (TellsStands y z (Tile level index 256) c.deref-2.result.now) c.keep.ensures.stands
+    (RecordsStands y z (Tile level index 256) c.deref-2.result.now) c.keep.ensures.stands
     (λ there. tile_brought tip level index c.requires.beyond some upto digest row known x y long s z c.deref-2.result.now
     is_row c.keep.ensures.puts c.args.hash.now found.folds there)
     (tile_left tip level index c.requires.beyond some upto digest row known x y long s z c.deref-2.result.now
@@ -183,7 +183,7 @@ bring_row-returns-in_err-bring_tile-clause-early g t c =
     let x = g.D.Shelf.puts c.args.shelf.now in
     let y = g.D.Shelf.puts c.loop-i.shelf in
     let z = g.D.Shelf.puts c.bring_tile.new.shelf in
-    let before : later ≤ m → (start ≤ m) × KeepsTold x y = λ within.
+    let before : later ≤ m → (start ≤ m) × KeepsRecord x y = λ within.
     let h = first_child c.args.tip.now c.args.level c.args.index c.requires.beyond c.args.row.now c.in-Some.first
     c.loop-i.i c.in-Some.ensures.first c.loop-i.auto.i c.requires.above within in
     (h.1, c.loop-i.invariant.early h.0) in

@@ -3,8 +3,8 @@ use Rattle.std.proofs.lemmas.Result.{err_from_is_err_and}
 use Rattle.tlog_shape.specs.Edge.{edge_index_of}
 use Rattle.tlog_tiles.specs.Row.{row_text}
 use Rattle.tlog_tiles.specs.declared.paths.Path.TheVariants.{Entries, Tile}
-use Rattle.mirror_sources.specs.Told.{KeepsTold, AddsTold}
-use Rattle.mirror_copy.specs.Standing.{TellsStands}
+use Rattle.mirror_sources.specs.Recorded.{KeepsRecord, AddsToRecord}
+use Rattle.mirror_copy.specs.Standing.{RecordsStands}
 use Rattle.mirror_copy.specs.Asked.{IsNewFull}
 use Rattle.tlog_tiles.specs.Bundle.{IsBundle}
 use Rattle.mirror_copy.specs.Suffices.{IsTileRow}
@@ -51,7 +51,7 @@ returns-in_err-keep-clause-brings g c = λ known is.
     take (length c.args.tip.now.bundle) c.deref-2.result.now ≡ c.args.tip.now.bundle = search rules in
     let goes_on = subst (λ b. c.args.index ≡ edge_index_of c.args.tip.now.size 0 →
     take (length c.args.tip.now.bundle) b ≡ c.args.tip.now.bundle) c.deref-2.ensures.value there in
-    let puts = subst (λ b. (KeepsTold y z) ⊎ (AddsTold y z ((Entries c.args.index 256, b) ∷ [])))
+    let puts = subst (λ b. (KeepsRecord y z) ⊎ (AddsToRecord y z ((Entries c.args.index 256, b) ∷ [])))
     c.deref-4.ensures.value c.keep.ensures.puts in
     rw p.1 (bundle_left g.H.TreeHash.digest c.args.tip.now c.args.index 256 (omega arith) (omega arith) known is (omega arith) bytes
     c.in_ok-found.found.row.items v goes_on x y z c.find_bundle.ensures.same puts)
@@ -70,14 +70,14 @@ returns-clause-brings g c = λ known is.
     take (length c.args.tip.now.bundle) c.deref-2.result.now ≡ c.args.tip.now.bundle = search rules in
     let goes_on = subst (λ b. c.args.index ≡ edge_index_of c.args.tip.now.size 0 →
     take (length c.args.tip.now.bundle) b ≡ c.args.tip.now.bundle) c.deref-2.ensures.value there in
-    let puts = subst (λ b. (KeepsTold y z) ⊎ (AddsTold y z ((Entries c.args.index 256, b) ∷ [])))
+    let puts = subst (λ b. (KeepsRecord y z) ⊎ (AddsToRecord y z ((Entries c.args.index 256, b) ∷ [])))
     c.deref-4.ensures.value c.keep.ensures.puts in
     let text = c.deref-5.ensures.value ∙ (c.in_ok-bytes.ensures.text ∙ ap row_text c.deref-3.ensures.value) in
     let left = tile_left digest c.args.tip.now c.args.index 256 (omega arith) (omega arith) known is (omega arith) bytes row
     found.is_row goes_on x y z c.find_bundle.ensures.same puts w c.deref-5.result.now text c.keep-2.ensures.puts in
-    let there = subst (λ b. TellsStands y z (Entries c.args.index 256) b) c.deref-4.ensures.value c.in_ok-keep.ensures.stands in
+    let there = subst (λ b. RecordsStands y z (Entries c.args.index 256) b) c.deref-4.ensures.value c.in_ok-keep.ensures.stands in
     brings_ok digest c.args.tip.now 0 c.args.index c.args.hash.now known x w c.keep-2.result
-    (TellsStands z w (Tile 0 c.args.index 256) c.deref-5.result.now) c.keep-2.ensures.stands
+    (RecordsStands z w (Tile 0 c.args.index 256) c.deref-5.result.now) c.keep-2.ensures.stands
     (λ row_there. bundle_brought digest c.args.tip.now c.args.index 256 (omega arith) (omega arith) known is (omega arith)
     bytes row found.is_row goes_on x y z c.find_bundle.ensures.same puts w c.deref-5.result.now text c.keep-2.ensures.puts refl
     c.args.hash.now found.folds there row_there)
@@ -143,7 +143,7 @@ pub returns-in_err-keep-clause-taken : goal.returns-in_err-keep-clause-taken
 returns-in_err-keep-clause-taken g c =
     let y = g.D.Shelf.puts c.find_bundle.new.shelf in
     let z = g.D.Shelf.puts c.keep.new.shelf in
-    let puts = subst (λ b. (KeepsTold y z) ⊎ (AddsTold y z ((Entries c.args.index 256, b) ∷ [])))
+    let puts = subst (λ b. (KeepsRecord y z) ⊎ (AddsToRecord y z ((Entries c.args.index 256, b) ∷ [])))
     c.deref-4.ensures.value c.keep.ensures.puts in
     puts_after g.S.Source.may_answer g.S.Source.failed g.S.Source.asked c.args.places.now (g.D.Shelf.puts c.args.shelf.now) y z
     (Entries c.args.index 256) c.in_ok-found.found.bytes.items c.find_bundle.ensures.same puts (inr c.in_ok-found.ensures.taken)
@@ -158,7 +158,7 @@ returns-clause-taken g c =
     let y = g.D.Shelf.puts c.find_bundle.new.shelf in
     let z = g.D.Shelf.puts c.keep.new.shelf in
     let w = g.D.Shelf.puts c.keep-2.new.shelf in
-    let puts = subst (λ b. (KeepsTold y z) ⊎ (AddsTold y z ((Entries c.args.index 256, b) ∷ [])))
+    let puts = subst (λ b. (KeepsRecord y z) ⊎ (AddsToRecord y z ((Entries c.args.index 256, b) ∷ [])))
     c.deref-4.ensures.value c.keep.ensures.puts in
     let first = puts_after may failed asked places x y z (Entries c.args.index 256) c.in_ok-found.found.bytes.items
     c.find_bundle.ensures.same puts (inr c.in_ok-found.ensures.taken) in

@@ -3,7 +3,7 @@ use Rattle.mirror_copy.specs.Asked.{IsNewFull}
 use Rattle.mirror_copy.specs.Taken.{PutsTaken}
 use Rattle.std.proofs.Common.{◌≡◌, ◌+◌, ◌-◌, ◌*◌, ◌^◌, ◌≤◌, ℕ, List}
 use Rattle.tlog_shape.specs.Edge.{edge_index_of}
-use Rattle.mirror_sources.specs.Told.{KeepsTold}
+use Rattle.mirror_sources.specs.Recorded.{KeepsRecord}
 use Rattle.mirror_copy.specs.Growing.{IsKnown}
 use Rattle.mirror_copy.specs.Edges.{IsEdgeBrought}
 use Rattle.mirror_copy.proofs.edge.bring_levels.Given as goal
@@ -14,7 +14,7 @@ invariant-loop-done g l = record {
   asks : AsksPlaces g.S.Source.may_answer g.S.Source.failed g.S.Source.asked (IsNewFull l.tip.size) l.fn.places l.places;
   taken : PutsTaken g.S.Source.may_answer l.fn.places (g.D.Shelf.puts l.fn.shelf) (g.D.Shelf.puts l.shelf);
   early : edge_index_of l.edge.size (8 - l.done - 1) * 256 ^ (8 - l.done - 1 + 1) ≤ l.tip.size →
-      KeepsTold (g.D.Shelf.puts l.fn.shelf) (g.D.Shelf.puts l.shelf);
+      KeepsRecord (g.D.Shelf.puts l.fn.shelf) (g.D.Shelf.puts l.shelf);
   brought : (known : List (List ℕ)) → IsKnown g.H.TreeHash.digest l.tip 0 known →
       IsEdgeBrought g.H.TreeHash.digest l.tip l.edge known (8 - l.done) (g.D.Shelf.puts l.fn.shelf)
       (g.D.Shelf.puts l.shelf);

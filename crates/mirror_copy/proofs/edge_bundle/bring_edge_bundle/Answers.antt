@@ -2,8 +2,8 @@ use Rattle.std.proofs.Common.{rules, ◌≡◌, ◌⊎◌, ◌+◌, ◌*◌, ◌
 use Rattle.std.proofs.lemmas.Result.{err_from_is_err_and}
 use Rattle.tlog_shape.specs.Edge.{edge_index_of, width_of}
 use Rattle.tlog_tiles.specs.declared.paths.Path.TheVariants.{Entries}
-use Rattle.mirror_sources.specs.Told.{KeepsTold, AddsTold}
-use Rattle.mirror_copy.specs.Standing.{TellsStands}
+use Rattle.mirror_sources.specs.Recorded.{KeepsRecord, AddsToRecord}
+use Rattle.mirror_copy.specs.Standing.{RecordsStands}
 use Rattle.log_reader.specs.Verified.{HasLeaves}
 use Rattle.log_reader.specs.EdgeRows.{row_at}
 use Rattle.mirror_copy.specs.Asked.{IsEdgeBundle, IsPathOrFull}
@@ -65,15 +65,15 @@ returns-clause-brings g c = λ known is.
     let width_is : width ≡ width_of edge.size 0 = c.requires.widths 0 (omega arith) in
     let path : Entries c.edge_index-index.result (length c.row-row.result.now) ≡ Entries index width =
     λ j. Entries (at j) (length (c.row-row.ensures j)) in
-    let puts = subst (λ p. (KeepsTold y z) ⊎ (AddsTold y z ((p, c.deref-2.result.now) ∷ []))) path c.keep.ensures.puts in
-    let puts_bytes = subst (λ b. (KeepsTold y z) ⊎ (AddsTold y z ((Entries index width, b) ∷ []))) c.deref-2.ensures.value puts in
+    let puts = subst (λ p. (KeepsRecord y z) ⊎ (AddsToRecord y z ((p, c.deref-2.result.now) ∷ []))) path c.keep.ensures.puts in
+    let puts_bytes = subst (λ b. (KeepsRecord y z) ⊎ (AddsToRecord y z ((Entries index width, b) ∷ []))) c.deref-2.ensures.value puts in
     brings_last digest tip.size edge known x z c.keep.result
-    (TellsStands y z (Entries c.edge_index-index.result (length c.row-row.result.now)) c.deref-2.result.now)
+    (RecordsStands y z (Entries c.edge_index-index.result (length c.row-row.result.now)) c.deref-2.result.now)
     c.keep.ensures.stands
     (λ stands. last_some digest tip edge c.requires.widths c.requires.larger known is width some_row width_is bytes v goes_on
     x y z c.find_edge_bundle.ensures.same puts_bytes
-    (subst (λ b. TellsStands y z (Entries index width) b) c.deref-2.ensures.value
-    (subst (λ p. TellsStands y z p c.deref-2.result.now) path stands)))
+    (subst (λ b. RecordsStands y z (Entries index width) b) c.deref-2.ensures.value
+    (subst (λ p. RecordsStands y z p c.deref-2.result.now) path stands)))
     (last_left digest tip edge c.requires.widths c.requires.larger known is width some_row width_is bytes v goes_on
     x y z c.find_edge_bundle.ensures.same puts_bytes)
 

@@ -1,5 +1,5 @@
 use Rattle.std.proofs.Common.{◌≡◌, ◌<◌, ℕ, [], length, get_or}
-use Rattle.mirror_sources.specs.Told.{KeepsTold}
+use Rattle.mirror_sources.specs.Recorded.{KeepsRecord}
 use Rattle.mirror_copy.specs.Found.{IsRowRead}
 use Rattle.log_reader.proofs.RowLists.{items_of}
 use Rattle.mirror_copy.proofs.find_edge.rows_on_shelf.Given as goal
@@ -8,7 +8,7 @@ use Rattle.mirror_copy.proofs.find_edge.rows_on_shelf.Given as goal
 abbrev pub invariant-loop-level : goal.invariant-loop-level
 invariant-loop-level g l = record {
   counted : g.D.Shelf.failed l.shelf ≡ g.D.Shelf.failed l.fn.shelf;
-  same : KeepsTold (g.D.Shelf.puts l.fn.shelf) (g.D.Shelf.puts l.shelf);
+  same : KeepsRecord (g.D.Shelf.puts l.fn.shelf) (g.D.Shelf.puts l.shelf);
   count : length l.rows.items ≡ l.level;
   rows : (k : ℕ) → k < l.level → IsRowRead (g.D.Shelf.puts l.fn.shelf) l.size k (get_or (items_of l.rows.items) k []);
 }

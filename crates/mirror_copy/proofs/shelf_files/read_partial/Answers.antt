@@ -1,5 +1,5 @@
 use Rattle.std.proofs.Common.{ℕ, List, Some, sym, subst}
-use Rattle.mirror_folders.specs.Shelf.{TellsRead}
+use Rattle.mirror_folders.specs.Shelf.{RecordsRead}
 use Rattle.mirror_copy.specs.Taken.{IsFirstOf}
 use Rattle.mirror_copy.proofs.ShelfReads.{part_cut, part_put}
 use Rattle.mirror_copy.proofs.shelf_files.read_partial.Goals as goal
@@ -16,6 +16,6 @@ returns-in-Some-part_of-clause-taken g c =
     let full = c.in-Some-2.full.items in
     let read = rw c.in-Some-2.is at c.in_ok-full.ensures.answer in
     part_cut x y c.args.path.now full c.in_ok-from_slice-in-Some-part_of.field-0.items c.in_ok-bytes.ensures.same
-    (subst (λ p. TellsRead y p (Some full)) c.full_of.ensures read)
+    (subst (λ p. RecordsRead y p (Some full)) c.full_of.ensures read)
     (subst (λ (b : List ℕ). IsFirstOf full b) (sym c.in_ok-from_slice-in-Some-part_of.ensures.items)
     (subst (λ (f : List ℕ). IsFirstOf f c.in-Some-part_of.part.now) c.deref.ensures.value c.in-Some-part_of.ensures.first))

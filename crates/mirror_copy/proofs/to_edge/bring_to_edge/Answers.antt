@@ -52,7 +52,7 @@ returns-clause-brings g c = λ known is.
     let l = c.in_ok-bring_edge_bundle.ensures.brings e.next (edge_known digest tip edge known c.requires.widths x y 1 0 0 refl is e) in
     let q = c.in_ok-put_edge_tiles.ensures.puts l.next l.size_is (true_rows digest tip edge known c.requires.widths x y z e l) in
     ends_brought digest tip edge c.args.note.now known x w v c.put_last.result c.put_last.ensures.puts
-    (λ told. copy_brought digest tip edge c.args.note.now known c.requires.size c.requires.widths x y z w v e l q told)
+    (λ recorded. copy_brought digest tip edge c.args.note.now known c.requires.size c.requires.widths x y z w v e l q recorded)
     (λ kept. left_put digest tip edge known c.requires.widths x y z e l w v q.gathers kept)
 
 pub returns-in_err-bring_edge_bundle-clause-asks : goal.returns-in_err-bring_edge_bundle-clause-asks

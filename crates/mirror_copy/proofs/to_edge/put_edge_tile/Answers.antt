@@ -4,8 +4,8 @@ use Rattle.std.proofs.lemmas.Result.{err_from_is_err_and}
 use Rattle.tlog_shape.specs.Edge.{edge_index_of, width_of}
 use Rattle.tlog_tiles.specs.Row.{row_text}
 use Rattle.tlog_tiles.specs.declared.paths.Path.TheVariants.{Tile}
-use Rattle.mirror_sources.specs.Told.{KeepsTold, AddsTold}
-use Rattle.mirror_copy.specs.Standing.{TellsStands}
+use Rattle.mirror_sources.specs.Recorded.{KeepsRecord, AddsToRecord}
+use Rattle.mirror_copy.specs.Standing.{RecordsStands}
 use Rattle.log_reader.specs.EdgeRows.{edge_tile, row_at}
 use Rattle.mirror_copy.proofs.Growth.{gathers_none, kept_same}
 use Rattle.mirror_copy.proofs.Finishing.{gathers_tile, new_tile, old_tile, puts_tile, tile_old, tile_put}
@@ -65,9 +65,9 @@ returns-clause-puts g c = λ entries long row.
     c.edge_width.ensures ∙ ap (λ n. width_of n level) c.size-4.ensures in
     let path : Tile level c.edge_index.result c.edge_width.result ≡ edge_tile edge level =
     λ j. Tile level (index j) (width j) in
-    let puts = subst (λ p. (KeepsTold y z) ⊎ (AddsTold y z ((p, bytes) ∷ []))) path c.keep.ensures.puts in
+    let puts = subst (λ p. (KeepsRecord y z) ⊎ (AddsToRecord y z ((p, bytes) ∷ []))) path c.keep.ensures.puts in
     puts_tile digest m edge entries y z level c.keep.result
-    (TellsStands y z (Tile level c.edge_index.result c.edge_width.result) bytes) c.keep.ensures.stands
+    (RecordsStands y z (Tile level c.edge_index.result c.edge_width.result) bytes) c.keep.ensures.stands
     (λ stands. tile_put digest m edge entries long y z level upto some_width new row bytes is puts
-    (subst (λ p. TellsStands y z p bytes) path stands))
+    (subst (λ p. RecordsStands y z p bytes) path stands))
     (gathers_tile digest m edge entries long y z level upto some_width new row bytes is puts)

@@ -1,10 +1,10 @@
 use Rattle.std.proofs.Common.{Bool, Ok, Err, refl, subst, ◌∙◌}
 use Rattle.std.proofs.lemmas.Result.{err_from_is_err_and}
 use Rattle.tlog_tiles.specs.declared.paths.Path.TheVariants.{Checkpoint}
-use Rattle.mirror_export.proofs.Exported.{all_put, cut_put, count_of, not_nothing, not_put, other_fault, same_told}
-use Rattle.mirror_export.proofs.Exported.{tells_none, tells_some}
+use Rattle.mirror_export.proofs.Exported.{all_put, cut_put, count_of, not_nothing, not_put, other_fault, same_recorded}
+use Rattle.mirror_export.proofs.Exported.{records_none, records_some}
 use Rattle.mirror_export.specs.Faults.{of_shelf}
-use Rattle.mirror_folders.specs.Shelf.{CountsFailures, TellsHas}
+use Rattle.mirror_folders.specs.Shelf.{CountsFailures, RecordsHas}
 use Rattle.mirror_export.proofs.Moments.{checkpoint_last, kept_last}
 use Rattle.tlog_mirror.proofs.ServedParts.{list_of}
 use Rattle.mirror_export.proofs.exporting.export.Goals as goal
@@ -15,11 +15,11 @@ returns g c =
     let digest = g.H.TreeHash.digest in
     let v = c.args.mirror.now.view in
     let is = c.in-Some.ensures.some in
-    let free = tells_none (puts c.args.shelf.now) Checkpoint
-    (subst (λ b. TellsHas (puts c.args.shelf.now) Checkpoint b) c.if-in_use.false c.in_ok-in_use.ensures.answer) in
+    let free = records_none (puts c.args.shelf.now) Checkpoint
+    (subst (λ b. RecordsHas (puts c.args.shelf.now) Checkpoint b) c.if-in_use.false c.in_ok-in_use.ensures.answer) in
     let all = all_put digest v c.in-Some.top is (puts c.args.shelf.now)
     (puts c.has.new.self) (puts c.put_served.new.shelf) (tt {0}) c.in_ok-in_use.ensures.same free
-    (c.in_ok-put_served.ensures.told is.served.entries (list_of digest v c.in-Some.top is)) in
+    (c.in_ok-put_served.ensures.recorded is.served.entries (list_of digest v c.in-Some.top is)) in
     record {
       puts = all;
       nothing = (λ e. cc, λ nothing. absurd (not_nothing digest v c.in-Some.top is nothing));
@@ -30,7 +30,7 @@ returns g c =
 pub returns-in_default : goal.returns-in_default
 returns-in_default g c =
     let puts = g.S.Shelf.puts in
-    let kept = same_told (puts c.args.shelf.now) in
+    let kept = same_recorded (puts c.args.shelf.now) in
     record {
       puts = kept;
       nothing = (λ _. c.in_default.ensures.none, λ _. refl);
@@ -42,8 +42,8 @@ pub returns-then-in_use : goal.returns-then-in_use
 returns-then-in_use g c =
     let puts = g.S.Shelf.puts in
     let is = c.in-Some.ensures.some in
-    let used = tells_some (puts c.args.shelf.now) Checkpoint
-    (subst (λ b. TellsHas (puts c.args.shelf.now) Checkpoint b) c.if-in_use.true c.in_ok-in_use.ensures.answer) in
+    let used = records_some (puts c.args.shelf.now) Checkpoint
+    (subst (λ b. RecordsHas (puts c.args.shelf.now) Checkpoint b) c.if-in_use.true c.in_ok-in_use.ensures.answer) in
     record {
       puts = (c.in_ok-in_use.ensures.same, used);
       nothing = (
@@ -86,11 +86,11 @@ returns-in_err-put_served g c =
     let is = c.in-Some.ensures.some in
     let e = c.in_err-put_served.field-0.0 in
     let p = err_from_is_err_and c.from_residual-in_err-put_served.result c.from_residual-in_err-put_served.ensures.1 in
-    let free = tells_none (puts c.args.shelf.now) Checkpoint
-    (subst (λ b. TellsHas (puts c.args.shelf.now) Checkpoint b) c.if-in_use.false c.in_ok-in_use.ensures.answer) in
+    let free = records_none (puts c.args.shelf.now) Checkpoint
+    (subst (λ b. RecordsHas (puts c.args.shelf.now) Checkpoint b) c.if-in_use.false c.in_ok-in_use.ensures.answer) in
     let put = cut_put digest v c.in-Some.top is (Unit {0})
     (puts c.args.shelf.now) (puts c.has.new.self) (puts c.put_served.new.shelf) e c.in_ok-in_use.ensures.same free
-    (c.in_err-put_served.ensures.told is.served.entries (list_of digest v c.in-Some.top is)) in
+    (c.in_err-put_served.ensures.recorded is.served.entries (list_of digest v c.in-Some.top is)) in
     rw (p.1, p.2) record {
       puts = put;
       nothing =

@@ -24,15 +24,15 @@ pub loop-index-preserved : goal.loop-index-preserved
 loop-index-preserved g c =
     let puts = g.S.Shelf.puts in
     record {
-      told = λ entries is. first_put (file_at g.H.TreeHash.digest c.args.top.now.note entries) (is_new c.args.since) (puts c.args.shelf.now)
+      recorded = λ entries is. first_put (file_at g.H.TreeHash.digest c.args.top.now.note entries) (is_new c.args.since) (puts c.args.shelf.now)
           (puts c.loop-index.shelf) (puts c.put_new.new.shelf) (λ index. kind_path c.args.kind index 256)
-          c.loop-index.index c.path_at.result c.path_at.ensures (c.loop-index.invariant.told entries is)
-          (c.in_ok-put_new.ensures.told entries is);
+          c.loop-index.index c.path_at.result c.path_at.ensures (c.loop-index.invariant.recorded entries is)
+          (c.in_ok-put_new.ensures.recorded entries is);
       counted = c.in_ok-put_new.ensures.counted ∙ c.loop-index.invariant.counted;
     }
 
-pub returns-in_err-put_new-clause-told : goal.returns-in_err-put_new-clause-told
-returns-in_err-put_new-clause-told g c =
+pub returns-in_err-put_new-clause-recorded : goal.returns-in_err-put_new-clause-recorded
+returns-in_err-put_new-clause-recorded g c =
     let puts = g.S.Shelf.puts in
     let n = c.args.top.now.size in
     let p = err_from_is_err_and c.from_residual.result c.from_residual.ensures.1 in
@@ -43,8 +43,8 @@ returns-in_err-put_new-clause-told g c =
     (full_paths n c.args.kind) (partial_path n c.args.kind) (first_cut file (is_new c.args.since) (puts c.args.shelf.now)
     (puts c.loop-index.shelf) (puts c.put_new.new.shelf) (λ index. kind_path c.args.kind index 256)
     c.loop-index.index (edge_index_of n (kind_level c.args.kind)) c.path_at.result c.path_at.ensures
-    (subst (λ m. c.loop-index.index < m) count c.loop-index-test.true) (c.loop-index.invariant.told entries is)
-    (c.in_err-put_new.ensures.told entries is)))
+    (subst (λ m. c.loop-index.index < m) count c.loop-index-test.true) (c.loop-index.invariant.recorded entries is)
+    (c.in_err-put_new.ensures.recorded entries is)))
 
 -- ---- the partial file
 
@@ -61,8 +61,8 @@ put_new-requires-2 g c =
     subst (λ (path : Path). IsWithin n path) (sym at)
     (partial_within n kind c.requires.level (λ none. c.if-width-eq0.false (same ∙ none)))
 
-pub returns-clause-told : goal.returns-clause-told
-returns-clause-told g c =
+pub returns-clause-recorded : goal.returns-clause-recorded
+returns-clause-recorded g c =
     let puts = g.S.Shelf.puts in
     let n = c.args.top.now.size in
     let kind = c.args.kind in
@@ -80,11 +80,11 @@ returns-clause-told g c =
     files_result file (is_new c.args.since) (puts c.args.shelf.now) (puts c.loop-index.shelf) (puts c.put_new-2.new.shelf)
     (full_paths n kind) (partial_path n kind) c.put_new-2.result
     (full_put file (is_new c.args.since) (puts c.args.shelf.now) (puts c.loop-index.shelf) n kind c.loop-index.index count
-    (c.loop-index.invariant.told entries is))
-    (rw (partial_some n kind (λ none. c.if-width-eq0.false (same ∙ none))) (rw at at (c.put_new-2.ensures.told entries is)))
+    (c.loop-index.invariant.recorded entries is))
+    (rw (partial_some n kind (λ none. c.if-width-eq0.false (same ∙ none))) (rw at at (c.put_new-2.ensures.recorded entries is)))
 
-pub returns-then-width-eq0-clause-told : goal.returns-then-width-eq0-clause-told
-returns-then-width-eq0-clause-told g c =
+pub returns-then-width-eq0-clause-recorded : goal.returns-then-width-eq0-clause-recorded
+returns-then-width-eq0-clause-recorded g c =
     let puts = g.S.Shelf.puts in
     let n = c.args.top.now.size in
     let kind = c.args.kind in
@@ -99,5 +99,5 @@ returns-then-width-eq0-clause-told g c =
     files_then file (is_new c.args.since) (puts c.args.shelf.now) (puts c.loop-index.shelf) (puts c.loop-index.shelf)
     (full_paths n kind) (partial_path n kind)
     (full_put file (is_new c.args.since) (puts c.args.shelf.now) (puts c.loop-index.shelf) n kind c.loop-index.index count
-    (c.loop-index.invariant.told entries is))
+    (c.loop-index.invariant.recorded entries is))
     (rw (partial_none n kind (sym same ∙ c.if-width-eq0.true)) (adds_none (puts c.loop-index.shelf)))

@@ -4,14 +4,14 @@ use Rattle.tlog_mirror.proofs.ServedParts.{list_of}
 use Rattle.mirror_export.specs.declared.fault.UpdateFault.{UpdateFault}
 use Rattle.mirror_export.specs.declared.fault.UpdateFault.TheVariants.{NothingComplete}
 use Rattle.mirror_export.specs.Beginnings.{UpdatesTop}
-use Rattle.mirror_export.proofs.Exported.{same_told}
+use Rattle.mirror_export.proofs.Exported.{same_recorded}
 use Rattle.mirror_export.proofs.Updated.{not_nothing, updates_of}
 use Rattle.mirror_export.proofs.UpdateWhole.{nothing_whole, stays_whole}
 use Rattle.mirror_export.proofs.updating.update.Goals as goal
 
 pub returns-in_default : goal.returns-in_default
 returns-in_default g c =
-    let kept = same_told (g.S.Shelf.puts c.args.shelf.now) in
+    let kept = same_recorded (g.S.Shelf.puts c.args.shelf.now) in
     record {
       puts = kept;
       nothing = (λ _. c.in_default.ensures.none, λ _. refl);
@@ -27,10 +27,10 @@ returns g c =
     let v = c.args.mirror.now.view in
     let top = c.in-Some.top in
     let is = c.in-Some.ensures.some in
-    let told = subst (λ o. (entries : List (List ℕ)) → IsListOf digest top entries
+    let recorded = subst (λ o. (entries : List (List ℕ)) → IsListOf digest top entries
     → UpdatesTop digest top o entries (puts c.args.shelf.now) (puts c.update_to.new.shelf) c.update_to.result)
-    c.origin.ensures c.update_to.ensures.told in
-    let does = told is.served.entries (list_of digest v top is) in
+    c.origin.ensures c.update_to.ensures.recorded in
+    let does = recorded is.served.entries (list_of digest v top is) in
     record {
       puts = updates_of digest v top is (puts c.args.shelf.now) (puts c.update_to.new.shelf) c.update_to.result does;
       nothing = (
@@ -38,6 +38,6 @@ returns g c =
             (puts c.args.shelf.now) (puts c.update_to.new.shelf) r) e does),
         λ nothing. absurd (not_nothing digest v top is nothing),
       );
-      whole = stays_whole digest v top is (puts c.args.shelf.now) (puts c.update_to.new.shelf) c.update_to.result told;
+      whole = stays_whole digest v top is (puts c.args.shelf.now) (puts c.update_to.new.shelf) c.update_to.result recorded;
       blamed = c.update_to.ensures.counted;
     }

@@ -15,7 +15,7 @@ returns-in_err-found g c =
     let e = c.in_err-found.field-0.0 in
     let p = err_from_is_err_and c.from_residual.result c.from_residual.ensures.1 in
     rw (p.1, p.2) record {
-      told = λ entries is. not_read g.H.TreeHash.digest c.args.top.now c.args.origin.now entries (Unit {0})
+      recorded = λ entries is. not_read g.H.TreeHash.digest c.args.top.now c.args.origin.now entries (Unit {0})
           (puts c.args.shelf.now) (puts c.read.new.self) e c.in_err-found.ensures.same;
       counted = count_of (Unit {0}) (failed c.args.shelf.now) (failed c.read.new.self) e c.in_err-found.ensures.counted;
     }
@@ -29,15 +29,15 @@ returns-in_err-since g c =
     let fault = c.in_err-since.field-0.0 in
     let p = err_from_is_err_and c.from_residual-in_err-since.result c.from_residual-in_err-since.ensures.1 in
     rw (p.1, p.2) record {
-      told = λ entries is. no_since digest c.args.top.now c.args.origin.now entries (Unit {0}) (puts c.args.shelf.now)
+      recorded = λ entries is. no_since digest c.args.top.now c.args.origin.now entries (Unit {0}) (puts c.args.shelf.now)
           (puts c.read.new.self) _ fault c.in_ok-found.ensures.same c.in_ok-found.ensures.answer c.in_err-since.ensures;
       counted = not_counted digest (Unit {0}) c.args.top.now c.args.origin.now _ (failed c.args.shelf.now)
           (failed c.read.new.self) fault c.in_err-since.ensures c.in_ok-found.ensures.counted;
     }
 
 -- the tiles and bundles were not all put
-pub returns-in_err-put_parts-clause-told : goal.returns-in_err-put_parts-clause-told
-returns-in_err-put_parts-clause-told g c =
+pub returns-in_err-put_parts-clause-recorded : goal.returns-in_err-put_parts-clause-recorded
+returns-in_err-put_parts-clause-recorded g c =
     let puts = g.S.Shelf.puts in
     let digest = g.H.TreeHash.digest in
     let top = c.args.top.now in
@@ -48,11 +48,11 @@ returns-in_err-put_parts-clause-told g c =
     λ entries is. rw (p.1, p.2) (cut_off digest top origin entries found since
     (top_goes_on digest top origin found since c.in_ok-since.ensures) (Unit {0}) (puts c.args.shelf.now)
     (puts c.read.new.self) (puts c.put_parts.new.shelf) c.in_err-put_parts.field-0.0 c.in_ok-found.ensures.same
-    c.in_ok-found.ensures.answer (c.in_err-put_parts.ensures.told entries is))
+    c.in_ok-found.ensures.answer (c.in_err-put_parts.ensures.recorded entries is))
 
 -- the checkpoint was put, or not
-pub returns-clause-told : goal.returns-clause-told
-returns-clause-told g c =
+pub returns-clause-recorded : goal.returns-clause-recorded
+returns-clause-recorded g c =
     let puts = g.S.Shelf.puts in
     let digest = g.H.TreeHash.digest in
     let top = c.args.top.now in
@@ -65,6 +65,6 @@ returns-clause-told g c =
     (puts c.put_parts.new.shelf) (puts c.put_last.new.shelf) c.put_last.result c.in_ok-found.ensures.same
     c.in_ok-found.ensures.answer
     (λ same. false≢true (sym c.if-is_found.false ∙ c.is_found.ensures.1 (same ∙ ap (λ (l : List ℕ). Some l) (sym note))))
-    (c.in_ok-put_parts.ensures.told entries is)
+    (c.in_ok-put_parts.ensures.recorded entries is)
     (subst (λ (l : List ℕ). PutsLast (puts c.put_parts.new.shelf) (puts c.put_last.new.shelf) found l c.put_last.result)
     note c.put_last.ensures.puts)

@@ -8,28 +8,28 @@ use Rattle.mirror_pull.proofs.Replies.{gathers_none}
 use Rattle.mirror_pull.proofs.Early.{ask_refused, ask_fails}
 use Rattle.mirror_pull.proofs.ask.ask.Goals as goal
 
-pub returns-in_err-push-clause-told : goal.returns-in_err-push-clause-told
-returns-in_err-push-clause-told g c =
+pub returns-in_err-push-clause-recorded : goal.returns-in_err-push-clause-recorded
+returns-in_err-push-clause-recorded g c =
     let p = err_from_is_err_and c.from_residual.result c.from_residual.ensures.1 in
     rw p.1 (adds_some_none c.args.asked.now.items (g.S.Source.asked c.args.source.now))
 
-pub returns-in_err-get-clause-told : goal.returns-in_err-get-clause-told
-returns-in_err-get-clause-told g c =
+pub returns-in_err-get-clause-recorded : goal.returns-in_err-get-clause-recorded
+returns-in_err-get-clause-recorded g c =
     let p = err_from_is_err_and c.from_residual-in_err-get.result c.from_residual-in_err-get.ensures.1 in
     let fresh : Contains c.args.asked.now.items c.args.path → ⊥ =
     λ has. let t = c.is_asked.ensures.1 has in absurd cc in
     rw p.1 (some_get c.args.asked.now.items c.args.path (g.S.Source.asked c.args.source.now)
-    (g.S.Source.asked c.get.new.self) c.in_err-get.field-0.0 fresh c.in_err-get.ensures.told)
+    (g.S.Source.asked c.get.new.self) c.in_err-get.field-0.0 fresh c.in_err-get.ensures.recorded)
 
-pub returns-clause-told : goal.returns-clause-told
-returns-clause-told g c =
+pub returns-clause-recorded : goal.returns-clause-recorded
+returns-clause-recorded g c =
     let fresh : Contains c.args.asked.now.items c.args.path → ⊥ =
     λ has. let t = c.is_asked.ensures.1 has in absurd cc in
     record {
       more = c.args.path ∷ [];
       list = c.in_ok-push.ensures.items;
       adds = adds_one c.args.asked.now.items c.args.path (g.S.Source.asked c.args.source.now)
-          (g.S.Source.asked c.get.new.self) fresh c.in_ok-get.ensures.told;
+          (g.S.Source.asked c.get.new.self) fresh c.in_ok-get.ensures.recorded;
     }
 
 pub returns-in_err-get-clause-early : goal.returns-in_err-get-clause-early
@@ -107,8 +107,8 @@ returns-then-is_asked-clause-later g c = stays_itself (g.S.Source.may_answer c.a
 pub returns-then-is_asked-clause-counted : goal.returns-then-is_asked-clause-counted
 returns-then-is_asked-clause-counted g c = refl
 
-pub returns-then-is_asked-clause-told : goal.returns-then-is_asked-clause-told
-returns-then-is_asked-clause-told g c = adds_to_none c.args.asked.now.items (g.S.Source.asked c.args.source.now)
+pub returns-then-is_asked-clause-recorded : goal.returns-then-is_asked-clause-recorded
+returns-then-is_asked-clause-recorded g c = adds_to_none c.args.asked.now.items (g.S.Source.asked c.args.source.now)
 
 pub returns-then-is_asked-clause-replied : goal.returns-then-is_asked-clause-replied
 returns-then-is_asked-clause-replied g c =
@@ -132,7 +132,7 @@ returns-in_err-get-clause-replied g c =
     λ has. let t = c.is_asked.ensures.1 has in absurd cc in
     rw (p.1, p.2) (ask_fails (g.S.Source.may_answer c.args.source.now) c.args.asked.now.items c.args.path
     (g.S.Source.asked c.args.source.now) (g.S.Source.asked c.get.new.self) c.in_err-get.field-0.0 fresh
-    c.in_err-get.ensures.told)
+    c.in_err-get.ensures.recorded)
 
 pub returns-clause-replied : goal.returns-clause-replied
 returns-clause-replied g c =
@@ -143,5 +143,5 @@ returns-clause-replied g c =
       are = AsksNew _ fresh;
       may_reply = (c.in_ok-get.ensures.answer, tt);
       list = c.in_ok-push.ensures.items;
-      told = c.in_ok-get.ensures.told;
+      recorded = c.in_ok-get.ensures.recorded;
     }

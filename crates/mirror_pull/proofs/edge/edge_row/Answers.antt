@@ -12,12 +12,12 @@ use Rattle.mirror_pull.proofs.Replies.{row_cut, row_none, row_found, not_edge, n
 use Rattle.mirror_pull.proofs.Early.{ends_as, unanswered_as, comes_first, row_unanswered}
 use Rattle.mirror_pull.proofs.edge.edge_row.Goals as goal
 
-pub returns-in_err-bytes-2-clause-told : goal.returns-in_err-bytes-2-clause-told
-returns-in_err-bytes-2-clause-told g c =
+pub returns-in_err-bytes-2-clause-recorded : goal.returns-in_err-bytes-2-clause-recorded
+returns-in_err-bytes-2-clause-recorded g c =
     let asked = g.S.Source.asked in
     let p = err_from_is_err_and c.from_residual-in_err-bytes-2.result c.from_residual-in_err-bytes-2.ensures.1 in
     rw p.1 (adds_some_then c.args.asked.now.items c.ask.new.asked.items (asked c.args.source.now)
-    (asked c.ask.new.source) (asked c.ask-2.new.source) c.in_ok-bytes.ensures.told c.in_err-bytes-2.ensures.told)
+    (asked c.ask.new.source) (asked c.ask-2.new.source) c.in_ok-bytes.ensures.recorded c.in_err-bytes-2.ensures.recorded)
 
 pub returns-in_err-bytes-clause-early : goal.returns-in_err-bytes-clause-early
 returns-in_err-bytes-clause-early g c =
@@ -29,25 +29,25 @@ returns-in_err-bytes-2-clause-early g c =
     let p = err_from_is_err_and c.from_residual-in_err-bytes-2.result c.from_residual-in_err-bytes-2.ensures.1 in rw
     (p.1, p.2) c.in_err-bytes-2.ensures.early
 
-pub returns-in_default-2-clause-told : goal.returns-in_default-2-clause-told
-returns-in_default-2-clause-told g c =
+pub returns-in_default-2-clause-recorded : goal.returns-in_default-2-clause-recorded
+returns-in_default-2-clause-recorded g c =
     let asked = g.S.Source.asked in
     some_of _ _ _ _
     (adds_to_then c.args.asked.now.items c.ask.new.asked.items c.ask-2.new.asked.items (asked c.args.source.now)
-    (asked c.ask.new.source) (asked c.ask-2.new.source) c.in_ok-bytes.ensures.told c.in_ok-bytes-2.ensures.told)
+    (asked c.ask.new.source) (asked c.ask-2.new.source) c.in_ok-bytes.ensures.recorded c.in_ok-bytes-2.ensures.recorded)
 
-pub returns-then-len-ne-FULL_TILE-clause-told : goal.returns-then-len-ne-FULL_TILE-clause-told
-returns-then-len-ne-FULL_TILE-clause-told g c =
+pub returns-then-len-ne-FULL_TILE-clause-recorded : goal.returns-then-len-ne-FULL_TILE-clause-recorded
+returns-then-len-ne-FULL_TILE-clause-recorded g c =
     let asked = g.S.Source.asked in
     some_of _ _ _ _
     (adds_to_then c.args.asked.now.items c.ask.new.asked.items c.ask-2.new.asked.items (asked c.args.source.now)
-    (asked c.ask.new.source) (asked c.ask-2.new.source) c.in_ok-bytes.ensures.told c.in_ok-bytes-2.ensures.told)
+    (asked c.ask.new.source) (asked c.ask-2.new.source) c.in_ok-bytes.ensures.recorded c.in_ok-bytes-2.ensures.recorded)
 
-pub returns-clause-told : goal.returns-clause-told
-returns-clause-told g c =
+pub returns-clause-recorded : goal.returns-clause-recorded
+returns-clause-recorded g c =
     let asked = g.S.Source.asked in
     adds_to_then c.args.asked.now.items c.ask.new.asked.items c.ask-2.new.asked.items (asked c.args.source.now)
-    (asked c.ask.new.source) (asked c.ask-2.new.source) c.in_ok-bytes.ensures.told c.in_ok-bytes-2.ensures.told
+    (asked c.ask.new.source) (asked c.ask-2.new.source) c.in_ok-bytes.ensures.recorded c.in_ok-bytes-2.ensures.recorded
 
 pub returns-in-Some-clause-honest : goal.returns-in-Some-clause-honest
 returns-in-Some-clause-honest g c =
@@ -188,8 +188,8 @@ returns-in-Some-clause-early g c = tt
 pub returns-in-Some-clause-later : goal.returns-in-Some-clause-later
 returns-in-Some-clause-later g c = c.in_ok-bytes.ensures.later
 
-pub returns-in-Some-clause-told : goal.returns-in-Some-clause-told
-returns-in-Some-clause-told g c = c.in_ok-bytes.ensures.told
+pub returns-in-Some-clause-recorded : goal.returns-in-Some-clause-recorded
+returns-in-Some-clause-recorded g c = c.in_ok-bytes.ensures.recorded
 
 pub returns-in_err-bytes-2-clause-counted : goal.returns-in_err-bytes-2-clause-counted
 returns-in_err-bytes-2-clause-counted g c =
@@ -213,10 +213,10 @@ returns-in_err-bytes-clause-counted g c =
 pub returns-in_err-bytes-clause-later : goal.returns-in_err-bytes-clause-later
 returns-in_err-bytes-clause-later g c = c.in_err-bytes.ensures.later
 
-pub returns-in_err-bytes-clause-told : goal.returns-in_err-bytes-clause-told
-returns-in_err-bytes-clause-told g c =
+pub returns-in_err-bytes-clause-recorded : goal.returns-in_err-bytes-clause-recorded
+returns-in_err-bytes-clause-recorded g c =
     let p = err_from_is_err_and c.from_residual.result c.from_residual.ensures.1 in
-    rw p.1 c.in_err-bytes.ensures.told
+    rw p.1 c.in_err-bytes.ensures.recorded
 
 pub returns-in-Some-clause-replied : goal.returns-in-Some-clause-replied
 returns-in-Some-clause-replied g c =

@@ -14,12 +14,12 @@ use Rattle.mirror_pull.proofs.Early.{in_rows_none}
 use Rattle.mirror_pull.proofs.Replies.{gathers_as, gathers_then, gathers_none, edge_step, no_rows, memory_no_edge}
 use Rattle.mirror_pull.proofs.edge.edge_rows.Goals as goal
 
-pub returns-in_err-row-clause-told : goal.returns-in_err-row-clause-told
-returns-in_err-row-clause-told g c =
+pub returns-in_err-row-clause-recorded : goal.returns-in_err-row-clause-recorded
+returns-in_err-row-clause-recorded g c =
     let asked = g.S.Source.asked in
     let p = err_from_is_err_and c.from_residual-in_err-row.result c.from_residual-in_err-row.ensures.1 in
     rw p.1 (adds_some_then c.args.asked.now.items c.loop-path.asked.items (asked c.args.source.now)
-    (asked c.loop-path.source) (asked c.edge_row.new.source) c.loop-path.invariant.told c.in_err-row.ensures.told)
+    (asked c.loop-path.source) (asked c.edge_row.new.source) c.loop-path.invariant.recorded c.in_err-row.ensures.recorded)
 
 pub returns-in_err-row-clause-counted : goal.returns-in_err-row-clause-counted
 returns-in_err-row-clause-counted g c =
@@ -45,9 +45,9 @@ loop-path-preserved g c =
     let asked = g.S.Source.asked in
     let may = g.S.Source.may_answer in
     record {
-      told = adds_to_then c.args.asked.now.items c.loop-path.asked.items c.edge_row.new.asked.items
+      recorded = adds_to_then c.args.asked.now.items c.loop-path.asked.items c.edge_row.new.asked.items
           (asked c.args.source.now) (asked c.loop-path.source)
-          (asked c.edge_row.new.source) c.loop-path.invariant.told c.in_ok-row.ensures.told;
+          (asked c.edge_row.new.source) c.loop-path.invariant.recorded c.in_ok-row.ensures.recorded;
       counted = c.in_ok-row.ensures.counted ∙ c.loop-path.invariant.counted;
       replied = gathers_then
           (λ xs. GivesRows c.args.asked.now.items (take (c.loop-path.path-index + 1) (edge_of c.args.size)) xs
@@ -75,9 +75,9 @@ loop-path-preserved g c =
 pub loop-path-init : goal.loop-path-init
 loop-path-init g c =
     record {
-      told = rw c.expect.ensures.told (adds_to_none c.args.asked.now.items (g.S.Source.asked c.args.source.now));
+      recorded = rw c.expect.ensures.recorded (adds_to_none c.args.asked.now.items (g.S.Source.asked c.args.source.now));
       counted = c.expect.ensures.counted;
-      replied = rw (c.expect.ensures.told, ap (map (λ row. row.items)) c.new-rows.ensures.items)
+      replied = rw (c.expect.ensures.recorded, ap (map (λ row. row.items)) c.new-rows.ensures.items)
           (gathers_none (g.S.Source.may_answer c.args.source.now) (g.S.Source.asked c.args.source.now)
           c.args.asked.now.items (λ xs. GivesRows c.args.asked.now.items [] xs []) RowsNone);
       honest = λ digest entries is within fresh. rw (ap (map (λ row. row.items)) c.new-rows.ensures.items)
@@ -85,15 +85,15 @@ loop-path-init g c =
       later = c.expect.ensures.later;
     }
 
-pub returns-in_err-push-clause-told : goal.returns-in_err-push-clause-told
-returns-in_err-push-clause-told g c =
+pub returns-in_err-push-clause-recorded : goal.returns-in_err-push-clause-recorded
+returns-in_err-push-clause-recorded g c =
     let asked = g.S.Source.asked in
     let p = err_from_is_err_and c.from_residual-in_err-push.result c.from_residual-in_err-push.ensures.1 in
     rw p.1 (some_of c.args.asked.now.items c.edge_row.new.asked.items (asked c.args.source.now)
     (asked c.edge_row.new.source)
     (adds_to_then c.args.asked.now.items c.loop-path.asked.items c.edge_row.new.asked.items
     (asked c.args.source.now) (asked c.loop-path.source)
-    (asked c.edge_row.new.source) c.loop-path.invariant.told c.in_ok-row.ensures.told))
+    (asked c.edge_row.new.source) c.loop-path.invariant.recorded c.in_ok-row.ensures.recorded))
 
 pub returns-in_err-row-clause-honest : goal.returns-in_err-row-clause-honest
 returns-in_err-row-clause-honest g c =
@@ -122,8 +122,8 @@ returns-clause-counted g c = c.loop-path.invariant.counted
 pub returns-clause-later : goal.returns-clause-later
 returns-clause-later g c = c.loop-path.invariant.later
 
-pub returns-clause-told : goal.returns-clause-told
-returns-clause-told g c = c.loop-path.invariant.told
+pub returns-clause-recorded : goal.returns-clause-recorded
+returns-clause-recorded g c = c.loop-path.invariant.recorded
 
 pub returns-clause-early : goal.returns-clause-early
 returns-clause-early g c = tt

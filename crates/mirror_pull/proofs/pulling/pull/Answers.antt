@@ -33,7 +33,7 @@ returns-in_err-rows-clause-once g c =
     (g.S.Source.asked c.edge_rows.new.source) c.new-asked.ensures.items
     (adds_some_then c.new-asked.result.items c.ask.new.asked.items (g.S.Source.asked c.args.source.now)
     (g.S.Source.asked c.ask.new.source)
-    (g.S.Source.asked c.edge_rows.new.source) c.in_ok-note.ensures.told c.in_err-rows.ensures.told)
+    (g.S.Source.asked c.edge_rows.new.source) c.in_ok-note.ensures.recorded c.in_err-rows.ensures.recorded)
 
 pub returns-in_err-take_rows-clause-once : goal.returns-in_err-take_rows-clause-once
 returns-in_err-take_rows-clause-once g c =
@@ -43,7 +43,7 @@ returns-in_err-take_rows-clause-once g c =
     (g.S.Source.asked c.edge_rows.new.source)
     (adds_to_then c.new-asked.result.items c.ask.new.asked.items c.edge_rows.new.asked.items
     (g.S.Source.asked c.args.source.now) (g.S.Source.asked c.ask.new.source)
-    (g.S.Source.asked c.edge_rows.new.source) c.in_ok-note.ensures.told c.in_ok-rows.ensures.told))
+    (g.S.Source.asked c.edge_rows.new.source) c.in_ok-note.ensures.recorded c.in_ok-rows.ensures.recorded))
 
 pub returns-in_err-rounds-clause-once : goal.returns-in_err-rounds-clause-once
 returns-in_err-rounds-clause-once g c =
@@ -53,8 +53,8 @@ returns-in_err-rounds-clause-once g c =
     (g.S.Source.asked c.edge_rows.new.source) (g.S.Source.asked c.work.new.source)
     (adds_to_then c.new-asked.result.items c.ask.new.asked.items c.edge_rows.new.asked.items
     (g.S.Source.asked c.args.source.now) (g.S.Source.asked c.ask.new.source)
-    (g.S.Source.asked c.edge_rows.new.source) c.in_ok-note.ensures.told c.in_ok-rows.ensures.told)
-    c.in_err-rounds.ensures.told)
+    (g.S.Source.asked c.edge_rows.new.source) c.in_ok-note.ensures.recorded c.in_ok-rows.ensures.recorded)
+    c.in_err-rounds.ensures.recorded)
 
 pub returns-clause-once : goal.returns-clause-once
 returns-clause-once g c =
@@ -67,8 +67,8 @@ returns-clause-once g c =
     (g.S.Source.asked c.work.new.source)
     (adds_to_then c.new-asked.result.items c.ask.new.asked.items c.edge_rows.new.asked.items
     (g.S.Source.asked c.args.source.now) (g.S.Source.asked c.ask.new.source)
-    (g.S.Source.asked c.edge_rows.new.source) c.in_ok-note.ensures.told c.in_ok-rows.ensures.told)
-    c.in_ok-rounds.ensures.told))
+    (g.S.Source.asked c.edge_rows.new.source) c.in_ok-note.ensures.recorded c.in_ok-rows.ensures.recorded)
+    c.in_ok-rounds.ensures.recorded))
 
 pub returns-in_err-take_rows-clause-outcome : goal.returns-in_err-take_rows-clause-outcome
 returns-in_err-take_rows-clause-outcome g c =
@@ -184,11 +184,11 @@ returns-clause-honest g c =
     let asked = g.S.Source.asked in
     let edge_asked = c.edge_rows.new.asked.items in
     let all_asked = c.work.new.asked.items in
-    let told =
+    let recorded =
     adds_to_then none edge_asked all_asked (asked c.args.source.now) (asked c.edge_rows.new.source)
     (asked c.work.new.source)
     (adds_to_then none c.ask.new.asked.items edge_asked (asked c.args.source.now) (asked c.ask.new.source)
-    (asked c.edge_rows.new.source) c.in_ok-note.ensures.told c.in_ok-rows.ensures.told) c.in_ok-rounds.ensures.told in
+    (asked c.edge_rows.new.source) c.in_ok-note.ensures.recorded c.in_ok-rows.ensures.recorded) c.in_ok-rounds.ensures.recorded in
     let done = c.in_ok-rounds.ensures.honest entries on.may_work in
     let x = c.work.new.mirror.view in
     let gains = c.in_ok-rounds.ensures.gains in
@@ -210,7 +210,7 @@ returns-clause-honest g c =
       gets =
           worked_gets digest hash _ entries v taken at before honest no_clash b.small rest w x _ edge_asked all_asked
           on.taken_is done.1 edge_may none c.ask.new.asked.items (asked c.args.source.now) (asked c.work.new.source)
-          c.in_ok-note.ensures.later later b.answered c.new-asked.ensures.items b.begun got.gets told;
+          c.in_ok-note.ensures.later later b.answered c.new-asked.ensures.items b.begun got.gets recorded;
       at_most =
           worked_few digest hash _ entries v taken at before honest no_clash b.small rest w x _ edge_asked all_asked
           on.taken_is done.1;
@@ -318,21 +318,21 @@ pub returns-in_err-note-clause-once : goal.returns-in_err-note-clause-once
 returns-in_err-note-clause-once g c =
     let asked = g.S.Source.asked in
     from_none c.new-asked.result.items (asked c.args.source.now) (asked c.ask.new.source) c.new-asked.ensures.items
-    c.in_err-note.ensures.told
+    c.in_err-note.ensures.recorded
 
 pub returns-in_default-clause-once : goal.returns-in_default-clause-once
 returns-in_default-clause-once g c =
     let asked = g.S.Source.asked in
     from_none c.new-asked.result.items (asked c.args.source.now) (asked c.ask.new.source) c.new-asked.ensures.items
     (some_of c.new-asked.result.items c.ask.new.asked.items (asked c.args.source.now) (asked c.ask.new.source)
-    c.in_ok-note.ensures.told)
+    c.in_ok-note.ensures.recorded)
 
 pub returns-in_err-head-clause-once : goal.returns-in_err-head-clause-once
 returns-in_err-head-clause-once g c =
     let asked = g.S.Source.asked in
     from_none c.new-asked.result.items (asked c.args.source.now) (asked c.ask.new.source) c.new-asked.ensures.items
     (some_of c.new-asked.result.items c.ask.new.asked.items (asked c.args.source.now) (asked c.ask.new.source)
-    c.in_ok-note.ensures.told)
+    c.in_ok-note.ensures.recorded)
 
 pub returns-in_err-note-clause-replies : goal.returns-in_err-note-clause-replies
 returns-in_err-note-clause-replies g c =

@@ -11,9 +11,9 @@ returns-clause-replied g c =
     path_before (may c.args.source.now) (may c.expect.new.self) c.expect.ensures.later (asked c.args.source.now)
     (asked c.take_path.new.source) c.args.asked.now.items c.take_path.new.asked.items g.H.TreeHash.digest
     c.args.mirror.now.view c.args.path c.take_path.new.mirror.view c.take_path.result
-    (subst (λ (told : Option (List Path)). PathFollows (may c.expect.new.self) told (asked c.take_path.new.source)
+    (subst (λ (recorded : Option (List Path)). PathFollows (may c.expect.new.self) recorded (asked c.take_path.new.source)
     c.args.asked.now.items c.take_path.new.asked.items g.H.TreeHash.digest c.args.mirror.now.view c.args.path
-    c.take_path.new.mirror.view c.take_path.result) c.expect.ensures.told c.take_path.ensures.replied)
+    c.take_path.new.mirror.view c.take_path.result) c.expect.ensures.recorded c.take_path.ensures.replied)
 
 pub returns-clause-honest : goal.returns-clause-honest
 returns-clause-honest g c =

@@ -21,28 +21,28 @@ returns-in_err-bytes-2-clause-late g c =
     let p = err_from_is_err_and c.from_residual-in_err-bytes-2.result c.from_residual-in_err-bytes-2.ensures.1 in rw
     (p.1, p.2) c.in_err-bytes-2.ensures.late
 
-pub returns-in_err-bytes-2-clause-told : goal.returns-in_err-bytes-2-clause-told
-returns-in_err-bytes-2-clause-told g c =
+pub returns-in_err-bytes-2-clause-recorded : goal.returns-in_err-bytes-2-clause-recorded
+returns-in_err-bytes-2-clause-recorded g c =
     let asked = g.S.Source.asked in
     let p = err_from_is_err_and c.from_residual-in_err-bytes-2.result c.from_residual-in_err-bytes-2.ensures.1 in
     rw p.1 (adds_some_then c.args.asked.now.items c.ask.new.asked.items (asked c.args.source.now)
-    (asked c.ask.new.source) (asked c.ask-2.new.source) c.in_ok-bytes.ensures.told c.in_err-bytes-2.ensures.told)
+    (asked c.ask.new.source) (asked c.ask-2.new.source) c.in_ok-bytes.ensures.recorded c.in_err-bytes-2.ensures.recorded)
 
-pub returns-in-Some-clause-told : goal.returns-in-Some-clause-told
-returns-in-Some-clause-told g c = asks_late _ _ _ _ _ c.in_ok-bytes.ensures.told
+pub returns-in-Some-clause-recorded : goal.returns-in-Some-clause-recorded
+returns-in-Some-clause-recorded g c = asks_late _ _ _ _ _ c.in_ok-bytes.ensures.recorded
 
-pub returns-in-Some-2-clause-told : goal.returns-in-Some-2-clause-told
-returns-in-Some-2-clause-told g c =
+pub returns-in-Some-2-clause-recorded : goal.returns-in-Some-2-clause-recorded
+returns-in-Some-2-clause-recorded g c =
     let asked = g.S.Source.asked in
     asks_late _ _ _ _ _
     (adds_to_then c.args.asked.now.items c.ask.new.asked.items c.ask-2.new.asked.items (asked c.args.source.now)
-    (asked c.ask.new.source) (asked c.ask-2.new.source) c.in_ok-bytes.ensures.told c.in_ok-bytes-2.ensures.told)
+    (asked c.ask.new.source) (asked c.ask-2.new.source) c.in_ok-bytes.ensures.recorded c.in_ok-bytes-2.ensures.recorded)
 
-pub returns-in-None-clause-told : goal.returns-in-None-clause-told
-returns-in-None-clause-told g c =
+pub returns-in-None-clause-recorded : goal.returns-in-None-clause-recorded
+returns-in-None-clause-recorded g c =
     let asked = g.S.Source.asked in
     adds_to_then c.args.asked.now.items c.ask.new.asked.items c.ask-2.new.asked.items (asked c.args.source.now)
-    (asked c.ask.new.source) (asked c.ask-2.new.source) c.in_ok-bytes.ensures.told c.in_ok-bytes-2.ensures.told
+    (asked c.ask.new.source) (asked c.ask-2.new.source) c.in_ok-bytes.ensures.recorded c.in_ok-bytes-2.ensures.recorded
 
 pub returns-in-Some-clause-gains : goal.returns-in-Some-clause-gains
 returns-in-Some-clause-gains g c =
@@ -138,10 +138,10 @@ returns-in-Some-2-clause-counted g c =
     counts_item g.H.TreeHash.digest _ _ c.full_path-full.result c.deref-in-Some-2.result.now _ _ _
     (c.in_ok-bytes-2.ensures.counted ∙ c.in_ok-bytes.ensures.counted) c.take_found-in-Some-2.ensures
 
-pub returns-in_err-bytes-clause-told : goal.returns-in_err-bytes-clause-told
-returns-in_err-bytes-clause-told g c =
+pub returns-in_err-bytes-clause-recorded : goal.returns-in_err-bytes-clause-recorded
+returns-in_err-bytes-clause-recorded g c =
     let p = err_from_is_err_and c.from_residual.result c.from_residual.ensures.1 in
-    rw p.1 c.in_err-bytes.ensures.told
+    rw p.1 c.in_err-bytes.ensures.recorded
 
 pub returns-in_err-bytes-clause-counted : goal.returns-in_err-bytes-clause-counted
 returns-in_err-bytes-clause-counted g c =

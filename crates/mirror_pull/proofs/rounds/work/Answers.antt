@@ -11,13 +11,13 @@ use Rattle.mirror_pull.proofs.Orders.{none_if, some_if}
 use Rattle.mirror_pull.proofs.TrueWork.{wanted_front, round_may, work_none, work_step, work_done, never_eight}
 use Rattle.mirror_pull.proofs.rounds.work.Goals as goal
 
-pub returns-in_err-more-clause-told : goal.returns-in_err-more-clause-told
-returns-in_err-more-clause-told g c =
+pub returns-in_err-more-clause-recorded : goal.returns-in_err-more-clause-recorded
+returns-in_err-more-clause-recorded g c =
     let asked = g.S.Source.asked in
     let p = err_from_is_err_and c.from_residual-in_err-more.result c.from_residual-in_err-more.ensures.1 in
     rw p.1 (adds_some_then c.args.asked.now.items c.loop-rounds.asked.items (asked c.args.source.now)
     (asked c.loop-rounds.source)
-    (asked c.work_noted.new.source) c.loop-rounds.invariant.told c.in_err-more.ensures.told)
+    (asked c.work_noted.new.source) c.loop-rounds.invariant.recorded c.in_err-more.ensures.recorded)
 
 pub returns-in_err-more-clause-counted : goal.returns-in_err-more-clause-counted
 returns-in_err-more-clause-counted g c =
@@ -46,9 +46,9 @@ loop-rounds-preserved g c =
     let long = some_if c.in_ok-paths.paths.len (sym c.is_empty.ensures ∙ c.if-is_empty.false) in
     let some : 1 ≤ length c.in_ok-paths.paths.items = omega (arith, long, c.in_ok-paths.paths.ok.0) in
     record {
-      told = adds_to_then c.args.asked.now.items c.loop-rounds.asked.items c.work_noted.new.asked.items
+      recorded = adds_to_then c.args.asked.now.items c.loop-rounds.asked.items c.work_noted.new.asked.items
           (asked c.args.source.now) (asked c.loop-rounds.source)
-          (asked c.work_noted.new.source) c.loop-rounds.invariant.told c.in_ok-more.ensures.told;
+          (asked c.work_noted.new.source) c.loop-rounds.invariant.recorded c.in_ok-more.ensures.recorded;
       counted = c.in_ok-more.ensures.counted ∙ c.loop-rounds.invariant.counted;
       later = stays_then (may c.args.source.now) (may c.loop-rounds.source)
           (may c.work_noted.new.source) c.loop-rounds.invariant.later c.in_ok-more.ensures.later;
@@ -97,7 +97,7 @@ loop-rounds-preserved g c =
 pub loop-rounds-init : goal.loop-rounds-init
 loop-rounds-init g c =
     record {
-      told = adds_to_none c.args.asked.now.items (g.S.Source.asked c.args.source.now);
+      recorded = adds_to_none c.args.asked.now.items (g.S.Source.asked c.args.source.now);
       counted = refl;
       later = stays_itself (g.S.Source.may_answer c.args.source.now);
       replied = λ head. gathers_none (g.S.Source.may_answer c.args.source.now) (g.S.Source.asked c.args.source.now)

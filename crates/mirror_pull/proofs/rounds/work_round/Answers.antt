@@ -9,13 +9,13 @@ use Rattle.mirror_pull.proofs.Replies.{gathers_as, gathers_then, gathers_none, l
 use Rattle.mirror_pull.proofs.rounds.work_round.Goals.{then-branch, else-branch}
 use Rattle.mirror_pull.proofs.rounds.work_round.Goals as goal
 
-pub returns-in_err-take_next-clause-told : goal.returns-in_err-take_next-clause-told
-returns-in_err-take_next-clause-told g c =
+pub returns-in_err-take_next-clause-recorded : goal.returns-in_err-take_next-clause-recorded
+returns-in_err-take_next-clause-recorded g c =
     let asked = g.S.Source.asked in
     let p = err_from_is_err_and c.from_residual.result c.from_residual.ensures.1 in
     rw p.1 (adds_some_then c.args.asked.now.items c.loop-path.asked.items (asked c.args.source.now)
     (asked c.loop-path.source)
-    (asked c.take_next.new.source) c.loop-path.invariant.told c.in_err-take_next.ensures.told)
+    (asked c.take_next.new.source) c.loop-path.invariant.recorded c.in_err-take_next.ensures.recorded)
 
 pub returns-in_err-take_next-clause-counted : goal.returns-in_err-take_next-clause-counted
 returns-in_err-take_next-clause-counted g c =
@@ -42,9 +42,9 @@ loop-path-preserved g c =
     let asked = g.S.Source.asked in
     let may = g.S.Source.may_answer in
     record {
-      told = adds_to_then c.args.asked.now.items c.loop-path.asked.items c.take_next.new.asked.items
+      recorded = adds_to_then c.args.asked.now.items c.loop-path.asked.items c.take_next.new.asked.items
           (asked c.args.source.now) (asked c.loop-path.source)
-          (asked c.take_next.new.source) c.loop-path.invariant.told c.in_ok-take_next.ensures.told;
+          (asked c.take_next.new.source) c.loop-path.invariant.recorded c.in_ok-take_next.ensures.recorded;
       counted = c.in_ok-take_next.ensures.counted ∙ c.loop-path.invariant.counted;
       later = stays_then (may c.args.source.now) (may c.loop-path.source)
           (may c.take_next.new.source) c.loop-path.invariant.later c.in_ok-take_next.ensures.later;
@@ -87,7 +87,7 @@ loop-path-preserved g c =
 pub loop-path-init : goal.loop-path-init
 loop-path-init g c =
     record {
-      told = adds_to_none c.args.asked.now.items (g.S.Source.asked c.args.source.now);
+      recorded = adds_to_none c.args.asked.now.items (g.S.Source.asked c.args.source.now);
       counted = refl;
       later = stays_itself (g.S.Source.may_answer c.args.source.now);
       replied = gathers_none (g.S.Source.may_answer c.args.source.now) (g.S.Source.asked c.args.source.now)

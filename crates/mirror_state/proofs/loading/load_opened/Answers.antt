@@ -4,7 +4,7 @@ use Rattle.tlog_mirror.specs.Opened.{SaysHead}
 use Rattle.mirror_state.specs.LoadSteps.{MakesMirror}
 use Rattle.mirror_state.specs.Loading.{listed_strings}
 use Rattle.mirror_state.specs.Stands.{parts_of}
-use Rattle.mirror_state.proofs.Loaded.{clash_told, loaded, not_loaded}
+use Rattle.mirror_state.proofs.Loaded.{clash_recorded, loaded, not_loaded}
 use Rattle.mirror_state.proofs.loading.load_opened.Goals as goal
 
 pub keep_all-requires : goal.keep_all-requires
@@ -13,7 +13,7 @@ keep_all-requires g c =
 
 pub returns-in-Err-Collision-clause-loads : goal.returns-in-Err-Collision-clause-loads
 returns-in-Err-Collision-clause-loads g c = λ bytes keys listed opened.
-    clash_told g.H.TreeHash.digest c.args.origin.now keys bytes (parts_of c.args.lists.now) listed
+    clash_recorded g.H.TreeHash.digest c.args.origin.now keys bytes (parts_of c.args.lists.now) listed
     _ refl opened.opened
     (subst (λ f. MakesMirror g.H.TreeHash.digest c.args.origin.now (listed_strings (parts_of c.args.lists.now)) (Err f))
     c.in-Err-Collision.field-0-is c.in-Err-Collision.ensures.makes)

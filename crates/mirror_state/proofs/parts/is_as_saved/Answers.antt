@@ -1,6 +1,6 @@
 use Rattle.std.proofs.Common.{◌≡◌, ℕ, List, take, codes, inl, inr, sym, ◌∙◌}
 use Rattle.mirror_state.specs.AsSaved.{IsAsSaved}
-use Rattle.mirror_state.specs.StateText.{Parts, Tagged}
+use Rattle.mirror_state.specs.StateText.{Parts, VersionOne}
 use Rattle.mirror_state.proofs.BodyLemmas.{magic_in, versions_differ}
 use Rattle.mirror_state.proofs.parts.is_as_saved.Goals as goal
 
@@ -9,7 +9,7 @@ as_saved : (bytes : List ℕ) → take 8 bytes ≡ codes "TLMIRR02" → IsAsSave
 as_saved bytes new digest origin keys v loads = elim loads.text [
   | inl text ↦ text
   | inr old ↦
-      let parts : Parts = Tagged v.origin old.notes old.strings in
+      let parts : Parts = VersionOne v.origin old.notes old.strings in
       absurd (versions_differ (take 8 bytes) new
       (magic_in bytes parts _ (record { are_parts = old.is_text.are_parts; text = old.is_text.text })))
 ]

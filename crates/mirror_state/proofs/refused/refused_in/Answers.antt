@@ -2,8 +2,8 @@ use Rattle.std.proofs.Common.{Err, subst}
 use Rattle.mirror_state.specs.LoadSteps.{MakesMirror}
 use Rattle.mirror_state.specs.Loading.{listed_strings}
 use Rattle.mirror_state.specs.Stands.{parts_of}
-use Rattle.mirror_state.proofs.Loaded.{clash_told}
-use Rattle.mirror_state.proofs.RefusedNotes.{closed_told, edges_judged, strings_clash}
+use Rattle.mirror_state.proofs.Loaded.{clash_recorded}
+use Rattle.mirror_state.proofs.RefusedNotes.{closed_recorded, edges_judged, strings_clash}
 use Rattle.mirror_state.proofs.refused.refused_in.Goals as goal
 
 pub returns-in-Ok : goal.returns-in-Ok
@@ -15,12 +15,12 @@ returns-in-Ok g c = λ bytes listed.
 pub returns-in-Err-Collision : goal.returns-in-Err-Collision
 returns-in-Err-Collision g c = λ bytes listed.
     strings_clash g.H.TreeHash.digest c.args.origin.now _ bytes
-    (clash_told g.H.TreeHash.digest c.args.origin.now _ bytes (parts_of c.args.lists.now) listed
+    (clash_recorded g.H.TreeHash.digest c.args.origin.now _ bytes (parts_of c.args.lists.now) listed
     _ c.notes.ensures (rw c.in-None.is at c.in_ok-found.ensures.none)
     (subst (λ f. MakesMirror g.H.TreeHash.digest c.args.origin.now (listed_strings (parts_of c.args.lists.now)) (Err f))
     c.in-Err-Collision.field-0-is c.in-Err-Collision.ensures.makes))
 
 pub returns-in-Some : goal.returns-in-Some
 returns-in-Some g c = λ bytes listed.
-    closed_told g.H.TreeHash.digest c.args.origin.now _ bytes (parts_of c.args.lists.now) listed _ c.notes.ensures
+    closed_recorded g.H.TreeHash.digest c.args.origin.now _ bytes (parts_of c.args.lists.now) listed _ c.notes.ensures
     c.in-Some.found.0 c.in-Some.found.1.now (rw c.in-Some.is at c.in_ok-found.ensures.found)

@@ -1,22 +1,22 @@
 use Rattle.std.proofs.Common.{◌≡◌, length, refl, ap, ◌∙◌, arith, rules, eqb}
 use Rattle.std.specs.Cmp.Lexicographic.{pointwise}
-use Rattle.mirror_trees.proofs.Builds.{tells_none, tells_one, tells_no_pair}
-use Rattle.mirror_trees.proofs.KnownSteps.{known_tells, noted_known, both_built, tells_no_left, tells_no_right}
+use Rattle.mirror_trees.proofs.Builds.{records_none, records_one, tells_no_pair}
+use Rattle.mirror_trees.proofs.KnownSteps.{known_decides, noted_known, both_built, tells_no_left, tells_no_right}
 use Rattle.mirror_trees.proofs.built.+check_built.Goals as goal
 
 pub returns-then-contains-clause-built : goal.returns-then-contains-clause-built
 returns-then-contains-clause-built g t c =
-    known_tells g.H.TreeHash.digest c.args.store.now c.args.known.now c.args.size c.args.root.now c.contains.result
+    known_decides g.H.TreeHash.digest c.args.store.now c.args.known.now c.args.size c.args.root.now c.contains.result
     c.requires c.contains.ensures c.if-contains.true
 
 pub returns-then-size-eq0-clause-built : goal.returns-then-size-eq0-clause-built
 returns-then-size-eq0-clause-built g t c =
-    tells_none g.H.TreeHash.digest c.args.store.now c.args.size c.args.root.now c.eq.result c.if-size-eq0.true
+    records_none g.H.TreeHash.digest c.args.store.now c.args.size c.args.root.now c.eq.result c.if-size-eq0.true
     (c.eq.ensures ∙ ap (λ d. pointwise eqb d c.args.root.now) c.empty.ensures)
 
 pub returns-then-size-eq1-clause-built : goal.returns-then-size-eq1-clause-built
 returns-then-size-eq1-clause-built g t c =
-    tells_one g.H.TreeHash.digest c.args.store.now c.args.size c.args.root.now c.entry_of.result c.is_some.result
+    records_one g.H.TreeHash.digest c.args.store.now c.args.size c.args.root.now c.entry_of.result c.is_some.result
     c.if-size-eq1.true c.is_some.ensures c.entry_of.ensures.some c.entry_of.ensures.none
 
 pub returns-in_default-clause-built : goal.returns-in_default-clause-built

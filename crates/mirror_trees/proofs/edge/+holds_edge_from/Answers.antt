@@ -1,6 +1,6 @@
 use Rattle.std.proofs.Common.{arith, sym, ap, ◌∙◌, eqb}
 use Rattle.std.specs.Cmp.Lexicographic.{pointwise}
-use Rattle.mirror_trees.proofs.EdgeSteps.{edge_none, edge_skipped, edge_refused, edge_told}
+use Rattle.mirror_trees.proofs.EdgeSteps.{edge_none, edge_skipped, edge_refused, edge_recorded}
 use Rattle.mirror_trees.proofs.edge.+holds_edge_from.Goals as goal
 
 pub returns-then-level-eq8 : goal.returns-then-level-eq8
@@ -22,7 +22,7 @@ returns-in_default g t c =
 
 pub returns : goal.returns
 returns g t c =
-    edge_told g.H.TreeHash.digest c.args.store.now c.args.size c.args.level c.args.root.now
+    edge_recorded g.H.TreeHash.digest c.args.store.now c.args.size c.args.level c.args.root.now
     g.met.H.TreeHash.digest_length c.requires.clean (omega arith) c.edge_width-width.result c.in-Some.value
     c.last_of_row.result _ c.edge_width-width.ensures (omega arith) c.is_some.ensures c.in-Some.ensures.found
     c.in-Some.ensures.only c.last_of_row.ensures.found c.last_of_row.ensures.none

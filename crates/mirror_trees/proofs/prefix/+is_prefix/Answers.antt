@@ -1,6 +1,6 @@
 use Rattle.std.proofs.Common.{◌≡◌, length, arith, rules, false}
 use Rattle.mirror_trees.proofs.Descents.{no-pair}
-use Rattle.mirror_trees.proofs.PrefixSteps.{tells_empty, tells_equal, tells_within, tells_differ, tells_beyond}
+use Rattle.mirror_trees.proofs.PrefixSteps.{tells_empty, records_equal, tells_within, tells_differ, tells_beyond}
 use Rattle.mirror_trees.proofs.PrefixSteps.{differ_tells, same_tells}
 use Rattle.mirror_trees.proofs.prefix.+is_prefix.Goals as goal
 
@@ -11,7 +11,7 @@ returns-then-few-eq0 g t c = λ xs ys x y.
 
 pub returns-then-few-many-2 : goal.returns-then-few-many-2
 returns-then-few-many-2 g t c = λ xs ys x y.
-    tells_equal g.H.TreeHash.digest c.args.store.now c.args.small.0 c.args.large.0 c.args.small.1.now
+    records_equal g.H.TreeHash.digest c.args.store.now c.args.small.0 c.args.large.0 c.args.small.1.now
     c.args.large.1.now xs ys x y
     g.met.H.TreeHash.digest_length c.requires.clean c.if-few-many-2.true c.eq.result c.eq.ensures
 

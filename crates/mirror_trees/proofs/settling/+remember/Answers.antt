@@ -1,6 +1,6 @@
 use Rattle.std.proofs.Common.{◌≡◌, ◌⊎◌, ◌-◌, ◌≤◌, length, sym, subst, arith, rules}
 use Rattle.mirror_model.specs.Complete.{IsBuilt}
-use Rattle.mirror_trees.specs.Known.{HasMark}
+use Rattle.mirror_trees.specs.HeldTrees.{HasMark}
 use Rattle.mirror_trees.specs.Slices.{IsSliceOf}
 use Rattle.mirror_trees.proofs.Descents.{no-pair, left-tree, right-tree}
 use Rattle.mirror_trees.proofs.SliceSteps.{point_at, no_slice}

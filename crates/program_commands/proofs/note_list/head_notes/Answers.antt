@@ -13,11 +13,11 @@ loop-i-preserved g c =
     let v = c.args.mirror.now.view in
     let i = c.loop-i.i in
     let heads = c.loop-i.heads.items in
-    let head = c.in_ok-head_of.field-0 in
+    let head = c.in_ok-read_head_note.field-0 in
     let at : IsNoteAt v i (Some head.bytes.now) =
-    subst (λ (note : List ℕ). IsNoteAt v i (Some note)) (sym c.in_ok-head_of.ensures.note) c.in-Some.ensures in
+    subst (λ (note : List ℕ). IsNoteAt v i (Some note)) (sym c.in_ok-read_head_note.ensures.note) c.in-Some.ensures in
     rw (c.in_ok-push.ensures.items, map-append head_note heads (head ∷ []))
-    (meets_more v i (map head_note heads) (head_note head) c.in_ok-head_of.ensures.head at c.loop-i.invariant)
+    (meets_more v i (map head_note heads) (head_note head) c.in_ok-read_head_note.ensures.head at c.loop-i.invariant)
 
 pub returns-in_default : goal.returns-in_default
 returns-in_default g c =

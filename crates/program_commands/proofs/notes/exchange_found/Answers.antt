@@ -13,7 +13,7 @@ use Rattle.program_commands.proofs.notes.exchange_found.Goals.{in-Ok-Some, then-
 
 pub returns : goal.returns
 returns g c =
-    let told = g.F.NamedFiles.puts c.args.files.now in
+    let recorded = g.F.NamedFiles.puts c.args.files.now in
     let folder = c.args.folder.now in
     let heads = map head_note c.args.heads.now in
     elim c.match-find.branch [
@@ -22,20 +22,20 @@ returns g c =
             (let there = w.in-Ok-Some.there.items in
             let file = note_file c.in_ok-file.file in
             let named = c.deref-2.ensures ∙ (c.in_ok-place.ensures ∙ ap (note_place folder) c.deref.ensures) in
-            let found : HasContents told c.deref-2.result.now there =
-            subst (λ o. FindsFile told c.deref-2.result.now (Ok (option_map (λ b. b.items) o)))
+            let found : HasContents recorded c.deref-2.result.now there =
+            subst (λ o. FindsFile recorded c.deref-2.result.now (Ok (option_map (λ b. b.items) o)))
             w.in-Ok-Some.field-0-is w.in-Ok-Some.ensures in
-            let stands : HasContents told (in_folder folder file).0 there =
-            subst (λ (name : List ℕ). HasContents told name there) named found in
+            let stands : HasContents recorded (in_folder folder file).0 there =
+            subst (λ (name : List ℕ). HasContents recorded name there) named found in
             let other : there ≡ file.1 → ⊥ = λ same.
             let yes : bytes_eq w.as_slice.result.now file.1 ≡ true =
             (bytes_eq-Decides w.as_slice.result.now file.1).1 (w.as_slice.ensures.value ∙ same) in
             false≢true (sym (ap not yes) ∙ (sym w.ne.ensures ∙ v.if-ne.true)) in
-            reorders_found told folder heads (map head_note v.swap.new.self) c.args.i file there c.in_ok-file.ensures
+            reorders_found recorded folder heads (map head_note v.swap.new.self) c.args.i file there c.in_ok-file.ensures
             (IsPermutation-map head_note _ _ v.swap.ensures.permutation) stands other)
-        | then-ne+in-None v ↦ rw (w.heads-is, v.heads-is) (reorders_none told folder heads)
-        | else-ne v ↦ rw (w.heads-is, v.heads-is) (reorders_none told folder heads)
+        | then-ne+in-None v ↦ rw (w.heads-is, v.heads-is) (reorders_none recorded folder heads)
+        | else-ne v ↦ rw (w.heads-is, v.heads-is) (reorders_none recorded folder heads)
       ]
-      | in-Ok+in-None-1 w ↦ rw w.heads-is (reorders_none told folder heads)
-      | in-Err+in-FileFault-1 w ↦ rw w.heads-is (reorders_none told folder heads)
+      | in-Ok+in-None-1 w ↦ rw w.heads-is (reorders_none recorded folder heads)
+      | in-Err+in-FileFault-1 w ↦ rw w.heads-is (reorders_none recorded folder heads)
     ]

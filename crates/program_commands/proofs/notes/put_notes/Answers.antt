@@ -2,7 +2,7 @@ use Rattle.std.proofs.Common.{sym, subst}
 use Rattle.std.proofs.lemmas.Result.{err_from_is_err_and}
 use Rattle.std.proofs.lemmas.Simd.{map-map}
 use Rattle.program_commands.specs.NoteFiles.{note_file}
-use Rattle.program_commands.specs.Notes.{IsTold, PutsEach, PutsFront, in_folder}
+use Rattle.program_commands.specs.Notes.{IsRecorded, PutsEach, PutsFront, in_folder}
 use Rattle.program_commands.proofs.Putting.{puts_all, puts_front, puts_more}
 use Rattle.program_commands.proofs.notes.put_notes.Goals as goal
 
@@ -29,7 +29,7 @@ loop-note-preserved g c =
 pub returns : goal.returns
 returns g c =
     let puts = g.F.NamedFiles.puts in
-    subst (λ files. IsTold (PutsEach files) (puts c.args.files.now) (puts c.loop-note.files))
+    subst (λ files. IsRecorded (PutsEach files) (puts c.args.files.now) (puts c.loop-note.files))
     (sym (map-map (in_folder c.args.folder.now) note_file c.args.notes.now))
     (puts_all (λ note. in_folder c.args.folder.now (note_file note)) c.args.notes.now c.loop-note.note-index
     (puts c.args.files.now) (puts c.loop-note.files)

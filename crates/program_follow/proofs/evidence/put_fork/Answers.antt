@@ -1,7 +1,7 @@
 use Rattle.std.proofs.Common.{[], ◌∷◌}
 use Rattle.std.proofs.lemmas.Result.{err_from_is_err_and}
 use Rattle.program_follow.specs.Evidence.{note_file, proof_files}
-use Rattle.program_follow.proofs.Putting.{files_then, front_both, front_more, told_both}
+use Rattle.program_follow.proofs.Putting.{files_then, front_both, front_more, recorded_both}
 use Rattle.program_follow.proofs.evidence.put_fork.Goals as goal
 
 pub returns-in_err-put_note : goal.returns-in_err-put_note
@@ -33,6 +33,6 @@ returns g c =
     let line = c.args.line.now in
     files_then (note_file folder line.small ∷ (note_file folder line.large ∷ [])) (proof_files folder line line.proof)
     (puts c.args.files.now) (puts c.put_note-2.new.files) (puts c.put_proof.new.files) c.put_proof.result
-    (told_both (note_file folder line.small ∷ []) (note_file folder line.large ∷ []) (puts c.args.files.now)
+    (recorded_both (note_file folder line.small ∷ []) (note_file folder line.large ∷ []) (puts c.args.files.now)
     (puts c.put_note.new.files) (puts c.put_note-2.new.files) c.in_ok-put_note.ensures c.in_ok-put_note-2.ensures)
     c.put_proof.ensures

@@ -1,10 +1,10 @@
 use Rattle.std.proofs.Common.{take}
 use Rattle.std.specs.List.{flat_map}
-use Rattle.program_follow.specs.Evidence.{TellsEach, fork_files}
+use Rattle.program_follow.specs.Evidence.{RecordsEach, fork_files}
 use Rattle.program_follow.proofs.evidence.put_forks.Given as goal
 
 -- the evidence of the forks so far was put
 abbrev pub invariant-loop-line : goal.invariant-loop-line
 invariant-loop-line g l =
-    TellsEach (flat_map (fork_files l.folder) (take l.line-index l.lines)) (g.F.NamedFiles.puts l.fn.files)
+    RecordsEach (flat_map (fork_files l.folder) (take l.line-index l.lines)) (g.F.NamedFiles.puts l.fn.files)
     (g.F.NamedFiles.puts l.files)

@@ -1,21 +1,21 @@
 use Rattle.std.proofs.Common.{◌≡◌}
 use Rattle.program_follow.proofs.following.follow_into.Goals as goal
 
-pub returns-in-Ok-follow_told-clause-follows : goal.returns-in-Ok-follow_told-clause-follows
-returns-in-Ok-follow_told-clause-follows g c =
-    let done = c.in-Ok-follow_told.ensures in
+pub returns-in-Ok-follow_reporting-clause-follows : goal.returns-in-Ok-follow_reporting-clause-follows
+returns-in-Ok-follow_reporting-clause-follows g c =
+    let done = c.in-Ok-follow_reporting.ensures in
     rw (← c.in-Ok.ensures.opened) record { whole = done.whole; brought = done.brought; forks = done.forks }
 
-pub returns-in-Err-follow_told-clause-follows : goal.returns-in-Err-follow_told-clause-follows
-returns-in-Err-follow_told-clause-follows g c = rw (← c.in-Ok.ensures.opened) c.in-Err-follow_told.ensures.whole
+pub returns-in-Err-follow_reporting-clause-follows : goal.returns-in-Err-follow_reporting-clause-follows
+returns-in-Err-follow_reporting-clause-follows g c = rw (← c.in-Ok.ensures.opened) c.in-Err-follow_reporting.ensures.whole
 
-pub returns-in-Ok-follow_told-clause-says : goal.returns-in-Ok-follow_told-clause-says
-returns-in-Ok-follow_told-clause-says g c = rw (← c.in-Ok.ensures.opened) c.in-Ok-follow_told.ensures.says
+pub returns-in-Ok-follow_reporting-clause-says : goal.returns-in-Ok-follow_reporting-clause-says
+returns-in-Ok-follow_reporting-clause-says g c = rw (← c.in-Ok.ensures.opened) c.in-Ok-follow_reporting.ensures.says
 
 pub returns-in-Err-clause-ends : goal.returns-in-Err-clause-ends
 returns-in-Err-clause-ends g c = λ fault e. absurd cc
 
-pub returns-in-Err-follow_told-clause-ends : goal.returns-in-Err-follow_told-clause-ends
-returns-in-Err-follow_told-clause-ends g c = λ fault e.
-    let same : c.in-Err-follow_told.fault ≡ fault = cc in
-    rw (← same) (rw (← c.in-Ok.ensures.opened) c.in-Err-follow_told.ensures.ends)
+pub returns-in-Err-follow_reporting-clause-ends : goal.returns-in-Err-follow_reporting-clause-ends
+returns-in-Err-follow_reporting-clause-ends g c = λ fault e.
+    let same : c.in-Err-follow_reporting.fault ≡ fault = cc in
+    rw (← same) (rw (← c.in-Ok.ensures.opened) c.in-Err-follow_reporting.ensures.ends)

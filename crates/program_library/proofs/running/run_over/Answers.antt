@@ -10,13 +10,13 @@ run_line-answer-requires g c = line_doable (map string_bytes c.args.words.now) c
 
 pub returns-in-Ok-clause-answer : goal.returns-in-Ok-clause-answer
 returns-in-Ok-clause-answer g c =
-    rw c.told.ensures (c.run_line-answer.ensures.runs (map string_bytes c.args.words.now) c.in-Ok.ensures.line)
+    rw c.printed.ensures (c.run_line-answer.ensures.runs (map string_bytes c.args.words.now) c.in-Ok.ensures.line)
 
 pub returns-in-Ok-clause-status : goal.returns-in-Ok-clause-status
-returns-in-Ok-clause-status g c = rw c.told.ensures c.run_line-answer.ensures.ends.status
+returns-in-Ok-clause-status g c = rw c.printed.ensures c.run_line-answer.ensures.ends.status
 
 pub returns-in-Ok-clause-quiet : goal.returns-in-Ok-clause-quiet
-returns-in-Ok-clause-quiet g c = rw c.told.ensures c.run_line-answer.ensures.ends.quiet
+returns-in-Ok-clause-quiet g c = rw c.printed.ensures c.run_line-answer.ensures.ends.quiet
 
 pub returns-in-Err-clause-answer : goal.returns-in-Err-clause-answer
 returns-in-Err-clause-answer g c =

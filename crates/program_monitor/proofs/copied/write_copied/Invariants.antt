@@ -1,5 +1,5 @@
 use Rattle.std.proofs.Common.{◌≡◌, ◌-◌, ◌≤◌, List, ℕ}
-use Rattle.mirror_sources.specs.Told.{KeepsTold}
+use Rattle.mirror_sources.specs.Recorded.{KeepsRecord}
 use Rattle.log_reader.specs.Holding.{IsReaderOf}
 use Rattle.copy_reader.specs.WholeCopies.{HasFilesOf}
 use Rattle.program_monitor.specs.Served.{WritesAll}
@@ -12,7 +12,7 @@ invariant-loop-at g l = record {
   low : l.range.from ≤ l.at;
   high : l.at ≤ l.range.to;
   counted : g.D.Shelf.failed l.shelf ≡ g.D.Shelf.failed l.fn.shelf;
-  same : KeepsTold (g.D.Shelf.puts l.fn.shelf) (g.D.Shelf.puts l.shelf);
+  same : KeepsRecord (g.D.Shelf.puts l.fn.shelf) (g.D.Shelf.puts l.shelf);
   edge : l.reader.edge ≡ l.fn.reader.edge;
   written : WritesShown g.H.TreeHash.digest l.fn.reader.edge l.range.base64 l.range.from l.at
       (g.W.Write.contents l.fn.output) (g.W.Write.contents l.output);

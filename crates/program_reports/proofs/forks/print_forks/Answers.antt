@@ -9,7 +9,7 @@ use Rattle.program_reports.proofs.forks.print_forks.Goals as goal
 prefix : (digest : List ℕ → List ℕ) (v : View) (old new : Option (List ℕ)) → WritesForksPrefix digest v old new →
     PrintsReportPrefix digest Forks v old new
 prefix digest v old new w = record {
-  told = w.text;
+  printed = w.text;
   ended = (status_of w.text).0;
   tells = record { text = w.is_text; status = (status_of w.text).1 };
   written = w.written;

@@ -3,7 +3,7 @@ use Rattle.std.specs.Prelude.{◌≢◌, IsTrue, Ok}
 use Rattle.mirror_model.specs.View.{View}
 use Rattle.tlog_mirror.specs.MissingWritten.{WritesMissing, WritesMissingPrefix, WritesMissingWhole}
 use Rattle.program_reports.specs.Questions.{PrintsReport, PrintsReportPrefix}
-use Rattle.program_reports.specs.Reports.{TellsNothing}
+use Rattle.program_reports.specs.Reports.{PrintsNothing}
 use Rattle.program_reports.specs.declared.question.Question.TheVariants.{Missing}
 use Rattle.program_reports.proofs.Statuses.{status_of}
 use Rattle.program_reports.proofs.missing.print_missing.Goals as goal
@@ -11,7 +11,7 @@ use Rattle.program_reports.proofs.missing.print_missing.Goals as goal
 prefix : (digest : List ℕ → List ℕ) (v : View) (size : ℕ) (root : List ℕ) (old new : Option (List ℕ)) →
     WritesMissingPrefix digest v size root old new → PrintsReportPrefix digest (Missing size root) v old new
 prefix digest v size root old new w = record {
-  told = w.text;
+  printed = w.text;
   ended = (status_of w.text).0;
   tells = record { text = w.is_text; status = (status_of w.text).1 };
   written = w.written;
@@ -28,12 +28,12 @@ none_said : (digest : List ℕ → List ℕ) (v : View) (size : ℕ) (root : Lis
     any ≡ false → WritesMissingWhole digest v size root old new any →
     PrintsReport digest (Missing size root) v old new 0
 none_said digest v size root old new any none w = record {
-  told = w.text;
+  printed = w.text;
   tells = record { text = w.is_text; status = at w.text w.says.1 };
   written = w.written;
 }
   where
-    at : (text : List ℕ) → ((text ≢ []) → IsTrue any) → TellsNothing text 0
+    at : (text : List ℕ) → ((text ≢ []) → IsTrue any) → PrintsNothing text 0
     at [] says = inl (refl, refl)
     at (x ∷ xs) says = let some : IsTrue any = says (λ e. cc e) in absurd (let wrong : true ≡ false = sym some ∙ none in cc wrong)
 

@@ -1,7 +1,7 @@
 use Rattle.std.proofs.Common.{List, Option, inl, inr, option_map, refl, subst}
 use Rattle.std.specs.Prelude.{IsTrue}
 use Rattle.program_files.specs.Named.{NamedFile}
-use Rattle.program_env.specs.Pulls.{IsHeld, TellsPulled}
+use Rattle.program_env.specs.Pulls.{IsHeld, PrintsPulled}
 use Rattle.state_commands.proofs.Keeping.{held_still}
 use Rattle.program_env.proofs.Written.{keeps_itself}
 use Rattle.state_commands.proofs.pull.run_pull.Goals as goal
@@ -16,9 +16,9 @@ returns-in-Ok-pull_kept-clause-answer g c =
     let start = c.in-Ok.mirror.view in
     let view = c.pull_kept.new.mirror.view in
     let out = c.args.words.now.mirror.out.now in
-    let told = g.F.NamedFiles.puts c.args.files.now in
+    let recorded = g.F.NamedFiles.puts c.args.files.now in
     let held : IsTrue c.is_held-held.result → IsHeld state start view out (g.F.NamedFiles.puts c.pull_kept.new.files) =
-    λ is. held_still state start view out told (g.F.NamedFiles.puts c.pull_kept.new.files)
+    λ is. held_still state start view out recorded (g.F.NamedFiles.puts c.pull_kept.new.files)
     c.in-Ok-pull_kept.ensures.same (c.in-Ok.ensures.saved (c.is_held-held.ensures.saved is))
     (c.in-Ok-pull_kept.ensures.gained (c.is_held-held.ensures.nothing is)) in
     inr record {
@@ -31,11 +31,11 @@ returns-in-Ok-pull_kept-clause-answer g c =
         follows = c.in-Ok-pull_kept.ensures.follows;
         lawful = c.in-Ok-pull_kept.ensures.lawful;
       };
-      tells = subst (λ (before : Option (List NamedFile)). TellsPulled state start view c.in-Ok-pull_kept.pulled out before
-          (g.F.NamedFiles.puts c.tell_pulled-answer.new.files)
-          (g.W.Write.contents c.args.output.now) (g.W.Write.contents c.tell_pulled-answer.new.output)
-          c.tell_pulled-answer.result)
-          c.in-Ok-pull_kept.ensures.same (c.tell_pulled-answer.ensures.answer state start held);
+      tells = subst (λ (before : Option (List NamedFile)). PrintsPulled state start view c.in-Ok-pull_kept.pulled out before
+          (g.F.NamedFiles.puts c.report_pulled-answer.new.files)
+          (g.W.Write.contents c.args.output.now) (g.W.Write.contents c.report_pulled-answer.new.output)
+          c.report_pulled-answer.result)
+          c.in-Ok-pull_kept.ensures.same (c.report_pulled-answer.ensures.answer state start held);
     }
 
 pub returns-in-Err-pull_kept-clause-answer : goal.returns-in-Err-pull_kept-clause-answer

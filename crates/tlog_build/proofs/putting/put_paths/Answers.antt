@@ -5,20 +5,20 @@ use Rattle.mirror_export.specs.Files.{file_at}
 use Rattle.tlog_build.proofs.PutPaths.{path_put, path_cut}
 use Rattle.tlog_build.proofs.putting.put_paths.Goals as goal
 
-pub returns-in_err-put_path-clause-told : goal.returns-in_err-put_path-clause-told
-returns-in_err-put_path-clause-told g c =
+pub returns-in_err-put_path-clause-recorded : goal.returns-in_err-put_path-clause-recorded
+returns-in_err-put_path-clause-recorded g c =
     let puts = g.S.Shelf.puts in
     let p = err_from_is_err_and c.from_residual.result c.from_residual.ensures.1 in
     rw p.1 (path_cut (file_at g.H.TreeHash.digest c.args.source.now.note c.args.source.now.entries) (puts c.args.shelf.now)
     (puts c.loop-path.shelf) (puts c.put_path.new.shelf) c.args.paths.now c.loop-path.path-index Checkpoint
-    c.loop-path-test.true c.loop-path.invariant.told c.in_err-put_path.ensures.told)
+    c.loop-path-test.true c.loop-path.invariant.recorded c.in_err-put_path.ensures.recorded)
 
 pub loop-path-preserved : goal.loop-path-preserved
 loop-path-preserved g c =
     let puts = g.S.Shelf.puts in
     record {
-      told = path_put (file_at g.H.TreeHash.digest c.args.source.now.note c.args.source.now.entries) (puts c.args.shelf.now)
+      recorded = path_put (file_at g.H.TreeHash.digest c.args.source.now.note c.args.source.now.entries) (puts c.args.shelf.now)
           (puts c.loop-path.shelf) (puts c.put_path.new.shelf) c.args.paths.now c.loop-path.path-index Checkpoint
-          c.loop-path-test.true c.loop-path.invariant.told c.in_ok-put_path.ensures.told;
+          c.loop-path-test.true c.loop-path.invariant.recorded c.in_ok-put_path.ensures.recorded;
       counted = c.in_ok-put_path.ensures.counted ∙ c.loop-path.invariant.counted;
     }

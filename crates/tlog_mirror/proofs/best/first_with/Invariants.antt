@@ -1,10 +1,10 @@
 use Rattle.std.proofs.Common.{◌≡◌, ◌<◌, ℕ, slice_index_or}
 use Rattle.tlog_mirror.specs.Best.{kept_point}
-use Rattle.tlog_mirror.specs.declared.kept.KeptNote.{KeptNote}
+use Rattle.tlog_mirror.specs.declared.kept.HeldNote.{HeldNote}
 use Rattle.tlog_mirror.proofs.best.first_with.Given as goal
 
 -- none of those before is of that size and root
 abbrev pub invariant-loop-one : goal.invariant-loop-one
 invariant-loop-one l =
-    (k : ℕ) (other : KeptNote) → k < l.one-index → slice_index_or l.kept k other ≡ other →
+    (k : ℕ) (other : HeldNote) → k < l.one-index → slice_index_or l.kept k other ≡ other →
     kept_point other ≡ record { size = l.size; root = l.root } → ⊥

@@ -2,12 +2,12 @@ use Rattle.std.proofs.Common.{[], refl, get_or}
 use Rattle.std.specs.Prelude.{string_bytes}
 use Rattle.tlog_mirror.specs.Compared.{compared_line}
 use Rattle.tlog_mirror.specs.declared.compare.Compared.TheVariants.{Same}
-use Rattle.tlog_mirror.proofs.ToldLines.{told_more}
+use Rattle.tlog_mirror.proofs.AnswerLines.{recorded_more}
 use Rattle.tlog_mirror.proofs.compare.comparison_text.Goals as goal
 
 pub loop-one-preserved : goal.loop-one-preserved
 loop-one-preserved c =
-    told_more compared_line [] c.args.compared.now c.loop-one.one-index
+    recorded_more compared_line [] c.args.compared.now c.loop-one.one-index
     (get_or c.args.compared.now c.loop-one.one-index (Same 0 [])) (Same 0 []) refl c.loop-one-test.true
     (string_bytes c.loop-one.text) (string_bytes c.push_compared.new.text) c.loop-one.invariant
     c.in_ok-push_compared.ensures

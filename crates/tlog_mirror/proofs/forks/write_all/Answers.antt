@@ -6,7 +6,7 @@ use Rattle.mirror_model.specs.Texts.{fork_line, forks_text}
 use Rattle.tlog_mirror.proofs.SentPieces.{in_err, ends, ends_early}
 use Rattle.tlog_mirror.proofs.ForkSteps.{all_step, all_end, from_length}
 use Rattle.tlog_mirror.proofs.WrittenLines.{IsWritten, starts, writes, breaks, all_sends}
-use Rattle.tlog_mirror.proofs.WrittenLines.{all_tells}
+use Rattle.tlog_mirror.proofs.WrittenLines.{all_records}
 use Rattle.tlog_mirror.proofs.forks.write_all.Goals as goal
 
 pub loop-at-init : goal.loop-at-init
@@ -88,6 +88,6 @@ returns-clause-any g c =
     let now = g.W.Write.contents c.loop-at.output in
     let forks = all_forks c.args.calm.now 0 c.args.marks.now all in
     let t =
-    all_tells fork_line old now [] c.loop-at.held.items false c.loop-at.any forks _
+    all_records fork_line old now [] c.loop-at.held.items false c.loop-at.any forks _
     (all_end all c.args.calm.now c.loop-at.at c.loop-at.marks c.loop-at-test.false) c.loop-at.invariant.writes in
     (λ h. elim (t.0 h) [ inl wrong ↦ absurd (cc wrong) | inr some ↦ some ], λ some. t.1 (inr some))

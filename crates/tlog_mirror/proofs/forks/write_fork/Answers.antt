@@ -4,7 +4,7 @@ use Rattle.mirror_model.specs.Texts.{fork_line, forks_text}
 use Rattle.tlog_mirror.specs.Branches.{fork_of}
 use Rattle.tlog_mirror.specs.Pieces.{Sends}
 use Rattle.tlog_mirror.proofs.SentPieces.{in_err, held_back}
-use Rattle.tlog_mirror.proofs.ForkSteps.{pair_of, no_fork, one_fork, tells_none, tells_one}
+use Rattle.tlog_mirror.proofs.ForkSteps.{pair_of, no_fork, one_fork, records_none, records_one}
 use Rattle.tlog_mirror.proofs.WrittenLines.{one_text}
 use Rattle.tlog_mirror.proofs.forks.write_fork.Goals as goal
 
@@ -20,7 +20,7 @@ returns-then-not-is_apart-clause-ok g c =
 
 pub returns-then-not-is_apart-clause-any : goal.returns-then-not-is_apart-clause-any
 returns-then-not-is_apart-clause-any g c =
-    tells_none c.args.small.now c.args.large.now c.args.under c.args.before
+    records_none c.args.small.now c.args.large.now c.args.under c.args.before
     (sym c.is_apart.ensures ∙ c.if-not-is_apart.true)
 
 pub returns-in_err-write_line-clause-err : goal.returns-in_err-write_line-clause-err
@@ -46,5 +46,5 @@ returns-clause-ok g c =
 
 pub returns-clause-any : goal.returns-clause-any
 returns-clause-any g c =
-    tells_one c.args.small.now c.args.large.now c.args.under c.args.before
+    records_one c.args.small.now c.args.large.now c.args.under c.args.before
     (sym c.is_apart.ensures ∙ c.if-not-is_apart.false)

@@ -8,7 +8,7 @@ use Rattle.tlog_mirror.specs.Pieces.{Sends}
 use Rattle.tlog_mirror.proofs.SentPieces.{in_err, held_back}
 use Rattle.tlog_mirror.proofs.ForkSteps.{from_here, marks_here, with_step, marked_step, with_end, marked_end}
 use Rattle.tlog_mirror.proofs.WrittenLines.{IsWritten}
-use Rattle.tlog_mirror.proofs.WrittenLines.{starts, writes, breaks, all_sends, all_tells}
+use Rattle.tlog_mirror.proofs.WrittenLines.{starts, writes, breaks, all_sends, all_records}
 use Rattle.tlog_mirror.proofs.forks.write_forks_of.Goals as goal
 
 pub returns-then-calm-clause-ok : goal.returns-then-calm-clause-ok
@@ -124,7 +124,7 @@ returns-clause-any g c =
     subst (λ fs. IsTrue c.loop-next.any ↔ (IsTrue c.args.before ⊎ (fs ≢ [])))
     (sym (from_here all c.args.at small c.index-branches-at.is c.requires.within c.args.marks.now)
     ∙ ap (λ q. forks_from q c.args.at c.args.marks.now (drop c.args.at all)) (sym c.if-calm.false))
-    (all_tells fork_line (g.W.Write.contents c.args.output.now) (g.W.Write.contents c.loop-next.output) c.args.held.now.items
+    (all_records fork_line (g.W.Write.contents c.args.output.now) (g.W.Write.contents c.loop-next.output) c.args.held.now.items
     c.loop-next.held.items c.args.before c.loop-next.any _ _
     (with_end all c.args.at small c.loop-next.next c.loop-next.marks c.loop-next-test.false)
     c.loop-next.invariant.writes)

@@ -5,7 +5,7 @@ use Rattle.mirror_trees.specs.Levels.{fresh_from, path_at}
 use Rattle.tlog_mirror.specs.MissingLines.{paths_of}
 use Rattle.tlog_mirror.specs.Pieces.{Sends}
 use Rattle.tlog_mirror.proofs.SentPieces.{in_err}
-use Rattle.tlog_mirror.proofs.WrittenLines.{IsWritten, one_text, starts, writes, breaks, all_sends, all_tells}
+use Rattle.tlog_mirror.proofs.WrittenLines.{IsWritten, one_text, starts, writes, breaks, all_sends, all_records}
 use Rattle.tlog_mirror.proofs.MissingSteps.{next_path, no_path, says_one}
 use Rattle.tlog_mirror.proofs.lines.write_level.Goals as goal
 
@@ -59,7 +59,7 @@ returns-clause-ok g c = λ numbers lists.
 
 pub returns-clause-any : goal.returns-clause-any
 returns-clause-any g c = λ numbers lists.
-    all_tells path_line (g.W.Write.contents c.args.output.now) (g.W.Write.contents c.loop-number.output)
+    all_records path_line (g.W.Write.contents c.args.output.now) (g.W.Write.contents c.loop-number.output)
     c.args.held.now.items c.loop-number.held.items c.args.before c.loop-number.any
     (paths_of c.args.size c.args.level numbers) _
     (no_path c.args.size c.args.level numbers c.loop-number.from (sym (c.in_default.ensures.first numbers lists)))

@@ -1,5 +1,5 @@
 use Rattle.std.proofs.Common.{◌≡◌}
-use Rattle.mirror_trees.specs.Known.{AreKnown}
+use Rattle.mirror_trees.specs.HeldTrees.{AreKnown}
 use Rattle.tlog_mirror.proofs.settle.note_all.Given as goal
 
 -- what is known is held, and what is remembered stays

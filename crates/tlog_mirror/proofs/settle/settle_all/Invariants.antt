@@ -1,6 +1,6 @@
 use Rattle.std.proofs.Common.{take}
 use Rattle.std.specs.Prelude.{All}
-use Rattle.mirror_trees.specs.Known.{AreKnown}
+use Rattle.mirror_trees.specs.HeldTrees.{AreKnown}
 use Rattle.tlog_mirror.specs.Settled.{GainsAny, HasSlicesOf}
 use Rattle.tlog_mirror.proofs.settle.settle_all.Given as goal
 

@@ -41,6 +41,6 @@ returns-else-at-eq0 g c =
     (subst (λ x. HasBlocks (c.args.second - 1 + 1) x f s) m c.to_block-at.ensures.blocks)) in
     let is = climbs d c.args.second c.args.first f s c.to_block-at.ensures.even blocks c.requires.more
     c.args.first_root.now (get_or path 0 []) rest path (inr (omega arith, drop_more path 0 [] (omega arith))) in
-    let told = rw (take_rest path 1) at c.leads_to-else-at-eq0.ensures in
+    let recorded = rw (take_rest path 1) at c.leads_to-else-at-eq0.ensures in
     subst (λ o. IsTrue c.leads_to-else-at-eq0.result ↔ (o ≡ Some (c.args.first_root.now, c.args.second_root.now)))
-    (sym is) told
+    (sym is) recorded

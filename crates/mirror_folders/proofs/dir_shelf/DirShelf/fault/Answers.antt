@@ -1,5 +1,5 @@
 use Rattle.std.proofs.Common.{ap, ◌∙◌}
-use Rattle.mirror_sources.specs.Told.{one_more}
+use Rattle.mirror_sources.specs.Recorded.{one_more}
 use Rattle.mirror_folders.proofs.dir_shelf.DirShelf.fault.Goals as goal
 
 pub returns : goal.returns

@@ -1,5 +1,5 @@
 use Rattle.std.proofs.Common.{ap, ◌∙◌}
-use Rattle.mirror_sources.specs.Told.{one_more}
+use Rattle.mirror_sources.specs.Recorded.{one_more}
 use Rattle.mirror_folders.proofs.dir_source.DirSourceSource.get.Goals as goal
 
 pub returns-else-eq-clause-counted : goal.returns-else-eq-clause-counted

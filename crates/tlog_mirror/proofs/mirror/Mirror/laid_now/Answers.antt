@@ -3,7 +3,7 @@ use Rattle.mirror_model.specs.Complete.{IsTreeOf}
 use Rattle.mirror_model.specs.Marks.{State}
 use Rattle.mirror_trees.proofs.FileSteps.{at_some_and}
 use Rattle.tlog_mirror.specs.LaidOut.{IsLaidOut}
-use Rattle.tlog_mirror.specs.declared.kept.KeptNote.{KeptNote}
+use Rattle.tlog_mirror.specs.declared.kept.HeldNote.{HeldNote}
 use Rattle.tlog_mirror.proofs.LaidOut.{laid_anew}
 use Rattle.tlog_mirror.proofs.mirror.Mirror.laid_now.Goals as goal
 
@@ -17,5 +17,5 @@ returns g c =
     at_some_and c.in_ok-files.field-0 files _ c.in-Some-2.is c.in_ok-files.ensures in
     let tree : IsTreeOf d v.strings served.size served.root files =
     subst (λ (s : State). IsTreeOf d s.view.strings served.size served.root files) c.self.view_is held in
-    subst (λ (k : KeptNote). IsLaidOut d v (Some (k, files))) (sym c.in_ok-note.ensures)
+    subst (λ (k : HeldNote). IsLaidOut d v (Some (k, files))) (sym c.in_ok-note.ensures)
     (laid_anew d v served files c.in-Some.ensures.some tree)

@@ -1,5 +1,5 @@
 use Rattle.std.proofs.Common.{inr}
-use Rattle.program_copies.proofs.printing.print_told.Goals as goal
+use Rattle.program_copies.proofs.printing.print_text.Goals as goal
 
 -- a write failed, and a prefix was written
 pub returns-in-Ok-clause-prints : goal.returns-in-Ok-clause-prints
@@ -8,7 +8,7 @@ returns-in-Ok-clause-prints g c =
       tt,
       record {
         report = c.in-Ok.report;
-        told_is = c.in-Ok.is;
+        recorded_is = c.in-Ok.is;
         written = c.in-Err-write_report.ensures.err;
       },
     )

@@ -5,7 +5,7 @@ use Rattle.node_store.specs.Strings.{Strings}
 use Rattle.mirror_model.specs.Complete.{IsBuilt}
 use Rattle.mirror_model.specs.Forks.{Point}
 use Rattle.mirror_model.specs.Marks.{Points, State, IsSound}
-use Rattle.mirror_trees.specs.declared.known.Known.{Known}
+use Rattle.mirror_trees.specs.declared.known.HeldTrees.{HeldTrees}
 
 -- the set has that size and hash
 abbrev pub HasMark : Points → Point → Type 0
@@ -17,7 +17,7 @@ pub record AreBuilt (digest : List ℕ → List ℕ) (held : Strings) (points : 
       HasMark points (record { size = size; root = root }) → IsBuilt digest held size root
 
 -- all that is known of a store beforehand is held
-pub record AreKnown (digest : List ℕ → List ℕ) (held : Strings) (known : Known) : Type 0 where
+pub record AreKnown (digest : List ℕ → List ℕ) (held : Strings) (known : HeldTrees) : Type 0 where
   pub remembered : AreBuilt digest held known.remembered
   pub built : AreBuilt digest held known.built
 

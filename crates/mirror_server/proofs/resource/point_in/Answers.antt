@@ -1,7 +1,7 @@
 use Rattle.std.proofs.Common.{ℕ, List, subst, sym}
 use Rattle.mirror_server.specs.Resource.{IsHexHash, IsNumber}
 use Rattle.mirror_server.proofs.OneResource.{number_lacks_slash}
-use Rattle.mirror_server.proofs.resource.head_of.Goals as goal
+use Rattle.mirror_server.proofs.resource.point_in.Goals as goal
 
 pub returns-in_default-clause-none : goal.returns-in_default-clause-none
 returns-in_default-clause-none c =

@@ -1,7 +1,7 @@
 use Rattle.std.proofs.Common.{ap, subst, ◌∙◌}
 use Rattle.byte_streams.specs.Streams.{AppendsPrefix}
 use Rattle.mirror_progress.specs.Text.{line_of, pulled_text}
-use Rattle.mirror_progress.proofs.progress.Progress.tell_pulled.Goals as goal
+use Rattle.mirror_progress.proofs.progress.Progress.report_pulled.Goals as goal
 
 pub returns-in-Ok-clause-line : goal.returns-in-Ok-clause-line
 returns-in-Ok-clause-line g c =

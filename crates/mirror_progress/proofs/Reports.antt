@@ -5,7 +5,7 @@ use Rattle.std.specs.Prelude.{is_some}
 use Rattle.std.proofs.lemmas.Bool.{cases_lt, false≢true}
 use Rattle.std.proofs.lemmas.List.{append-nil}
 use Rattle.byte_streams.specs.Streams.{AppendsPrefix}
-use Rattle.mirror_progress.specs.Telling.{Telling, IsDue, TellsAt, SameWork, told_line}
+use Rattle.mirror_progress.specs.ProgressView.{ProgressView, IsDue, ReportsAt, SameWork, printed_line}
 
 due_or_not : (due : Option ℕ) (now : ℕ) → IsDue due now ⊎ (¬ IsDue due now)
 due_or_not None now = inr (λ h. h)
@@ -18,18 +18,18 @@ appends_nothing None line = (0, tt)
 appends_nothing (Some xs) line = (0, sym (append-nil xs))
 
 -- the same work is told by the same line
-same_line : {W : Type 0} (old new : Telling W) → SameWork old new → told_line old ≡ told_line new
+same_line : {W : Type 0} (old new : ProgressView W) → SameWork old new → printed_line old ≡ printed_line new
 same_line old new same = rw (same.task, same.all, same.counts) refl
 
 -- a look at the clock writes a prefix of the one line
-pub tells_prefix : {W : Type 0} (contents : W → Option (List ℕ)) (now : ℕ) (old new : Telling W) →
-    TellsAt contents now old new → AppendsPrefix (contents old.writer) (contents new.writer) (told_line new)
-tells_prefix contents now old new told =
+pub tells_prefix : {W : Type 0} (contents : W → Option (List ℕ)) (now : ℕ) (old new : ProgressView W) →
+    ReportsAt contents now old new → AppendsPrefix (contents old.writer) (contents new.writer) (printed_line new)
+tells_prefix contents now old new recorded =
     ⊎_elim
     (λ due. subst (λ line. AppendsPrefix (contents old.writer) (contents new.writer) line)
-    (same_line old new told.same) (told.line due))
-    (λ early. subst (λ (t : Telling _). AppendsPrefix (contents old.writer) (contents t.writer) (told_line t))
-    (sym (told.early early)) (appends_nothing (contents old.writer) (told_line old)))
+    (same_line old new recorded.same) (recorded.line due))
+    (λ early. subst (λ (t : ProgressView _). AppendsPrefix (contents old.writer) (contents t.writer) (printed_line t))
+    (sym (recorded.early early)) (appends_nothing (contents old.writer) (printed_line old)))
     (due_or_not old.due now)
 
 -- who tells is not silent

@@ -1,6 +1,6 @@
 use Rattle.std.proofs.Common.{ℕ, List, subst}
 use Rattle.tlog_checkpoint.specs.Grammar.{IsCheckpoint}
-use Rattle.program_commands.proofs.note_list.head_of.Goals as goal
+use Rattle.program_commands.proofs.note_list.read_head_note.Goals as goal
 
 pub returns-clause-head : goal.returns-clause-head
 returns-clause-head c =

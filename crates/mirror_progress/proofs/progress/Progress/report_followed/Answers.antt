@@ -2,7 +2,7 @@ use Rattle.std.proofs.Common.{ap, subst, ◌∙◌}
 use Rattle.byte_streams.specs.Streams.{AppendsPrefix}
 use Rattle.mirror_progress.specs.Text.{line_of, grown_text}
 use Rattle.mirror_progress.specs.declared.task.Task.TheVariants.{Follow}
-use Rattle.mirror_progress.proofs.progress.Progress.tell_followed.Goals as goal
+use Rattle.mirror_progress.proofs.progress.Progress.report_followed.Goals as goal
 
 pub returns-in-Ok-clause-line : goal.returns-in-Ok-clause-line
 returns-in-Ok-clause-line g c =

@@ -3,7 +3,7 @@ use Rattle.std.specs.Io.KnownBytes.{Appends}
 use Rattle.byte_streams.specs.Streams.{AppendsPrefix}
 use Rattle.program_reports.specs.Pulling.{pulled_lines}
 use Rattle.program_env.proofs.Written.{keeps_itself}
-use Rattle.state_commands.proofs.pull.tell_pulled.Goals as goal
+use Rattle.state_commands.proofs.pull.report_pulled.Goals as goal
 
 pub returns-in-Err-clause-answer : goal.returns-in-Err-clause-answer
 returns-in-Err-clause-answer g c = λ state start held.

@@ -2,16 +2,16 @@
 use Rattle.std.specs.Prelude.{◌≡◌, ℕ, ◌+◌, ◌-◌, ◌^◌, ◌<◌, ◌⊎◌, List, ◌++◌, min, Option, Some, None, ⊤}
 
 -- a list of calls that is known stays as it was
-abbrev pub KeepsTold : {X : Type 0} → Option (List X) → Option (List X) → Type 0
-KeepsTold None new = ⊤
-KeepsTold (Some xs) None = ⊥
-KeepsTold (Some xs) (Some ys) = ys ≡ xs
+abbrev pub KeepsRecord : {X : Type 0} → Option (List X) → Option (List X) → Type 0
+KeepsRecord None new = ⊤
+KeepsRecord (Some xs) None = ⊥
+KeepsRecord (Some xs) (Some ys) = ys ≡ xs
 
 -- a list of calls that is known grows by these
-abbrev pub AddsTold : {X : Type 0} → Option (List X) → Option (List X) → List X → Type 0
-AddsTold None new zs = ⊤
-AddsTold (Some xs) None zs = ⊥
-AddsTold (Some xs) (Some ys) zs = ys ≡ xs ++ zs
+abbrev pub AddsToRecord : {X : Type 0} → Option (List X) → Option (List X) → List X → Type 0
+AddsToRecord None new zs = ⊤
+AddsToRecord (Some xs) None zs = ⊥
+AddsToRecord (Some xs) (Some ys) zs = ys ≡ xs ++ zs
 
 -- one more, up to the last value of a u64
 abbrev pub one_more : ℕ → ℕ

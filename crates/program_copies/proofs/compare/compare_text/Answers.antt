@@ -2,7 +2,7 @@ use Rattle.std.specs.Prelude.{option_map, ⊤}
 use Rattle.program_reports.specs.declared.reports.Report.{Report as Printout}
 use Rattle.program_copies.proofs.Given.{given_fault, given_counts}
 use Rattle.program_copies.proofs.Reading.{compared_whole, opened_checkpoint, read_refused}
-use Rattle.program_copies.proofs.compare.told_compared.Goals as goal
+use Rattle.program_copies.proofs.compare.compare_text.Goals as goal
 
 pub returns-in-Err-given_heads-clause-answer : goal.returns-in-Err-given_heads-clause-answer
 returns-in-Err-given_heads-clause-answer g c =

@@ -3,7 +3,7 @@ use Rattle.std.specs.Cmp.Lexicographic.{slice_cmp}
 use Rattle.std.specs.Ordering.{nat_cmp}
 use Rattle.std.proofs.lemmas.Fn.{always_returns_same}
 use Rattle.tlog_mirror.specs.Kept.{note_bytes}
-use Rattle.tlog_mirror.proofs.kept.place_of.Goals as goal
+use Rattle.tlog_mirror.proofs.kept.find_note.Goals as goal
 
 -- the closure compares the bytes of a note
 pub returns-clause-place : goal.returns-clause-place
