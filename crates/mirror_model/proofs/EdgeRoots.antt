@@ -1,4 +1,4 @@
--- The root that the true edge rows lead to.
+-- The root of the true edge rows.
 use Rattle.std.proofs.Common.{subst, Bool, true, false, ◌≡◌, ℕ, zero, suc, ◌+◌, ◌*◌, ◌/◌, ◌%◌, ◌^◌, ◌<◌, ◌≤◌, List, []}
 use Rattle.std.proofs.Common.{◌∷◌, ◌++◌, length, take, drop, sym, refl, ap, ◌∙◌, arith, length-drop, take-append-drop}
 use Rattle.std.proofs.Common.{map}
@@ -49,7 +49,7 @@ level_is n level =
       next = next;
     }
 
--- as many levels, from that one on
+-- the given number of levels, from that level on
 abbrev pub levels_from : ℕ → ℕ → List ℕ
 levels_from zero level = []
 levels_from (suc levels) level = level ∷ levels_from levels (level + 1)
@@ -79,7 +79,7 @@ edge_rows-levels digest es = by_levels 8 0
         at true xs rows e = e
         at false xs rows e = ap (λ rows. edge_row digest es level ∷ rows) e
 
--- the blocks of a level's row and what is behind them: they are a cut, and join to all that the row begins
+-- the blocks of a level's row and the entries after them are a cut of everything from the start of the row
 pub row_and_rest : {X : Type 0} (es : List X) (level c q p w : ℕ) → IsLevel (length es) (256 ^ level) c q p w →
     q * 256 ^ level < length es →
     IsCut (256 ^ level) (ranges (256 ^ level) (256 * p) w es ++ drop (q * 256 ^ level) es ∷ [])
@@ -126,7 +126,7 @@ module _ (digest : List ℕ → List ℕ) (es : List (List ℕ)) where
       ∙ ap (λ n. drop n es) (sym h.start) in
       sym (mth-level digest level rows cut) ∙ ap (mth digest) whole
 
-  -- what is done below a level
+  -- the entries after the blocks of a level
   abbrev done : ℕ → List (List ℕ)
   done level = drop (length es / 256 ^ level * 256 ^ level) es
 
@@ -205,7 +205,7 @@ edge_root_is digest es low =
     one : (n : ℕ) → n ≡ n / 256 ^ 0 * 256 ^ 0
     one n = omega arith
 
--- the true edge rows have the widths of the edge
+-- the true edge rows have the widths of the right edge
 pub edge_rows_wide : (digest : List ℕ → List ℕ) (es : List (List ℕ)) →
     map length (edge_rows digest es) ≡ edge_widths (length es)
 edge_rows_wide digest es = each (edge_levels (length es))

@@ -21,7 +21,7 @@ use Rattle.mirror_model.proofs.NodeBlocks.{IsInside, node_inside}
 use Rattle.mirror_model.proofs.RowLaws.{cut_ranges, row_law, HasTileNode, IsWholeRow, IsAtBlock, to_block}
 
 module _ (digest : List ℕ → List ℕ) (es : List (List ℕ)) where
-  -- the row with the value behind it is the row of one hash more
+  -- the row with the value after it is the row with one more hash
   row_more : (level p q w : ℕ) → IsLevel (length es) (256 ^ level) (256 ^ (level + 1)) q p w →
       level_row digest es level (256 * p) w ++ mth digest (drop (q * 256 ^ level) es) ∷ []
       ≡ map (mth digest) (ranges (256 ^ level) (256 * p) (w + 1) es)
@@ -64,7 +64,7 @@ module _ (digest : List ℕ → List ℕ) (es : List (List ℕ)) where
       let whole = node_inside digest es 0 n.node n.is in
       omega (arith, whole.upto, n.inside.start_in, n.long, h.above, h.done, h.start, zb)
 
-  -- a node at the end of a level from the one given on
+  -- a node at the end of one of these levels
   pub record HasEdgeNode (level levels : ℕ) (y : List ℕ) : Type 0 where
     pub at : ℕ
     pub low : level ≤ at
@@ -177,7 +177,7 @@ module _ (digest : List ℕ → List ℕ) (es : List (List ℕ)) where
       (λ m. all_strings levels (level + 1) m y) (λ m. rest_strings levels (level + 1) m y))
       (first_or_later level levels y)
 
-  -- the strings of the edge are exactly those of the nodes at the ends of the levels
+  -- the strings of the right edge are exactly those of the nodes at the ends of the levels
   pub edge_strings_are : (y : List ℕ) → Contains (edge_strings digest (edge_rows digest es)) y ↔ HasEdgeNode 0 8 y
   edge_strings_are y =
       subst (λ rows. Contains (edge_strings digest rows) y ↔ HasEdgeNode 0 8 y) (sym (edge_rows-levels digest es))
@@ -192,8 +192,8 @@ module _ (digest : List ℕ → List ℕ) (es : List (List ℕ)) where
       let n = ((edge_strings_are y).0 c).has in
       subst (Contains (strings digest es)) n.string_is (string_of_node digest es 0 n.node n.is)
 
-  -- a node of more than 256^level entries, and no more than 256^(level + 1), is in a full tile's range, or its
-  -- string is one of the edge
+  -- a node of more than 256^level and at most 256^(level + 1) entries is in the range of a full tile, or its string
+  -- is one of the right edge
   pub record IsInFullTile (level : ℕ) (x : Node) : Type 0 where
     pub index : ℕ
     pub full : (index + 1) * 256 ^ (level + 1) ≤ length es

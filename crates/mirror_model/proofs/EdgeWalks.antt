@@ -1,4 +1,4 @@
--- The walk from the root of a head whose edge is held: it fails below the hashes of the edge's rows alone.
+-- The walk from the root of a tree head whose right edge is held: it fails only below the hashes of the edge's rows.
 use Rattle.std.proofs.Common.{subst, get_or, Bool, true, false, inl, inr, ◌⊎◌, ◌≡◌, ℕ, zero, suc, ◌+◌, ◌*◌, ◌/◌, ◌^◌}
 use Rattle.std.proofs.Common.{◌<◌, ◌≤◌, List, [], ◌∷◌, ◌++◌, length, take, drop, map, cond, nat_eq, not, sym, refl, ap}
 use Rattle.std.proofs.Common.{◌∙◌, arith, length-append, length-take, length-drop, take-append-drop}
@@ -37,9 +37,9 @@ use Rattle.mirror_model.proofs.RowLaws.{get_or-ranges}
 abbrev pub AreHashes : List (List ℕ) → Type 0
 AreHashes row = AllByRecursion (λ hash. length hash ≡ 32) row
 
--- ---- the rows of a head, level by level
+-- ---- the rows of a tree head, level by level
 
--- the rows have the widths of the edge of n at these levels, lowest first
+-- the rows have the widths of the right edge of n at these levels, lowest first
 abbrev pub Fit : ℕ → ℕ → ℕ → List (List (List ℕ)) → Type 0
 Fit n zero level rows = rows ≡ []
 Fit n (suc levels) level rows =
@@ -47,7 +47,7 @@ Fit n (suc levels) level rows =
     ⊎ ((row : List (List ℕ)) × (rest : List (List (List ℕ))) × (rows ≡ row ∷ rest) × (0 < width_of n level)
     × (length row ≡ width_of n level) × AreHashes row × Fit n levels (level + 1) rest)
 
--- the levels of these that have a partial tile
+-- those of the levels that have a partial tile
 abbrev pub widths_from : ℕ → ℕ → ℕ → List ℕ
 widths_from n levels level = filter (λ l. not (nat_eq (width_of n l) 0)) (levels_from levels level)
 
@@ -92,11 +92,11 @@ rows_fit n rows widths = fit_levels n 8 0 rows widths
 
 module _ (digest : List ℕ → List ℕ) (hash : (s : List ℕ) → length (digest s) ≡ 32) (held : Strings)
     (clean : NoClash digest held) where
-  -- all pairs that the row's fold joins are held
+  -- all pairs of the row's fold are held
   abbrev JoinsHeld : List (List ℕ) → Type 0
   JoinsHeld row = (y : List ℕ) → IsJoin digest (tree_of row) y → Has held y
 
-  -- the walk fails in one of the blocks, from the hash that stands for it
+  -- the walk from the hash of a block fails in that block
   pub record FailsInBlock (b : ℕ) (bs : List (List ℕ)) (row : List (List ℕ)) (s at many : ℕ) : Type 0 where
     pub index : ℕ
     pub below : index < length bs
@@ -225,10 +225,10 @@ module _ (digest : List ℕ → List ℕ) (hash : (s : List ℕ) → length (dig
       (cut_induction (8 * level) (Descends (2 ^ (8 * level))) (λ x some upto. one_block (2 ^ (8 * level)) x)
       (more_blocks (2 ^ (8 * level))))
 
-  -- ---- level after level, over a list of n items
+  -- ---- level by level, over a list of n items
 
   module _ (zs : List ℕ) where
-    -- the node stands among the items of one hash of a level, all of them in the tree
+    -- the node is among the items of one hash of a level, and the tree has all of them
     pub record IsBelowHash (at many : ℕ) : Type 0 where
       pub level : ℕ
       pub index : ℕ
@@ -236,7 +236,7 @@ module _ (digest : List ℕ → List ℕ) (hash : (s : List ℕ) → length (dig
       pub upto : at + many ≤ (index + 1) * 256 ^ level
       pub full : (index + 1) * 256 ^ level ≤ length zs
 
-    -- from that item on, and that hash, the walk fails below such hashes alone
+    -- from that item and that hash on, the walk fails only below such hashes
     abbrev Below : ℕ → List ℕ → Type 0
     Below start value =
         (at many : ℕ) → WalkFails digest held (tree_of (drop start zs)) start value at many → IsBelowHash at many

@@ -55,7 +55,7 @@ is_forked = record {
       λ p. let first : 20 ≡ 1 = ap (λ (es : List (List ℕ)). get_or (get_or es 0 []) 0 0) p.is in omega arith;
 }
 
--- nothing goes on from a mirror where no event remains, or by a merge out of another
+-- no merge leads from a mirror if no event is left, or if the only merge has another source
 merges_on : (target source from to : ℕ) → (from ≡ source → ⊥) → OpeningReaches from to (Merge target source ∷ []) →
     from ≡ to
 merges_on target source from to other h =
@@ -106,9 +106,9 @@ is_way = record {
   ];
 }
 
--- ---- fronts where nothing is held
+-- ---- fronts if nothing is held
 
--- the node in front is the one at the top
+-- the node in the front is the top of the tree
 pub record HasFrontTop (digest : List ℕ → List ℕ) (t : Tree (List ℕ)) : Type 0 where
   pub node : Node
   pub is : InFront digest set.empty t 0 node

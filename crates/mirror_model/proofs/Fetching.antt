@@ -52,7 +52,7 @@ pub full_tiles_begin : FullTileBeginsWithPartial
 full_tiles_begin digest hash entries level index width le =
     begins digest hash (256 ^ level) (256 * index) width 256 entries le
 
--- ---- a path that was answered
+-- ---- a path whose bytes were taken
 
 pub answered_is_not_again : AnsweredIsNotAgain
 answered_is_not_again digest held es small edge Checkpoint all f = f.path_is
@@ -118,7 +118,7 @@ answered_is_not_again digest held es small edge (Entries index width) all f =
           (subst (λ zs. Contains (strings digest zs) x.string) (sym same_part) has))
     ]
 
--- ---- what is missing
+-- ---- missing paths
 
 pub missing_is_front_list : MissingIsFrontList
 missing_is_front_list digest hash v entries clash paths m = record {

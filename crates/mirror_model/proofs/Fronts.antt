@@ -1,4 +1,4 @@
--- The front and what is held.
+-- The front and the held strings.
 use Rattle.std.proofs.Common.{subst, inl, inr, ◌≡◌, ℕ, zero, suc, ◌+◌, ◌-◌, ◌*◌, ◌/◌, ◌^◌, ◌<◌, ◌≤◌, min, List, ◌∷◌}
 use Rattle.std.proofs.Common.{◌++◌, length, take, drop, sym, refl, ap, ◌∙◌, arith, length-take, length-drop}
 use Rattle.std.proofs.lemmas.List.{take_min}
@@ -22,12 +22,12 @@ use Rattle.mirror_model.proofs.NodeBlocks.{node_inside}
 use Rattle.mirror_model.proofs.RowLaws.{full_tile, bundle, to_block}
 use Rattle.mirror_model.proofs.EdgeStrings.{full_or_edge}
 
--- one range of positions is within another
+-- the range of one node is within that of another
 pub record IsNodeWithin (x y : Node) : Type 0 where
   pub start_in : y.start ≤ x.start
   pub end_in : x.start + x.len ≤ y.start + y.len
 
--- the block of c that a range is in has the number start / c
+-- the block of c entries that has the range has the index start / c
 pub index_of : (i c start len : ℕ) → 0 < c → i * c ≤ start → start + len ≤ i * c + c → 1 ≤ len → start / c ≡ i
 index_of i c start len some low high one =
     ap (λ m. m / c) (omega arith) ∙ div-mul-add i c (start - i * c) (omega arith)
@@ -47,7 +47,7 @@ module _ (digest : List ℕ → List ℕ) (held : Strings) where
   front_unheld (Join l r) s x (inr (h, inl a)) = front_unheld l s x a
   front_unheld (Join l r) s x (inr (h, inr a)) = front_unheld r (s + size_of l) x a
 
-  -- the node stands within the tree
+  -- the node is within the tree
   node_bounds : (t : Tree (List ℕ)) (s : ℕ) (x : Node) → IsNode digest t s x →
       (s ≤ x.start) × (x.start + x.len ≤ s + size_of t)
   node_bounds Empty s x h = absurd h
@@ -57,7 +57,7 @@ module _ (digest : List ℕ → List ℕ) (held : Strings) where
   node_bounds (Join l r) s x (inr (inr a)) =
       let b = node_bounds r (s + size_of l) x a in (omega (arith, b.0), omega (arith, b.1))
 
-  -- an unheld node is below one of the front
+  -- a node that is not held is below a node of the front
   pub record HasFrontAbove (t : Tree (List ℕ)) (s : ℕ) (x : Node) : Type 0 where
     pub top : Node
     pub is : InFront digest held t s top
@@ -108,7 +108,7 @@ module _ (digest : List ℕ → List ℕ) (held : Strings) where
             (inl (record { this = record { start_is = refl; len_is = refl; string_is = refl }; unheld = none }))
       ]
 
-  -- the front is empty exactly where all strings of the tree are held
+  -- the front is empty exactly if all strings of the tree are held
   pub none_in_front : (es : List (List ℕ)) →
       ((x : Node) → InFront digest held (tree_of es) 0 x → ⊥) ↔ HoldsAll held (strings digest es)
   none_in_front es = (
@@ -167,7 +167,7 @@ module _ (digest : List ℕ → List ℕ) (held : Strings) where
         }
       ]
 
-  -- the front is empty exactly where all strings of the tree are held
+  -- the front is empty exactly if all strings of the tree are held
   pub front_empty : (es : List (List ℕ)) → length es ≤ 256 ^ 8 →
       ((p : Path) → IsFront digest held es p → ⊥) ↔ HoldsAll held (strings digest es)
   front_empty es small = (
@@ -181,7 +181,7 @@ module _ (digest : List ℕ → List ℕ) (held : Strings) where
   module _ (after : Strings) (grows : (y : List ℕ) → Has held y → Has after y) (es : List (List ℕ))
       (small : length es ≤ 256 ^ 8) (edge : HoldsAll held (edge_strings digest (edge_rows digest es)))
       (answered : (p : Path) → IsFront digest held es p → HoldsAll after (true_strings digest es p)) where
-    -- a node of a bundle that was asked for is held
+    -- a node in a requested bundle is held
     in_bundle : (x y : Node) → IsNode digest (tree_of es) 0 x → IsNode digest (tree_of es) 0 y → IsNodeWithin x y →
         InFront digest held (tree_of es) 0 y → y.len ≤ 256 → (Has after x.string → ⊥) → ⊥
     in_bundle x y nx ny w f few e =
@@ -226,7 +226,7 @@ module _ (digest : List ℕ → List ℕ) (held : Strings) where
               e (all x.string (subst (λ zs. Contains (strings digest zs) x.string) (sym same) has))
         ]
 
-    -- what stays unheld has no more entries than a hash of the tile that was asked for
+    -- a node that is still not held has at most as many entries as a hash of the requested tile
     pub record IsBelowTile (x : Node) : Type 0 where
       pub level : ℕ
       pub index : ℕ
@@ -291,7 +291,7 @@ module _ (digest : List ℕ → List ℕ) (held : Strings) where
               ]
         ]
 
-    -- after a round the largest unheld node has at most 256^top entries
+    -- after a round, each node that is not held has at most 256^top entries
     pub after_round : (top : ℕ) → AsksUpTo digest es held top → (x : Node) → IsNode digest (tree_of es) 0 x →
         (Has after x.string → ⊥) → x.len ≤ 256 ^ top
     after_round top asks x n e =
@@ -299,7 +299,7 @@ module _ (digest : List ℕ → List ℕ) (held : Strings) where
         let le = level_mono t.level top (asks t.level t.index 256 t.asked) in
         omega (arith, t.short, le)
 
-    -- after a round of bundles alone nothing is unheld
+    -- after a round of bundles alone, everything is held
     pub after_bundles : AsksBundlesAlone digest es held → HoldsAll after (strings digest es)
     after_bundles alone y c =
         let n = node_of_string digest es 0 y c in

@@ -1,4 +1,4 @@
--- A full bundle in the place of a partial one.
+-- A full bundle instead of a partial one.
 use Rattle.std.proofs.Common.{suc, ◌≡◌, ◌⊎◌, ℕ, ◌+◌, ◌*◌, ◌/◌, ◌%◌, ◌^◌, ◌<◌, ◌≤◌, List, [], ◌∷◌, length, map}
 use Rattle.std.proofs.Common.{take, drop, length-take, Bool, true, false, sym, ◌∙◌, ap, subst, inl, inr}
 use Rattle.std.proofs.Common.{arith}
@@ -41,7 +41,7 @@ filter_first p x xs e = ap (λ b. if b then x ∷ filter p xs else filter p xs) 
 zero_not : (k : ℕ) → (suc k == 0) ≡ false
 zero_not k = grind (arith, nat_tests)
 
--- an edge with a tile of the lowest level begins with it
+-- if level 0 has a partial tile, it is the first level of the right edge
 levels_first : (n k : ℕ) → width_of n 0 ≡ suc k →
     edge_levels n ≡ 0 ∷ filter (λ level. not (width_of n level == 0)) (1 ∷ 2 ∷ 3 ∷ 4 ∷ 5 ∷ 6 ∷ 7 ∷ [])
 unfolding edge_levels

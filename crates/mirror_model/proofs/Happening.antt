@@ -1,4 +1,4 @@
--- One event: what it leaves, and doing it again.
+-- One event: the view after it, and repeating it.
 use Rattle.std.proofs.Common.{zero, suc, ◌≡◌, ℕ, List, [], ◌∷◌, Some, sym, refl, ap, ◌∙◌, subst, inl, inr}
 use Rattle.std.specs.Prelude.{slice_get, slice_set}
 use Rattle.std.specs.FinSet as set
@@ -24,7 +24,7 @@ use Rattle.mirror_model.proofs.Steps.{merges_again, takes_once, merges_once}
 use Rattle.mirror_model.proofs.Playing.{event_grows}
 use Rattle.mirror_model.proofs.Keeping.{answer_lawful}
 
--- ---- what each leaves
+-- ---- the view after an event
 
 pub takes_grow : TakesGrow
 takes_grow digest keys old new item answer h =
@@ -68,7 +68,7 @@ pub merges_leave : RefusedMergeIsBetween
 merges_leave digest old other new h =
     left_of digest old (old.origin ≡ other.origin) (union old other) new (within_union old other) h
 
--- ---- lists that are set
+-- ---- lists with one item set
 
 module _ {X : Type 0} where
   set_again : (xs : List X) (i : ℕ) (a b : X) → slice_set (slice_set xs i a) i b ≡ slice_set xs i b

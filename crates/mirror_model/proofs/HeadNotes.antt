@@ -1,4 +1,4 @@
--- A note is one head at most.
+-- A note is at most one tree head.
 use Rattle.std.proofs.Common.{◌≡◌, ℕ, List, sym, ap, subst}
 use Rattle.signed_note.specs.Keys.{Key}
 use Rattle.signed_note.proofs.OneReading.{notes_are_read}
@@ -26,7 +26,7 @@ head_once note origin origin' size size' root root' p q =
       root_is = ap (λ (c : Checkpoint). c.root) same;
     }
 
--- a head that opens is a head
+-- an open tree head is a tree head
 pub head_of : (note origin : List ℕ) (keys : List Key) (size : ℕ) (root : List ℕ) →
     IsOpenHead note origin keys size root → IsHead note origin size root
 head_of note origin keys size root h = record {

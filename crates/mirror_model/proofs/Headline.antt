@@ -1,4 +1,4 @@
--- Plays: several runs are one, and what it leaves.
+-- Plays: several runs in order are one run, and the views after it.
 use Rattle.std.proofs.Common.{◌≡◌, ℕ, List, [], ◌∷◌, ◌++◌, zero, suc, sym, refl, ap, ◌∙◌, subst, inl, inr}
 use Rattle.std.proofs.Common.{arith}
 use Rattle.std.specs.Prelude.{slice_get, slice_set, Some, map}
@@ -53,7 +53,7 @@ retried_run_leaves digest origin keys opened final events answers r retried mirr
   is = is;
 }
 
--- ---- what is done again
+-- ---- repeated events
 
 pub retried_in_each : RetriedInEachPlay
 retried_in_each digest keys old new [] p each = tt
@@ -62,7 +62,7 @@ retried_in_each digest keys old new (play ∷ plays) p each =
     (run_lengths digest keys old p.0 play.events play.answers p.1) (each play (0, omega arith, refl))
     (retried_in_each digest keys p.0 new plays p.2 (λ q c. each q (suc c.0, omega (arith, c.1), c.2)))
 
--- an answer of one of the plays
+-- an answer of one of the plays is an answer of all of them
 in_answers : (answer : Answer) (plays : List Play) (play : Play) → Contains plays play → Contains play.answers answer →
     Contains (answers_in plays) answer
 in_answers answer [] play c d = absurd (omega (arith, c.1))
@@ -85,7 +85,7 @@ pub no_play_to_retry : NoPlayToRetry
 no_play_to_retry plays none =
     nothing_to_retry (events_in plays) (answers_in plays) (none_in_answers Exhausted plays none)
 
--- ---- what mirrors agree on
+-- ---- mirrors agree
 
 half : (digest : List ℕ → List ℕ) (origin : List ℕ) (keys : List Key) (opened opened' : List View)
     (events events' : List Event) (mirror mirror' : ℕ) (v w : View) →
@@ -130,7 +130,7 @@ mirrors_agree digest origin keys opened opened' plays plays' mirror mirror' v w 
     (no_play_clashes digest origin keys opened' q.final plays' clean' q.of_origin q.played)
     alike
 
--- ---- what they tell
+-- ---- reports are true
 
 plays_lawful : (digest : List ℕ → List ℕ) → IsDigest digest →
     (keys : List Key) (opened final : List View) (plays : List Play) → AreLawful digest opened →
@@ -170,7 +170,7 @@ plays_keep_entries digest hash keys opened final plays lawful p mirror before af
 -- ---- plays of some mirrors
 
 module _ (place : ℕ → ℕ) where
-  -- one view of the part is set, and so is that of the whole
+  -- setting a view in the part sets the same view in the whole list
   set_stands : (part whole : List View) (target : ℕ) (before after : View) → StandsIn place part whole →
       slice_get part target ≡ Some before →
       StandsIn place (slice_set part target after) (slice_set whole (place target) after)
@@ -193,7 +193,7 @@ module _ (place : ℕ → ℕ) where
   }
 
   module _ (digest : List ℕ → List ℕ) (keys : List Key) where
-    -- what one event of the part leaves the whole
+    -- the whole list after one event of the part
     record Placed (e : Event) (a : Answer) (mid whole : List View) : Type 0 where
       new : List View
       happens : Happens digest keys whole (placed place e) a new

@@ -1,4 +1,4 @@
--- Items: what their bytes are, and what they add to a view.
+-- Items: their bytes, and what they add to a view.
 use Rattle.std.proofs.Common.{◌≡◌, ℕ, ◌*◌, ◌/◌, ◌<◌, ◌^◌, List, [], ◌∷◌, ◌++◌, length, take, drop, sym, refl, ap, ◌∙◌}
 use Rattle.std.proofs.Common.{append_assoc, arith}
 use Rattle.std.specs.List.{flat_map, AllByRecursion}
@@ -14,7 +14,7 @@ use Rattle.mirror_model.specs.ItemLaws.{RowOfIsRow, RowIsRowOf, BundleIsEntriesO
 
 -- ---- bytes
 
--- the entries at the front
+-- the entries at the start of the bytes
 entries_at : (es : List (List ℕ)) (after : List ℕ) → AllByRecursion (λ e. length e < 2 ^ 16) es →
     entries_of (length es) (flat_map entry_text es ++ after) ≡ es
 entries_at [] after short = refl

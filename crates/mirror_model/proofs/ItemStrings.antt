@@ -1,4 +1,4 @@
--- What the strings of a valid item are, and that it leaves a lawful view lawful.
+-- The strings of a valid item; a lawful view with the item stays lawful.
 use Rattle.std.proofs.Common.{◌≡◌, ℕ, ◌*◌, ◌<◌, ◌≤◌, ◌^◌, List, [], ◌∷◌, ◌++◌, length, map, take, drop, All, sym, refl}
 use Rattle.std.proofs.Common.{ap, subst, ◌⊎◌, inl, inr, arith, get_or, take-append-drop}
 use Rattle.std.specs.List.{Contains, AllByRecursion}
@@ -26,7 +26,7 @@ use Rattle.mirror_model.proofs.Views.{within_plus, edge_stays}
 use Rattle.mirror_model.proofs.ItemBytes.{row_is_row, bundle_is_one}
 use Rattle.mirror_model.proofs.HeadNotes.{head_of}
 
--- a string of a valid item: a pair, or a leaf of an entry of at most 65,535 bytes
+-- a string of a valid item is a pair, or a leaf of an entry of at most 65,535 bytes
 pub record IsShortLeaf (string : List ℕ) : Type 0 where
   pub entry : List ℕ
   pub is : string ≡ 0 ∷ entry
@@ -46,7 +46,7 @@ abbrev pub AreHashes : List (List ℕ) → Type 0
 AreHashes row = AllByRecursion (λ h. length h ≡ 32) row
 
 module _ (digest : List ℕ → List ℕ) (hash : IsDigest digest) where
-  -- the items of a tree are hashes
+  -- the items of the tree are hashes
   abbrev Leaves : Tree (List ℕ) → Type 0
   Leaves Empty = Unit {0}
   Leaves (One h) = length h ≡ 32
@@ -100,7 +100,7 @@ module _ (digest : List ℕ → List ℕ) (hash : IsDigest digest) where
   unfolding fold_of
   fold_length row h = root_length (tree_of row) (tree_leaves row h)
 
-  -- the strings of a head
+  -- the strings of a tree head are pairs
   from_pairs : (value : List ℕ) → length value ≡ 32 → (rows : List (List (List ℕ))) → AllByRecursion AreHashes rows →
       (y : List ℕ) → Contains (strings_from digest value rows) y → IsPair y
   from_pairs value len [] h y c = All-contains IsPair [] y (All-nil IsPair) c
@@ -162,7 +162,7 @@ module _ (digest : List ℕ → List ℕ) (hash : IsDigest digest) where
       (subst (All (λ e. length e < 2 ^ 16))
       (bundle_is_one width bytes good.entries good.is_bundle) good.is_bundle.fits) y c
 
-  -- the edge of a valid head is held with its strings
+  -- the right edge of a valid tree head is held with the item's strings
   note_edge : (keys : List Key) (v : View) (item : Item) → IsGood digest v.origin keys item → (note : List ℕ) →
       Contains (notes_of item) note → HasEdge digest (plus digest v item) note
   note_edge keys v (Head bytes rows) good note c =

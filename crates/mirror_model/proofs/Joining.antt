@@ -1,4 +1,4 @@
--- Runs one after another, and runs of one event.
+-- Runs in order, and runs of one event.
 use Rattle.std.proofs.Common.{[], ◌∷◌, subst, refl}
 use Rattle.mirror_model.specs.declared.events.Event.TheVariants.{Take, Merge}
 use Rattle.mirror_model.specs.Steps.{Run}

@@ -1,4 +1,4 @@
--- What runs keep: views stay lawful, and only grow.
+-- A run keeps views lawful, and only makes them grow.
 use Rattle.std.proofs.Common.{◌≡◌, ℕ, List, [], ◌∷◌, sym, refl, ap, ◌∙◌, subst, ◌⊎◌, inl, inr}
 use Rattle.std.specs.Prelude.{slice_get}
 use Rattle.std.specs.List.{Contains}

@@ -1,4 +1,4 @@
--- Two lists in strict order with the same elements are one.
+-- Two lists in strict order with the same items are equal.
 use Rattle.std.proofs.Common.{zero, suc, ◌≡◌, List, [], ◌∷◌, sym, refl, ap, ◌∙◌, subst, ◌⊎◌, inl, inr, arith}
 use Rattle.std.specs.Ordering.{nat_cmp, ordering_then, ordering_reverse}
 use Rattle.std.specs.declared.cmp.Ordering.{Ordering}
@@ -40,7 +40,7 @@ module _ {X : Type 0} (cmp : X → X → Ordering) (turns : (x y : X) → cmp x 
   nothing_in : (y : X) → Contains {X = X} [] y → ⊥
   nothing_in y c = All-contains (λ z. ⊥) [] y (All-nil (λ z. ⊥)) c
 
-  -- the rest of two lists that begin alike
+  -- the rest of two lists with the same first item
   rest_in : (x y : X) (xs ys : List X) → x ≡ y → AllByRecursion (λ z. cmp x z ≡ Less) xs →
       ((z : X) → Contains (x ∷ xs) z → Contains (y ∷ ys) z) → (z : X) → Contains xs z → Contains ys z
   rest_in x y xs ys same all to z c =
@@ -108,7 +108,7 @@ path_turns Checkpoint (Tile l i w) = refl
 path_turns Checkpoint (Entries i w) = refl
 path_turns Checkpoint Checkpoint = refl
 
--- ---- the lists that calls answer
+-- ---- the lists that calls return
 
 pub notes_are_listed_once : NotesAreListedOnce
 notes_are_listed_once v first second p q =

@@ -1,4 +1,4 @@
--- Round after round until all is held.
+-- Rounds until everything is held.
 use Rattle.std.proofs.Common.{zero, suc, ◌≡◌, ℕ, ◌+◌, ◌-◌, ◌*◌, ◌/◌, ◌^◌, ◌<◌, ◌≤◌, List, [], ◌∷◌, length, sym, refl}
 use Rattle.std.proofs.Common.{ap, ◌∙◌, subst, inl, inr, arith}
 use Rattle.std.proofs.lemmas.Bool.{cases_lt}
@@ -16,7 +16,7 @@ use Rattle.mirror_model.proofs.TreeLaws.{round_goes_down, bundles_complete}
 use Rattle.mirror_model.proofs.TrueItems.{front_tile}
 use Rattle.mirror_model.proofs.RowLaws.{from_products}
 
--- a size below 256^(level + 1) of width 0 at the level is below 256^level
+-- a size below 256^(level + 1) with width 0 at the level is below 256^level
 pub one_lower : (n level : ℕ) → n < 256 ^ (level + 1) → width_of n level ≡ 0 → n < 256 ^ level
 one_lower n level below none =
     let b = 256 ^ level in
@@ -30,7 +30,7 @@ one_lower n level below none =
     let zb : q * b ≡ 0 = ap (λ m. m * b) z ∙ omega arith in
     omega (arith, above, zb)
 
--- so a size has no more entries than its greatest level's next power
+-- so a size is below the next power after its greatest level
 below_top : (n top : ℕ) → n < 256 ^ 8 → IsTop n top → n < 256 ^ (top + 1)
 below_top n top small t =
     down (7 - top)
@@ -65,20 +65,20 @@ front_is_below_top digest held entries top small t edge level index width f =
     ]
 
 module _ (digest : List ℕ → List ℕ) (entries : List (List ℕ)) (small : length entries ≤ 256 ^ 8) where
-  -- what is held stays held
+  -- held strings stay held
   held_on : (held : Strings) (afters : List Strings) → AreRounds digest entries held afters → (y : List ℕ) →
       Has held y → Has (last_held held afters) y
   held_on held [] rounds y h = h
   held_on held (after ∷ afters) rounds y h = held_on after afters rounds.1 y (rounds.0.grows y h)
 
-  -- a front whose tiles are below level 1 has none
+  -- a front with tiles only below level 1 has no tile
   no_tile : (held : Strings) (level index width : ℕ) → IsFront digest held entries (Tile level index width) →
       level < 1 → ⊥
   no_tile held zero index width f lt =
       let p = f.path_is in let one : 256 ^ (0 + 1) ≡ 256 = refl in omega (arith, p.many, p.tile.upto, one)
   no_tile held (suc level) index width f lt = omega arith
 
-  -- from a front whose tiles are below a level
+  -- rounds from a front with tiles only below a level
   rounds_from : (k : ℕ) (held : Strings) (afters : List Strings) → AreRounds digest entries held afters →
       ((level index width : ℕ) → IsFront digest held entries (Tile level index width) → level < k) → 1 ≤ length afters →
       k ≤ length afters → HasAll (last_held held afters) (strings digest entries)

@@ -1,4 +1,4 @@
--- The walk from a root fails nowhere exactly where a list of entries is held whole.
+-- The walk from a root fails nowhere exactly if all strings of a list of entries are held.
 use Rattle.std.proofs.Common.{zero, suc, ◌≡◌, ℕ, ◌+◌, ◌-◌, ◌*◌, ◌≤◌, ◌^◌, List, [], ◌∷◌, ◌++◌, length, map, take, drop}
 use Rattle.std.proofs.Common.{replicate, sym, refl, ap, ◌∙◌, subst, ◌⊎◌, inl, inr, arith}
 use Rattle.std.proofs.Common.{length-append, length-take, length-drop, take-append-drop, get_or}
@@ -82,7 +82,7 @@ module _ (digest : List ℕ → List ℕ) (held : Strings) where
 
 -- ---- search in a set
 
--- a string of the list meets P, or none does
+-- a string of the list has the property P, or no string does
 module _ (P : List ℕ → Type 0) (test : (s : List ℕ) → P s ⊎ (P s → ⊥)) where
   record IsFound (xs : List (List ℕ)) : Type 0 where
     string : List ℕ
@@ -267,7 +267,7 @@ module _ (digest : List ℕ → List ℕ) (held : Strings) where
       length-replicate size 0 in subst (λ m. IsBuilt digest held m hash) len
       (builds-all (replicate size 0) (omega (arith, len)) 0 hash ok)
 
-  -- where the walk fails there are no more entries than the tree has
+  -- a walk fails at a node with at most as many entries as the tree
   fails_within : (t : Tree ℕ) (start : ℕ) (hash : List ℕ) (at many : ℕ) → Fails t start hash at many → many ≤ size_of t
   fails_within Empty start hash at many f = absurd f
   fails_within (One x) start hash at many f = omega (arith, f.0.many_is)
@@ -277,7 +277,7 @@ module _ (digest : List ℕ → List ℕ) (held : Strings) where
     | inr a ↦ omega (arith, fails_within r (start + size_of l) f.1 at many a)
   ]
 
-  -- no path is missing, and so the walk fails nowhere
+  -- if no path is missing, the walk fails nowhere
   pub none_fails : (size : ℕ) (hash : List ℕ) → size ≤ 256 ^ 8 →
       ((path : Path) → IsMissing digest held size hash path → ⊥) → (at many : ℕ) → Fails (shape size) 0 hash at many → ⊥
   none_fails size hash small none at many f =
@@ -285,7 +285,7 @@ module _ (digest : List ℕ → List ℕ) (held : Strings) where
       let p = path_of digest held size at many (omega (arith, within, size_of-shape size, small)) in
       none p.path (record { at = at; many = many; fails = f; path_is = p.is })
 
-  -- a list that is held whole: nothing is missing
+  -- if all strings of a list are held, no path is missing
   pub built_none : ((s : List ℕ) → length (digest s) ≡ 32) → NoClash digest held → (size : ℕ) (root : List ℕ) →
       size ≤ 256 ^ 8 → IsBuilt digest held size root → (path : Path) → IsMissing digest held size root path → ⊥
   built_none len clean size root small b path m =
@@ -300,7 +300,7 @@ module _ (digest : List ℕ → List ℕ) (held : Strings) where
       (front_empty digest held es (omega (arith, b.is.size_is, small))).1 all path
       ((missing_is_front digest len held es apart path).0 m')
 
--- the head of no entries of a lawful view has the root of none
+-- an empty tree head of a lawful view has the root of the empty tree
 pub none_root : (digest : List ℕ → List ℕ) (size : ℕ) (root : List ℕ) (rows : List (List ℕ)) → size ≡ 0 →
     HasEdgeRows digest size root rows → digest [] ≡ root
 unfolding edge_levels

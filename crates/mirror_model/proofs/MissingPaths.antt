@@ -1,4 +1,4 @@
--- What is missing of a head, whether or not a list of entries fits.
+-- The missing paths of a tree head, even if no list of entries fits.
 use Rattle.std.proofs.Common.{zero, suc, ◌≡◌, ℕ, ◌+◌, ◌*◌, ◌^◌, ◌<◌, ◌≤◌, List, length, take, drop, replicate}
 use Rattle.std.proofs.Common.{length-take, length-drop, sym, refl, subst, inl, inr, arith}
 use Rattle.std.proofs.lemmas.Bool.{cases_lt}
@@ -18,7 +18,7 @@ use Rattle.node_store.specs.Strings.{Strings}
 use Rattle.mirror_model.specs.Walk.{WalkFails}
 use Rattle.mirror_model.specs.TreeLaws.{IsOfSize, MissingIsOfSize}
 
--- the nodes of a tree
+-- the range of a node of the tree
 pub record IsSpan (start len at many : ℕ) : Type 0 where
   pub from : start ≤ at
   pub upto : at + many ≤ start + len
@@ -82,7 +82,7 @@ solid_shape size some =
     let zeros : List ℕ =
     replicate size 0 in let len : length zeros ≡ size = length-replicate size 0 in solid_tree zeros (omega (arith, len))
 
--- the walk of no entries fails nowhere
+-- the walk of an empty tree fails nowhere
 no_fails : (digest : List ℕ → List ℕ) (held : Strings) (start : ℕ) (root : List ℕ) (at many : ℕ) →
     WalkFails digest held (shape 0) start root at many → ⊥
 unfolding shape

@@ -1,4 +1,4 @@
--- What is missing of a head of a lawful view is within its size.
+-- The missing paths of a tree head of a lawful view are within its size.
 use Rattle.std.proofs.Common.{◌≡◌, ℕ, ◌+◌, ◌-◌, ◌*◌, ◌/◌, ◌^◌, ◌<◌, ◌≤◌, List, length, map, replicate, sym, ap, ◌∙◌}
 use Rattle.std.proofs.Common.{subst, inl, inr, arith}
 use Rattle.std.proofs.lemmas.List.{length-replicate}
@@ -28,7 +28,7 @@ use Rattle.mirror_model.proofs.EdgeWalks.{rows_fit, edge_below, IsBelowHash}
 
 module _ (digest : List ℕ → List ℕ) (hash : IsDigest digest) (held : Strings) (clean : NoClash digest held) (size : ℕ)
     (small : size < 256 ^ 8) where
-  -- a node where the walk from the root fails stands below a hash of the edge's rows
+  -- a node at which the walk from the root fails is below a hash of the edge's rows
   below_hash : (root : List ℕ) (rows : List (List ℕ)) → HasEdgeRows digest size root rows →
       HasAll held (edge_strings digest (map row_of rows)) → (at many : ℕ) →
       WalkFails digest held (shape size) 0 root at many → IsBelowHash digest hash held clean (replicate size 0) at many
@@ -42,7 +42,7 @@ module _ (digest : List ℕ → List ℕ) (hash : IsDigest digest) (held : Strin
       (holds_from_held held (edge_strings digest (map row_of rows)) all) at many
       (subst (λ h. WalkFails digest held (tree_of zs) 0 h at many) (sym edge.root_is) f)
 
-  -- so a tile of that place is full
+  -- so the tile with that level and index is full
   tile_full : (level at many : ℕ) → 256 ^ level < many → IsBelowHash digest hash held clean (replicate size 0) at many →
       (at / 256 ^ (level + 1) + 1) * 256 ^ (level + 1) ≤ size
   tile_full level at many above h =

@@ -1,4 +1,4 @@
--- Bytes that are no checkpoint's note are no head.
+-- Bytes that are not the note of a checkpoint are not a tree head.
 use Rattle.std.proofs.Common.{◌≡◌, ◌≢◌, ℕ, List, Result, Ok, Err, refl, sym, subst}
 use Rattle.signed_note.specs.Notes.{NoteParts, IsNote}
 use Rattle.signed_note.specs.Reading.{ReadsNote}

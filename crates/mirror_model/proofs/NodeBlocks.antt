@@ -14,7 +14,7 @@ use Rattle.tlog_hash.proofs.Cuts.{cut_induction, tree_of-parts, IsSplit}
 use Rattle.tlog_hash.proofs.Folds.{mth-tree, mth-blocks}
 use Rattle.tlog_hash.proofs.NodeStrings.{size_of-tree, node_parts}
 
--- the node stands within n entries from s
+-- the node is within the n entries from s on
 pub record IsInside (s n : ℕ) (x : Node) : Type 0 where
   pub start_in : s ≤ x.start
   pub upto : x.start + x.len ≤ s + n
@@ -76,7 +76,7 @@ module _ (digest : List ℕ → List ℕ) where
     pub long : b < x.len
     pub join : IsJoin digest (tree_of (map (mth digest) bs)) x.string
 
-  -- the node is one of a block's
+  -- the node is a node of one block
   pub record IsInBlock (b : ℕ) (bs : List (List (List ℕ))) (s : ℕ) (x : Node) : Type 0 where
     pub index : ℕ
     pub below : index < length bs
@@ -128,7 +128,7 @@ module _ (digest : List ℕ → List ℕ) where
               (subst (λ es. IsNode digest (tree_of es) s x) (same_block blk) h);
         }
 
-    -- where the right part begins
+    -- the start of the right part
     right_start : (xs ys : List (List (List ℕ))) (s : ℕ) → IsSplit (2 ^ j) xs ys →
         s + size_of (tree_of (joined_up xs)) ≡ s + length xs * 2 ^ j
     right_start xs ys s h = ap (λ n. s + n) (size_of-tree (joined_up xs) ∙ h.total)
@@ -138,7 +138,7 @@ module _ (digest : List ℕ → List ℕ) where
     unfolding fold_of
     upper xs c = sym (mth-tree digest (joined_up xs)) ∙ mth-blocks digest j xs c
 
-    -- each node joins blocks, or is one of a block's
+    -- each node joins blocks, or is a node of one block
     pub node_of_blocks : (bs : List (List (List ℕ))) → IsCut (2 ^ j) bs → (s : ℕ) (x : Node) →
         IsNode digest (tree_of (joined_up bs)) s x → IsUpper (2 ^ j) bs x ⊎ IsInBlock (2 ^ j) bs s x
     node_of_blocks bs c =
@@ -196,7 +196,7 @@ module _ (digest : List ℕ → List ℕ) where
               ]
             ]
 
-    -- a node of a block is one of the list's
+    -- a node of a block is a node of the list
     pub block_node : (bs : List (List (List ℕ))) → IsCut (2 ^ j) bs → (s : ℕ) (x : Node) → IsInBlock (2 ^ j) bs s x →
         IsNode digest (tree_of (joined_up bs)) s x
     block_node bs c =
@@ -249,14 +249,14 @@ module _ (digest : List ℕ → List ℕ) where
                   })))
             ])
 
-    -- a longer node of that string
+    -- a longer node with that string
     pub record HasLonger (b : ℕ) (es : List (List ℕ)) (s : ℕ) (y : List ℕ) : Type 0 where
       pub node : Node
       pub is : IsNode digest (tree_of es) s node
       pub long : b < node.len
       pub string_is : node.string ≡ y
 
-    -- what joins blocks is the string of a node
+    -- a join of blocks is the string of a node
     pub upper_node : (bs : List (List (List ℕ))) → IsCut (2 ^ j) bs → (s : ℕ) (y : List ℕ) →
         IsJoin digest (tree_of (map (mth digest) bs)) y → HasLonger (2 ^ j) (joined_up bs) s y
     upper_node bs c =

@@ -1,4 +1,4 @@
--- The edge of a size and a root is one, where what it hashes is held and nothing collides.
+-- A size and a root have at most one right edge, if its strings are held and nothing collides.
 use Rattle.std.proofs.Common.{inl, inr, subst, get_or, ◌≡◌, ℕ, ◌+◌, ◌-◌, ◌*◌, ◌^◌, ◌<◌, ◌≤◌, List, [], ◌∷◌, ◌++◌}
 use Rattle.std.proofs.Common.{length, take, drop, map, sym, refl, ap, ◌∙◌, arith, length-append, length-take}
 use Rattle.std.proofs.Common.{length-drop, take-append-drop}
@@ -28,7 +28,7 @@ use Rattle.mirror_model.proofs.ItemStrings.{fold_length}
 use Rattle.mirror_model.proofs.EdgeWalks.{AreHashes, same_join}
 use Rattle.mirror_model.proofs.TrueItems.{edges_are_true}
 
--- rows of as many hashes, pair by pair
+-- the rows have the same lengths, one by one
 abbrev Alike : List (List (List ℕ)) → List (List (List ℕ)) → Type 0
 Alike [] [] = Unit {0}
 Alike [] (other ∷ others) = ⊥
@@ -51,7 +51,7 @@ alike (width ∷ widths) (row ∷ rows) (other ∷ others) e f =
       alike widths rows others (ap (drop 1) e) (ap (drop 1) f),
     )
 
--- the bytes of rows are their hashes, joined
+-- the bytes of rows are the bytes of their hashes
 written : (widths : List ℕ) (rows : List (List ℕ)) → map length rows ≡ map (λ width. 32 * width) widths →
     rows ≡ map row_text (map row_of rows)
 written widths [] e = refl
@@ -64,7 +64,7 @@ module _ (digest : List ℕ → List ℕ) (hash : IsDigest digest) (held : Strin
   abbrev JoinsHeld : List (List ℕ) → Type 0
   JoinsHeld row = (y : List ℕ) → IsJoin digest (tree_of row) y → Has held y
 
-  -- ---- rows of one fold are one
+  -- ---- rows with the same fold are equal
 
   abbrev IsOnlyRow : List (List ℕ) → Type 0
   IsOnlyRow xs =
@@ -126,7 +126,7 @@ module _ (digest : List ℕ → List ℕ) (hash : IsDigest digest) (held : Strin
   only_row : (xs : List (List ℕ)) → IsOnlyRow xs
   only_row xs = induction IsOnlyRow (λ ys len a b p q e. sym (nil_from_length ys len)) only_one only_join xs
 
-  -- ---- level by level, down from the root
+  -- ---- level by level, from the root down
 
   abbrev AllHeld : List (List ℕ) → Type 0
   AllHeld wanted = (y : List ℕ) → Contains wanted y → Has held y

@@ -1,4 +1,4 @@
--- Two lists of one size and root, of which all strings are held, are one; what follows for what is served and forked.
+-- Two lists with the same size and root and all strings held are equal; consequences for served entries and forks.
 use Rattle.std.proofs.Common.{◌≡◌, ℕ, ◌+◌, ◌-◌, ◌<◌, ◌≤◌, List, [], ◌∷◌, ◌++◌, length, take, drop, sym, refl, ap, ◌∙◌}
 use Rattle.std.proofs.Common.{subst, arith, length-append, length-take, length-drop, take-append-drop}
 use Rattle.std.specs.List.{AllByRecursion}
@@ -34,7 +34,7 @@ use Rattle.std.proofs.Common.{inl, inr}
 
 module _ (digest : List ℕ → List ℕ) (held : Strings) (size : (s : List ℕ) → length (digest s) ≡ 32)
     (clean : NoClash digest held) where
-  -- what is to be shown of a list
+  -- the claim for a list
   abbrev IsOnly : List (List ℕ) → Type 0
   IsOnly xs =
       (ys : List (List ℕ)) → length ys ≡ length xs → mth digest ys ≡ mth digest xs →
@@ -54,7 +54,7 @@ module _ (digest : List ℕ → List ℕ) (held : Strings) (size : (s : List ℕ
       clean.same (0 ∷ x) (0 ∷ y) held_x held_y (sym (mth-one digest x) ∙ sym root ∙ mth-one digest y) in
       ap (λ s. drop 1 s ∷ []) same
 
-  -- lists that stand one after the other, split alike
+  -- the claim for two lists in order, both split at the same place
   only_append : (xs ys xs' ys' : List (List ℕ)) → 2 ≤ length xs + length ys →
       length xs ≡ split_of (length xs + length ys) → length xs' ≡ length xs → length ys' ≡ length ys → IsOnly xs →
       IsOnly ys → mth digest (xs' ++ ys') ≡ mth digest (xs ++ ys) →
@@ -115,7 +115,7 @@ pub complete_is_same : CompleteKeepsItsList
 complete_is_same digest hash v w a clean size root before after p q =
     only digest w.strings hash clean size root before after (complete_stays digest v w a size root before p).tree q.tree
 
--- of two lists of one length that begin alike both are the same
+-- two lists of the same length are equal if one is a prefix of the other
 pub prefix_same : (xs ys : List (List ℕ)) → length xs ≡ length ys → IsPrefix xs ys → xs ≡ ys
 prefix_same xs ys len p =
     let none : length p.rest ≡ 0 = omega (arith, length-append xs p.rest, ap length p.is) in
@@ -166,7 +166,7 @@ forks_tell digest hash v lawful a b first second differ p q = (
     along : {x x' y y' : List (List ℕ)} → x ≡ x' → y ≡ y' → IsPrefix x' y' → IsPrefix x y
     along e f pre = record { rest = pre.rest; is = ap (λ z. z ++ pre.rest) e ∙ pre.is ∙ sym f }
 
--- of two strings each at most the other both are one
+-- two strings are equal if each is at most the other
 pub at_most_both : (x y : List ℕ) → IsAtMost x y → IsAtMost y x → x ≡ y
 at_most_both x y a b =
     slice_cmp-IsAntisymmetric nat_cmp-IsAntisymmetric x y
@@ -207,7 +207,7 @@ serves_one digest hash v lawful note other size n root r first second p q =
           });
     }
 
--- one list is served at most
+-- at most one list is served
 pub one_served : (digest : List ℕ → List ℕ) → IsDigest digest → (v : View) → IsLawful digest v →
     (first second : List (List ℕ)) → IsServedList digest v first → IsServedList digest v second → first ≡ second
 one_served digest hash v lawful first second p q =

@@ -1,4 +1,4 @@
--- What a note is as a head: its text is a checkpoint of the origin, and the keys open it or do not.
+-- A note as a tree head: its text is a checkpoint of the origin, and the keys open it or do not.
 use Rattle.std.proofs.Common.{◌≡◌, ℕ, List, Ok, Err, refl}
 use Rattle.std.specs.Prelude.{IsOk, ◌↔◌, true, false}
 use Rattle.signed_note.specs.Keys.{Key}

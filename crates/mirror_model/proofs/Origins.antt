@@ -1,10 +1,10 @@
--- The origins of the logs of tests.
+-- The origins of test logs.
 use Rattle.std.proofs.Common.{◌≤◌, ℕ, [], ◌∷◌, refl, lit<, lit≤}
 use lib.Utf8.{encode}
 use Rattle.std.proofs.lemmas.List.Elements.{All-nil, All-cons}
 use Rattle.mirror_model.specs.Origin.{IsOrigin}
 
--- `ex` is one
+-- `ex` is an origin
 pub ex_is_origin : IsOrigin (101 ∷ 120 ∷ [])
 unfolding encode
 ex_is_origin = record {
@@ -15,7 +15,7 @@ ex_is_origin = record {
       All-cons P 101 (120 ∷ []) (lit≤ tt) (All-cons P 120 [] (lit≤ tt) (All-nil P));
 }
 
--- `ey` is another
+-- `ey` is an origin
 pub ey_is_origin : IsOrigin (101 ∷ 121 ∷ [])
 unfolding encode
 ey_is_origin = record {

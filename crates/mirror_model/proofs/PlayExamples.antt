@@ -1,4 +1,4 @@
--- Small plays: a take that is done again in the next play.
+-- Small plays: a take that is repeated in the next play.
 use Rattle.std.proofs.Common.{◌≡◌, ℕ, zero, suc, List, [], ◌∷◌, sym, refl, ap, ◌∙◌, subst, inl, inr, arith}
 use Rattle.std.specs.Prelude.{Some, slice_get, replicate}
 use Rattle.std.specs.List.{Contains}

@@ -1,4 +1,4 @@
--- Runs: what a mirror's view has of what reaches it.
+-- Runs: a mirror's view and the items that reach it.
 use Rattle.std.proofs.Common.{arith, length, suc, ◌≡◌, ℕ, List, [], ◌∷◌, Some, Bool, true, false, cond, sym, refl, ap}
 use Rattle.std.proofs.Common.{◌∙◌, subst, ◌⊎◌, inl, inr}
 use Rattle.std.specs.Prelude.{slice_get, slice_set}
@@ -29,7 +29,7 @@ use Rattle.mirror_model.proofs.Reaching.{item_later, item_by, take_is_no_merge}
 -- ---- an event
 
 module _ (digest : List ℕ → List ℕ) (keys : List Key) where
-  -- a view of the list before an event has grown
+  -- a view of the list has grown after the event
   pub record Grew (new : List View) (number : ℕ) (v : View) : Type 0 where
     pub after : View
     pub is : slice_get new number ≡ Some after
@@ -72,7 +72,7 @@ module _ (digest : List ℕ → List ℕ) (keys : List Key) where
       (answer_grows digest (h.before.origin ≡ h.other.origin) (union h.before h.other) h.before
       (within_union h.before h.other) a h.after h.merges)
 
-  -- a view after an event stood there before, or is the event's
+  -- a view after an event was there before, or is the view of the event's target
   pub set_back : (old new : List View) (target : ℕ) (after : View) → new ≡ slice_set old target after →
       (before : View) → slice_get old target ≡ Some before → (number : ℕ) (v : View) → slice_get new number ≡ Some v →
       (slice_get old number ≡ Some v) ⊎ ((number ≡ target) × (v ≡ after))
@@ -106,9 +106,9 @@ module _ (digest : List ℕ → List ℕ) (keys : List Key) where
             (within_union h.before h.other) a h.after h.merges).origin_is ∙ of target h.before h.found
       ]
 
--- ---- a part of views, its strings or its notes
+-- ---- one part of views: the strings or the notes
 
--- what a part has of a union, of a view with an item, and of a larger view
+-- the part of a union, of a view with an item, and of a larger view
 record IsPart (digest : List ℕ → List ℕ) (part : View → Strings) (adds : Item → List (List ℕ)) : Type 0 where
   union_is : (v w : View) → part (union v w) ≡ set.union (part v) (part w)
   plus_is : (v : View) (item : Item) → part (plus digest v item) ≡ set.union (part v) (set.from_list (adds item))
@@ -120,7 +120,7 @@ of_strings digest = record { union_is = λ v w. refl; plus_is = λ v item. refl;
 of_notes : (digest : List ℕ → List ℕ) → IsPart digest (λ v. v.notes) notes_of
 of_notes digest = record { union_is = λ v w. refl; plus_is = λ v item. refl; within = λ v w h. h.notes_are }
 
--- an answer that changes nothing
+-- the answer means that nothing changed
 abbrev ChangesNothing : Answer → Type 0
 ChangesNothing a = (a ≡ Refused) ⊎ (a ≡ Clashed)
 
@@ -135,7 +135,7 @@ module _ (digest : List ℕ → List ℕ) (origin : List ℕ) (keys : List Key) 
   abbrev Adds : List View → List Event → ℕ → List ℕ → Type 0
   Adds opened events mirror q = TakesIn digest origin keys adds events mirror q
 
-  -- what is kept of a list whose first event is kept, or is not
+  -- the kept events of a list, if its first event is kept and if it is not
   kept_cases : (C : List Event → Type 0) (e : Event) (es : List Event) (a : Answer) (rest : List Answer) →
       (keep a ≡ true → C (e ∷ events_of keep es rest)) → (keep a ≡ false → C (events_of keep es rest)) →
       C (events_of keep (e ∷ es) (a ∷ rest))
@@ -157,7 +157,7 @@ module _ (digest : List ℕ → List ℕ) (origin : List ℕ) (keys : List Key) 
   more_item e es a rest item mirror h =
       kept_cases (Reaches item mirror) e es a rest (λ k. item_later e (events_of keep es rest) item mirror h) (λ k. h)
 
-  -- ---- nothing else
+  -- ---- nothing more
 
   module _ (skips : (a : Answer) → keep a ≡ false → ChangesNothing a) where
     abbrev From : List View → List Event → ℕ → List ℕ → Type 0
@@ -307,12 +307,12 @@ module _ (digest : List ℕ → List ℕ) (origin : List ℕ) (keys : List Key) 
     run_only old new [] (a ∷ rest) of run mirror v found q has = absurd run
     run_only old new (e ∷ es) [] of run mirror v found q has = absurd run
 
-  -- ---- all of it
+  -- ---- everything
 
   abbrev KeepsExact : List Answer → Type 0
   KeepsExact rest = AllByRecursion (λ a. keep a ≡ true → IsExact a) rest
 
-  -- a merge that was kept has added what its source held
+  -- a kept merge added everything that its source held
   merge_adds : (old mid : List View) (target source : ℕ) (a : Answer) → AreOf origin old → IsExact a →
       (h : MergesAt digest keys old target source a mid) → (v : View) → slice_get old source ≡ Some v → (q : List ℕ) →
       Has (part v) q → Has (part h.after) q
@@ -330,7 +330,7 @@ module _ (digest : List ℕ → List ℕ) (origin : List ℕ) (keys : List Key) 
       (union h.before h.other) b h.after) refused h.merges in
       absurd (m.0 (of target h.before h.found ∙ sym (of source h.other h.found_other)))
 
-  -- a take of a valid item that was kept has added it
+  -- a kept take of a valid item added it
   take_adds : (old mid : List View) (target : ℕ) (item : Item) (a : Answer) → AreOf origin old → IsExact a →
       (h : TakesAt digest keys old target item a mid) → IsGood digest origin keys item → (q : List ℕ) →
       Contains (adds item) q → Has (part h.after) q
@@ -498,7 +498,7 @@ all_events digest keys old new (e ∷ es) [] run = absurd run
 all_events digest keys old new (e ∷ es) (a ∷ rest) run =
     ap (λ fs. e ∷ fs) (all_events digest keys run.0 new es rest run.2)
 
--- ---- events done again
+-- ---- repeated events
 
 open_once : (e : Event) (es : List Event) (opened mirror : ℕ) → OpeningReaches opened mirror (e ∷ e ∷ es) →
     OpeningReaches opened mirror (e ∷ es)
@@ -526,7 +526,7 @@ item_once e es item mirror h =
       ]
     ]
 
--- an event that is followed by the same one may be left out
+-- an event that the same event follows can be left out
 open_next : (e : Event) (es : List Event) → IsNext e es → (opened mirror : ℕ) → OpeningReaches opened mirror (e ∷ es) →
     OpeningReaches opened mirror es
 open_next e [] same opened mirror h = absurd same
@@ -560,14 +560,14 @@ item_kept e es fs on more item mirror h =
           (item_by fs b.target item mirror (on b.target mirror b.on))
     ]
 
--- memory was not refused
+-- the event did not run out of memory
 abbrev is_answered : Answer → Bool
 is_answered Done = true
 is_answered Refused = true
 is_answered Clashed = true
 is_answered Exhausted = false
 
--- what reaches a mirror does so over the events that were answered
+-- an opening view that reaches a mirror does so by the events that did not run out of memory
 open_answered : (es : List Event) (as' : List Answer) → length es ≡ length as' → AreRetried es as' →
     (opened mirror : ℕ) → OpeningReaches opened mirror es → OpeningReaches opened mirror (events_of is_answered es as')
 open_answered [] as' len h opened mirror on = on
@@ -604,7 +604,7 @@ run_lengths digest keys old new (e ∷ es) (a ∷ as') run = ap suc (run_lengths
 run_lengths digest keys old new [] (a ∷ as') run = absurd run
 run_lengths digest keys old new (e ∷ es) [] run = absurd run
 
--- answers that are kept and are no collision are exact
+-- answers without OutOfMemory and without collisions are exact
 answered_exact : (answers : List Answer) → (Contains answers Clashed → ⊥) →
     AllByRecursion (λ a. is_answered a ≡ true → IsExact a) answers
 answered_exact [] apart = tt

@@ -1,4 +1,4 @@
--- What reaches a mirror, by the first event of a list, by the last one, and by a fold.
+-- The items that reach a mirror, by the first event of a list, by the last one, and by a fold.
 use Rattle.std.proofs.Common.{zero, suc, ◌≡◌, ℕ, ◌+◌, List, [], ◌∷◌, ◌++◌, Some, None, sym, refl, ◌∙◌, subst, ◌⊎◌, inl}
 use Rattle.std.proofs.Common.{inr, arith}
 use Rattle.std.specs.Prelude.{slice_get}
@@ -8,7 +8,7 @@ use Rattle.mirror_model.specs.declared.events.Event.TheVariants.{Take, Merge}
 use Rattle.mirror_model.specs.Events.{MergesLead, Reaches, OpeningReaches}
 use Rattle.mirror_model.specs.ReachLaws.{ReachesGoByLast, OpeningReachesGoByLast}
 
--- ---- positions behind one event more
+-- ---- positions after one more event
 
 later : (e : Event) (es : List Event) (first source : ℕ) (ps : List ℕ) (end : ℕ) → MergesLead es first source ps end →
     (qs : List ℕ) × MergesLead (e ∷ es) (suc first) source qs end
@@ -30,7 +30,7 @@ earlier e es first source (suc p ∷ ps) end h =
 
 -- ---- by the first event
 
--- the first event is a merge out of the mirror, and the rest lead on from its target
+-- the first event is a merge with the mirror as its source, and the rest lead on from its target
 pub record GoesBy (e : Event) (es : List Event) (opened mirror : ℕ) : Type 0 where
   pub target : ℕ
   pub is : e ≡ Merge target opened

@@ -1,4 +1,4 @@
--- Heads are refused exactly where they are not valid, and for one reason.
+-- Tree heads are refused exactly if they are not valid, and for only one reason.
 use Rattle.std.proofs.Common.{◌≡◌, ◌≢◌, ◌⊎◌, inl, inr, ℕ, ◌*◌, List, length, map, Ok, Err, refl, sym, ap, subst, ◌∙◌}
 use Rattle.std.specs.Prelude.{Result}
 use Rattle.std.proofs.lemmas.List.{length-map}
@@ -26,7 +26,7 @@ use Rattle.mirror_model.proofs.Refusing.{Taken, not_done, not_clashed, not_exhau
 
 -- ---- notes and checkpoints
 
--- what is refused as a note is no note
+-- bytes that are refused as a note are not a note
 no_note : (bytes text : List ℕ) (lines : List SignatureParts) (fault : NoteFault) → IsNoNote bytes fault →
     IsNote bytes text lines → ⊥
 no_note bytes text lines fault refused is =
@@ -44,7 +44,7 @@ same_note_fault bytes f g p q =
     note.one_answer bytes one other (λ e. p.has_memory (cc e)) (λ e. q.has_memory (cc e)) p.refused q.refused in
     cc same
 
--- a text that is refused is no checkpoint
+-- a text that is refused as a checkpoint is not a checkpoint
 no_checkpoint : (text : List ℕ) (c : Checkpoint) (fault : CheckpointFault) → ReadsCheckpoint text (Err fault) →
     fault ≢ reading.OutOfMemory → ReadsCheckpoint text (Ok c) → ⊥
 no_checkpoint text c fault refused memory is =
@@ -61,13 +61,13 @@ same_text_fault text f g p q no_f no_g =
     let same : one ≡ other = checkpoint.one_answer text one other (λ e. no_f (cc e)) (λ e. no_g (cc e)) p q in
     cc same
 
--- ---- how far reading a head's note goes
+-- ---- the steps of reading the note of a tree head
 
 module _ (bytes origin : List ℕ) (keys : List Key) where
   abbrev Read : Type 0
   Read = Result Checkpoint TakeFault
 
-  -- the note's text is that checkpoint
+  -- the text of the note is that checkpoint
   record AfterText (a : Read) (text : List ℕ) (lines : List SignatureParts) : Type 0 where
     checkpoint : Checkpoint
     is_checkpoint : IsCheckpoint text checkpoint.origin checkpoint.size checkpoint.root checkpoint.extensions
@@ -77,7 +77,7 @@ module _ (bytes origin : List ℕ) (keys : List Key) where
         × (((a ≡ Err taking.NoTrustedSignature) × (Opens text lines keys → ⊥))
         ⊎ ((a ≡ Ok checkpoint) × Opens text lines keys)))
 
-  -- the text is refused
+  -- the text was refused
   record AtText (a : Read) (text : List ℕ) : Type 0 where
     fault : CheckpointFault
     is : a ≡ Err (taking.Checkpoint fault)
@@ -91,7 +91,7 @@ module _ (bytes origin : List ℕ) (keys : List Key) where
     is_note : IsNote bytes text lines
     then : AtText a text ⊎ AfterText a text lines
 
-  -- the bytes are refused
+  -- the bytes were refused
   record AtNote (a : Read) : Type 0 where
     fault : NoteFault
     is : a ≡ Err (taking.Note fault)
@@ -158,7 +158,7 @@ module _ (bytes origin : List ℕ) (keys : List Key) where
   steps (Err taking.OutOfMemory) h m = absurd (m refl)
 
   module _ (a b : Read) where
-    -- of one text and its lines
+    -- two answers for the same text and lines are equal
     same_after_text : (text : List ℕ) (lines : List SignatureParts) → AfterText a text lines → AfterText b text lines →
         a ≡ b
     same_after_text text lines p q =
@@ -203,7 +203,7 @@ pub head_notes_are_read_once : HeadNotesAreReadOnce
 head_notes_are_read_once bytes origin keys a b p q no_a no_b =
     same_note bytes origin keys a b (steps bytes origin keys a p no_a) (steps bytes origin keys b q no_b)
 
--- ---- what is read of an open head
+-- ---- reading an open tree head
 
 pub open_heads_are_read : OpenHeadsAreRead
 open_heads_are_read bytes origin keys size root = (
@@ -240,10 +240,10 @@ open_heads_are_read bytes origin keys size root = (
       opens = h.opens;
     }
 
--- ---- taking a head
+-- ---- taking a tree head
 
 module _ (digest : List ℕ → List ℕ) (origin : List ℕ) (keys : List Key) (bytes : List ℕ) (rows : List (List ℕ)) where
-  -- the edge rows are refused
+  -- the edge rows were refused
   abbrev EdgeStep : Taken → Checkpoint → Type 0
   EdgeStep a c =
       ((a ≡ Err taking.EdgeCount) × (HasEdgeCount c.size rows → ⊥))
@@ -252,7 +252,7 @@ module _ (digest : List ℕ → List ℕ) (origin : List ℕ) (keys : List Key) 
       ⊎ (HasEdgeLengths c.size rows × (a ≡ Err taking.EdgeMismatch)
       × (edge_root digest (map row_of rows) ≢ c.root))))
 
-  -- a refusal is one of the note, or one of the edge rows
+  -- a refusal is one of the note or one of the edge rows
   record AtHead (a : Taken) : Type 0 where
     fault : TakeFault
     is : a ≡ Err fault
@@ -311,7 +311,7 @@ module _ (digest : List ℕ → List ℕ) (origin : List ℕ) (keys : List Key) 
   head_taken (Err taking.Collision) h no_refusal memory = h
   head_taken (Err taking.OutOfMemory) h no_refusal memory = absurd (memory refl)
 
-  -- a note that is read is not refused
+  -- a note that was read is not refused
   read_or_refused : (c : Checkpoint) (fault : TakeFault) → IsOpenCheckpoint bytes origin keys c →
       ReadsHead bytes origin keys (Err fault) → fault ≢ taking.OutOfMemory → ⊥
   read_or_refused c fault is refused memory =
@@ -352,7 +352,7 @@ module _ (digest : List ℕ → List ℕ) (origin : List ℕ) (keys : List Key) 
       same_edge a b p.checkpoint p.step
       (subst (EdgeStep b) (sym (same_open p.checkpoint q.checkpoint p.is_open q.is_open)) q.step)
 
-  -- the checkpoint of a valid head, and its rows
+  -- the checkpoint of a valid tree head, and its rows
   good_edge : (c : Checkpoint) → IsOpenCheckpoint bytes origin keys c → IsGoodHead digest origin keys bytes rows →
       HasEdgeRows digest c.size c.root rows
   good_edge c is good =

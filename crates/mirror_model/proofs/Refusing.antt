@@ -1,4 +1,4 @@
--- Tiles and bundles are refused exactly where they are not valid, and for one reason.
+-- Tiles and bundles are refused exactly if they are not valid, and for only one reason.
 use Rattle.std.proofs.Common.{◌≡◌, ◌≢◌, ◌⊎◌, inl, inr, ℕ, ◌*◌, List, [], length, Ok, Err, refl, sym, ◌∙◌}
 use Rattle.std.specs.Prelude.{Result}
 use Rattle.std.proofs.lemmas.List.{append-nil}
@@ -32,7 +32,7 @@ not_exhausted e = cc e
 -- ---- tiles
 
 module _ (width : ℕ) (bytes : List ℕ) where
-  -- a tile has one refusal
+  -- a tile has only one refusal
   tile_refused : (a : Taken) → JudgesTile width bytes a → answer_of a ≡ Refused →
       (a ≡ Err RowLength) × (length bytes ≢ 32 * width)
   tile_refused (Ok done) h e = absurd (not_done done e)
@@ -88,7 +88,7 @@ bundle_not_long width bytes h good =
     cc same
 
 module _ (width : ℕ) (bytes : List ℕ) where
-  -- a bundle has two refusals, and not both
+  -- a bundle has two refusals, and only one of them applies
   short_or_long : Taken → Type 0
   short_or_long a =
       ((a ≡ Err BundleShort) × ReadsBundle width bytes (Err bundling.BundleShort))

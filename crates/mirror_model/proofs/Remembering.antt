@@ -1,4 +1,4 @@
--- The whole list of a complete head may be remembered.
+-- The whole list of a complete tree head is a mark.
 use Rattle.std.proofs.Common.{◌≡◌, ℕ, ◌+◌, ◌≤◌, List, ◌∷◌, ◌++◌, length, take, drop, sym, refl, ap, ◌∙◌, arith, inl}
 use Rattle.std.proofs.lemmas.List.{take_all}
 use Rattle.tlog_hash.specs.Tree.{Tree, Empty, One, Join, tree_of, size_of, mth}
@@ -7,7 +7,7 @@ use Rattle.tlog_hash.specs.Rows.{part}
 use Rattle.tlog_hash.proofs.NodeStrings.{size_of-tree}
 use Rattle.mirror_model.specs.MarkLaws.{WholeListIsMark}
 
--- the node at the top of a tree that is not empty
+-- the top node of a tree that is not empty
 pub record HasTop (digest : List ℕ → List ℕ) (t : Tree (List ℕ)) : Type 0 where
   pub node : Node
   pub is : IsNode digest t 0 node

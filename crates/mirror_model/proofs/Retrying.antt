@@ -1,4 +1,4 @@
--- Events that are done again where memory was refused.
+-- Repeating events that ran out of memory.
 use Rattle.std.proofs.Common.{◌≡◌, List, [], ◌∷◌, ◌++◌, map, zero, suc, Result, Ok, Err, refl, ap}
 use Rattle.std.proofs.Common.{arith}
 use Rattle.std.specs.List.{Contains}

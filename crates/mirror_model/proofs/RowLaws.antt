@@ -1,4 +1,4 @@
--- The strings of true rows and bundles are those of nodes in their ranges.
+-- The strings of true rows and bundles are those of the nodes in their ranges.
 use Rattle.std.proofs.Common.{subst, get_or, inl, inr, ◌⊎◌, ◌≡◌, ℕ, zero, suc, ◌+◌, ◌-◌, ◌*◌, ◌/◌, ◌^◌, ◌<◌, ◌≤◌, List}
 use Rattle.std.proofs.Common.{[], ◌∷◌, length, take, drop, map, sym, ap, ◌∙◌, arith, length-take, length-drop}
 use Rattle.std.proofs.lemmas.List.{take_all}
@@ -17,7 +17,7 @@ use Rattle.tlog_hash.proofs.NodeStrings.{from_joins, to_joins, node_of_string, s
 use Rattle.mirror_model.proofs.NodeBlocks.{node_inside, node_of_blocks, block_node, upper_node, IsInside, IsInBlock}
 
 module _ {A : Type 0} (b : ℕ) (some : 0 < b) where
-  -- ranges that go on to the end, or not so far, are blocks
+  -- ranges that end within the list, or with a shorter last range, are a cut into blocks
   pub cut_ranges : (first count : ℕ) (es : List A) → 0 < count → (first + count) * b < length es + b →
       IsCut b (ranges b first count es)
   cut_ranges first zero es positive h = absurd (omega arith)
@@ -51,13 +51,13 @@ from_products i k c h =
     ]
 
 module _ (digest : List ℕ → List ℕ) (es : List (List ℕ)) where
-  -- the node is one of the block of that index
+  -- the node is a node of the block with that index
   pub record IsAtBlock (b : ℕ) (x : Node) : Type 0 where
     pub index : ℕ
     pub below : index * b < length es
     pub is : IsNode digest (tree_of (part (index * b) b es)) (index * b) x
 
-  -- how many blocks there are
+  -- the number of blocks
   abbrev count_of : ℕ → ℕ
   count_of b = (length es + (b - 1)) / b
 
@@ -121,7 +121,7 @@ module _ (digest : List ℕ → List ℕ) (es : List (List ℕ)) where
               })
         ]
 
-    -- a block's node is one of the list's
+    -- a node of a block is a node of the list
     pub from_block : (i : ℕ) (x : Node) → i * 2 ^ j < length es →
         IsNode digest (tree_of (part (i * 2 ^ j) (2 ^ j) es)) (i * 2 ^ j) x → IsNode digest (tree_of es) 0 x
     from_block i x h n =
@@ -141,7 +141,7 @@ module _ (digest : List ℕ → List ℕ) (es : List (List ℕ)) where
               (subst (λ m. IsNode digest (tree_of (part (i * b) b es)) m x) zb n));
         }))
 
-    -- a node within the range of a block is one of the block's
+    -- a node within the range of a block is a node of the block
     pub in_range : (i : ℕ) (x : Node) → IsInside (i * 2 ^ j) (2 ^ j) x → IsNode digest (tree_of es) 0 x →
         IsNode digest (tree_of (part (i * 2 ^ j) (2 ^ j) es)) (i * 2 ^ j) x
     in_range i x inside n =
@@ -162,7 +162,7 @@ module _ (digest : List ℕ → List ℕ) (es : List (List ℕ)) where
               subst (λ m. IsNode digest (tree_of (part (m * b) b es)) (m * b) x) same h.is
         ]
 
-  -- a node of the tree, within the range of the tile, of more entries than a hash of its level has
+  -- a node of the tree within the range of the tile, with more entries than a hash of its level
   pub record HasTileNode (b c p : ℕ) (y : List ℕ) : Type 0 where
     pub node : Node
     pub is : IsNode digest (tree_of es) 0 node
@@ -170,7 +170,7 @@ module _ (digest : List ℕ → List ℕ) (es : List (List ℕ)) where
     pub long : b < node.len
     pub string_is : node.string ≡ y
 
-  -- the row has all hashes of the block p of the level above
+  -- the row has all hashes of the block with the number p of the level above
   pub record IsWholeRow (b c p w : ℕ) : Type 0 where
     pub cut : IsCut b (ranges b (256 * p) w es)
     pub covers : joined_up (ranges b (256 * p) w es) ≡ part (p * c) c es
@@ -240,7 +240,7 @@ module _ (digest : List ℕ → List ℕ) (es : List (List ℕ)) where
       (p w : ℕ) → IsWholeRow b c p w → (y : List ℕ) →
       Contains (joins digest (map (mth digest) (ranges b (256 * p) w es))) y ↔ HasTileNode b c p y
 
-  -- the joins of a level's row are the strings of the nodes in its range of more than 256^level entries
+  -- the joins of a level's row are the strings of the nodes in its range with more than 256^level entries
   pub row_law : (level : ℕ) → RowLaw (256 ^ level) (256 ^ (level + 1))
   row_law level =
       subst (λ b. RowLaw b (256 ^ (level + 1))) (sym (level_power level))
@@ -272,7 +272,7 @@ module _ (digest : List ℕ → List ℕ) (es : List (List ℕ)) where
       ↔ HasTileNode (256 ^ level) (256 ^ (level + 1)) p y
   full_tile level p h y = row_law level p 256 (full_row level p h) y
 
-  -- the strings of a block of 256 entries, or of the last of fewer, are those of the nodes in its range
+  -- the strings of a bundle are those of the nodes in its range
   pub record HasNodeIn (start len : ℕ) (y : List ℕ) : Type 0 where
     pub node : Node
     pub is : IsNode digest (tree_of es) 0 node

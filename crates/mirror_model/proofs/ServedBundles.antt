@@ -1,4 +1,4 @@
--- The bundles that are served have the entries served.
+-- The served bundles have exactly the served entries.
 use Rattle.std.proofs.Common.{min, zero, suc, ◌≡◌, ℕ, ◌+◌, ◌-◌, ◌*◌, ◌^◌, ◌<◌, ◌≤◌, List, [], ◌∷◌, ◌++◌, length, map}
 use Rattle.std.proofs.Common.{take, drop, sym, refl, ap, ◌∙◌, subst, inl, inr, arith, length-take, length-drop}
 use Rattle.std.proofs.Common.{take-append-drop}
@@ -32,7 +32,7 @@ tagged (x ∷ es) e (suc k, lt, is) = let r = tagged es e (k, omega (arith, lt),
 
 module _ (digest : List ℕ → List ℕ) (hash : IsDigest digest) (v : View) (lawful : IsLawful digest v)
     (entries : List (List ℕ)) (served : IsServedList digest v entries) where
-  -- the entries served are short
+  -- the served entries are short enough for bundles
   short : AreShort entries
   short = All-weaker (Contains entries) (λ e. length e < 2 ^ 16) each entries (All-contains_itself entries)
     where
@@ -42,11 +42,11 @@ module _ (digest : List ℕ → List ℕ) (hash : IsDigest digest) (v : View) (l
           let few = lawful.leaves_short e (held (0 ∷ e) (strings_leaf digest entries (0 ∷ e) (tagged entries e c))) in
           omega (arith, few)
 
-  -- how many entries the bundle of an index has
+  -- the number of entries of the bundle with that index
   abbrev full : ℕ → ℕ
   full index = min 256 (length entries - 256 * index)
 
-  -- a bundle of the entries is served where it is within them
+  -- a bundle within the entries is served
   is_served : (index width : ℕ) → 1 ≤ width → width ≤ 256 → 256 * index + width ≤ length entries →
       IsServedBundle digest v index width (bundle_bytes entries index width)
   is_served index width some upto fits =
@@ -62,7 +62,7 @@ module _ (digest : List ℕ → List ℕ) (hash : IsDigest digest) (v : View) (l
             refl;
       }
 
-  -- what is served of bundles lies within the entries served
+  -- a served bundle is within the served entries
   pub record IsPartServed (index width : ℕ) (bytes : List ℕ) : Type 0 where
     pub some : 1 ≤ width
     pub fits : 256 * index + width ≤ length entries

@@ -1,4 +1,4 @@
--- Something is served exactly where something is complete.
+-- A checkpoint is served exactly if some tree head is complete.
 use Rattle.std.proofs.Common.{zero, suc, ◌≡◌, ℕ, ◌+◌, ◌-◌, ◌≤◌, ◌^◌, List, [], ◌∷◌, ◌++◌, length, take, drop, replicate}
 use Rattle.std.proofs.Common.{true, false, sym, refl, ap, ◌∙◌, subst, ◌⊎◌, inl, inr, arith, length-take, length-drop}
 use Rattle.std.specs.List.{Contains}
@@ -32,7 +32,7 @@ use Rattle.mirror_model.proofs.OneLists.{at_most_both}
 use Rattle.mirror_model.proofs.Missing.{built-none, built-one, built-join, search_set, IsLeafOf, IsPairOf, is_leaf}
 use Rattle.mirror_model.proofs.Missing.{is_pair, none_fails, built_none, none_root}
 
--- ---- a list is held whole, or the walk fails somewhere
+-- ---- all strings of a list are held, or the walk fails somewhere
 
 module _ (digest : List ℕ → List ℕ) (held : Strings) where
   record FailsSomewhere (t : Tree ℕ) (start : ℕ) (hash : List ℕ) : Type 0 where
@@ -158,7 +158,7 @@ le_total zero b = inl (omega arith)
 le_total (suc a) zero = inr (omega arith)
 le_total (suc a) (suc b) = elim (le_total a b) [ inl h ↦ inl (omega (arith, h)) | inr h ↦ inr (omega (arith, h)) ]
 
--- the first stands not before the second where one of them is served
+-- the first note does not come before the second in the order of serving
 record IsNoBetter (other : List ℕ) (n : ℕ) (r : List ℕ) (note : List ℕ) (size : ℕ) (root : List ℕ) : Type 0 where
   size_le : n ≤ size
   root_le : n ≡ size → IsAtMost root r
@@ -213,7 +213,7 @@ no_better_total a b n m r s = elim (same_number n m) [
   ]
 ]
 
--- ---- the note that is served
+-- ---- the served note
 
 in_cons : (x : List ℕ) (xs : List (List ℕ)) (y : List ℕ) → Contains (x ∷ xs) y → (x ≡ y) ⊎ Contains xs y
 in_cons x xs y (zero, lt, is) = inl is
@@ -252,7 +252,7 @@ module _ (digest : List ℕ → List ℕ) (hash : IsDigest digest) (v : View) (l
   abbrev NoneOf : List (List ℕ) → Type 0
   NoneOf ns = (other : List ℕ) (n : ℕ) (r : List ℕ) → Contains ns other → IsCompleteNote digest v other n r → ⊥
 
-  -- what holds of a note's size and root holds wherever it is complete
+  -- a property of a note's size and root holds for each complete reading of the same note
   as_head : (P : List ℕ → ℕ → List ℕ → Type 0) (x : List ℕ) (size : ℕ) (root : List ℕ) → HoldsHead v x size root →
       P x size root → (other : List ℕ) (n : ℕ) (r : List ℕ) → x ≡ other → IsCompleteNote digest v other n r →
       P other n r

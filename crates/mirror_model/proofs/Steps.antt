@@ -1,4 +1,4 @@
--- One event: what it leaves in each view of a list.
+-- One event: the view of each mirror after it.
 use Rattle.std.proofs.Common.{zero, suc, ◌≡◌, ℕ, List, [], ◌∷◌, Some, None, sym, refl, ap, ◌∙◌, subst, ◌⊎◌, inl, inr}
 use Rattle.std.proofs.Common.{nat_eq, Bool, true, false}
 use Rattle.std.specs.Prelude.{◌≢◌, slice_get, slice_set}
@@ -50,7 +50,7 @@ module _ (digest : List ℕ → List ℕ) (Allowed : Type 0) (full old : View) (
   answer_grows Exhausted new (inl e) = subst (IsSubview old) (sym e) (within_itself old)
   answer_grows Exhausted new (inr h) = h.2.grows
 
-  -- a view that an event changed is within the full one, and the event was allowed
+  -- after an event the view is the old one, or the event was allowed and the view is within the full one
   pub answer_within : (a : Answer) (new : View) → Answers digest old Allowed full a new →
       (new ≡ old) ⊎ (Allowed × IsSubview new full)
   answer_within Done new h = inr (h.0, subst (λ v. IsSubview v full) (sym h.2) (within_itself full))
@@ -59,7 +59,7 @@ module _ (digest : List ℕ → List ℕ) (Allowed : Type 0) (full old : View) (
   answer_within Exhausted new (inl e) = inl e
   answer_within Exhausted new (inr h) = inr (h.0, h.2.within)
 
-  -- only an event that was done, or for which memory was refused, changes a view
+  -- a view changes only if the event was done or ran out of memory
   pub answer_changes : (a : Answer) (new : View) → Answers digest old Allowed full a new →
       (a ≡ Refused) ⊎ (a ≡ Clashed) → new ≡ old
   answer_changes a new h (inl e) = (subst (λ b. Answers digest old Allowed full b new) e h).1
@@ -67,7 +67,7 @@ module _ (digest : List ℕ → List ℕ) (Allowed : Type 0) (full old : View) (
 
 module _ (digest : List ℕ → List ℕ) (Allowed Allowed' : Type 0) (again : Allowed' → Allowed) (back : Allowed → Allowed')
     (full full' old between : View) (same : IsSubview old between → IsSubview between full → full' ≡ full) where
-  -- what is done again
+  -- repeating the event
   pub answers_again : (a : Answer) (new : View) →
       (between ≡ old → Answers digest between Allowed' full' a new → Answers digest old Allowed full a new) →
       Answers digest old Allowed full Exhausted between → Answers digest between Allowed' full' a new →
@@ -96,7 +96,7 @@ module _ (digest : List ℕ → List ℕ) (Allowed Allowed' : Type 0) (again : A
         },
       )
 
--- a view between V and V with an item gives the same with the item
+-- a view between V and V with an item gives the same view with the item
 pub plus_again : (digest : List ℕ → List ℕ) (old between : View) (item : Item) → IsSubview old between →
     IsSubview between (plus digest old item) → plus digest between item ≡ plus digest old item
 plus_again digest old between item grows within = same_is_one (plus digest between item) (plus digest old item)

@@ -1,4 +1,4 @@
--- Sets of strings: what they have, and when two are one.
+-- Sets of strings: their members, and equal sets.
 use Rattle.std.proofs.Common.{◌≡◌, ℕ, List, [], ◌∷◌, Bool, true, false, sym, refl, ◌∙◌, ◌⊎◌, inl, inr}
 use Rattle.std.specs.Ordering.{nat_cmp, eq_by_cmp}
 use Rattle.std.specs.Cmp.Lexicographic.{slice_cmp, nat_list_cmp_total}
@@ -16,7 +16,7 @@ pub use Rattle.node_store.proofs.Sets.{Has-union_left as has_left, Has-union_rig
 use Rattle.node_store.specs.Strings.{Strings, Has, HasAll, NoClash, ClashesWith}
 use Rattle.mirror_model.specs.Strings.{HasClash}
 
--- a set has a string or not
+-- a set either has a string or does not
 pub decide_has : (held : Strings) (string : List ℕ) → Has held string ⊎ (Has held string → ⊥)
 decide_has held string = at (contains held string)
   where
@@ -24,7 +24,7 @@ decide_has held string = at (contains held string)
     at true = inl refl
     at false = inr (λ h. let wrong : false ≡ true = h in cc wrong)
 
--- a set has each string of the list
+-- the set has each string of the list
 abbrev pub HoldsAll : Strings → List (List ℕ) → Type 0
 HoldsAll held wanted = (string : List ℕ) → Contains wanted string → Has held string
 
@@ -83,13 +83,13 @@ has_from_listed ss q c =
       each ss all (λ x h. more x (contains-insert nat_list_cmp_total (set.from_list ss) s x ∙ or_right _ _ h)),
     )
 
--- the one string of a list is that string
+-- a list of one string has no other string
 pub only_listed : (x y : List ℕ) → Has (set.from_list (x ∷ [])) y → y ≡ x
 only_listed x y h =
     All-contains (λ z. z ≡ x) (x ∷ []) y (All-cons (λ z. z ≡ x) x [] refl (All-nil (λ z. z ≡ x)))
     (listed_from_has (x ∷ []) y h)
 
--- the strings of a set, in order
+-- the strings of a set are in its list
 pub in_items : (s : Strings) (q : List ℕ) → Has s q → Contains (set.items s) q
 in_items s q h = Contains-from_any (tells_apart exact_bytes) q (set.items s) (sym (contains-items s q) ∙ h)
 
@@ -99,7 +99,7 @@ has_item s q c = contains-items s q ∙ any_from (set.items s) q c
     any_from : (ss : List (List ℕ)) (q : List ℕ) → Contains ss q → list_any (eq_by_cmp (slice_cmp nat_cmp) q) ss ≡ true
     any_from ss q c = sym (contains-from_list nat_list_cmp_total ss q) ∙ has_from_listed ss q c
 
--- ---- all of a list
+-- ---- all strings of a list
 
 pub all_from_held : (held : Strings) (wanted : List (List ℕ)) → HasAll held wanted → AllByRecursion (Has held) wanted
 all_from_held held [] h = tt
@@ -130,7 +130,7 @@ pub no_clash_within : (digest : List ℕ → List ℕ) (v w : Strings) → ((q :
     NoClash digest w → NoClash digest v
 no_clash_within digest v w more clean = record { same = λ x y hx hy e. clean.same x y (more x hx) (more y hy) e }
 
--- what collides within a set collides within a larger one
+-- a collision within a set is one within a larger set
 pub clash_within : (digest : List ℕ → List ℕ) (v w : Strings) → ((q : List ℕ) → Has v q → Has w q) →
     HasClash digest v → HasClash digest w
 clash_within digest v w more c = record {
@@ -142,7 +142,7 @@ clash_within digest v w more c = record {
   differ = c.differ;
 }
 
--- two sets that collide with each other do so within their union
+-- two sets that collide with each other collide within their union
 pub union_clash : (digest : List ℕ → List ℕ) (v w : Strings) → ClashesWith digest v w →
     HasClash digest (set.union v w)
 union_clash digest v w c = record {

@@ -1,4 +1,4 @@
--- Items of true bytes, and rounds of them.
+-- Items of true bytes, and rounds of such items.
 use Rattle.std.proofs.Common.{min, ◌<◌, zero, suc, ◌≡◌, ℕ, ◌+◌, ◌-◌, ◌*◌, ◌/◌, ◌^◌, ◌≤◌, List, [], ◌∷◌, ◌++◌, length}
 use Rattle.std.proofs.Common.{map, take, drop, Bool, true, false, cond, nat_eq, sym, refl, ap, ◌∙◌, subst, inl, inr}
 use Rattle.std.proofs.Common.{arith}
@@ -156,7 +156,7 @@ pub edge_is_of_paths : EdgeHasEachPartialTile
 unfolding edge_of edge_levels
 edge_is_of_paths size = paths_below size 8
 
--- where a full tile ends
+-- the end of a full tile
 pub tile_end : (level index : ℕ) → (256 * index + 256) * 256 ^ level ≡ (index + 1) * 256 ^ (level + 1)
 tile_end level index =
     let one : level + 1 ≡ suc level = omega arith in
@@ -259,7 +259,7 @@ prefixes_serve_same digest entries n within = record {
       omega arith in ap bundle_text (part_same (256 * index) width n entries (omega (arith, one, w.within))));
 }
 
--- ---- strings of the tree alone
+-- ---- strings of the tree only
 
 pub true_strings_within : TrueStringsAreOfTree
 true_strings_within digest entries Checkpoint within widest y c = absurd widest

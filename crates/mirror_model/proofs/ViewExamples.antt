@@ -31,7 +31,7 @@ use Rattle.mirror_model.proofs.HeadNotes.{head_once}
 abbrev one_merge : List Event
 one_merge = Merge 0 1 ∷ []
 
--- only mirror 1's own view reaches it
+-- only the opening view of mirror 1 reaches it
 own : (number : ℕ) → OpeningReaches number 1 one_merge → number ≡ 1
 own number h = elim (open_first (Merge 0 1) [] number 1 h) [
   | inl a ↦ open_none number 1 a
@@ -42,7 +42,7 @@ own number h = elim (open_first (Merge 0 1) [] number 1 h) [
       absurd (omega (arith, t, wrong))
 ]
 
--- no item was taken
+-- no item was taken, so none reaches a mirror
 no_item : {X : Type 0} (item : _) (mirror : ℕ) → Reaches item mirror one_merge → X
 no_item item mirror h = elim (item_first (Merge 0 1) [] item mirror h) [
   | inl a ↦ absurd (item_none item mirror a)

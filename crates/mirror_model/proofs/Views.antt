@@ -1,4 +1,4 @@
--- Views: joined, and when they are lawful.
+-- Unions of views, and lawful views.
 use Rattle.std.proofs.Common.{◌≡◌, ℕ, List, ◌∷◌, sym, refl, ◌∙◌, subst, inl, inr}
 use Rattle.mirror_model.specs.Strings.{HasClash}
 use Rattle.mirror_model.specs.View.{View, union, IsSubview}
@@ -71,7 +71,7 @@ within_plus digest v x =
       strings_are = λ q h. has_left v.strings _ q h;
     }
 
--- a larger view holds as much
+-- a larger view has the same tree heads
 pub head_stays : (v w : View) → IsSubview v w → (size : ℕ) (root : List ℕ) → HasHead v size root → HasHead w size root
 head_stays v w a size root h =
     record {
@@ -144,7 +144,7 @@ forks_turn digest v a b f = record {
   ];
 }
 
--- a note's edge stays held
+-- the right edge of a note stays held
 pub edge_stays : (digest : List ℕ → List ℕ) (v w : View) → IsSubview v w → (note : List ℕ) → HasEdge digest v note →
     HasEdge digest w note
 edge_stays digest v w a note e = record {

@@ -25,7 +25,7 @@ module _ (digest : List ℕ → List ℕ) (size : (s : List ℕ) → length (dig
   length_root (One d) = size (0 ∷ d)
   length_root (Join l r) = size (1 ∷ entries_root digest l ++ entries_root digest r)
 
-  -- a node of the front at that path
+  -- a node of the front at that place
   record HasFront (t : Tree (List ℕ)) (s at many : ℕ) : Type 0 where
     node : Node
     is : InFront digest held t s node

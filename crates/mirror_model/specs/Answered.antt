@@ -1,4 +1,4 @@
--- How a mirror's calls are answered: the kind of each answer.
+-- The kinds of answers of a mirror's calls.
 use Rattle.std.specs.Prelude.{Result, Ok, Err}
 use Rattle.mirror_model.specs.Steps.{Answer, Done, Refused, Clashed, Exhausted}
 use Rattle.mirror_model.specs.declared.fault.TakeFault.{TakeFault}
@@ -6,7 +6,8 @@ use Rattle.mirror_model.specs.declared.fault.TakeFault.TheVariants as taking
 use Rattle.mirror_model.specs.declared.fault.MergeFault.{MergeFault}
 use Rattle.mirror_model.specs.declared.fault.MergeFault.TheVariants as merging
 
--- the kind of a take's answer: done, refused for what the item is, clashed, or out of memory
+-- the kind of the answer to a take: done, refused because of the item, a collision, or out of
+-- memory
 abbrev pub answer_of : Result (Unit {0}) TakeFault → Answer
 answer_of (Ok done) = Done
 answer_of (Err (taking.Note fault)) = Refused
@@ -22,15 +23,16 @@ answer_of (Err taking.BundleLong) = Refused
 answer_of (Err taking.Collision) = Clashed
 answer_of (Err taking.OutOfMemory) = Exhausted
 
--- the kind of a merge's answer: done, refused since the other mirror is of another origin, clashed,
--- or out of memory
+-- the kind of the answer to a merge: done, refused because the other mirror has another origin, a
+-- collision, or out of memory
 abbrev pub merge_answer_of : Result (Unit {0}) MergeFault → Answer
 merge_answer_of (Ok done) = Done
 merge_answer_of (Err merging.OtherOrigin) = Refused
 merge_answer_of (Err merging.Collision) = Clashed
 merge_answer_of (Err merging.OutOfMemory) = Exhausted
 
--- a merge's fault among those of takes, where events of both kinds are answered in one list
+-- the fault of a merge as a fault of takes, so that one list can have the answers to both kinds of
+-- events
 abbrev pub take_fault_of : MergeFault → TakeFault
 take_fault_of merging.OtherOrigin = taking.OtherOrigin
 take_fault_of merging.Collision = taking.Collision

@@ -1,4 +1,4 @@
--- Complete heads, and lawful views.
+-- Complete tree heads, and lawful views.
 use Rattle.std.specs.Prelude.{◌≡◌, ℕ, ◌≤◌, List, ◌∷◌, length, map}
 use Rattle.tlog_hash.specs.Tree.{mth, strings}
 use Rattle.node_store.specs.Strings.{Strings, Has, HasAll, AllTagged, NoClash}
@@ -8,37 +8,37 @@ use Rattle.mirror_model.specs.Heads.{IsHead, HasHead}
 use Rattle.mirror_model.specs.Item.{row_of, HasEdgeRows}
 
 module _ (digest : List ℕ → List ℕ) where
-  -- the entries have that size and tree hash, and all that the tree hash hashes is held
+  -- the entries have that size and tree hash, and all strings of their tree are held
   pub record IsTreeOf (held : Strings) (size : ℕ) (root : List ℕ) (entries : List (List ℕ))
       : Type 0 where
     pub size_is : length entries ≡ size
     pub root_is : mth digest entries ≡ root
     pub are_held : HasAll held (strings digest entries)
 
-  -- some entries have that size and tree hash, and all that their tree hash hashes is held
+  -- some entries have that size and tree hash, and all strings of their tree are held
   pub record IsBuilt (held : Strings) (size : ℕ) (root : List ℕ) : Type 0 where
     pub entries : List (List ℕ)
     pub is : IsTreeOf held size root entries
 
-  -- a head of that size and root is complete, with these entries: a note of the view has the size
-  -- and the root, and the view holds all that the tree hash of the entries hashes
+  -- the tree head of that size and root is complete, with these entries: a note of the view has the
+  -- size and the root, and the view holds all strings of the entries' tree
   pub record Complete (v : View) (size : ℕ) (root : List ℕ) (entries : List (List ℕ)) : Type 0 where
     pub head : HasHead v size root
     pub tree : IsTreeOf v.strings size root entries
 
-  -- a head of that size and root is complete, whatever its entries are
+  -- the tree head of that size and root is complete, with some entries
   pub record IsComplete (v : View) (size : ℕ) (root : List ℕ) : Type 0 where
     pub entries : List (List ℕ)
     pub complete : Complete v size root entries
 
-  -- the edge of that size and root is held: some edge rows, lowest level first, lead to the root, and
-  -- what they hash is held
+  -- the right edge of that size and root is held: some edge rows, lowest level first, lead to the
+  -- root, and the strings that they hash are held
   pub record HoldsEdge (held : Strings) (size : ℕ) (root : List ℕ) : Type 0 where
     pub rows : List (List ℕ)
     pub has_edge : HasEdgeRows digest size root rows
     pub are_held : HasAll held (edge_strings digest (map row_of rows))
 
-  -- the note is a head of the view's origin, whose edge is held
+  -- the note is a tree head of the view's origin, and its right edge is held
   pub record HasEdge (v : View) (note : List ℕ) : Type 0 where
     pub size : ℕ
     pub root : List ℕ
@@ -46,7 +46,7 @@ module _ (digest : List ℕ → List ℕ) where
     pub edge : HoldsEdge v.strings size root
 
   -- a lawful view: no two of its strings share a digest, its entries have at most 65,535 bytes, and
-  -- the edge of each note is held
+  -- the right edge of each note is held
   pub record IsLawful (v : View) : Type 0 where
     pub no_clash : NoClash digest v.strings
     pub are_strings : AllTagged v.strings

@@ -1,4 +1,4 @@
--- The edge of a head is one, and it is true of the entries of a head that is complete.
+-- Each tree head has at most one right edge, and a complete tree head has the true one.
 use Rattle.std.specs.Prelude.{◌≡◌, ℕ, List, map}
 use Rattle.node_store.specs.Strings.{Strings, HasAll, NoClash}
 use Rattle.mirror_model.specs.View.{View}
@@ -8,8 +8,8 @@ use Rattle.mirror_model.specs.Complete.{Complete, IsLawful}
 use Rattle.mirror_model.specs.TrueLaws.{edge_bytes}
 use Rattle.mirror_model.specs.Strings.{IsDigest}
 
--- of a size and a root there is one edge at most whose strings are held, while what is held does
--- not collide
+-- a size and a root have at most one right edge whose strings are held, as long as the held strings
+-- do not collide
 abbrev pub EdgeIsOne : Type 0
 EdgeIsOne =
     (digest : List ℕ → List ℕ) →
@@ -23,8 +23,8 @@ EdgeIsOne =
     HasAll held (edge_strings digest (map row_of others)) →
     rows ≡ others
 
--- edge rows of a complete head of a lawful view, where the view holds what they hash, are the true
--- rows of the head's entries
+-- if the strings of edge rows of a complete tree head are held in a lawful view, they are the true
+-- rows of its entries
 abbrev pub LawfulEdgeIsTrue : Type 0
 LawfulEdgeIsTrue =
     (digest : List ℕ → List ℕ) →

@@ -1,4 +1,4 @@
--- Laws of one event: what it answers, and what it leaves.
+-- Laws of one event: its answer, and the view after it.
 use Rattle.std.specs.Prelude.{◌≡◌, ◌≢◌, ◌⊎◌, ℕ, List, Some, slice_get}
 use Rattle.signed_note.specs.Keys.{Key}
 use Rattle.node_store.specs.Strings.{Has}
@@ -12,7 +12,7 @@ use Rattle.mirror_model.specs.declared.events.Event.TheVariants.{Merge}
 use Rattle.mirror_model.specs.Steps.{Answer, Exhausted, IsBetween, Takes, Merges, Happens}
 use Rattle.mirror_model.specs.RunLaws.{AreLawful}
 
--- OutOfMemory apart, a take has one answer and leaves one view
+-- a take has one answer and one view after it, apart from OutOfMemory
 abbrev pub TakesHaveOneAnswer : Type 0
 TakesHaveOneAnswer =
     (digest : List ℕ → List ℕ) (keys : List Key) (old new other : View) (item : Item)
@@ -21,14 +21,14 @@ TakesHaveOneAnswer =
     b ≢ Exhausted →
     (a ≡ b) × (new ≡ other)
 
--- OutOfMemory apart, a merge has one answer and leaves one view
+-- a merge has one answer and one view after it, apart from OutOfMemory
 abbrev pub MergesHaveOneAnswer : Type 0
 MergesHaveOneAnswer =
     (digest : List ℕ → List ℕ) (old source new other : View) (a b : Answer) →
     Merges digest old source a new →
     Merges digest old source b other → a ≢ Exhausted → b ≢ Exhausted → (a ≡ b) × (new ≡ other)
 
--- a take that ran out of memory and is done again comes to the same as one take
+-- a take that ran out of memory and is repeated has the result of one take
 abbrev pub RetriedTakeIsOneTake : Type 0
 RetriedTakeIsOneTake =
     (digest : List ℕ → List ℕ) (keys : List Key) (old between new : View) (item : Item)
@@ -36,44 +36,44 @@ RetriedTakeIsOneTake =
     Takes digest keys old item Exhausted between → Takes digest keys between item answer new →
     Takes digest keys old item answer new
 
--- a merge that ran out of memory and is done again comes to the same as one merge
+-- a merge that ran out of memory and is repeated has the result of one merge
 abbrev pub RetriedMergeIsOneMerge : Type 0
 RetriedMergeIsOneMerge =
     (digest : List ℕ → List ℕ) (old other between new : View) (answer : Answer) →
     Merges digest old other Exhausted between → Merges digest between other answer new →
     Merges digest old other answer new
 
--- after OutOfMemory in a take a new note stands only if the view is the one with the item
+-- after a take that ran out of memory, there is a new note only if the view has the whole item
 abbrev pub NewNoteMeansWholeItem : Type 0
 NewNoteMeansWholeItem =
     (digest : List ℕ → List ℕ) (keys : List Key) (old new : View) (item : Item) (note : List ℕ) →
     Takes digest keys old item Exhausted new → Has new.notes note →
     Has old.notes note ⊎ (new ≡ plus digest old item)
 
--- a view between two lawful ones, with new notes last, is lawful
+-- a view between two lawful ones is lawful, if new notes were added last
 abbrev pub BetweenIsLawful : Type 0
 BetweenIsLawful =
     (digest : List ℕ → List ℕ) (old whole new : View) → IsLawful digest old →
     IsLawful digest whole →
     IsBetween old whole new → IsLawful digest new
 
--- ---- what each leaves
+-- ---- the view after an event
 
--- a take, however it is answered, loses nothing: the old view is within the new one
+-- no take loses anything: the old view is within the new one, for every answer
 abbrev pub TakesGrow : Type 0
 TakesGrow =
     (digest : List ℕ → List ℕ) (keys : List Key) (old new : View) (item : Item) (answer : Answer) →
     Takes digest keys old item answer new →
     IsSubview old new
 
--- a merge, however it is answered, loses nothing: the old view is within the new one
+-- no merge loses anything: the old view is within the new one, for every answer
 abbrev pub MergesGrow : Type 0
 MergesGrow =
     (digest : List ℕ → List ℕ) (old other new : View) (answer : Answer) →
     Merges digest old other answer new →
     IsSubview old new
 
--- a take, however it is answered, leaves a lawful view lawful
+-- a take keeps a lawful view lawful, for every answer
 abbrev pub TakesKeepLawful : Type 0
 TakesKeepLawful =
     (digest : List ℕ → List ℕ) →
@@ -83,7 +83,7 @@ TakesKeepLawful =
     Takes digest keys old item answer new →
     IsLawful digest new
 
--- a merge of two lawful views, however it is answered, leaves a lawful view
+-- a merge of two lawful views makes a lawful view, for every answer
 abbrev pub MergesKeepLawful : Type 0
 MergesKeepLawful =
     (digest : List ℕ → List ℕ) (old other new : View) (answer : Answer) →
@@ -92,34 +92,32 @@ MergesKeepLawful =
     Merges digest old other answer new →
     IsLawful digest new
 
--- what refused memory leaves lies between the old view and the whole one; it is the old one where
--- the event is not allowed, or the whole one collides; and a new note stands only where all strings
--- do
+-- the view after an event that ran out of memory is between the old view and the whole one. It is
+-- the old view if the event is not allowed or the whole view collides. It has a new note only if it
+-- has all strings
 pub record IsLeft (digest : List ℕ → List ℕ) (old : View) (Allowed : Type 0) (whole new : View)
     : Type 0 where
   pub between : IsBetween old whole new
   pub not_allowed : (¬ Allowed) → new ≡ old
   pub clashing : HasClash digest whole.strings → new ≡ old
 
--- what a take for which memory was refused leaves: the old view, or one between it and the view
--- with the item
+-- a take that ran out of memory leaves the old view, or one between it and the view with the item
 abbrev pub RefusedTakeIsBetween : Type 0
 RefusedTakeIsBetween =
     (digest : List ℕ → List ℕ) (keys : List Key) (old new : View) (item : Item) →
     Takes digest keys old item Exhausted new →
     IsLeft digest old (IsGood digest old.origin keys item) (plus digest old item) new
 
--- what a merge for which memory was refused leaves: the old view, or one between it and the union
--- of the two
+-- a merge that ran out of memory leaves the old view, or one between it and the union of the two
 abbrev pub RefusedMergeIsBetween : Type 0
 RefusedMergeIsBetween =
     (digest : List ℕ → List ℕ) (old other new : View) →
     Merges digest old other Exhausted new →
     IsLeft digest old (old.origin ≡ other.origin) (union old other) new
 
--- ---- the same on a list of mirrors
+-- ---- the same for a list of mirrors
 
--- an event at one mirror of a list takes nothing from any mirror's view
+-- an event at one mirror of a list removes nothing from any view
 abbrev pub EventGrows : Type 0
 EventGrows =
     (digest : List ℕ → List ℕ) (keys : List Key) (old new : List View) (event : Event)
@@ -130,7 +128,7 @@ EventGrows =
     slice_get new mirror ≡ Some after →
     IsSubview before after
 
--- an event at one mirror of a list of lawful views leaves all of them lawful
+-- an event at one mirror of a list keeps all lawful views lawful
 abbrev pub EventKeepsLawful : Type 0
 EventKeepsLawful =
     (digest : List ℕ → List ℕ) →
@@ -140,8 +138,8 @@ EventKeepsLawful =
     Happens digest keys old event answer new →
     AreLawful digest new
 
--- OutOfMemory apart, an event at one mirror of a list has one answer, and leaves one list of
--- views
+-- an event at one mirror of a list has one answer and one list of views after it, apart from
+-- OutOfMemory
 abbrev pub EventsHaveOneAnswer : Type 0
 EventsHaveOneAnswer =
     (digest : List ℕ → List ℕ) (keys : List Key) (old new other : List View) (event : Event)
@@ -152,8 +150,8 @@ EventsHaveOneAnswer =
     b ≢ Exhausted →
     (a ≡ b) × (new ≡ other)
 
--- an event that ran out of memory and is done again comes to the same as one event, also where it
--- merges a mirror with itself
+-- an event that ran out of memory and is repeated has the result of one event, even if it merges a
+-- mirror with itself
 abbrev pub RetriedEventIsOneEvent : Type 0
 RetriedEventIsOneEvent =
     (digest : List ℕ → List ℕ) (keys : List Key) (old between new : List View) (event : Event)

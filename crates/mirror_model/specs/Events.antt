@@ -1,4 +1,4 @@
--- What happens to mirrors, which are numbered from 0, and what reaches which of them.
+-- Events at mirrors, which are numbered from 0, and the items that reach a mirror.
 use Rattle.std.specs.Prelude.{◌≡◌, ◌<◌, ◌≤◌, All, ℕ, ◌+◌, List, [], ◌∷◌, Some, slice_get}
 use Rattle.mirror_model.specs.declared.items.Item.{Item}
 use Rattle.mirror_model.specs.declared.items.Item.TheVariants.{Head, Tile, Bundle}
@@ -6,29 +6,29 @@ use Rattle.mirror_model.specs.declared.events.Event.{Event}
 use Rattle.mirror_model.specs.declared.events.Event.TheVariants.{Take, Merge}
 use Rattle.mirror_model.specs.Item.{IsWidth}
 
--- the event is of mirrors of a world of that many, and the width of its item is one of tiles and
--- bundles
+-- the event names only mirrors below the count, and the width of its item is possible for a tile or
+-- bundle
 abbrev pub IsFitting : ℕ → Event → Type 0
 IsFitting count (Take target (Head note edge)) = target < count
 IsFitting count (Take target (Tile width bytes)) = (target < count) × IsWidth width
 IsFitting count (Take target (Bundle width bytes)) = (target < count) × IsWidth width
 IsFitting count (Merge target source) = (target < count) × (source < count)
 
--- each event of the list fits so many mirrors
+-- each event of the list fits the count of mirrors
 abbrev pub Fits : List Event → ℕ → Type 0
 Fits events count = All (IsFitting count) events
 
--- At these positions of the list, which rise from the one given on, stand merges that lead from a
--- mirror to another: each is out of the mirror before, and the last is into the other. With no
--- merges the two are one mirror.
+-- The events at these rising positions, from the given one on, are merges. The source of each merge
+-- is the target of the merge before it, and the last target is the end. Without merges, the end is
+-- the source.
 abbrev pub MergesLead : List Event → ℕ → ℕ → List ℕ → ℕ → Type 0
 MergesLead events first source [] end = source ≡ end
 MergesLead events first source (position ∷ positions) end =
     (target : ℕ) × (first ≤ position) × (slice_get events position ≡ Some (Merge target source))
     × MergesLead events (position + 1) target positions end
 
--- an item reaches a mirror: at rising positions of the list of events stand a take of the item, and
--- then merges that lead from its mirror to this one
+-- the item reaches the mirror: at rising positions of the list, there are a take of the item and
+-- then merges from its mirror to this one
 pub record Reaches (item : Item) (mirror : ℕ) (events : List Event) : Type 0 where
   pub position : ℕ
   pub target : ℕ
@@ -36,7 +36,7 @@ pub record Reaches (item : Item) (mirror : ℕ) (events : List Event) : Type 0 w
   pub merges : List ℕ
   pub lead : MergesLead events (position + 1) target merges mirror
 
--- the opening view of a mirror reaches a mirror: merges lead from the one to the other
+-- the opening view of a mirror reaches a mirror: merges lead from the first to the second
 pub record OpeningReaches (opened mirror : ℕ) (events : List Event) : Type 0 where
   pub merges : List ℕ
   pub lead : MergesLead events 0 opened merges mirror

@@ -1,4 +1,4 @@
--- Laws that fetching a log from its files stands on (C2SP tlog-tiles).
+-- Laws for fetching a log from its files (C2SP tlog-tiles).
 use Rattle.std.specs.Prelude.{◌≡◌, ◌⊎◌, ℕ, ◌+◌, ◌*◌, ◌^◌, ◌<◌, ◌≤◌, List, length, take}
 use Rattle.std.specs.List.{Contains}
 use Rattle.std.specs.FinSet as set
@@ -20,7 +20,7 @@ use Rattle.mirror_model.specs.TrueLaws.{IsWidest}
 use Rattle.mirror_model.specs.Listed.{ListsMissing, ListsFront}
 use Rattle.mirror_model.specs.Strings.{IsDigest}
 
--- the first hashes of a full tile are the partial tile of its place
+-- the first hashes of a full tile are the partial tile with the same level and index
 abbrev pub FullTileBeginsWithPartial : Type 0
 FullTileBeginsWithPartial =
     (digest : List ℕ → List ℕ) →
@@ -30,8 +30,8 @@ FullTileBeginsWithPartial =
     take (32 * width) (tile_bytes digest entries level index 256)
     ≡ tile_bytes digest entries level index width
 
--- what the last, partial bundle of the first entries gives is given by the full bundle of all
--- entries, or by the edge of the first
+-- the strings of the last, partial bundle of the first entries are strings of the full bundle of
+-- all entries, or of the right edge of the first entries
 abbrev pub FullBundleServesPartial : Type 0
 FullBundleServesPartial =
     (digest : List ℕ → List ℕ) (entries : List (List ℕ)) (size index width : ℕ) →
@@ -45,8 +45,7 @@ FullBundleServesPartial =
     Contains (true_strings digest entries (Entries index 256)) y
     ⊎ Contains (edge_strings digest (edge_rows digest (take size entries))) y
 
--- a path is in no front once all strings that its true bytes give are held, so a path that was
--- answered is not asked for again
+-- a path is in no front if all strings of its true bytes are held, so it is not requested again
 abbrev pub AnsweredIsNotAgain : Type 0
 AnsweredIsNotAgain =
     (digest : List ℕ → List ℕ) (held : Strings) (entries : List (List ℕ)) →
@@ -57,7 +56,7 @@ AnsweredIsNotAgain =
     IsFront digest held entries path →
     ⊥
 
--- where nothing collides, what is missing is listed as the front is
+-- the list of missing paths is the list of the front, if nothing collides
 abbrev pub MissingIsFrontList : Type 0
 MissingIsFrontList =
     (digest : List ℕ → List ℕ) →
@@ -68,8 +67,8 @@ MissingIsFrontList =
     ListsMissing digest v (length entries) (mth digest entries) paths →
     ListsFront digest v entries paths
 
--- a path that is missing of a head of a lawful view is within the size, and is the widest of its
--- place
+-- each missing path of a tree head of a lawful view is within the size, and is the widest with its
+-- level and index
 abbrev pub MissingIsWithin : Type 0
 MissingIsWithin =
     (digest : List ℕ → List ℕ) →
@@ -82,7 +81,7 @@ MissingIsWithin =
     IsMissing digest v.strings size root path →
     IsWithin size path × IsWidest size path
 
--- what a view holds with an item: the strings and the notes of the one and of the other
+-- a view with an item holds the strings and notes of the view and of the item
 pub record IsPlus (digest : List ℕ → List ℕ) (v : View) (item : Item) (y : List ℕ) : Type 0 where
   pub string :
       Has (plus digest v item).strings y → Has v.strings y ⊎ Contains (strings_of digest item) y
@@ -91,7 +90,7 @@ pub record IsPlus (digest : List ℕ → List ℕ) (v : View) (item : Item) (y :
   pub note : Has (plus digest v item).notes y → Has v.notes y ⊎ Contains (notes_of item) y
   pub note_held : Has v.notes y ⊎ Contains (notes_of item) y → Has (plus digest v item).notes y
 
--- a view with an item holds just the strings and the notes of the view, and those of the item
+-- a view with an item holds exactly the strings and notes of the view and of the item
 abbrev pub PlusHoldsJustBoth : Type 0
 PlusHoldsJustBoth =
     (digest : List ℕ → List ℕ) (v : View) (item : Item) (y : List ℕ) → IsPlus digest v item y

@@ -1,4 +1,4 @@
--- Forks: two checkpoints that one log, which only grows, cannot both have made.
+-- Forks: two checkpoints that no single append-only log can have made.
 use Rattle.std.specs.Prelude.{◌≡◌, ◌≢◌, ◌⊎◌, ℕ, List, ◌++◌}
 use Rattle.std.specs.Ordering.{nat_cmp, ordering_then}
 use Rattle.std.specs.declared.cmp.Ordering.{Ordering}
@@ -7,22 +7,22 @@ use Rattle.mirror_model.specs.View.{View}
 use Rattle.mirror_model.specs.Heads.{HasHead}
 use Rattle.mirror_model.specs.Complete.{Complete}
 
--- the first list of entries begins the second
+-- the second list of entries begins with the first
 pub record IsPrefix (first second : List (List ℕ)) : Type 0 where
   pub rest : List (List ℕ)
   pub is : first ++ rest ≡ second
 
--- a size and a root, without the note that says them
+-- a tree head without its note: a size and a root
 pub record Point : Type 0 where
   pub size : ℕ
   pub root : List ℕ
 
--- the order of heads: by size, and then by the root's bytes
+-- the order of tree heads: by size, then by the bytes of the root
 abbrev pub point_cmp : Point → Point → Ordering
 point_cmp a b = ordering_then (nat_cmp a.size b.size) (slice_cmp nat_cmp a.root b.root)
 
 module _ (digest : List ℕ → List ℕ) where
-  -- two heads are both complete, and neither list of entries is a prefix of the other
+  -- two tree heads are complete, and neither list of entries is a prefix of the other
   pub record Disagree (v : View) (a b : Point) : Type 0 where
     pub first : List (List ℕ)
     pub second : List (List ℕ)
@@ -31,7 +31,7 @@ module _ (digest : List ℕ → List ℕ) where
     pub not_prefix : ¬ IsPrefix first second
     pub not_extension : ¬ IsPrefix second first
 
-  -- two heads of the view are a fork: they differ, and have equal sizes or disagree in their
+  -- two tree heads of the view are a fork: they differ, and have the same size or disagree in their
   -- entries
   pub record IsFork (v : View) (a b : Point) : Type 0 where
     pub first_held : HasHead v a.size a.root

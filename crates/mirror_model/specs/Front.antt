@@ -1,4 +1,4 @@
--- What is fetched next for a tree of which a part is held: the front (C2SP tlog-tiles, "Merkle
+-- The front: the paths to fetch next for a tree that is held in part (C2SP tlog-tiles, "Merkle
 -- Tree" and "Log Entries").
 use Rattle.std.specs.Prelude.{◌≡◌, ◌⊎◌, ℕ, ◌+◌, ◌-◌, ◌*◌, ◌/◌, ◌≤◌, ◌<◌, List, ◌∷◌, ◌++◌, length}
 use Rattle.std.specs.Prelude.{min}
@@ -12,7 +12,7 @@ use Rattle.node_store.specs.Strings.{Strings, Has}
 use Rattle.tlog_hash.specs.Tree.{Tree, Empty, One, Join, tree_of, size_of}
 use Rattle.tlog_hash.specs.Nodes.{Node, IsThis, entries_root}
 
--- the order in which paths are asked for: tiles by falling level and rising index, then bundles by
+-- the order in which paths are requested: tiles by falling level and rising index, then bundles by
 -- rising index
 abbrev pub path_cmp : Path → Path → Ordering
 path_cmp (Tile level index width) (Tile l i w) =
@@ -26,32 +26,32 @@ path_cmp Checkpoint (Tile l i w) = Greater
 path_cmp Checkpoint (Entries i w) = Greater
 path_cmp Checkpoint Checkpoint = Equal
 
--- the full tile of a node of more than 256 entries: from its hashes the node's hash follows
+-- the full tile for a node of more than 256 entries: its hashes give the node's hash
 pub record IsNodeTile (start len level index width : ℕ) : Type 0 where
   pub many : 256 < len
   pub tile : IsTileOfNode start len level index
   pub width_is : width ≡ 256
 
--- the bundle of a node of at most 256 entries, in a tree of that size
+-- the bundle for a node of at most 256 entries, in a tree of that size
 pub record IsNodeBundle (size start len index width : ℕ) : Type 0 where
   pub few : len ≤ 256
   pub index_is : index ≡ start / 256
   pub width_is : width ≡ min 256 (size - 256 * index)
 
--- the path under which the strings of a node are fetched, in a tree of that size: of the node of as
--- many entries as len, from start on
+-- the path to fetch for the strings of the node of len entries from start on, in a tree of that
+-- size
 abbrev pub IsPathOf : ℕ → ℕ → ℕ → Path → Type 0
 IsPathOf size start len Checkpoint = ⊥
 IsPathOf size start len (Tile level index width) = IsNodeTile start len level index width
 IsPathOf size start len (Entries index width) = IsNodeBundle size start len index width
 
--- x is the node of these three, and its string is not held
+-- x is the node with these three fields, and its string is not held
 pub record IsUnheldThis (held : Strings) (start len : ℕ) (string : List ℕ) (x : Node) : Type 0 where
   pub this : IsThis start len string x
   pub unheld : ¬ Has held x.string
 
 module _ (digest : List ℕ → List ℕ) (held : Strings) where
-  -- x is a node of the tree whose string is not held, while those of all nodes above it are
+  -- x is a node of the tree, its string is not held, and the strings of all nodes above it are held
   abbrev pub InFront : Tree (List ℕ) → ℕ → Node → Type 0
   InFront Empty start x = ⊥
   InFront (One e) start x = IsUnheldThis held start 1 (0 ∷ e) x
@@ -61,8 +61,8 @@ module _ (digest : List ℕ → List ℕ) (held : Strings) where
       ⊎ (Has held (1 ∷ entries_root digest l ++ entries_root digest r)
       × (InFront l start x ⊎ InFront r (start + size_of l) x))
 
-  -- the path is in the front of a list of entries: it has the strings of a node of their tree that
-  -- is in the front
+  -- the path is in the front of a list of entries: it is the path for a node in the front of their
+  -- tree
   pub record IsFront (entries : List (List ℕ)) (path : Path) : Type 0 where
     pub node : Node
     pub is : InFront (tree_of entries) 0 node

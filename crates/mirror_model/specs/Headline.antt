@@ -1,4 +1,4 @@
--- The headline: what mirrors agree on, and what they tell, after any plays.
+-- The headline: mirrors agree, and their reports are true, after any plays.
 use Rattle.std.specs.Prelude.{◌≡◌, ◌≢◌, ◌↔◌, ℕ, List, [], ◌∷◌, ◌++◌, Some, slice_get, map}
 use Rattle.std.specs.List.{Contains}
 use Rattle.signed_note.specs.Keys.{Key}
@@ -19,39 +19,39 @@ use Rattle.mirror_model.specs.RunLaws.{AreOf, AreLawful, IsReached, IsRun, Nothi
 
 -- ---- plays
 
--- a play: events, with an answer each
+-- a play: events, and an answer to each
 pub record Play : Type 0 where
   pub events : List Event
   pub answers : List Answer
 
--- the events of several plays, one play after another
+-- the events of several plays, in order
 abbrev pub events_in : List Play → List Event
 events_in [] = []
 events_in (play ∷ plays) = play.events ++ events_in plays
 
--- the answers of several plays, one play after another
+-- the answers of several plays, in order
 abbrev pub answers_in : List Play → List Answer
 answers_in [] = []
 answers_in (play ∷ plays) = play.answers ++ answers_in plays
 
--- no event of a play was answered so
+-- no event of the plays had that answer
 abbrev pub NoneAnswered : Answer → List Play → Type 0
 NoneAnswered answer plays =
     (play : Play) → Contains plays play → ¬ Contains play.answers answer
 
--- no event of a play was answered by a collision
+-- no event of the plays had a collision as its answer
 abbrev pub NoneClashed : List Play → Type 0
 NoneClashed plays = NoneAnswered Clashed plays
 
--- plays of any number of mirrors, each from the views that the one before left
+-- plays of any number of mirrors; each begins with the views after the one before
 abbrev pub Plays : (List ℕ → List ℕ) → List Key → List View → List Play → List View → Type 0
 Plays digest keys old [] new = new ≡ old
 Plays digest keys old (play ∷ plays) new =
     (between : List View) × Run digest keys old play.events play.answers between
     × Plays digest keys between plays new
 
--- over all plays, one after another, an event for which memory was refused is followed by the same
--- event, before any other: the last event of a play by the first event of the plays after it
+-- in all plays in order, the same event directly follows an event that ran out of memory; the first
+-- event of later plays can follow the last event of a play
 abbrev pub PlaysAreRetried : List Play → Type 0
 PlaysAreRetried plays = AreRetried (events_in plays) (answers_in plays)
 
@@ -59,11 +59,11 @@ PlaysAreRetried plays = AreRetried (events_in plays) (answers_in plays)
 abbrev pub one_play : List Event → List Answer → List Play
 one_play events answers = record { events = events; answers = answers } ∷ []
 
--- ---- what mirrors agree on
+-- ---- mirrors agree
 
 module _ (digest : List ℕ → List ℕ) (origin : List ℕ) (keys : List Key) where
-  -- plays of mirrors of one origin, in which each event for which memory was refused was done
-  -- again, leave a mirror that view
+  -- after plays of mirrors of one origin, a mirror has that view; each event that ran out of memory
+  -- was repeated
   pub record Leaves (opened : List View) (plays : List Play) (mirror : ℕ) (v : View) : Type 0 where
     pub final : List View
     pub of_origin : AreOf origin opened
@@ -71,8 +71,8 @@ module _ (digest : List ℕ → List ℕ) (origin : List ℕ) (keys : List Key) 
     pub retried : PlaysAreRetried plays
     pub is : slice_get final mirror ≡ Some v
 
-  -- the valid items that reach the one mirror in the one run, and each string and note of the
-  -- opening views that reach it, reach the other mirror in the other run
+  -- valid items, and strings and notes of opening views, that reach the first mirror in the first
+  -- run also reach the other mirror in the other run
   pub record ReachesToo (opened opened' : List View) (events events' : List Event)
       (mirror mirror' : ℕ) : Type 0 where
     pub items :
@@ -91,7 +91,7 @@ module _ (digest : List ℕ → List ℕ) (origin : List ℕ) (keys : List Key) 
     pub there : ReachesToo opened opened' events events' mirror mirror'
     pub back : ReachesToo opened' opened events' events mirror' mirror
 
-  -- where nothing collided a mirror's view is the union of the opening views and of the valid items
+  -- if nothing collided, a mirror's view is the union of the opening views and of the valid items
   -- that reach it
   abbrev pub PlaysBring : Type 0
   PlaysBring =
@@ -100,8 +100,8 @@ module _ (digest : List ℕ → List ℕ) (origin : List ℕ) (keys : List Key) 
       NoneClashed plays →
       IsReached digest origin keys opened (events_in plays) mirror v
 
-  -- mirrors that the same items have reached, in any order, with repeats and through any merges,
-  -- hold equal views
+  -- mirrors hold equal views if the same items reached them, in any order, with repeats and by any
+  -- merges
   abbrev pub SameReachedSameView : Type 0
   SameReachedSameView =
       (opened opened' : List View) (plays plays' : List Play) (mirror mirror' : ℕ) (v w : View) →
@@ -112,8 +112,8 @@ module _ (digest : List ℕ → List ℕ) (origin : List ℕ) (keys : List Key) 
       ReachedAlike opened opened' (events_in plays) (events_in plays') mirror mirror' →
       v ≡ w
 
-  -- while no two different strings met share a digest, no event of any play is answered by a
-  -- collision, whether or not an event for which memory was refused was done again
+  -- as long as no two different strings met share a digest, no event is answered by a collision,
+  -- even if an event that ran out of memory was not repeated
   abbrev pub NoPlayClashes : Type 0
   NoPlayClashes =
       (opened final : List View) (plays : List Play) →
@@ -122,9 +122,9 @@ module _ (digest : List ℕ → List ℕ) (origin : List ℕ) (keys : List Key) 
       Plays digest keys opened plays final →
       NoneClashed plays
 
-  -- The headline: while no two different byte strings met share a digest, mirrors that the same
-  -- valid items, and the same strings and notes of opening views, have reached hold equal views,
-  -- whatever the plays.
+  -- The headline. Two mirrors hold equal views after any plays, if the same valid items, and the
+  -- same strings and notes of opening views, reached both. The premise is that no two different
+  -- byte strings met share a digest.
   abbrev pub MirrorsAgree : Type 0
   MirrorsAgree =
       (opened opened' : List View) (plays plays' : List Play) (mirror mirror' : ℕ) (v w : View) →
@@ -137,21 +137,21 @@ module _ (digest : List ℕ → List ℕ) (origin : List ℕ) (keys : List Key) 
 
 -- ---- plays and runs
 
--- plays, one after another, are one run of their events, with their answers
+-- plays in order are one run of their events, with their answers
 abbrev pub PlaysAreOneRun : Type 0
 PlaysAreOneRun =
     (digest : List ℕ → List ℕ) (keys : List Key) (opened final : List View) (plays : List Play) →
     Plays digest keys opened plays final →
     Run digest keys opened (events_in plays) (answers_in plays) final
 
--- the events, with their answers, are those of one play, which leads to the same views
+-- the events, with their answers, are one play that leads to the same views
 pub record IsOnePlay (digest : List ℕ → List ℕ) (keys : List Key) (opened : List View)
     (events : List Event) (answers : List Answer) (final : List View) : Type 0 where
   pub played : Plays digest keys opened (one_play events answers) final
   pub events_are : events_in (one_play events answers) ≡ events
   pub answers_are : answers_in (one_play events answers) ≡ answers
 
--- a run is one play: so what is said of plays is said of takes and merges that are called one by one
+-- a run is one play; so the laws of plays hold for takes and merges that are called one by one
 abbrev pub RunIsOnePlay : Type 0
 RunIsOnePlay =
     (digest : List ℕ → List ℕ) (keys : List Key) (opened final : List View) (events : List Event)
@@ -160,7 +160,7 @@ RunIsOnePlay =
     IsOnePlay digest keys opened events answers final
 
 module _ (digest : List ℕ → List ℕ) (origin : List ℕ) (keys : List Key) where
-  -- of a run in which each event for which memory was refused was done again the headline speaks
+  -- the headline holds for a run in which each event that ran out of memory was repeated
   abbrev pub RetriedRunLeaves : Type 0
   RetriedRunLeaves =
       (opened final : List View) (events : List Event) (answers : List Answer) →
@@ -170,12 +170,11 @@ module _ (digest : List ℕ → List ℕ) (origin : List ℕ) (keys : List Key) 
       slice_get final mirror ≡ Some v →
       Leaves digest origin keys opened (one_play events answers) mirror v
 
--- where no event of a play was refused memory, nothing has to be done again
+-- if no event of the plays ran out of memory, none has to be repeated
 abbrev pub NoPlayToRetry : Type 0
 NoPlayToRetry = (plays : List Play) → NoneAnswered Exhausted plays → PlaysAreRetried plays
 
--- where in each play by itself an event for which memory was refused is done again, it is so over
--- all of them
+-- if each play repeats its events that ran out of memory, so do the plays in order
 abbrev pub RetriedInEachPlay : Type 0
 RetriedInEachPlay =
     (digest : List ℕ → List ℕ) (keys : List Key) (opened final : List View) (plays : List Play) →
@@ -183,10 +182,10 @@ RetriedInEachPlay =
     ((play : Play) → Contains plays play → AreRetried play.events play.answers) →
     PlaysAreRetried plays
 
--- ---- what they tell
+-- ---- reports are true
 
--- what a view tells is true: the checkpoint served is of the length and the tree hash of exactly
--- the entries served; and two complete heads that differ are a fork exactly where neither list of
+-- the reports of a view are true. The served checkpoint has the length and the tree hash of exactly
+-- the served entries. Two different complete tree heads are a fork exactly if neither list of
 -- entries is a prefix of the other
 pub record IsTruthful (digest : List ℕ → List ℕ) (v : View) : Type 0 where
   pub served :
@@ -200,8 +199,8 @@ pub record IsTruthful (digest : List ℕ → List ℕ) (v : View) : Type 0 where
       Complete digest v b.size b.root second →
       IsFork digest v a b ↔ ((¬ IsPrefix first second) × (¬ IsPrefix second first))
 
--- what a view tells is true after any plays from lawful views, however the events were answered;
--- strings that share a digest change nothing of it
+-- the reports of a view are true after any plays from lawful views, for all answers, even if
+-- strings share a digest
 abbrev pub PlaysTellTruth : Type 0
 PlaysTellTruth =
     (digest : List ℕ → List ℕ) →
@@ -213,8 +212,8 @@ PlaysTellTruth =
     slice_get final mirror ≡ Some v →
     IsTruthful digest v
 
--- of the views before and after: what was complete is complete with the same entries; a fork that
--- was reported is reported
+-- between two views: a complete tree head stays complete with the same entries, and a fork stays a
+-- fork
 pub record HasGrown (digest : List ℕ → List ℕ) (before after : View) : Type 0 where
   pub stays :
       (size : ℕ) (root : List ℕ) (entries : List (List ℕ)) →
@@ -222,8 +221,8 @@ pub record HasGrown (digest : List ℕ → List ℕ) (before after : View) : Typ
       Complete digest after size root entries
   pub forks : (a b : Point) → IsFork digest before a b → IsFork digest after a b
 
--- after any plays, however the events were answered, each mirror's view has grown: what was
--- complete stays so, with the same entries, and each fork stays
+-- after any plays, for all answers, each view has grown: complete tree heads stay complete with the
+-- same entries, and forks stay forks
 abbrev pub PlaysGrow : Type 0
 PlaysGrow =
     (digest : List ℕ → List ℕ) (keys : List Key) (opened final : List View) (plays : List Play) →
@@ -233,8 +232,7 @@ PlaysGrow =
     slice_get final mirror ≡ Some after →
     HasGrown digest before after
 
--- after any plays from lawful views, however the events were answered, what was complete has no
--- other entries
+-- after any plays from lawful views, for all answers, a complete tree head has no other entries
 abbrev pub PlaysKeepEntries : Type 0
 PlaysKeepEntries =
     (digest : List ℕ → List ℕ) →
@@ -252,24 +250,25 @@ PlaysKeepEntries =
 
 -- ---- plays of some mirrors
 
--- the views of a part stand in the whole at these places, no two at one
+-- the views of the part are in the whole list at these places, and no two share a place
 pub record StandsIn (place : ℕ → ℕ) (part whole : List View) : Type 0 where
   pub apart : (i j : ℕ) → place i ≡ place j → i ≡ j
   pub found : (i : ℕ) (v : View) → slice_get part i ≡ Some v → slice_get whole (place i) ≡ Some v
 
--- the event, of the mirrors at these places
+-- the event, with the mirrors at these places
 abbrev pub placed : (ℕ → ℕ) → Event → Event
 placed place (Take target item) = Take (place target) item
 placed place (Merge target source) = Merge (place target) (place source)
 
--- what a run of the part leaves the whole: the part's views, and the others as they were
+-- the whole list after a run of a part: the views of the part, and all others unchanged
 pub record LeavesRest (place : ℕ → ℕ) (part whole new : List View) : Type 0 where
   pub stands : StandsIn place part new
   pub rest :
       (number : ℕ) → ((i : ℕ) → ¬ (number ≡ place i)) →
       slice_get new number ≡ slice_get whole number
 
--- a play of some mirrors is one of all of them: so the plays of a list may each be of other mirrors
+-- a play of some mirrors is a play of all of them; so the plays of a list may each be of other
+-- mirrors
 abbrev pub PartIsPlayed : Type 0
 PartIsPlayed =
     (digest : List ℕ → List ℕ) (keys : List Key) (place : ℕ → ℕ) (part whole after : List View)
@@ -279,8 +278,8 @@ PartIsPlayed =
     (new : List View) × Run digest keys whole (map (placed place) events) answers new
     × LeavesRest place after whole new
 
--- where in a run of some mirrors each event for which memory was refused is done again, it is so in
--- that run of all of them
+-- if a run of some mirrors repeats each event that ran out of memory, so does that run of all of
+-- them
 abbrev pub PartIsRetried : Type 0
 PartIsRetried =
     (place : ℕ → ℕ) (events : List Event) (answers : List Answer) →

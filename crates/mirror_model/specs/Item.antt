@@ -1,5 +1,5 @@
--- Items: when they are valid, and what they add to a view (C2SP tlog-tiles, "Merkle Tree", "Log
--- Entries" and "Checkpoints"). The bytes of an item stand in it as they came.
+-- Items: their validity, and the strings and notes that they add to a view (C2SP tlog-tiles,
+-- "Merkle Tree", "Log Entries" and "Checkpoints"). An item has its bytes as they were received.
 use Rattle.std.specs.Prelude.{◌≡◌, ℕ, zero, suc, ◌*◌, ◌/◌, ◌≤◌, List, [], ◌∷◌, length, take, drop}
 use Rattle.std.specs.Prelude.{map}
 use Rattle.std.specs.Int.{w16, from_be_bytes}
@@ -14,11 +14,11 @@ use Rattle.mirror_model.specs.View.{View}
 use Rattle.mirror_model.specs.Edge.{edge_widths, edge_root, edge_strings}
 use Rattle.mirror_model.specs.Heads.{IsOpenHead}
 
--- the hashes of a row's bytes: 32 bytes each, one after the other
+-- the hashes of a row's bytes, 32 bytes each
 abbrev pub row_of : List ℕ → List (List ℕ)
 row_of bytes = ranges 32 0 (length bytes / 32) bytes
 
--- the entries of bytes that are a bundle of that width: each after its length, two bytes of it,
+-- the entries of the bytes of a bundle of that width; each entry follows its length of two bytes,
 -- big-endian
 abbrev pub entries_of : ℕ → List ℕ → List (List ℕ)
 entries_of zero bytes = []
@@ -28,17 +28,17 @@ entries_of (suc width) (high ∷ low ∷ rest) =
     let len =
     from_be_bytes w16 (high ∷ low ∷ []) in take len rest ∷ entries_of width (drop len rest)
 
--- a tile or a bundle may be so wide: from 1 to 256
+-- the width is possible for a tile or bundle: 1 to 256
 pub record IsWidth (width : ℕ) : Type 0 where
   pub some : 1 ≤ width
   pub most : width ≤ 256
 
--- a tile is valid: there are as many hashes as its width
+-- the tile is valid: its width is the number of its hashes
 pub record IsGoodTile (width : ℕ) (bytes : List ℕ) : Type 0 where
   pub is_width : IsWidth width
   pub length_is : length bytes ≡ 32 * width
 
--- a bundle is valid: its bytes are as many entries as its width
+-- the bundle is valid: its bytes are width entries
 pub record IsGoodBundle (width : ℕ) (bytes : List ℕ) : Type 0 where
   pub is_width : IsWidth width
   pub entries : List (List ℕ)
@@ -51,12 +51,12 @@ notes_of (Tile width bytes) = []
 notes_of (Bundle width bytes) = []
 
 module _ (digest : List ℕ → List ℕ) where
-  -- the rows have the number and widths of the size's edge, and lead to the root
+  -- the rows have the number and the widths of the right edge of that size, and lead to the root
   pub record HasEdgeRows (size : ℕ) (root : List ℕ) (rows : List (List ℕ)) : Type 0 where
     pub widths : map length rows ≡ map (λ width. 32 * width) (edge_widths size)
     pub root_is : edge_root digest (map row_of rows) ≡ root
 
-  -- a head is valid: it opens, and the edge rows lead to its root
+  -- the tree head is valid: its note opens, and the edge rows lead to its root
   pub record IsGoodHead (origin : List ℕ) (keys : List Key) (note : List ℕ)
       (rows : List (List ℕ)) : Type 0 where
     pub size : ℕ
@@ -64,20 +64,20 @@ module _ (digest : List ℕ → List ℕ) where
     pub is_head : IsOpenHead note origin keys size root
     pub has_edge : HasEdgeRows size root rows
 
-  -- an item is valid, so that a mirror of that origin may take it under these keys, whatever it
+  -- the item is valid: a mirror of that origin with these keys may take it, whatever the mirror
   -- holds
   abbrev pub IsGood : List ℕ → List Key → Item → Type 0
   IsGood origin keys (Head note edge) = IsGoodHead origin keys note edge
   IsGood origin keys (Tile width bytes) = IsGoodTile width bytes
   IsGood origin keys (Bundle width bytes) = IsGoodBundle width bytes
 
-  -- the strings of an item: what its hashing hashes
+  -- the strings of an item: those that are hashed for it
   abbrev pub strings_of : Item → List (List ℕ)
   strings_of (Head note edge) = edge_strings digest (map row_of edge)
   strings_of (Tile width bytes) = joins digest (row_of bytes)
   strings_of (Bundle width bytes) = strings digest (entries_of width bytes)
 
-  -- a view with an item: the item's note and strings are added
+  -- the view with the note and the strings of the item
   abbrev pub plus : View → Item → View
   plus v item =
       record {

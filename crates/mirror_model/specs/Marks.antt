@@ -1,4 +1,4 @@
--- What may be remembered of complete heads, and a mirror with what it remembers.
+-- Marks of complete tree heads, and a mirror with the marks that it remembers.
 use Rattle.std.specs.Prelude.{◌≡◌, ℕ, List, IsTrue, refl}
 use Rattle.std.specs.Coded.{Coded, code_by, coded×, coded_ℕ, coded_list}
 use Rattle.std.specs.FinSet as set
@@ -11,9 +11,9 @@ use Rattle.mirror_model.specs.View.{View, view_code}
 use Rattle.mirror_model.specs.Complete.{Complete, IsLawful}
 use Rattle.mirror_model.specs.Forks.{Point, point_cmp}
 
--- a size and a hash may be remembered: they are the number of entries and the tree hash of a slice
--- that the recursion of MTH (RFC 6962, section 2.1) meets on the list of a complete head, the whole
--- list among them
+-- a size and a hash are a mark: they are the number of entries and the tree hash of a slice in the
+-- recursion of MTH (RFC 6962, section 2.1) over the list of a complete tree head. The whole list is
+-- such a slice
 pub record IsMark (digest : List ℕ → List ℕ) (v : View) (point : Point) : Type 0 where
   pub size : ℕ
   pub root : List ℕ
@@ -28,24 +28,24 @@ pub record IsMark (digest : List ℕ → List ℕ) (v : View) (point : Point) : 
 abbrev pub Points : Type 0
 Points = FinSet point_cmp
 
--- sizes and hashes in one order of codes, as a set of them wants it; it says nothing of a log
+-- an order of sizes with hashes by codes, which a set of them needs; it has no meaning for a log
 abbrev pub point_code : Coded Point
 point_code =
     code_by (ℕ × List ℕ) (coded× coded_ℕ (coded_list coded_ℕ)) (λ p. (p.size, p.root))
     (λ p. record { size = p.0; root = p.1 }) (λ _. refl)
 
--- a mirror: its view, and what it remembers, which changes no answer
+-- a mirror: its view, and the marks that it remembers, which change no answer
 pub record State : Type 0 where
   pub view : View
   pub remembered : Points
 
--- states in one order of codes, as a model of the mirror wants it; it says nothing of a log
+-- an order of states by codes, which a model of the mirror needs; it has no meaning for a log
 abbrev pub state_code : Coded State
 state_code =
     code_by (View × Points) (coded× view_code (set.code point_code)) (λ s. (s.view, s.remembered))
     (λ p. record { view = p.0; remembered = p.1 }) (λ _. refl)
 
--- the view is lawful and of an origin that a log may have, and only marks of it are remembered
+-- the view is lawful, its origin is possible for a log, and only marks of the view are remembered
 pub record IsSound (digest : List ℕ → List ℕ) (state : State) : Type 0 where
   pub origin : IsOrigin state.view.origin
   pub lawful : IsLawful digest state.view

@@ -1,4 +1,4 @@
--- Small plays, worked out: events for which memory was refused, and calls one by one.
+-- Small plays: events that ran out of memory, and single calls.
 use Rattle.std.specs.Prelude.{ℕ, List, [], ◌∷◌, replicate}
 use Rattle.tlog_hash.specs.Sum.{sum_digest}
 use Rattle.node_store.specs.Strings.{Has}
@@ -11,7 +11,7 @@ use Rattle.mirror_model.specs.declared.events.Event.TheVariants.{Take, Merge}
 use Rattle.mirror_model.specs.Steps.{Answer, Done, Exhausted, Takes, Merges, Run}
 use Rattle.mirror_model.specs.Headline.{Play, PlaysAreRetried, Leaves}
 
--- a tile of two hashes, all zeros
+-- a tile of two hashes that are all zeros
 abbrev pub two_zeros : Item
 two_zeros = Tile 2 (replicate 64 0)
 
@@ -24,13 +24,13 @@ takes_tile mirror answer =
 abbrev pub merges_one : Play
 merges_one = record { events = Merge 0 1 ∷ []; answers = Done ∷ [] }
 
--- a play of no events
+-- a play without events
 abbrev pub nothing_happens : Play
 nothing_happens = record { events = []; answers = [] }
 
--- a take for which memory was refused as the last of one play is done again as the first of the
--- next, or of a later one where no event stands between them; it is not done again where nothing
--- follows, where the next event is of another mirror, or where another event comes first
+-- if a take at the end of a play runs out of memory, the first take of the next play repeats it;
+-- plays without events may come between. It is not repeated if no event follows, if the next event
+-- is of another mirror, or if another event comes first
 pub record RetriesSpanPlays : Type 0 where
   pub next : PlaysAreRetried (takes_tile 0 Exhausted ∷ takes_tile 0 Done ∷ [])
   pub later : PlaysAreRetried (takes_tile 0 Exhausted ∷ nothing_happens ∷ takes_tile 0 Done ∷ [])
@@ -40,8 +40,8 @@ pub record RetriesSpanPlays : Type 0 where
   pub not_after_another :
       ¬ PlaysAreRetried (takes_tile 0 Exhausted ∷ merges_one ∷ takes_tile 0 Done ∷ [])
 
--- a mirror that opened empty, and took the tile in the second of two plays after memory was refused
--- for it in the first, is one of which the headline speaks; it holds the string of the tile
+-- a mirror opens empty; its take runs out of memory in the first of two plays, and succeeds in the
+-- second. The headline applies to it, and it holds the string of the tile
 pub record RetriedTakeLeaves (origin : List ℕ) (keys : List Key) : Type 0 where
   pub leaves :
       Leaves sum_digest origin keys (nothing origin ∷ [])
@@ -49,12 +49,12 @@ pub record RetriedTakeLeaves (origin : List ℕ) (keys : List Key) : Type 0 wher
       (plus sum_digest (nothing origin) two_zeros)
   pub holds : Has (plus sum_digest (nothing origin) two_zeros).strings (1 ∷ replicate 64 0)
 
--- so it is for each origin and all keys
+-- this holds for each origin and all keys
 abbrev pub RetryInNextPlayCounts : Type 0
 RetryInNextPlayCounts = (origin : List ℕ) (keys : List Key) → RetriedTakeLeaves origin keys
 
--- a take at the first of two mirrors, and then a merge of it into the second, called one after the
--- other, are a run of these two events on the two
+-- a take at the first of two mirrors, and then a merge of it into the second, are a run of these
+-- two events
 abbrev pub TwoCallsAreOneRun : Type 0
 TwoCallsAreOneRun =
     (digest : List ℕ → List ℕ) (keys : List Key) (first taken second merged : View) (item : Item)

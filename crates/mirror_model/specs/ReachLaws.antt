@@ -1,12 +1,12 @@
--- Laws of what reaches which mirror.
+-- Laws of items and opening views that reach a mirror.
 use Rattle.std.specs.Prelude.{◌≡◌, ◌⊎◌, ◌↔◌, ℕ, List, [], ◌∷◌, ◌++◌}
 use Rattle.mirror_model.specs.declared.items.Item.{Item}
 use Rattle.mirror_model.specs.declared.events.Event.{Event}
 use Rattle.mirror_model.specs.declared.events.Event.TheVariants.{Take, Merge}
 use Rattle.mirror_model.specs.Events.{Reaches, OpeningReaches}
 
--- By the last event of a list: a take at a mirror adds its item to what reaches it, a merge into a
--- mirror adds what reached its source, and nothing else changes.
+-- By the last event of a list: a take at a mirror adds its item to those that reach it, a merge
+-- adds the items that reached its source, and nothing else changes.
 pub record ReachesByLast (events : List Event) : Type 0 where
   pub none : (item : Item) (mirror : ℕ) → ¬ Reaches item mirror []
   pub take :
@@ -18,13 +18,13 @@ pub record ReachesByLast (events : List Event) : Type 0 where
       Reaches item mirror (events ++ Merge target source ∷ [])
       ↔ (Reaches item mirror events ⊎ ((mirror ≡ target) × Reaches item source events))
 
--- what reaches which mirror follows from the last event of the list and from what reached before
--- it, whatever the list
+-- the items that reach a mirror follow from the last event of the list and the items that reached
+-- mirrors before, for every list
 abbrev pub ReachesGoByLast : Type 0
 ReachesGoByLast = (events : List Event) → ReachesByLast events
 
--- By the last event of a list: an opening view reaches its own mirror before any event, a merge
--- into a mirror adds what reached its source, and nothing else changes.
+-- By the last event of a list: before any event, an opening view reaches its own mirror; a merge
+-- adds the opening views that reached its source, and nothing else changes.
 pub record OpeningReachesByLast (events : List Event) : Type 0 where
   pub none : (opened mirror : ℕ) → OpeningReaches opened mirror [] ↔ (opened ≡ mirror)
   pub take :
@@ -37,7 +37,6 @@ pub record OpeningReachesByLast (events : List Event) : Type 0 where
       ↔ (OpeningReaches opened mirror events
       ⊎ ((mirror ≡ target) × OpeningReaches opened source events))
 
--- which opening view reaches which mirror follows from the last event of the list, whatever the
--- list
+-- the opening views that reach a mirror follow from the last event of the list, for every list
 abbrev pub OpeningReachesGoByLast : Type 0
 OpeningReachesGoByLast = (events : List Event) → OpeningReachesByLast events

@@ -1,6 +1,6 @@
--- What each answer of a call that takes an item says of the item: the first refusal that applies,
--- in the order of the faults. It names no state: a collision is found with what is held, and says that
--- the item is valid. An answer other than OutOfMemory is determined by the item.
+-- The answers to taking an item: the first refusal that applies to it, in the order of the faults.
+-- They do not depend on the state of the mirror: a collision depends on the held strings, and means
+-- that the item is valid. The item determines the answer, unless it is OutOfMemory.
 use Rattle.std.specs.Prelude.{◌≡◌, ◌≢◌, ℕ, ◌*◌, List, length, map, Result, Ok, Err, ⊤}
 use Rattle.signed_note.specs.Keys.{Key}
 use Rattle.signed_note.specs.Notes.{SignatureParts, IsNote, Opens}
@@ -19,14 +19,14 @@ use Rattle.mirror_model.specs.Item.{row_of, IsGoodTile, IsGoodBundle, IsGoodHead
 use Rattle.mirror_model.specs.declared.fault.TakeFault.{TakeFault}
 use Rattle.mirror_model.specs.declared.fault.TakeFault.TheVariants as taking
 
--- the bytes are a note whose text is that checkpoint, its extension lines with it
+-- the bytes are a note whose text is that checkpoint, with its extension lines
 pub record IsCheckpointNote (bytes : List ℕ) (checkpoint : Checkpoint) (text : List ℕ)
     (lines : List SignatureParts) : Type 0 where
   pub is_note : IsNote bytes text lines
   pub is_checkpoint :
       IsCheckpoint text checkpoint.origin checkpoint.size checkpoint.root checkpoint.extensions
 
--- the checkpoint is of that origin, and the note opens under the keys
+-- the checkpoint has that origin, and the note opens under the keys
 pub record IsOpenCheckpoint (bytes origin : List ℕ) (keys : List Key) (checkpoint : Checkpoint)
     : Type 0 where
   pub text : List ℕ
@@ -35,12 +35,12 @@ pub record IsOpenCheckpoint (bytes origin : List ℕ) (keys : List Key) (checkpo
   pub origin_is : checkpoint.origin ≡ origin
   pub opens : Opens text lines keys
 
--- the bytes are no note, for that reason
+-- the bytes are not a note, for that reason
 pub record IsNoNote (bytes : List ℕ) (fault : NoteFault) : Type 0 where
   pub refused : ReadsNote bytes (Err fault)
   pub has_memory : fault ≢ noting.OutOfMemory
 
--- the bytes are a note, and its text is no checkpoint, for that reason
+-- the bytes are a note, but its text is not a checkpoint, for that reason
 pub record IsNoCheckpoint (bytes : List ℕ) (fault : CheckpointFault) : Type 0 where
   pub text : List ℕ
   pub lines : List SignatureParts
@@ -48,7 +48,7 @@ pub record IsNoCheckpoint (bytes : List ℕ) (fault : CheckpointFault) : Type 0 
   pub refused : ReadsCheckpoint text (Err fault)
   pub has_memory : fault ≢ reading.OutOfMemory
 
--- the note's text is a checkpoint, of another origin
+-- the text of the note is a checkpoint with another origin
 pub record HasOtherOrigin (bytes origin : List ℕ) : Type 0 where
   pub checkpoint : Checkpoint
   pub text : List ℕ
@@ -56,7 +56,8 @@ pub record HasOtherOrigin (bytes origin : List ℕ) : Type 0 where
   pub is : IsCheckpointNote bytes checkpoint text lines
   pub differs : checkpoint.origin ≢ origin
 
--- the note's text is a checkpoint of that origin, and no key of the list accepts a line of the note
+-- the text of the note is a checkpoint with that origin, but no key of the list accepts a line of
+-- the note
 pub record HasNoSigner (bytes origin : List ℕ) (keys : List Key) : Type 0 where
   pub checkpoint : Checkpoint
   pub text : List ℕ
@@ -65,8 +66,8 @@ pub record HasNoSigner (bytes origin : List ℕ) (keys : List Key) : Type 0 wher
   pub origin_is : checkpoint.origin ≡ origin
   pub closed : ¬ Opens text lines keys
 
--- what each answer of a reader of head notes says: Ok, that the note opens under the keys with that
--- checkpoint; a fault, why it does not
+-- when a reader of checkpoint notes may return each answer. Ok: the note opens under the keys, and
+-- has that checkpoint. A fault: it applies to the note
 abbrev pub ReadsHead : List ℕ → List ℕ → List Key → Result Checkpoint TakeFault → Type 0
 ReadsHead bytes origin keys (Ok checkpoint) = IsOpenCheckpoint bytes origin keys checkpoint
 ReadsHead bytes origin keys (Err (taking.Note fault)) = IsNoNote bytes fault
@@ -82,23 +83,23 @@ ReadsHead bytes origin keys (Err taking.BundleLong) = ⊥
 ReadsHead bytes origin keys (Err taking.Collision) = ⊥
 ReadsHead bytes origin keys (Err taking.OutOfMemory) = ⊤
 
--- there are as many rows as the size has partial tiles
+-- the number of rows is the number of partial tiles of that size
 abbrev pub HasEdgeCount : ℕ → List (List ℕ) → Type 0
 HasEdgeCount size rows = length rows ≡ length (edge_widths size)
 
--- each row has 32 bytes for each hash of its partial tile, and there are as many as the size has
+-- the number of rows is the number of partial tiles of that size, and each row has 32 bytes for
+-- each hash of its tile
 abbrev pub HasEdgeLengths : ℕ → List (List ℕ) → Type 0
 HasEdgeLengths size rows = map length rows ≡ map (λ width. 32 * width) (edge_widths size)
 
--- the note part is valid, and there are more rows or fewer than its size has partial tiles
+-- the note is valid, but the number of rows is not that of the partial tiles of its size
 pub record HasOtherCount (bytes origin : List ℕ) (keys : List Key) (rows : List (List ℕ))
     : Type 0 where
   pub checkpoint : Checkpoint
   pub is_open : IsOpenCheckpoint bytes origin keys checkpoint
   pub differs : ¬ HasEdgeCount checkpoint.size rows
 
--- the note part is valid, there are as many rows as its size has partial tiles, and some row is
--- longer or shorter than its tile
+-- the note and the number of rows are valid, but some row does not have the length of its tile
 pub record HasOtherLengths (bytes origin : List ℕ) (keys : List Key) (rows : List (List ℕ))
     : Type 0 where
   pub checkpoint : Checkpoint
@@ -107,7 +108,8 @@ pub record HasOtherLengths (bytes origin : List ℕ) (keys : List Key) (rows : L
   pub differ : ¬ HasEdgeLengths checkpoint.size rows
 
 module _ (digest : List ℕ → List ℕ) where
-  -- the note part is valid, each row has its tile's length, and the rows do not lead to the root
+  -- the note is valid, and each row has the length of its tile, but the rows do not lead to the
+  -- root
   pub record HasOtherRoot (bytes origin : List ℕ) (keys : List Key) (rows : List (List ℕ))
       : Type 0 where
     pub checkpoint : Checkpoint
@@ -115,8 +117,8 @@ module _ (digest : List ℕ → List ℕ) where
     pub lengths_are : HasEdgeLengths checkpoint.size rows
     pub differs : edge_root digest (map row_of rows) ≢ checkpoint.root
 
-  -- what each answer of taking a head says of it: its note, and the edge rows of its size, lowest
-  -- level first
+  -- when taking a tree head may return each answer; it is a note, and the edge rows of its size,
+  -- lowest level first
   abbrev pub JudgesHead :
       List ℕ → List Key → List ℕ → List (List ℕ) → Result (Unit {0}) TakeFault → Type 0
   JudgesHead origin keys bytes rows (Ok done) = IsGoodHead digest origin keys bytes rows
@@ -134,7 +136,7 @@ module _ (digest : List ℕ → List ℕ) where
       IsGoodHead digest origin keys bytes rows
   JudgesHead origin keys bytes rows (Err taking.OutOfMemory) = ⊤
 
--- what each answer of taking a tile of that width says of its bytes
+-- when taking a tile of that width may return each answer
 abbrev pub JudgesTile : ℕ → List ℕ → Result (Unit {0}) TakeFault → Type 0
 JudgesTile width bytes (Ok done) = IsGoodTile width bytes
 JudgesTile width bytes (Err (taking.Note fault)) = ⊥
@@ -150,7 +152,7 @@ JudgesTile width bytes (Err taking.BundleLong) = ⊥
 JudgesTile width bytes (Err taking.Collision) = IsGoodTile width bytes
 JudgesTile width bytes (Err taking.OutOfMemory) = ⊤
 
--- what each answer of taking a bundle of that width says of its bytes
+-- when taking a bundle of that width may return each answer
 abbrev pub JudgesBundle : ℕ → List ℕ → Result (Unit {0}) TakeFault → Type 0
 JudgesBundle width bytes (Ok done) = IsGoodBundle width bytes
 JudgesBundle width bytes (Err (taking.Note fault)) = ⊥

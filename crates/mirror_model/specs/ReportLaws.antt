@@ -1,4 +1,4 @@
--- Laws of what is reported: there is one report of each kind, and one text.
+-- Laws of reports: a view has one report and one text of each kind.
 use Rattle.std.specs.Prelude.{◌≡◌, ℕ, List, Option}
 use Rattle.mirror_model.specs.View.{View}
 use Rattle.mirror_model.specs.Complete.{IsLawful}
@@ -9,39 +9,39 @@ use Rattle.mirror_model.specs.Strings.{IsDigest}
 use Rattle.mirror_model.specs.declared.reports.Head.{Head}
 use Rattle.mirror_model.specs.declared.reports.Fork.{Fork}
 
--- a view has one report of its heads
+-- a view has only one report of its tree heads
 abbrev pub HeadsAreReportedOnce : Type 0
 HeadsAreReportedOnce =
     (digest : List ℕ → List ℕ) (v : View) (first second : List Head) → ReportsHeads digest v first →
     ReportsHeads digest v second → first ≡ second
 
--- a view has one report of its forks
+-- a view has only one report of its forks
 abbrev pub ForksAreReportedOnce : Type 0
 ForksAreReportedOnce =
     (digest : List ℕ → List ℕ) (v : View) (first second : List Fork) → ReportsForks digest v first →
     ReportsForks digest v second → first ≡ second
 
--- a lawful view has one answer to which size and root are served, under a digest of 32 bytes
+-- a lawful view has only one served size and root, or none, under a digest of 32 bytes
 abbrev pub ServedIsSaidOnce : Type 0
 ServedIsSaidOnce =
     (digest : List ℕ → List ℕ) → IsDigest digest → (v : View) → IsLawful digest v →
     (first second : Option Point) →
     SaysServed digest v first → SaysServed digest v second → first ≡ second
 
--- a lawful view has one status text, under a digest of 32 bytes
+-- a lawful view has only one status text, under a digest of 32 bytes
 abbrev pub StatusIsOneText : Type 0
 StatusIsOneText =
     (digest : List ℕ → List ℕ) → IsDigest digest → (v : View) → IsLawful digest v →
     (first second : List ℕ) →
     IsStatusText digest v first → IsStatusText digest v second → first ≡ second
 
--- a view has one text of its forks
+-- a view has only one text of its forks
 abbrev pub ForksAreOneText : Type 0
 ForksAreOneText =
     (digest : List ℕ → List ℕ) (v : View) (first second : List ℕ) → IsForksText digest v first →
     IsForksText digest v second → first ≡ second
 
--- a head has one text of what is missing of it
+-- a tree head has only one text of its missing paths
 abbrev pub MissingIsOneText : Type 0
 MissingIsOneText =
     (digest : List ℕ → List ℕ) (v : View) (size : ℕ) (root first second : List ℕ) →

@@ -1,4 +1,4 @@
--- Laws of events that are done again where memory was refused.
+-- Laws of repeating events that ran out of memory.
 use Rattle.std.specs.Prelude.{◌≡◌, ◌↔◌, List, ◌++◌, length, map, Result, Err}
 use Rattle.std.specs.List.{Contains}
 use Rattle.mirror_model.specs.declared.events.Event.{Event}
@@ -10,21 +10,21 @@ use Rattle.mirror_model.specs.Answered.{answer_of, merge_answer_of}
 use Rattle.mirror_model.specs.Steps.{Answer, Exhausted}
 use Rattle.mirror_model.specs.Reached.{AreRetried}
 
--- where memory was refused for no event, nothing has to be done again
+-- if no event ran out of memory, none has to be repeated
 abbrev pub NothingToRetry : Type 0
 NothingToRetry =
     (events : List Event) (answers : List Answer) →
     (¬ Contains answers Exhausted) →
     AreRetried events answers
 
--- where no answer is OutOfMemory, nothing has to be done again
+-- if no answer is OutOfMemory, no event has to be repeated
 abbrev pub NoAnswerToRetry : Type 0
 NoAnswerToRetry =
     (events : List Event) (answers : List (Result (Unit {0}) TakeFault)) →
     (¬ Contains answers (Err taking.OutOfMemory)) →
     AreRetried events (map answer_of answers)
 
--- memory was refused for a take, and for a merge, exactly where it was answered OutOfMemory
+-- a take or a merge ran out of memory exactly if its answer was OutOfMemory
 pub record IsAnsweredOutOfMemory : Type 0 where
   pub takes :
       (answer : Result (Unit {0}) TakeFault) →
@@ -33,8 +33,7 @@ pub record IsAnsweredOutOfMemory : Type 0 where
       (answer : Result (Unit {0}) MergeFault) →
       (merge_answer_of answer ≡ Exhausted) ↔ (answer ≡ Err merging.OutOfMemory)
 
--- where in each of two lists of events one for which memory was refused is done again, it is so in
--- the two as one list
+-- if each of two lists repeats its events that ran out of memory, so do both as one list
 abbrev pub RetriesJoin : Type 0
 RetriesJoin =
     (first second : List Event) (answers more : List Answer) →

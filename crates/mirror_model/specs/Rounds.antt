@@ -1,4 +1,4 @@
--- Rounds of fetching: the true bytes of all paths of the front are taken (C2SP tlog-tiles).
+-- Rounds of fetching: a round takes the true bytes of all paths of the front (C2SP tlog-tiles).
 use Rattle.std.specs.Prelude.{ℕ, ◌*◌, ◌≤◌, List, [], ◌∷◌, ⊤}
 use Rattle.tlog_hash.specs.Tree.{strings, joins}
 use Rattle.tlog_hash.specs.Rows.{part, level_row}
@@ -8,28 +8,28 @@ use Rattle.node_store.specs.Strings.{Strings, Has, HasAll}
 use Rattle.mirror_model.specs.Edge.{edge_rows, edge_strings}
 use Rattle.mirror_model.specs.Front.{IsFront}
 
--- the last of some sets, or the one before them
+-- the last of the sets, or held if there are none
 abbrev pub last_held : Strings → List Strings → Strings
 last_held held [] = held
 last_held held (after ∷ afters) = last_held after afters
 
 module _ (digest : List ℕ → List ℕ) (entries : List (List ℕ)) where
-  -- the strings that the true bytes of a path give: of a tile, the joins of its row of hashes; of a
-  -- bundle, what the tree hash of its entries hashes
+  -- the strings of the true bytes of a path: the joins of a tile's row, or the strings that the
+  -- tree hash of a bundle's entries hashes
   abbrev pub true_strings : Path → List (List ℕ)
   true_strings Checkpoint = []
   true_strings (Tile level index width) =
       joins digest (level_row digest entries level (256 * index) width)
   true_strings (Entries index width) = strings digest (part (256 * index) width entries)
 
-  -- a round: the edge's strings are held before it, what is held stays held, and the strings of the
-  -- true bytes of all paths of the front are held after it
+  -- a round. The strings of the right edge are held before it. No string is lost. The strings of
+  -- the true bytes of all paths of the front are held after it
   pub record IsRound (held after : Strings) : Type 0 where
     pub edge : HasAll held (edge_strings digest (edge_rows digest entries))
     pub grows : (string : List ℕ) → Has held string → Has after string
     pub taken : (path : Path) → IsFront digest held entries path → HasAll after (true_strings path)
 
-  -- one round after another
+  -- rounds in order
   abbrev pub AreRounds : Strings → List Strings → Type 0
   AreRounds held [] = ⊤
   AreRounds held (after ∷ afters) = IsRound held after × AreRounds after afters

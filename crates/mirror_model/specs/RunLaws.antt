@@ -1,4 +1,4 @@
--- Laws of runs: what they leave in a view.
+-- Laws of runs: the views after them.
 use Rattle.std.specs.Prelude.{◌≡◌, ◌⊎◌, ℕ, List, [], ◌∷◌, ◌++◌, Some, slice_get, slice_set}
 use Rattle.std.specs.List.{Contains}
 use Rattle.signed_note.specs.Keys.{Key}
@@ -14,27 +14,26 @@ use Rattle.mirror_model.specs.Steps.{Answer, Clashed, Takes, Merges, Run}
 use Rattle.mirror_model.specs.Reached.{HasReached, HasReachedOnly, events_of, is_done, may_change}
 use Rattle.mirror_model.specs.Reached.{AreRetried}
 
--- all views of the list are of that origin
+-- all views of the list have that origin
 abbrev pub AreOf : List ℕ → List View → Type 0
 AreOf origin views = (mirror : ℕ) (v : View) → slice_get views mirror ≡ Some v → v.origin ≡ origin
 
 module _ (digest : List ℕ → List ℕ) (origin : List ℕ) (keys : List Key) where
-  -- a run of events leads from views of that origin to others
+  -- a run of events leads from views of that origin to other views
   pub record IsRun (opened : List View) (events : List Event) (answers : List Answer)
       (final : List View) : Type 0 where
     pub of_origin : AreOf origin opened
     pub run : Run digest keys opened events answers final
 
-  -- the bounds of a mirror's view, for all answers: it has what the events that were done bring to
-  -- it, and has nothing but what is brought to it by those that were done or for which memory was
-  -- refused
+  -- the bounds of a mirror's view, for all answers: it has everything that the events that were
+  -- done bring to it, and only what they and the events that ran out of memory bring
   pub record IsBounded (opened : List View) (events : List Event) (answers : List Answer)
       (mirror : ℕ) (v : View) : Type 0 where
     pub lower : HasReached digest origin keys opened (events_of is_done events answers) mirror v
     pub upper :
         HasReachedOnly digest origin keys opened (events_of may_change events answers) mirror v
 
-  -- after a run each mirror's view has what was done, and nothing but what was done or begun
+  -- after a run, each view is within these bounds
   abbrev pub RunIsBounded : Type 0
   RunIsBounded =
       (opened final : List View) (events : List Event) (answers : List Answer) →
@@ -42,15 +41,15 @@ module _ (digest : List ℕ → List ℕ) (origin : List ℕ) (keys : List Key) 
       (mirror : ℕ) (v : View) → slice_get final mirror ≡ Some v →
       IsBounded opened events answers mirror v
 
-  -- a mirror's view is the union of the opening views and of the valid items that reach it
+  -- the view is the union of the opening views and of the valid items that reach the mirror
   pub record IsReached (opened : List View) (events : List Event) (mirror : ℕ) (v : View)
       : Type 0 where
     pub origin_is : v.origin ≡ origin
     pub has : HasReached digest origin keys opened events mirror v
     pub only : HasReachedOnly digest origin keys opened events mirror v
 
-  -- where nothing collided, and each event for which memory was refused was done again, a mirror's
-  -- view is the union of the opening views and of the valid items that reach it
+  -- if nothing collided, and each event that ran out of memory was repeated, a view is the union of
+  -- the opening views and valid items that reach its mirror
   abbrev pub RunIsReached : Type 0
   RunIsReached =
       (opened final : List View) (events : List Event) (answers : List Answer) →
@@ -58,7 +57,7 @@ module _ (digest : List ℕ → List ℕ) (origin : List ℕ) (keys : List Key) 
       (¬ Contains answers Clashed) → AreRetried events answers → (mirror : ℕ) (v : View) →
       slice_get final mirror ≡ Some v → IsReached opened events mirror v
 
--- the string stands in an opening view
+-- the string is in an opening view
 pub record IsOpened (opened : List View) (string : List ℕ) : Type 0 where
   pub number : ℕ
   pub view : View
@@ -66,7 +65,7 @@ pub record IsOpened (opened : List View) (string : List ℕ) : Type 0 where
   pub has : Has view.strings string
 
 module _ (digest : List ℕ → List ℕ) (origin : List ℕ) (keys : List Key) where
-  -- the string is of a valid item that some event of the list takes, at whichever mirror
+  -- the string is in a valid item that some event of the list takes, at any mirror
   pub record IsTaken (events : List Event) (string : List ℕ) : Type 0 where
     pub position : ℕ
     pub target : ℕ
@@ -75,23 +74,23 @@ module _ (digest : List ℕ → List ℕ) (origin : List ℕ) (keys : List Key) 
     pub good : IsGood digest origin keys item
     pub has : Contains (strings_of digest item) string
 
-  -- the mirrors meet the string: it stands in an opening view, or is of a valid item that is taken
+  -- the mirrors meet the string: it is in an opening view, or in a valid item that is taken
   abbrev pub IsMet : List View → List Event → List ℕ → Type 0
   IsMet opened events string = IsOpened opened string ⊎ IsTaken events string
 
-  -- no two different strings that the mirrors meet have one digest
+  -- no two different strings that the mirrors meet share a digest
   abbrev pub NothingClashes : List View → List Event → Type 0
   NothingClashes opened events =
       (x y : List ℕ) → IsMet opened events x → IsMet opened events y → digest x ≡ digest y → x ≡ y
 
-  -- where no two different strings that are met have one digest, no event is answered by a collision
+  -- if no two different strings met share a digest, no event is answered by a collision
   abbrev pub NoneClashes : Type 0
   NoneClashes =
       (opened final : List View) (events : List Event) (answers : List Answer) →
       IsRun digest origin keys opened events answers final → NothingClashes opened events →
       ¬ Contains answers Clashed
 
--- a law holds for each digest, origin and list of keys
+-- the law holds for each digest, origin and list of keys
 abbrev pub ForMirrors : ((List ℕ → List ℕ) → List ℕ → List Key → Type 0) → Type 0
 ForMirrors Law =
     (digest : List ℕ → List ℕ) (origin : List ℕ) (keys : List Key) → Law digest origin keys
@@ -108,7 +107,7 @@ RunIsLawful =
     (keys : List Key) (opened final : List View) (events : List Event) (answers : List Answer) →
     AreLawful digest opened → Run digest keys opened events answers final → AreLawful digest final
 
--- in a run each view only grows
+-- a run only makes views grow
 abbrev pub RunGrows : Type 0
 RunGrows =
     (digest : List ℕ → List ℕ) (keys : List Key) (opened final : List View) (events : List Event)
@@ -119,7 +118,7 @@ RunGrows =
 
 -- ---- runs of single calls
 
--- two runs, the second from the views that the first left, are one run of the events of both
+-- two runs, the second from the views after the first, are one run of the events of both
 abbrev pub RunsJoin : Type 0
 RunsJoin =
     (digest : List ℕ → List ℕ) (keys : List Key) (old between new : List View)
@@ -128,7 +127,7 @@ RunsJoin =
     Run digest keys between second more new →
     Run digest keys old (first ++ second) (answers ++ more) new
 
--- what one take leaves one of some mirrors, as a call says it, is a run of that one event
+-- one take by one of several mirrors is a run of one event, by the contract of the call
 abbrev pub TakeIsRun : Type 0
 TakeIsRun =
     (digest : List ℕ → List ℕ) (keys : List Key) (views : List View) (mirror : ℕ)
@@ -137,7 +136,7 @@ TakeIsRun =
     Takes digest keys old item answer new →
     Run digest keys views (Take mirror item ∷ []) (answer ∷ []) (slice_set views mirror new)
 
--- what one merge leaves one of some mirrors, as a call says it, is a run of that one event
+-- one merge of one of several mirrors is a run of one event, by the contract of the call
 abbrev pub MergeIsRun : Type 0
 MergeIsRun =
     (digest : List ℕ → List ℕ) (keys : List Key) (views : List View) (mirror source : ℕ)

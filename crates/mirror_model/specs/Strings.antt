@@ -1,12 +1,12 @@
--- Words on sets of the strings that trees hash.
+-- Notions for sets of strings that trees hash.
 use Rattle.std.specs.Prelude.{◌≡◌, ◌≢◌, ℕ, List, length}
 use Rattle.node_store.specs.Strings.{Strings, Has}
 
--- a digest function: each digest has 32 bytes
+-- each digest has 32 bytes
 abbrev pub IsDigest : (List ℕ → List ℕ) → Type 0
 IsDigest digest = (string : List ℕ) → length (digest string) ≡ 32
 
--- two different strings of the set have one digest
+-- two different strings of the set share a digest
 pub record HasClash (digest : List ℕ → List ℕ) (strings : Strings) : Type 0 where
   pub first : List ℕ
   pub second : List ℕ

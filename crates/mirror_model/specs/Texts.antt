@@ -1,6 +1,5 @@
--- The texts in which a mirror tells of itself (own): lines that each end in a newline, with numbers
--- in decimal without leading zeros, and roots in standard base64 with padding (RFC 4648, section
--- 4).
+-- The texts of a mirror's reports (own format): lines that each end in a newline. Numbers are
+-- decimal without leading zeros. Roots are standard base64 with padding (RFC 4648, section 4).
 use Rattle.std.specs.Prelude.{◌≡◌, ℕ, List, [], ◌∷◌, ◌++◌, Bool, true, false, Option, Some, None}
 use Rattle.std.specs.Prelude.{codes}
 use Rattle.std.specs.Fmt.{decimal}
@@ -16,11 +15,11 @@ use Rattle.mirror_model.specs.Reports.{ReportsHeads, ReportsForks, SaysServed}
 use Rattle.mirror_model.specs.declared.reports.Head.{Head}
 use Rattle.mirror_model.specs.declared.reports.Fork.{Fork}
 
--- a size and a root, with a space between
+-- a size, a space and a root
 abbrev pub point_text : ℕ → List ℕ → List ℕ
 point_text size root = decimal size ++ 32 ∷ base64_of root
 
--- whether a head is complete, in a word
+-- the word for a complete or partial tree head
 abbrev pub flag_text : Bool → List ℕ
 flag_text true = codes "complete"
 flag_text false = codes "partial"
@@ -35,7 +34,7 @@ abbrev pub served_line : Option Point → List ℕ
 served_line (Some point) = codes "served " ++ point_text point.size point.root ++ 10 ∷ []
 served_line None = codes "served none" ++ 10 ∷ []
 
--- `origin O`, a line for each head, and what is served
+-- `origin O`, a line for each tree head, and the line of the served checkpoint
 abbrev pub status_text : List ℕ → List Head → Option Point → List ℕ
 status_text origin heads served =
     codes "origin " ++ origin ++ 10 ∷ (flat_map head_line heads ++ served_line served)
@@ -50,16 +49,17 @@ fork_line fork =
 abbrev pub forks_text : List Fork → List ℕ
 forks_text forks = flat_map fork_line forks
 
--- a path, on a line of its own
+-- a path as a line
 abbrev pub path_line : Path → List ℕ
 path_line path = path_text path ++ 10 ∷ []
 
--- a line for each path that is missing
+-- a line for each missing path
 abbrev pub missing_text : List Path → List ℕ
 missing_text paths = flat_map path_line paths
 
 module _ (digest : List ℕ → List ℕ) where
-  -- the bytes that tell the status of a view: its origin, its heads, and what it serves
+  -- the bytes are the status of a view: its origin, its tree heads, and the checkpoint that it
+  -- serves
   pub record IsStatusText (v : View) (text : List ℕ) : Type 0 where
     pub heads : List Head
     pub served : Option Point
@@ -67,14 +67,14 @@ module _ (digest : List ℕ → List ℕ) where
     pub is_served : SaysServed digest v served
     pub is : text ≡ status_text v.origin heads served
 
-  -- the bytes that tell the forks of a view, a line each; no fork gives no bytes
+  -- the bytes are the forks of a view, with a line for each; they are empty if there is no fork
   pub record IsForksText (v : View) (text : List ℕ) : Type 0 where
     pub forks : List Fork
     pub are_forks : ReportsForks digest v forks
     pub is : text ≡ forks_text forks
 
-  -- the bytes that tell what is missing of a head that is held, a line for each path; nothing
-  -- missing gives no bytes
+  -- the bytes are the missing paths of a tree head that is held, with a line for each; they are
+  -- empty if nothing is missing
   pub record IsMissingText (v : View) (size : ℕ) (root : List ℕ) (text : List ℕ) : Type 0 where
     pub head : HasHead v size root
     pub paths : List Path

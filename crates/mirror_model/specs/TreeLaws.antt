@@ -1,4 +1,4 @@
--- What edges, tiles, bundles, fronts and walks have to do with the tree of a list of entries.
+-- Laws that relate edges, tiles, bundles, fronts and walks to the tree of a list of entries.
 use Rattle.std.specs.Prelude.{max, ◌≡◌, ◌↔◌, ℕ, ◌+◌, ◌-◌, ◌*◌, ◌^◌, ◌≤◌, ◌<◌, List, length, map}
 use Rattle.std.specs.Prelude.{min}
 use Rattle.std.specs.List.{Contains}
@@ -16,7 +16,7 @@ use Rattle.node_store.specs.Strings.{Strings, Has, HasAll}
 use Rattle.mirror_model.specs.Strings.{IsDigest}
 use Rattle.mirror_model.specs.Walk.{WalkFails, NoClashWith, IsMissing}
 
--- the true edge rows have the widths of the edge
+-- the true edge rows have the widths of the right edge
 abbrev pub EdgeRowsAreWide : Type 0
 EdgeRowsAreWide =
     (digest : List ℕ → List ℕ) (entries : List (List ℕ)) →
@@ -35,8 +35,8 @@ EdgeStringsAreOfTree =
     Contains (edge_strings digest (edge_rows digest entries)) y →
     Contains (strings digest entries) y
 
--- y is the string of a node of the tree of the entries that has more than `above` entries, all of
--- them among the `len` from `start` on
+-- y is the string of a node of the entries' tree; the node has more than `above` entries, all among
+-- the `len` entries from `start` on
 pub record HasNodeWithin (digest : List ℕ → List ℕ) (entries : List (List ℕ))
     (start len above : ℕ) (y : List ℕ) : Type 0 where
   pub node : Node
@@ -46,8 +46,8 @@ pub record HasNodeWithin (digest : List ℕ → List ℕ) (entries : List (List 
   pub long : above < node.len
   pub string_is : node.string ≡ y
 
--- the joins of a true full row of level L are the strings of the tree for the nodes of the row's
--- range that have more than 256^L entries
+-- the joins of a true full row of level L are the strings of the nodes in the row's range with more
+-- than 256^L entries
 abbrev pub FullRowJoinsAreNodes : Type 0
 FullRowJoinsAreNodes =
     (digest : List ℕ → List ℕ) (entries : List (List ℕ)) (level index : ℕ) →
@@ -55,8 +55,7 @@ FullRowJoinsAreNodes =
     Contains (joins digest (level_row digest entries level (256 * index) 256)) y
     ↔ HasNodeWithin digest entries (index * 256 ^ (level + 1)) (256 ^ (level + 1)) (256 ^ level) y
 
--- the strings of a bundle, at the width that the number of entries gives it, are those of the tree
--- for the nodes of its range
+-- the strings of a bundle, as wide as the entries allow, are the strings of the nodes in its range
 abbrev pub BundleStringsAreNodes : Type 0
 BundleStringsAreNodes =
     (digest : List ℕ → List ℕ) (entries : List (List ℕ)) (index : ℕ) →
@@ -65,15 +64,15 @@ BundleStringsAreNodes =
     Contains (strings digest (part (256 * index) width entries)) y
     ↔ HasNodeWithin digest entries (256 * index) width 0 y
 
--- the front is empty exactly where all strings of the tree are held
+-- the front is empty exactly if all strings of the tree are held
 abbrev pub FrontIsEmpty : Type 0
 FrontIsEmpty =
     (digest : List ℕ → List ℕ) (held : Strings) (entries : List (List ℕ)) →
     length entries ≤ 256 ^ 8 →
     ((path : Path) → ¬ IsFront digest held entries path) ↔ HasAll held (strings digest entries)
 
--- after a round in which no tile above level L was asked for, a node that is not held has at most
--- 256^L entries
+-- after a round that requests no tile above level L, a node that is not held has at most 256^L
+-- entries
 abbrev pub RoundLeavesSmallNodes : Type 0
 RoundLeavesSmallNodes =
     (digest : List ℕ → List ℕ) (held after : Strings) (entries : List (List ℕ)) →
@@ -81,7 +80,7 @@ RoundLeavesSmallNodes =
     AsksUpTo digest entries held top → (x : Node) →
     IsNode digest (tree_of entries) 0 x → (¬ Has after x.string) → x.len ≤ 256 ^ top
 
--- the round after one asks for tiles of lower levels alone
+-- the next round requests only tiles of lower levels
 abbrev pub RoundGoesDown : Type 0
 RoundGoesDown =
     (digest : List ℕ → List ℕ) (held after : Strings) (entries : List (List ℕ)) →
@@ -89,7 +88,7 @@ RoundGoesDown =
     AsksUpTo digest entries held top → (level index width : ℕ) →
     IsFront digest after entries (Tile level index width) → level < top
 
--- after a round of bundles alone nothing of the tree is unheld
+-- after a round that requests only bundles, the whole tree is held
 abbrev pub BundleRoundCompletes : Type 0
 BundleRoundCompletes =
     (digest : List ℕ → List ℕ) (held after : Strings) (entries : List (List ℕ)) →
@@ -97,8 +96,8 @@ BundleRoundCompletes =
     AsksBundlesAlone digest entries held →
     HasAll after (strings digest entries)
 
--- with the edge held, the front has no tile of the greatest level that has a partial tile, or above
--- it
+-- if the right edge is held, all tiles of the front are below the greatest level with a partial
+-- tile
 abbrev pub FrontIsBelowTop : Type 0
 FrontIsBelowTop =
     (digest : List ℕ → List ℕ) (held : Strings) (entries : List (List ℕ)) (top : ℕ) →
@@ -106,8 +105,8 @@ FrontIsBelowTop =
     HasAll held (edge_strings digest (edge_rows digest entries)) → (level index width : ℕ) →
     IsFront digest held entries (Tile level index width) → level < top
 
--- as many rounds as the greatest level that has a partial tile, and one at least, leave nothing of
--- the tree unheld
+-- with top as the greatest level with a partial tile, the whole tree is held after max(1, top)
+-- rounds or more
 abbrev pub EnoughRoundsComplete : Type 0
 EnoughRoundsComplete =
     (digest : List ℕ → List ℕ) (held : Strings) (entries : List (List ℕ)) (top : ℕ)
@@ -115,8 +114,8 @@ EnoughRoundsComplete =
     length entries < 256 ^ 8 → IsTop (length entries) top → AreRounds digest entries held afters →
     max 1 top ≤ length afters → HasAll (last_held held afters) (strings digest entries)
 
--- a path that may be asked for of a head of that size: a full tile of a level from 1 to 7, or a
--- bundle as wide as the size has it, whose range begins within the size
+-- the path may be requested for a tree head of that size: a full tile of level 1 to 7, or a bundle
+-- as wide as the size allows; its range begins within the size
 abbrev pub IsOfSize : ℕ → Path → Type 0
 IsOfSize size Checkpoint = ⊥
 IsOfSize size (Tile level index width) =
@@ -124,19 +123,19 @@ IsOfSize size (Tile level index width) =
 IsOfSize size (Entries index width) =
     (1 ≤ width) × (width ≡ min 256 (size - 256 * index)) × (256 * index < size)
 
--- what is missing of a head may be asked for at its size, whether or not a list of entries fits
+-- each missing path of a tree head may be requested at its size, even if no list of entries fits
 abbrev pub MissingIsOfSize : Type 0
 MissingIsOfSize =
     (digest : List ℕ → List ℕ) (held : Strings) (size : ℕ) (root : List ℕ) → size ≤ 256 ^ 8 →
     (path : Path) →
     IsMissing digest held size root path → IsOfSize size path
 
--- a node of the front of the entries begins at that entry and has so many
+-- the front of the entries has the node of many entries from the entry at on
 abbrev pub HasFrontAt : (List ℕ → List ℕ) → Strings → List (List ℕ) → ℕ → ℕ → Type 0
 HasFrontAt digest held entries at many =
     (x : Node) × InFront digest held (tree_of entries) 0 x × (x.start ≡ at) × (x.len ≡ many)
 
--- where a list of entries fits, the walk from its root fails exactly at the front
+-- if the list of entries fits, the walk from its root fails exactly at the front
 abbrev pub WalkIsFront : Type 0
 WalkIsFront =
     (digest : List ℕ → List ℕ) → IsDigest digest →
@@ -144,7 +143,7 @@ WalkIsFront =
     WalkFails digest held (shape (length entries)) 0 (mth digest entries) at many
     ↔ HasFrontAt digest held entries at many
 
--- where a list of entries fits the root, what is missing is its front
+-- if the list of entries fits the root, the missing paths are its front
 abbrev pub MissingIsFront : Type 0
 MissingIsFront =
     (digest : List ℕ → List ℕ) → IsDigest digest →

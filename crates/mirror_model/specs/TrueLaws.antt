@@ -1,4 +1,5 @@
--- Items of true bytes: what a log of a list of entries serves, taken by a mirror (C2SP tlog-tiles).
+-- Items of true bytes: the files that a log serves for a list of entries, taken by a mirror (C2SP
+-- tlog-tiles).
 use Rattle.std.specs.Prelude.{◌-◌, min, ◌≡◌, ℕ, ◌*◌, ◌^◌, ◌≤◌, ◌<◌, All, List, length, map, take}
 use Rattle.std.specs.List.{Contains}
 use Rattle.tlog_shape.specs.Edge.{width_of, edge_index_of}
@@ -17,11 +18,11 @@ use Rattle.mirror_model.specs.Item.{row_of, IsWidth, IsGoodTile, IsGoodBundle, H
 use Rattle.mirror_model.specs.Item.{strings_of}
 use Rattle.mirror_model.specs.Strings.{IsDigest}
 
--- entries that can stand in a bundle
+-- each entry fits into a bundle
 abbrev pub AreShort : List (List ℕ) → Type 0
 AreShort entries = All (λ entry. length entry < 2 ^ 16) entries
 
--- a tile of true bytes is valid, and gives the strings of its row
+-- the tile of true bytes is valid, and its strings are those of its row
 pub record IsTrueTile (digest : List ℕ → List ℕ) (entries : List (List ℕ))
     (level index width : ℕ) : Type 0 where
   pub good : IsGoodTile width (tile_bytes digest entries level index width)
@@ -29,13 +30,13 @@ pub record IsTrueTile (digest : List ℕ → List ℕ) (entries : List (List ℕ
       strings_of digest (item.Tile width (tile_bytes digest entries level index width))
       ≡ true_strings digest entries (Tile level index width)
 
--- each tile of a list of entries, as a log serves it, is valid and gives the strings of its row
+-- each tile that a log serves for a list of entries is valid, and its strings are those of its row
 abbrev pub TrueTilesAreGood : Type 0
 TrueTilesAreGood =
     (digest : List ℕ → List ℕ) → IsDigest digest → (entries : List (List ℕ)) → AreShort entries →
     (level index width : ℕ) → IsWidth width → IsTrueTile digest entries level index width
 
--- a bundle of true bytes is valid, and gives what the tree hash of its entries hashes
+-- the bundle of true bytes is valid, and its strings are those of the tree hash of its entries
 pub record IsTrueBundle (digest : List ℕ → List ℕ) (entries : List (List ℕ)) (index width : ℕ)
     : Type 0 where
   pub good : IsGoodBundle width (bundle_bytes entries index width)
@@ -43,8 +44,8 @@ pub record IsTrueBundle (digest : List ℕ → List ℕ) (entries : List (List �
       strings_of digest (item.Bundle width (bundle_bytes entries index width))
       ≡ true_strings digest entries (Entries index width)
 
--- each bundle within a list of entries, as a log serves it, is valid and gives what the tree hash of
--- its entries hashes
+-- each bundle that a log serves for a list of entries is valid, and its strings are those of the
+-- tree hash of its entries
 abbrev pub TrueBundlesAreGood : Type 0
 TrueBundlesAreGood =
     (digest : List ℕ → List ℕ) → IsDigest digest → (entries : List (List ℕ)) → AreShort entries →
@@ -55,7 +56,8 @@ TrueBundlesAreGood =
 abbrev pub edge_bytes : (List ℕ → List ℕ) → List (List ℕ) → List (List ℕ)
 edge_bytes digest entries = map row_text (edge_rows digest entries)
 
--- true edge rows lead to the tree hash of the entries, and give the edge's strings
+-- the true edge rows lead to the tree hash of the entries, and their strings are those of the right
+-- edge
 pub record IsTrueEdge (digest : List ℕ → List ℕ) (entries : List (List ℕ)) : Type 0 where
   pub has_edge :
       HasEdgeRows digest (length entries) (mth digest entries) (edge_bytes digest entries)
@@ -63,21 +65,21 @@ pub record IsTrueEdge (digest : List ℕ → List ℕ) (entries : List (List ℕ
       edge_strings digest (map row_of (edge_bytes digest entries))
       ≡ edge_strings digest (edge_rows digest entries)
 
--- the edge rows of a list of entries, as a log serves them, are those of its size and tree hash
+-- the true edge rows of a list of entries are edge rows for its size and tree hash
 abbrev pub TrueEdgesLeadToRoot : Type 0
 TrueEdgesLeadToRoot =
     (digest : List ℕ → List ℕ) → IsDigest digest → (entries : List (List ℕ)) →
     length entries < 256 ^ 8 →
     IsTrueEdge digest entries
 
--- the edge of a size has the partial tile of each of its levels
+-- the right edge of a size has the partial tile of each level with one
 abbrev pub EdgeHasEachPartialTile : Type 0
 EdgeHasEachPartialTile =
     (size : ℕ) →
     edge_of size
     ≡ map (λ level. Tile level (edge_index_of size level) (width_of size level)) (edge_levels size)
 
--- while the edge's strings are held, each path of the front is within the entries
+-- if the strings of the right edge are held, each path of the front is within the entries
 abbrev pub FrontIsWithin : Type 0
 FrontIsWithin =
     (digest : List ℕ → List ℕ) (held : Strings) (entries : List (List ℕ)) →
@@ -85,28 +87,28 @@ FrontIsWithin =
     HasAll held (edge_strings digest (edge_rows digest entries)) → (path : Path) →
     IsFront digest held entries path → IsWithin (length entries) path
 
--- the widest path of its place, in a tree of n entries: a full tile, or a bundle as wide as the
--- entries have it
+-- the path is the widest with its level and index in a tree of n entries: a full tile, or a bundle
+-- as wide as the entries allow
 abbrev pub IsWidest : ℕ → Path → Type 0
 IsWidest n Checkpoint = ⊥
 IsWidest n (Tile level index width) = width ≡ 256
 IsWidest n (Entries index width) = width ≡ min 256 (n - 256 * index)
 
--- the true bytes of a path within the entries, of the widest of its place, give strings of their
--- tree alone
+-- the true bytes of the widest path with its level and index, within the entries, have only strings
+-- of their tree
 abbrev pub TrueStringsAreOfTree : Type 0
 TrueStringsAreOfTree =
     (digest : List ℕ → List ℕ) (entries : List (List ℕ)) (path : Path) →
     IsWithin (length entries) path → IsWidest (length entries) path → (y : List ℕ) →
     Contains (true_strings digest entries path) y → Contains (strings digest entries) y
 
--- each path of a front is the widest of its place
+-- each path of a front is the widest with its level and index
 abbrev pub FrontIsWidest : Type 0
 FrontIsWidest =
     (digest : List ℕ → List ℕ) (held : Strings) (entries : List (List ℕ)) (path : Path) →
     IsFront digest held entries path → IsWidest (length entries) path
 
--- a path within the first n entries has the same bytes in these as in all
+-- a path within the first n entries has the same bytes for these as for all entries
 pub record IsSameIn (digest : List ℕ → List ℕ) (entries : List (List ℕ)) (n : ℕ) : Type 0 where
   pub tile :
       (level index width : ℕ) → IsTileWithin n level index width →
@@ -116,7 +118,7 @@ pub record IsSameIn (digest : List ℕ → List ℕ) (entries : List (List ℕ))
       (index width : ℕ) → IsTileWithin n 0 index width →
       bundle_bytes (take n entries) index width ≡ bundle_bytes entries index width
 
--- a log that has grown serves the paths that it had with the same bytes
+-- a log that has grown serves its old paths with the same bytes
 abbrev pub PrefixesServeSame : Type 0
 PrefixesServeSame =
     (digest : List ℕ → List ℕ) (entries : List (List ℕ)) (n : ℕ) → n ≤ length entries →

@@ -1,4 +1,4 @@
--- What a mirror holds, and what it is made of.
+-- The view of a mirror: the notes and strings that it holds.
 use Rattle.std.specs.Prelude.{◌≡◌, ℕ, List, refl}
 use Rattle.std.specs.Coded.{Coded, code_by, coded×, coded_ℕ, coded_list}
 use Rattle.std.specs.FinSet as set
@@ -11,11 +11,11 @@ pub record View : Type 0 where
   pub notes : Strings
   pub strings : Strings
 
--- sets of strings in one order of codes, as a set of views wants it; it says nothing of a log
+-- an order of sets of strings by codes, which a set of views needs; it has no meaning for a log
 abbrev pub strings_code : Coded Strings
 strings_code = set.code (coded_list coded_ℕ)
 
--- views in one order of codes, as a model of the mirror wants it; it says nothing of a log
+-- an order of views by codes, which a model of the mirror needs; it has no meaning for a log
 abbrev pub view_code : Coded View
 view_code =
     code_by (List ℕ × (Strings × Strings))
@@ -23,11 +23,11 @@ view_code =
     (λ v. (v.origin, (v.notes, v.strings)))
     (λ p. record { origin = p.0; notes = p.1.0; strings = p.1.1 }) (λ _. refl)
 
--- the view that holds nothing, of an origin
+-- the empty view of an origin
 abbrev pub nothing : List ℕ → View
 nothing origin = record { origin = origin; notes = set.empty; strings = set.empty }
 
--- what either of two views holds, for views of one origin
+-- the union of two views of one origin
 abbrev pub union : View → View → View
 union v w =
     record {
@@ -36,7 +36,7 @@ union v w =
       strings = set.union v.strings w.strings;
     }
 
--- all that v holds w holds, and both are of one origin
+-- w holds everything that v holds, and both have the same origin
 pub record IsSubview (v w : View) : Type 0 where
   pub origin_is : v.origin ≡ w.origin
   pub notes_are : (note : List ℕ) → Has v.notes note → Has w.notes note

@@ -1,4 +1,4 @@
--- The walk from a root hash through what is held, where no list of entries is known.
+-- The walk from a root hash through the held strings, for a tree head without a list of entries.
 use Rattle.std.specs.Prelude.{◌≡◌, ◌⊎◌, ℕ, ◌+◌, List, ◌∷◌, ◌++◌, length}
 use Rattle.std.specs.List.{Contains}
 use Rattle.tlog_hash.specs.Tree.{Tree, Empty, One, Join, strings, size_of}
@@ -7,21 +7,21 @@ use Rattle.tlog_tiles.specs.declared.paths.Path.{Path}
 use Rattle.node_store.specs.Strings.{Strings, Has, IsHeldAt}
 use Rattle.mirror_model.specs.Front.{IsPathOf}
 
--- the node begins at that entry, and has so many entries
+-- the node begins at that entry, and has that number of entries
 pub record IsSpot (start len at many : ℕ) : Type 0 where
   pub at_is : at ≡ start
   pub many_is : many ≡ len
 
 module _ (digest : List ℕ → List ℕ) (held : Strings) where
-  -- a string 0x01 || left || right of that digest is held; both hashes have 32 bytes
+  -- a held string 0x01 || left || right has that digest, and both hashes have 32 bytes
   pub record IsPairHeld (hash left right : List ℕ) : Type 0 where
     pub left_len : length left ≡ 32
     pub right_len : length right ≡ 32
     pub is : IsHeldAt digest held hash (1 ∷ left ++ right)
 
-  -- the walk from that hash, down a tree of that shape whose first entry has the number start,
-  -- fails at the node of as many entries from there: at two or more entries where no pair of the
-  -- hash is held, and at one where no 0x00 || entry of the hash is; else it goes on to both parts
+  -- the walk goes from the hash down a tree of that shape, whose first entry has the index start.
+  -- It fails at the node of many entries from the entry at on: no held pair has the hash of a
+  -- larger node, or no held 0x00 || entry that of one entry. Otherwise it goes on to both parts
   abbrev pub WalkFails : Tree ℕ → ℕ → List ℕ → ℕ → ℕ → Type 0
   WalkFails Empty start hash at many = ⊥
   WalkFails (One x) start hash at many =
@@ -33,15 +33,15 @@ module _ (digest : List ℕ → List ℕ) (held : Strings) where
       × IsPairHeld hash x y
       × (WalkFails l start x at many ⊎ WalkFails r (start + size_of l) y at many))
 
-  -- the path is missing of a head of that size and root: the walk from its root fails at a node
-  -- whose strings the path has
+  -- the path is missing for a tree head of that size and root: the walk from its root fails at a
+  -- node, and the path has the strings of that node
   pub record IsMissing (size : ℕ) (hash : List ℕ) (path : Path) : Type 0 where
     pub at : ℕ
     pub many : ℕ
     pub fails : WalkFails (shape size) 0 hash at many
     pub path_is : IsPathOf size at many path
 
-  -- what is held and the tree of the entries together do not collide
+  -- the held strings and those of the entries' tree do not collide
   abbrev pub NoClashWith : List (List ℕ) → Type 0
   NoClashWith entries =
       (x y : List ℕ) → Has held x ⊎ Contains (strings digest entries) x →

@@ -1,10 +1,10 @@
-//! Events: what happens to mirrors.
+//! Events at mirrors.
 
 use crate::items::Item;
 
-/// What happens to one of several mirrors, which are numbered from 0.
+/// An event at one of several mirrors, which are numbered from 0.
 ///
-/// Mirror 1 is merged with mirror 0, which stays as it is:
+/// For example, mirror 1 is merged with mirror 0, which stays unchanged:
 ///
 /// ```
 /// let event = Event::Merge { target: 1, source: 0 };

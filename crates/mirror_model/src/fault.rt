@@ -1,47 +1,47 @@
-//! Why a mirror does not take what it is given, or is not merged.
+//! Why a mirror does not take an item, or is not merged.
 //!
-//! Of the refusals of one call the first that applies is answered, in the order in which they stand
-//! here. `OutOfMemory` may come before any of them.
+//! A call returns the first fault that applies, in the order below. `OutOfMemory` may come before
+//! any of them.
 
 use signed_note::NoteFault;
 use thiserror::Error;
 use tlog_checkpoint::CheckpointFault;
 
-/// Why an item is not taken: a head for the first seven and a collision, a tile for its length and a
-/// collision, a bundle for its length and a collision.
+/// Why an item is not taken. A tree head has the first seven faults or a collision. A tile or a
+/// bundle has those of its length or a collision.
 #[derive(Debug, Drop, PartialEq, Eq, Clone, Copy, Error)]
 pub enum TakeFault {
-    /// The bytes are no note. `OutOfMemory` never comes here.
+    /// The bytes are not a note. The inner fault is never `OutOfMemory`.
     #[error("{0}")]
     Note(NoteFault),
-    /// The note's text is no checkpoint. `OutOfMemory` never comes here.
+    /// The text of the note is not a checkpoint. The inner fault is never `OutOfMemory`.
     #[error("{0}")]
     Checkpoint(CheckpointFault),
-    /// The checkpoint, or the other mirror of a merge, is of another origin.
+    /// The checkpoint, or the other mirror of a merge, has another origin.
     #[error("OtherOrigin")]
     OtherOrigin,
     /// No key of the list accepts a line of the note.
     #[error("NoTrustedSignature")]
     NoTrustedSignature,
-    /// There are not as many edge rows as the size has partial tiles.
+    /// The number of edge rows is not the number of partial tiles of the size.
     #[error("EdgeCount")]
     EdgeCount,
-    /// An edge row has not 32 bytes for each hash of its tile.
+    /// An edge row does not have 32 bytes for each hash of its tile.
     #[error("EdgeLength")]
     EdgeLength,
     /// The edge rows do not lead to the root.
     #[error("EdgeMismatch")]
     EdgeMismatch,
-    /// There are not 32 times as many bytes as the width says.
+    /// The number of bytes is not 32 times the width.
     #[error("RowLength")]
     RowLength,
-    /// No prefix of the bytes is a bundle of that width.
+    /// The bytes do not begin with a bundle of that width.
     #[error("BundleShort")]
     BundleShort,
-    /// A prefix of the bytes is a bundle of that width, and more bytes follow it.
+    /// The bytes begin with a bundle of that width, and more bytes follow it.
     #[error("BundleLong")]
     BundleLong,
-    /// Two different strings, of those that are held and those that would come, share a digest.
+    /// Two different strings share a digest; both are held or would be added.
     #[error("Collision")]
     Collision,
     /// Memory was refused.
@@ -52,10 +52,10 @@ pub enum TakeFault {
 /// Why a mirror is not merged with another.
 #[derive(Debug, Drop, PartialEq, Eq, Clone, Copy, Error)]
 pub enum MergeFault {
-    /// The other mirror is of another origin.
+    /// The other mirror has another origin.
     #[error("OtherOrigin")]
     OtherOrigin,
-    /// Two different strings, of those that the two hold, share a digest.
+    /// Two different strings that the two mirrors hold share a digest.
     #[error("Collision")]
     Collision,
     /// Memory was refused.

@@ -1,11 +1,11 @@
-//! Items: what a mirror takes.
+//! Items that a mirror takes.
 
 ghost use Rattle.std.specs.Prelude.{◌≡◌, map};
 ghost use Rattle.std.specs.declared.vec.Vec.{Vec};
 
 use std::marker::Model;
 
-/// Bytes as they came. Contracts see the list of them.
+/// Bytes as they were received. Contracts see them as a list.
 #[derive(Debug, Drop)]
 pub struct Bytes {
     bytes: Vec<u8>,
@@ -20,7 +20,7 @@ impl Model for Bytes {
 }
 
 impl Bytes {
-    /// Makes the bytes of an item.
+    /// The bytes of an item.
     pub fn new(bytes: Vec<u8>) -> Self
         ensures { result ≡ bytes.items }
     {
@@ -34,7 +34,7 @@ impl Bytes {
         self.bytes.as_slice()
     }
 
-    /// The bytes, given back.
+    /// The bytes, without a copy.
     pub fn into_vec(self) -> Vec<u8>
         ensures { result.items ≡ self }
     {
@@ -43,7 +43,7 @@ impl Bytes {
     }
 }
 
-/// Rows of hashes, each as its bytes. Contracts see the list of these.
+/// The bytes of rows of hashes. Contracts see them as a list.
 #[derive(Debug, Drop)]
 pub struct Rows {
     rows: Vec<Vec<u8>>,
@@ -58,7 +58,7 @@ impl Model for Rows {
 }
 
 impl Rows {
-    /// Makes the edge rows of a head.
+    /// The edge rows of a tree head.
     pub fn new(rows: Vec<Vec<u8>>) -> Self
         ensures { result ≡ map (λ row. row.items) rows.items }
     {
@@ -72,7 +72,7 @@ impl Rows {
         self.rows.as_slice()
     }
 
-    /// The rows, given back.
+    /// The rows, without a copy.
     pub fn into_vec(self) -> Vec<Vec<u8>>
         ensures { map (λ row. row.items) result.items ≡ self }
     {
@@ -81,20 +81,21 @@ impl Rows {
     }
 }
 
-/// An item: what a mirror takes of a log, its bytes as they came (C2SP tlog-tiles, "Merkle Tree", "Log
-/// Entries" and "Checkpoints").
+/// An item that a mirror takes from a log, with its bytes as they were received (C2SP tlog-tiles,
+/// "Merkle Tree", "Log Entries" and "Checkpoints").
 ///
-/// A width is one from 1 to 256. A tile of one hash:
+/// A width is from 1 to 256. This is a tile of one hash:
 ///
 /// ```
 /// let item = Item::Tile { width: 1, bytes: Bytes::new(hash) };
 /// ```
 #[derive(Debug, Drop)]
 pub enum Item {
-    /// A signed note, and the rows of the edge of its checkpoint's size, lowest level first.
+    /// A signed note, and the rows of the right edge for the size of its checkpoint, lowest level
+    /// first.
     Head { note: Bytes, edge: Rows },
     /// The row of a tile: `width` hashes of 32 bytes.
     Tile { width: u32, bytes: Bytes },
-    /// A bundle of `width` entries, each behind its length, two bytes of it, big-endian.
+    /// A bundle of `width` entries; each entry follows its length of two bytes, big-endian.
     Bundle { width: u32, bytes: Bytes },
 }

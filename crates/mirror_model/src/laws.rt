@@ -1,6 +1,6 @@
 //! Laws of the definitions that the contracts cite.
 //!
-//! A law is the contract of a function with an empty body: the proof is all that there is of it.
+//! A law is a function with an empty body: only its contract counts.
 pub mod edges;
 pub mod events;
 pub mod examples;

@@ -1,4 +1,5 @@
-//! The core of a mirror of one transparency log: what it holds, and what follows from that.
+//! The model of a mirror of one transparency log: the view that it holds, and the laws of that
+//! view.
 //!
 //! ```text
 //! // One mirror takes a tile of one hash, and another is merged with it.

@@ -1,4 +1,4 @@
-//! The note of a head: read, and opened.
+//! The note of a tree head: reads it and checks its signatures.
 ghost use Rattle.std.specs.Prelude.{◌≡◌, ℕ, List, map, IfNone, IfOk, IfSome};
 ghost use Rattle.mirror_model.specs.Heads.{IsHead};
 ghost use Rattle.mirror_model.specs.Refusals.{ReadsHead};
@@ -10,17 +10,18 @@ use signed_note::{Note, NoteFault, Verifier, open_note};
 use std::alloc::{AllocError, Global};
 use tlog_checkpoint::{Checkpoint, CheckpointFault, read};
 
-/// A note whose text is a checkpoint, and that checkpoint.
+/// A note whose text is a checkpoint, with that checkpoint.
 #[derive(Drop)]
 pub struct HeadNote {
     /// The note.
     pub note: Note,
-    /// Its text, read.
+    /// The checkpoint in its text.
     pub checkpoint: Checkpoint,
 }
 
-/// The note of those bytes and the checkpoint that is its text, where it is one of that origin that opens under the keys
-/// (C2SP signed-note and tlog-checkpoint). Each key that may have signed a line is asked once.
+/// Reads a note and its checkpoint, which must have that origin, and checks that the note opens
+/// under the keys (C2SP signed-note and tlog-checkpoint). Each key that may have signed a line is
+/// tried once.
 ///
 /// ```text
 /// open_head(alloc, "example.com/log", &keys, &bytes)?.checkpoint.size   // 257
@@ -28,9 +29,9 @@ pub struct HeadNote {
 ///
 /// # Errors
 ///
-/// The first that applies: `Note`, where the bytes are no note; `Checkpoint`, where its text is no checkpoint;
-/// `OtherOrigin`; `NoTrustedSignature`, where no key accepts a line of it. `OutOfMemory` where memory was refused,
-/// before any of them or after.
+/// The first that applies: `Note` if the bytes are not a note; `Checkpoint` if its text is not a
+/// checkpoint; `OtherOrigin`; `NoTrustedSignature` if no key accepts a line of it. `OutOfMemory` if
+/// memory was refused, before any of them or after.
 pub fn open_head(
     alloc: Global,
     origin: &str,
@@ -52,7 +53,7 @@ pub fn open_head(
     }
 }
 
-// The checkpoint that is the text of a note, where it is one of that origin, and the note opens under the keys.
+// The checkpoint in the text of a note, if it has that origin and the note opens under the keys.
 fn open_checkpoint(
     alloc: Global,
     origin: &str,
@@ -76,11 +77,11 @@ fn open_checkpoint(
     }
 }
 
-/// The checkpoint that a note's text is, whatever its origin; None where the bytes are no such note. No signature is
-/// looked at.
+/// The checkpoint in the text of a note, with any origin, or None if the bytes are not such a note.
+/// No signature is checked.
 ///
 /// ```text
-/// checkpoint_of(alloc, &bytes)?   // Some, of size 257 and with its root
+/// checkpoint_of(alloc, &bytes)?   // Some checkpoint of size 257 with its root
 /// ```
 ///
 /// # Errors

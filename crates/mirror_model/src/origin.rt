@@ -1,8 +1,8 @@
-//! Which origins a log may have.
+//! Possible origins of logs.
 ghost use Rattle.std.specs.Prelude.{◌≤◌, ◌↔◌, All, IsTrue};
 ghost use Rattle.mirror_model.specs.Origin.{IsOrigin};
 
-/// Whether a log may have that origin: it is not empty, has at most 65,535 bytes, and none below U+0020.
+/// Whether a log may have that origin: 1 to 65,535 bytes, and no character below U+0020.
 ///
 /// ```text
 /// is_origin("example.com/log")   // true

@@ -1,32 +1,32 @@
-//! What a mirror reports of the log: its heads, and its forks.
+//! The reports of a mirror about its log: tree heads and forks.
 use tlog_hash::Hash;
 
-/// A head that is held: the size and the root of a checkpoint, and whether all that its tree hashes is
-/// held too.
+/// A tree head that is held: the size and the root of a checkpoint, and whether all strings of its
+/// tree are held.
 ///
 /// ```
 /// let partial = heads.iter().filter(|head| !head.complete).count();
 /// ```
 #[derive(Debug, PartialEq, Eq, Clone, Copy)]
 pub struct Head {
-    /// How many entries the tree has.
+    /// The number of entries of the tree.
     pub size: u64,
-    /// The tree's hash.
+    /// The root hash of the tree.
     pub root: Hash,
-    /// Whether the head is complete.
+    /// Whether the tree head is complete.
     pub complete: bool,
 }
 
-/// Two heads that one log, which only grows, cannot both have made: each is a size and a root, the one
-/// of smaller size, then of lesser root by bytes, first.
+/// Two tree heads that no single append-only log can have made. Each is a size and a root. The
+/// smaller size comes first, and for equal sizes the lesser root by bytes.
 ///
 /// ```
 /// let same_size = forks.iter().filter(|fork| fork.small.0 == fork.large.0).count();
 /// ```
 #[derive(Debug, PartialEq, Eq, Clone, Copy)]
 pub struct Fork {
-    /// The smaller head.
+    /// The smaller tree head.
     pub small: (u64, Hash),
-    /// The larger head.
+    /// The larger tree head.
     pub large: (u64, Hash),
 }

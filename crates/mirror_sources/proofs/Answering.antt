@@ -1,4 +1,4 @@
--- What a source over a list answers.
+-- The answers of a source over a list.
 use Rattle.std.proofs.Common.{◌≡◌, ℕ, List, [], ◌∷◌, length, map, Option, Some, None}
 use Rattle.std.proofs.Common.{option_map, sym, subst, arith, All}
 use Rattle.std.proofs.lemmas.List.{take_all}
@@ -26,7 +26,7 @@ module _ (digest : List ℕ → List ℕ) (entries : List (List ℕ)) where
   true_part note (Tile level index width) within answer h = true_answer (Tile level index width) within answer h
   true_part note (Entries index width) within answer h = true_answer (Entries index width) within answer h
 
-  -- a source that answers so is honest
+  -- a source with these answers is honest
   pub honest : (origin note : List ℕ) (key : Key) → AreShort entries →
       OpensAnywhere note origin key (length entries) (mth digest entries) →
       IsHonestAnywhere digest entries origin key note
@@ -40,14 +40,14 @@ module _ (digest : List ℕ → List ℕ) (entries : List (List ℕ)) where
     parts = true_part note;
   }
 
-  -- a tile or a bundle that is found where it is within the entries is a part's answer
+  -- a file that is found exactly at the paths within the entries is the right answer for its path
   pub part_answer : {X : Type 0} (f : X → List ℕ) (found : Option X) (path : Path) →
       IfSome found (λ b. f b ≡ true_bytes digest entries path) → IfSome found (λ b. IsWithin (length entries) path) →
       IfNone found (IsWithin (length entries) path → ⊥) → IsPartAnswer digest entries path (option_map f found)
   part_answer f (Some b) path some within none = (within, some)
   part_answer f None path some within none = none
 
--- what holds of each item that is made holds of what it is made from
+-- a property of each mapped item is a property of the item that was mapped
 pub all_of_map : {X Y : Type 0} (P : X → Type 0) (f : Y → X) (ys : List Y) → All P (map f ys) → All (λ y. P (f y)) ys
 all_of_map P f [] h = All-nil (λ y. P (f y))
 all_of_map P f (y ∷ ys) h =

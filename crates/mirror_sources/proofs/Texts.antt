@@ -1,4 +1,4 @@
--- The text of a checkpoint may be signed.
+-- The text of a checkpoint can be signed.
 use Rattle.std.proofs.Common.{◌≡◌, ℕ, ◌<◌, ◌≤◌, ◌^◌, true, false, not, ◌==◌, List, [], ◌∷◌, ◌++◌, length, get_or, All}
 use Rattle.std.proofs.Common.{Any, Contains, refl, sym, ap, ◌∙◌, subst, inl, inr, arith, lit<, length-append}
 use Rattle.std.proofs.Common.{append_assoc}
@@ -36,7 +36,7 @@ all_right : {X : Type 0} (P : X → Type 0) (xs ys : List X) → All P (xs ++ ys
 all_right P [] ys h = h
 all_right P (x ∷ xs) ys h = all_right P xs ys (All-tail P x (xs ++ ys) h)
 
--- characters of bytes that are printed are printed
+-- a character whose bytes are all 32 or more may occur in a note
 printed_chars : (cs : List ℕ) → All (λ byte. 32 ≤ byte) (encodes cs) → AllPass is_note_char cs
 printed_chars [] h = All-nil (λ c. is_note_char c ≡ true)
 printed_chars (c ∷ cs) h =
@@ -97,7 +97,7 @@ number_short ds n h most =
 lined : (line : List ℕ) → IsNoteText line → IsNoteText (ended line)
 lined line h = text_append line (newline ∷ []) h newline_text
 
--- three lines, the last newline apart
+-- three lines, with the last newline apart
 text_is : (a b c : List ℕ) → text_of (a ∷ b ∷ c ∷ []) ≡ (ended a ++ (ended b ++ c)) ++ newline ∷ []
 text_is a b c =
     ap (λ (x : List ℕ). ended a ++ (ended b ++ x)) (append-nil (ended c))
@@ -143,7 +143,7 @@ any_one P x h =
     let same : x ≡ h.1 = subst (λ k. get_or (x ∷ []) k h.1 ≡ h.1) zeroth h.3 in
     subst P (sym same) h.4
 
--- what opens under a key opens under any keys that have it
+-- a note that opens under a key opens under any list of keys that has the key
 pub opens_more : (text : List ℕ) (line : SignatureParts) (key : Key) (keys : List Key) → Contains keys key →
     Opens text (line ∷ []) (key ∷ []) → Opens text (line ∷ []) keys
 unfolding Opens

@@ -1,5 +1,5 @@
--- Honest sources: what a log of some entries gives (C2SP tlog-tiles, "Merkle Tree", "Log Entries"
--- and "Partial Tiles").
+-- Honest sources: the answers of a log of some entries (C2SP tlog-tiles, "Merkle Tree", "Log
+-- Entries" and "Partial Tiles").
 use Rattle.std.specs.Prelude.{◌≡◌, ℕ, ◌<◌, ◌≤◌, List, [], ◌∷◌, length, take, Option, Some, None}
 use Rattle.signed_note.specs.Keys.{Key}
 use Rattle.tlog_hash.specs.Tree.{mth}
@@ -11,14 +11,14 @@ use Rattle.mirror_model.specs.TrueLaws.{AreShort}
 use Rattle.mirror_sources.specs.Files.{full_of, width_named}
 use Rattle.mirror_sources.specs.Replies.{Reply, reply}
 
--- a partial path whose full path is within n entries: a log may have deleted its file
+-- a log may have deleted the file at the path: it is partial, and its full path is within n entries
 pub record IsGone (n : ℕ) (path : Path) : Type 0 where
   pub partial : width_named path < 256
   pub full : IsWithin n (full_of path)
 
--- the replies to the gets of the paths of a list, in order, and the paths under which bytes were
--- found: each path is asked for and, where it is answered None and only there, its full path at
--- once; a log answers None where it may have deleted the file
+-- the replies to the gets of a list of paths, in order, and the paths with a file. Each path is
+-- requested. If the answer is None, a log may have deleted the file, and the full path is requested
+-- next and has a file; otherwise the full path is not requested
 pub data Gets (n : ℕ) : List Path → List Reply → List Path → Type 0 where
   GetsNone : Gets n [] [] []
   GetsFound : (path : Path) (bytes : List ℕ) {paths founds : List Path} {replies : List Reply} →
@@ -30,20 +30,20 @@ pub data Gets (n : ℕ) : List Path → List Reply → List Path → Type 0 wher
       (full_of path ∷ founds)
 
 module _ (digest : List ℕ → List ℕ) (entries : List (List ℕ)) where
-  -- what a log of the entries serves at a path: tile_bytes or bundle_bytes
+  -- the file that a log of the entries serves at a path: tile_bytes or bundle_bytes
   abbrev pub true_bytes : Path → List ℕ
   true_bytes Checkpoint = []
   true_bytes (Tile level index width) = tile_bytes digest entries level index width
   true_bytes (Entries index width) = bundle_bytes entries index width
 
-  -- the answer to a path within the entries is true: its true bytes, or nothing where a log may
-  -- have deleted the file
+  -- the answer for a path within the entries is true: its true bytes, or None if a log may have
+  -- deleted the file
   abbrev pub IsTrueAnswer : Path → Option (List ℕ) → Type 0
   IsTrueAnswer path (Some bytes) = bytes ≡ true_bytes path
   IsTrueAnswer path None = IsGone (length entries) path
 
-  -- a source of which these answers may come is honest for a log of the entries: its note is a head
-  -- of the first of them, as many as size, and each path within the entries has true answers alone
+  -- a source with these answers is honest for a log of the entries: its note is a checkpoint of the
+  -- first size entries, and each path within the entries has only true answers
   pub record IsHonest (origin : List ℕ) (keys : List Key) (note : List ℕ) (size : ℕ)
       (may : Path → Option (List ℕ) → Type 0) : Type 0 where
     pub short : AreShort entries

@@ -1,4 +1,4 @@
--- What a source replies, get after get.
+-- The replies of a source, one for each get.
 use Rattle.std.specs.Prelude.{ℕ, List, [], ◌∷◌, map, Option, ⊤}
 use Rattle.tlog_tiles.specs.declared.paths.Path.{Path}
 
@@ -11,11 +11,11 @@ pub record Reply : Type 0 where
 abbrev pub reply : Path → Option (List ℕ) → Reply
 reply path found = record { path = path; found = found }
 
--- the paths that were asked for
+-- the paths that were requested
 abbrev pub asked_paths : List Reply → List Path
 asked_paths replies = map (λ r. r.path) replies
 
--- replies that may come, each as the source may answer its path
+-- the source may give each of these replies
 abbrev pub MayReply : (Path → Option (List ℕ) → Type 0) → List Reply → Type 0
 MayReply may [] = ⊤
 MayReply may (r ∷ rs) = may r.path r.found × MayReply may rs

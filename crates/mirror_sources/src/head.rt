@@ -10,7 +10,7 @@ use tlog_checkpoint::{Checkpoint, Line, Lines, write};
 use tlog_hash::Hash;
 use tlog_shape::MAX_SIZE;
 
-/// The note of a checkpoint of that origin, size and root, signed by the key.
+/// A note of the checkpoint with that origin, size and root, signed by the key.
 pub(crate) fn head_note(
     alloc: Global,
     origin: &str,

@@ -1,7 +1,7 @@
-//! Where the parts of a transparency log come from (C2SP tlog-tiles).
+//! Sources of the files of a transparency log (C2SP tlog-tiles).
 //!
-//! A `Source` gives the files of a log by their paths. Contracts say of it which answers may come, which
-//! paths it was asked for and how often it failed, and from that what an honest source is.
+//! A `Source` returns the files of a log by their paths. Its contracts say which answers may come,
+//! which paths were requested and how often a get failed. They also define an honest source.
 //!
 //! ```text
 //! let mut source: ListSource<Sha256Tree> = ListSource::new(alloc, "ex", entries, key)?;

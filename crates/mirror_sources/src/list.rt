@@ -14,12 +14,12 @@ use tlog_files::LogFiles;
 use tlog_hash::TreeHash;
 use tlog_tiles::Path;
 
-/// A log of a list of entries, held in memory: a source that is honest, never fails, and tells what it
-/// was asked for.
+/// A log of a list of entries, held in memory. This source is honest, never fails, and records
+/// which paths were requested.
 ///
-/// It answers each path within its list by the bytes that a log of these entries serves (C2SP tlog-tiles),
-/// the checkpoint by a note of the whole list that its key signed, and every other path by None. Each
-/// entry is hashed once, when it is made; what is asked for later is a copy of a piece of memory.
+/// Its answer for a path within the list is the file that a log of these entries serves (C2SP
+/// tlog-tiles). Its checkpoint is a note of the whole list, signed by its key. The answer for any
+/// other path is None. `new` hashes each entry once, and `get` copies bytes from memory.
 ///
 /// ```text
 /// let key = HmacKey::new(alloc, "ex", 1, &[0])?;
@@ -43,10 +43,10 @@ impl<H: TreeHash> Model for ListSource<H> {
 }
 
 impl<H: TreeHash> ListSource<H> {
-    /// A source over those entries, whose checkpoint the key signs.
+    /// A source over those entries; the key signs its checkpoint.
     ///
-    /// The origin has 1 to 65,535 bytes and no character below U+0020, and each entry has at most 65,535
-    /// bytes.
+    /// The origin has 1 to 65,535 bytes and no character below U+0020. Each entry has at most
+    /// 65,535 bytes.
     ///
     /// # Errors
     ///
@@ -76,17 +76,18 @@ impl<H: TreeHash> ListSource<H> {
         })
     }
 
-    /// The paths that it was asked for, the oldest first. It takes no memory.
+    /// The paths that were requested, oldest first. The call allocates no memory.
     pub fn asked(&self) -> &[Path]
         ensures { result.now ≡ self.now.asked }
     {
         &self.asked
     }
 
-    /// The bytes at a path, lent: what `get` copies. It takes no memory, and is not recorded among what was asked for.
+    /// The bytes that `get` copies for a path, borrowed. The call allocates no memory and does not
+    /// record the path.
     ///
     /// ```text
-    /// source.file_at(Path::Checkpoint)  // Some of the note
+    /// source.file_at(Path::Checkpoint)  // Some of the checkpoint note
     /// ```
     pub fn file_at(&self, path: Path) -> Option<&[u8]>
         ensures { IsListAnswer H.digest self.now.entries self.now.note path
@@ -103,7 +104,7 @@ impl<H: TreeHash> ListSource<H> {
         }
     }
 
-    /// A copy of these bytes.
+    /// A copy of the bytes at the path.
     fn copy_at(&self, path: Path) -> Result<Option<Vec<u8>>, AllocError>
         ensures { IfOk result (λ bytes. IsListAnswer H.digest self.now.entries self.now.note path
             (option_map (λ v. v.items) bytes)) }
@@ -136,7 +137,7 @@ impl<H: TreeHash> Source for ListSource<H> {
     }
 }
 
-// The entries, lent.
+// The entries, borrowed.
 fn lent_entries(alloc: Global, entries: &[Vec<u8>]) -> Result<Vec<&[u8]>, AllocError>
     ensures { IfOk result (λ lent. map (λ e. e.now) lent.items ≡ map (λ e. e.items) entries.now) }
 {

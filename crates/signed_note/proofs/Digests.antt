@@ -21,7 +21,7 @@ IsBytes-append (x ∷ xs) ys p q = IsBytes-cons x (xs ++ ys) (p zero) (IsBytes-a
 byte : (n : ℕ) → n % 256 < 256
 byte n = omega arith
 
--- the four bytes of a number of 32 bits
+-- the four bytes of a number of 32 bits are bytes
 pub four_bytes : (n : ℕ) → IsBytes (to_be_bytes w32 n)
 four_bytes n =
     let d : List ℕ = n % 256 ∷ [] in

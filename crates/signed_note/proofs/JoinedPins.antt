@@ -1,4 +1,4 @@
--- Keys that accept the same, with pins of one name and id joined.
+-- Joining the pins of one name and id keeps what the keys accept.
 use Rattle.std.proofs.Common.{◌≡◌, ◌⊎◌, inl, inr, ℕ, zero, suc, ◌<◌, Bool, false, ◌||◌, ◌&&◌, List, [], ◌∷◌, ◌++◌}
 use Rattle.std.proofs.Common.{length, map, slice_set, slice_index_or, nat_eq, Contains, refl, sym, ap, ◌∙◌, arith, subst}
 use Rattle.std.specs.List.{list_any, HoldsAt}
@@ -37,7 +37,7 @@ secret_first a p s r =
     pin_moves a s (p || r) ∙
     ap (λ x. a || x) (sym (or_assoc s p r) ∙ (ap (λ x. x || r) (or_comm s p) ∙ or_assoc p s r))
 
--- one element of a list in the place of another, which passes where that or one more does
+-- replace one item: if the new item passes when the old one does or more is true, the list does too
 any_set : {X : Type 0} (p : X → Bool) (xs : List X) (at : ℕ) (new : X) (more : Bool) → at < length xs →
     ((d : X) → p new ≡ (p (slice_index_or xs at d) || more)) → list_any p (slice_set xs at new) ≡ (list_any p xs || more)
 any_set p [] at new more l is = absurd (omega (arith, l))
@@ -48,12 +48,12 @@ any_set p (x ∷ xs) (suc at) new more l is =
 
 -- ---- keys
 
--- whether some keys, or others, are trusted
+-- two lists of keys together trust a line if one of them does
 trusted_append : (text : List ℕ) (line : SignatureParts) (keys others : List Key) →
     is_trusted_by text line (keys ++ others) ≡ (is_trusted_by text line keys || is_trusted_by text line others)
 trusted_append text line keys others = list_any-append (is_accepted_by text line) keys others
 
--- pins to which digests are added accept what they did, and what those pin
+-- pins with added digests accept what either list of digests accepts
 more_digests : (text : List ℕ) (line : SignatureParts) (name : List ℕ) (id : ℕ) (ds es : List (List ℕ)) →
     is_accepted_by text line (pinned_key record { name = name; id = id; digests = ds ++ es })
     ≡ (is_accepted_by text line (pinned_key record { name = name; id = id; digests = ds })
@@ -64,7 +64,7 @@ more_digests text line name id ds es =
     ∙ both_or (bytes_eq name line.name) (nat_eq id line.id) (list_any (λ d. bytes_eq d (sha256 text)) ds)
     (list_any (λ d. bytes_eq d (sha256 text)) es)
 
--- digests in another order pin the same
+-- the order of the digests does not matter
 pub same_pins : (text : List ℕ) (line : SignatureParts) (pins added : Pins) →
     ArePins pins.name pins.id pins.digests added →
     is_accepted_by text line (pinned_key added) ≡ is_accepted_by text line (pinned_key pins)
@@ -76,7 +76,7 @@ same_pins text line pins added are =
     ∙ ap (λ b. bytes_eq pins.name line.name && (nat_eq pins.id line.id && b))
     (sym (list_any-IsPermutation (λ d. bytes_eq d (sha256 text)) pins.digests added.digests are.digests_are)))
 
--- digests added to the pins of their name and id
+-- the digests were added to the pins of their name and id
 pub joined_at : (items : List Pins) (at : ℕ) (new texts : Pins) → at < length items →
     HoldsAt (λ k. (k.name ≡ texts.name) × (k.id ≡ texts.id)) items at →
     ((d : Pins) → new ≡ record (slice_index_or items at d) {
@@ -100,7 +100,7 @@ joined_at items at new texts within same is text line =
 
 -- ---- the lines
 
--- what is gathered of the first lines, with the lines that are left
+-- the lines gathered up to here, and the rest of the lines
 pub record IsGathering (secrets : List KeyLine) (pins : List Pins) (rest lines : List KeyLine) : Type 0 where
   pub alike : (text : List ℕ) (line : SignatureParts) →
       (is_trusted_by text line (map key_of secrets)
@@ -185,7 +185,7 @@ all_gathered secrets pins rest lines none h =
           ⊎_elim (λ old. old) (λ waits. absurd (none_in rest key none waits)) (h.secrets_in key inside);
     }
 
--- what is gathered of lines is gathered of them in any order
+-- the order of the lines does not matter
 pub gathered_of : (secrets : List KeyLine) (pins : List Pins) (lines moved : List KeyLine) →
     IsPermutation lines moved → AreGathered secrets pins moved → AreGathered secrets pins lines
 gathered_of secrets pins lines moved same h =
@@ -198,7 +198,7 @@ gathered_of secrets pins lines moved same h =
 
 -- ---- the pins joined
 
--- the keys so far, with the pins that are left, of those that were gathered
+-- the keys up to here, and the rest of the gathered pins
 pub record IsJoining (keys : List KeyLine) (rest : List Pins) (secrets : List KeyLine) (pins : List Pins) : Type 0 where
   pub alike : (text : List ℕ) (line : SignatureParts) →
       (is_trusted_by text line (map key_of keys) || is_trusted_by text line (map pinned_key rest))
@@ -233,7 +233,7 @@ no_pins : (text : List ℕ) (line : SignatureParts) (rest : List Pins) → lengt
 no_pins text line [] none = refl
 no_pins text line (x ∷ rest) none = absurd (omega arith)
 
--- keys that accept alike open alike
+-- if two lists of keys accept the same, notes that open under one also open under the other
 open_alike : (keys others : List KeyLine) → AcceptsAlike (map key_of keys) (map key_of others) →
     (text : List ℕ) (lines : List SignatureParts) → Opens text lines (map key_of keys) →
     Opens text lines (map key_of others)

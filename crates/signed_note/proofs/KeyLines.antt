@@ -1,4 +1,4 @@
--- Lines of key files: which key a line gives, and that others give none.
+-- Lines of key files: the key of a line, or that a line gives no key.
 use Rattle.std.proofs.Common.{◌≡◌, ◌≢◌, ℕ, ◌+◌, ◌<◌, true, List, [], ◌∷◌, ◌++◌, length, get_or, refl, sym, ap, ◌∙◌}
 use Rattle.std.proofs.Common.{subst, arith, append_assoc, length-append}
 use Rattle.std.specs.Prelude.{Result, Ok, Err, IsAscii, codes}
@@ -20,14 +20,14 @@ use Rattle.signed_note.proofs.Lacking.{Lacks, Lacks-append, cut_once, no_cut}
 use Rattle.signed_note.proofs.NameBytes.{name_lacks_newline}
 use Rattle.signed_note.proofs.KeyWords.{hex_lacks, same_words}
 
--- the words of another key of the same text
+-- the words of a text are the words of its key
 words_are : (text name digits : List ℕ) (id : ℕ) (other bytes : List ℕ) (n : ℕ) → AreWords text name id digits →
     Lacks space name → HasWords text other n bytes → (name ≡ other) × (id ≡ n) × IsHexOf digits bytes
 words_are text name digits id other bytes n w lacks h =
     let same = same_words text name digits other h.digits id n w lacks h.own_name h.words in
     (same.0, same.1, subst (λ (x : List ℕ). IsHexOf x bytes) (sym same.2) h.bytes_are)
 
--- a text without three words is that of no shared key, and of no pinned text
+-- a text without three words is not the text of a shared key or of pinned texts
 pub no_secret_words : (text : List ℕ) →
     ((name digits : List ℕ) (id : ℕ) → IsOwnName name → AreWords text name id digits → ⊥) → (key : KeyLine) →
     IsSecretText text key → ⊥
@@ -40,7 +40,7 @@ pub no_pin_words : (text : List ℕ) →
 no_pin_words text none (Hmac k) h = h
 no_pin_words text none (Pin p) h = none p.name h.1.digits p.id h.1.own_name h.1.words
 
--- nor is one with other digits
+-- a text whose last word is not hexadecimal is not the text of a shared key
 no_secret_digits : (text name digits : List ℕ) (id : ℕ) → AreWords text name id digits → Lacks space name →
     ((bytes : List ℕ) → IsHexOf digits bytes → ⊥) → (key : KeyLine) → IsSecretText text key → ⊥
 no_secret_digits text name digits id w lacks bad (Hmac k) h =
@@ -59,7 +59,7 @@ no_pin_digits text name digits id w lacks bad (Hmac k) h = h
 no_pin_digits text name digits id w lacks bad (Pin p) h =
     bad h.0 h.2 (words_are text name digits id p.name h.0 p.id w lacks h.1).2
 
--- nor one of another name
+-- a text whose first word is not a key's name is not the text of a shared key
 pub no_secret_name : (text name digits : List ℕ) (id : ℕ) → AreWords text name id digits → Lacks space name →
     (IsOwnName name → ⊥) → (key : KeyLine) → IsSecretText text key → ⊥
 no_secret_name text name digits id w lacks bad (Hmac k) h =
@@ -72,7 +72,7 @@ no_pin_name text name digits id w lacks bad (Hmac k) h = h
 no_pin_name text name digits id w lacks bad (Pin p) h =
     bad (subst IsOwnName (sym (words_are text name digits id p.name h.0 p.id w lacks h.1).0) h.1.own_name)
 
--- nor one of bytes that are no secret
+-- a text whose bytes are not a secret is not the text of a shared key
 pub no_secret_bytes : (text name digits secret : List ℕ) (id : ℕ) → AreWords text name id digits → Lacks space name →
     IsHexOf digits secret → (IsSecret secret → ⊥) → (key : KeyLine) → IsSecretText text key → ⊥
 no_secret_bytes text name digits secret id w lacks is bad (Hmac k) h =
@@ -85,7 +85,7 @@ no_secret_bytes text name digits secret id w lacks is bad (Pin p) h = h
 pub kinds_differ : (x y : List ℕ) → codes "hmac" ++ space ∷ x ≡ codes "pin" ++ space ∷ y → ⊥
 kinds_differ x y e = let first : ◌≡◌ {A = ℕ} 104 112 = ap (λ (l : List ℕ). get_or l 0 0) e in omega arith
 
--- what a line is after its first word
+-- the answer for the text after the first word is the answer for the line
 pub from_secret : (line text : List ℕ) (number : ℕ) (r : Result KeyLine KeyFileFault) →
     line ≡ codes "hmac" ++ space ∷ text → ReadsAs (IsSecretText text) number r → ReadsAs (IsKeyLine line) number r
 from_secret line text number (Ok (Hmac k)) is h = (text, is, h)
@@ -121,7 +121,7 @@ pub no_kind : (line : List ℕ) → ((text : List ℕ) → line ≢ codes "hmac"
 no_kind line secret pin (Hmac k) h = secret h.0 h.1
 no_kind line secret pin (Pin p) h = pin h.0 h.1
 
--- the characters of a line
+-- a hexadecimal digit is below 128
 hex_small : (c : ℕ) → is_hex_digit c ≡ true → c < 128
 hex_small c h = grind (arith, nat_tests)
 
@@ -182,7 +182,7 @@ key_line_lacks line (Pin p) h =
     subst (Lacks newline) (sym h.1)
     ((λ e. cc), ((λ e. cc), ((λ e. cc), ((λ e. cc), words_lack h.0 p.name h.2.0 p.id h.2.1))))
 
--- the file with one line more
+-- the file with one more line
 pub file_more : (front line : List ℕ) (keys : List KeyLine) (key : KeyLine) → IsKeyFile front keys →
     IsKeyLine line key → IsKeyFile (front ++ (line ++ newline ∷ [])) (keys ++ key ∷ [])
 file_more front line [] key h is = (line, [], ap (λ (x : List ℕ). x ++ (line ++ newline ∷ [])) h, is, refl)
@@ -194,7 +194,7 @@ file_more front line (k ∷ keys) key h is = (
   file_more h.1 line keys key h.4 is,
 )
 
--- where the first line is of no key
+-- the first line gives no key
 pub no_first_key : (rest line after : List ℕ) → rest ≡ line ++ newline ∷ after → Lacks newline line →
     ((key : KeyLine) → IsKeyLine line key → ⊥) → BeginsWithNoKey rest
 no_first_key rest line after is lacks bad other more key e h =

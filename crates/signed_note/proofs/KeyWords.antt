@@ -1,4 +1,4 @@
--- The words of lines of key files: a text has them in one way.
+-- The words of a line of a key file: a text has only one list of words.
 use Rattle.std.proofs.Common.{◌≡◌, ℕ, ◌*◌, ◌<◌, ◌^◌, true, false, List, ◌∷◌, ◌++◌, length, refl, sym, ap, ◌∙◌, subst}
 use Rattle.std.proofs.Common.{arith}
 use Rattle.std.specs.Prelude.{Result, Ok, is_ok}
@@ -14,26 +14,26 @@ use Rattle.signed_note.proofs.Lacking.{Lacks, Lacks-from_reads, cut_once, no_cut
 use Rattle.signed_note.proofs.NameBytes.{name_lacks_space}
 use Rattle.signed_note.proofs.Payloads.{bytes_id}
 
--- what is no digit is not among digits
+-- a byte that is not a digit does not occur among digits
 pub hex_lacks : (c : ℕ) (text bytes : List ℕ) → IsHexOf text bytes → is_hex_digit c ≡ false → Lacks c text
 hex_lacks c text bytes h other =
     let all : AllPass is_hex_digit text = (decode_of-ok text bytes h).1 in
     Lacks-from_reads c text (λ i lt e. false≢true (sym other ∙ (sym (ap is_hex_digit e) ∙ all i 0 lt)))
 
--- decoding into room for so many bytes
+-- the digits of n bytes decode into room for n bytes
 pub sized : (text bytes : List ℕ) (n : ℕ) → length bytes ≡ n → IsHexOf text bytes → decode_sized text n ≡ Ok bytes
 sized text bytes n len h =
     let twice : length text ≡ 2 * length bytes = (decode_of-ok text bytes h).2 in
     decode_sized-twice text n (omega arith) ∙ h
 
--- digits that do not decode so are those of no such bytes
+-- digits that do not decode into room for n bytes are not those of n bytes
 pub not_sized : (text bytes : List ℕ) (n : ℕ) (r : Result (List ℕ) FromHexError) → r ≡ decode_sized text n →
     is_ok r ≡ false → length bytes ≡ n → IsHexOf text bytes → ⊥
 not_sized text bytes n r is bad len h =
     let ok : is_ok r ≡ true = ap is_ok (is ∙ sized text bytes n len h) in
     false≢true (sym bad ∙ ok)
 
--- digits that do are those of the bytes
+-- digits that decode into room for n bytes are those of the decoded bytes
 pub from_sized : (text bytes : List ℕ) (n : ℕ) → decode_sized text n ≡ Ok bytes →
     IsHexOf text bytes × (length bytes ≡ n)
 from_sized text bytes n h =
@@ -42,11 +42,11 @@ from_sized text bytes n h =
     let twice : length text ≡ 2 * length bytes = (decode_of-ok text bytes is).2 in
     (is, omega arith)
 
--- where no word ends there are no three
+-- a text without a space does not have three words
 pub no_space : (text name digits : List ℕ) (id : ℕ) → Lacks space text → AreWords text name id digits → ⊥
 no_space text name digits id lacks w = no_cut space text name (w.id_digits ++ space ∷ digits) w.whole lacks
 
--- the first word of three
+-- the text determines the first of its three words
 first_word : (text name rest other digits : List ℕ) (id : ℕ) → text ≡ name ++ space ∷ rest → Lacks space name →
     IsOwnName other → (w : AreWords text other id digits) → (name ≡ other) × (rest ≡ w.id_digits ++ space ∷ digits)
 first_word text name rest other digits id is lacks own w =
@@ -59,7 +59,7 @@ one_space text name rest other digits id is lacks none own w =
     let first = first_word text name rest other digits id is lacks own w in
     no_cut space rest w.id_digits digits first.1 none
 
--- the second word
+-- the text determines the second word
 second_word : (text name id_digits rest other digits : List ℕ) (id : ℕ) →
     text ≡ name ++ space ∷ (id_digits ++ space ∷ rest) → Lacks space name → Lacks space id_digits → IsOwnName other →
     (w : AreWords text other id digits)
@@ -78,14 +78,14 @@ no_id text name id_digits rest other digits id is lacks none bad own w =
     let words = second_word text name id_digits rest other digits id is lacks none own w in
     bad id (subst (λ (x : List ℕ). IsHexOf x (big_bytes 4 id)) (sym words.1) w.id_is)
 
--- digits are those of one id
+-- the digits determine the id
 same_id : (digits : List ℕ) (id other : ℕ) → id < 2 ^ 32 → other < 2 ^ 32 → IsHexOf digits (big_bytes 4 id) →
     IsHexOf digits (big_bytes 4 other) → id ≡ other
 same_id digits id other small fits p q =
     sym (bytes_id id small) ∙
     (ap (big_number 4) (decode_of-same digits (big_bytes 4 id) (big_bytes 4 other) p q) ∙ bytes_id other fits)
 
--- the words of a text are one
+-- the text determines its words
 pub same_words : (text name digits other more : List ℕ) (id n : ℕ) → AreWords text name id digits → Lacks space name →
     IsOwnName other → AreWords text other n more → (name ≡ other) × (id ≡ n) × (digits ≡ more)
 same_words text name digits other more id n w lacks own v =

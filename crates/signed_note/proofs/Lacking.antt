@@ -1,11 +1,11 @@
--- Lists that lack a byte: a list is cut at the first such byte in one way.
+-- Lists that do not contain a byte, and the only cut of a list at the first such byte.
 use Rattle.std.proofs.Common.{◌≡◌, ◌≢◌, ℕ, zero, suc, ◌<◌, true, not, nat_eq, List, [], ◌∷◌, ◌++◌}
 use Rattle.std.proofs.Common.{length, get_or, replicate, refl, arith}
 use Rattle.std.specs.List.{list_all}
 use Rattle.std.proofs.lemmas.Bool.{and_parts}
 use Rattle.std.proofs.lemmas.Bool.Decides.{Decides-eqb}
 
--- no element is c
+-- no item is c
 abbrev pub Lacks : ℕ → List ℕ → Type 0
 Lacks c [] = Unit {0}
 Lacks c (x ∷ xs) = (x ≢ c) × Lacks c xs
@@ -23,7 +23,7 @@ pub Lacks-from_reads : (c : ℕ) (xs : List ℕ) → ((i : ℕ) → i < length x
 Lacks-from_reads c [] h = tt
 Lacks-from_reads c (x ∷ xs) h = (h zero (omega arith), Lacks-from_reads c xs (λ i lt. h (suc i) (omega arith)))
 
--- also past the end, where 0 is read
+-- this also holds after the end, where get_or gives 0
 pub reads_other : (c : ℕ) (xs : List ℕ) → Lacks c xs → 0 ≢ c → (i : ℕ) → get_or xs i 0 ≢ c
 reads_other c [] p z i = z
 reads_other c (x ∷ xs) p z zero = p.0
@@ -39,7 +39,7 @@ pub Lacks-replicate : (c b n : ℕ) → b ≢ c → Lacks c (replicate n b)
 Lacks-replicate c b zero h = tt
 Lacks-replicate c b (suc n) h = (h, Lacks-replicate c b n h)
 
--- two cuts at c, of parts that lack it, are one
+-- two cuts at the first c are the same cut
 pub cut_once : (c : ℕ) (a b d e : List ℕ) → a ++ (c ∷ b) ≡ d ++ (c ∷ e) → Lacks c a → Lacks c d → (a ≡ d) × (b ≡ e)
 cut_once c [] b [] e h p q = (refl, cc)
 cut_once c [] b (y ∷ d) e h p q = let same : y ≡ c = cc in absurd (q.0 same)
@@ -50,7 +50,7 @@ cut_once c (x ∷ a) b (y ∷ d) e h p q =
     let rest = cut_once c a b d e tails p.1 q.1 in
     (cc, rest.1)
 
--- what lacks c is not cut at it
+-- a list that does not contain c has no cut at c
 pub no_cut : (c : ℕ) (a b d : List ℕ) → a ≡ b ++ (c ∷ d) → Lacks c a → ⊥
 no_cut c [] [] d h p = cc
 no_cut c [] (y ∷ b) d h p = cc

@@ -1,4 +1,4 @@
--- A signature part of well-formed lines has as many lines as they are.
+-- The count of lines of a signature part is the number of its lines, if they are well formed.
 use Rattle.std.proofs.Common.{◌≡◌, ◌≢◌, ℕ, ◌+◌, ◌-◌, Bool, true, false, cond, nat_eq, List, [], ◌∷◌, ◌++◌, length, refl}
 use Rattle.std.proofs.Common.{sym, ap, ◌∙◌, arith, append_assoc, length-append, add-zero, zero-add}
 use Rattle.std.specs.Prelude.{All, count_by, slice_index}
@@ -13,7 +13,7 @@ use Rattle.signed_note.specs.Reading.{line_count}
 use Rattle.signed_note.proofs.Lacking.{Lacks}
 use Rattle.signed_note.proofs.LineTexts.{body_lacks_newline}
 
--- one for a newline
+-- 1 for a newline, and 0 for another byte
 abbrev one_at : ℕ → ℕ
 one_at b = cond (nat_eq b newline) 1 0
 
@@ -46,7 +46,7 @@ newlines-lines (line ∷ lines) h =
       newlines-lines lines (All-tail IsSignatureLine line lines h),
     )
 
--- lines end in a newline
+-- one or more lines end in a newline
 lines_end : (line : SignatureParts) (lines : List SignatureParts) →
     (front : List ℕ) × (flat_map line_text (line ∷ lines) ≡ front ++ newline ∷ [])
 lines_end line [] = (line_body line, append-nil (line_text line))
@@ -56,13 +56,13 @@ lines_end line (next ∷ lines) =
       ap (λ (x : List ℕ). line_text line ++ x) rest.1 ∙ sym (append_assoc (line_text line) rest.0 (newline ∷ [])),
     )
 
--- no line is without its newline
+-- no line lacks its newline
 none_open : (b d : Bool) → d ≡ true → ◌≡◌ {A = ℕ} (cond b 0 (cond d 0 1)) 0
 none_open true d h = refl
 none_open false true h = refl
 none_open false false h = absurd cc
 
--- an ended part has as many lines as newlines
+-- a part that ends in a newline has one line for each newline
 ended_count : (front : List ℕ) → line_count (front ++ newline ∷ []) ≡ newlines (front ++ newline ∷ [])
 ended_count front =
     let xs : List ℕ = front ++ newline ∷ [] in

@@ -1,4 +1,4 @@
--- Signature parts: their lines one after the other.
+-- The lines of a signature part, in order.
 use Rattle.std.proofs.Common.{◌≡◌, ℕ, ◌<◌, List, [], ◌∷◌, ◌++◌, length, sym, ap, ◌∙◌, arith, append_assoc}
 use Rattle.std.proofs.Common.{length-append}
 use Rattle.std.specs.List.{flat_map}
@@ -15,7 +15,7 @@ use Rattle.signed_note.specs.declared.fault.NoteFault.TheVariants.{TooManySignat
 use Rattle.signed_note.proofs.Lacking.{Lacks, cut_once, no_cut}
 use Rattle.signed_note.proofs.LineTexts.{body_lacks_newline}
 
--- the first line of a part, up to its first newline
+-- the first line of a part ends at its first newline
 pub next_line : (rest line after : List ℕ) (lines : List SignatureParts) → rest ≡ line ++ newline ∷ after →
     Lacks newline line →
     AreSignatureLines rest lines
@@ -36,7 +36,7 @@ next_line rest line after (first ∷ more) is lacks h =
       record { whole = cut.1; well_formed = All-tail IsSignatureLine first more h.well_formed },
     )
 
--- no lines where there is no newline
+-- a part without a newline that is not empty has no list of lines
 pub no_line : (rest : List ℕ) (lines : List SignatureParts) → Lacks newline rest → 0 < length rest →
     AreSignatureLines rest lines → ⊥
 no_line rest [] lacks some h = omega (arith, ap length h.whole)
@@ -44,7 +44,7 @@ no_line rest (first ∷ more) lacks some h =
     no_cut newline rest (line_body first) (flat_map line_text more)
     (h.whole ∙ append_assoc (line_body first) (newline ∷ []) (flat_map line_text more)) lacks
 
--- one line more is read
+-- one more line was read
 pub one_more : (signed line after : List ℕ) (lines : List SignatureParts) (next : SignatureParts) →
     signed ≡ flat_map line_text lines ++ (line ++ newline ∷ after) → line ≡ line_body next →
     signed ≡ flat_map line_text (lines ++ next ∷ []) ++ after
@@ -58,7 +58,7 @@ one_more signed line after lines next is read =
     (ap (λ (x : List ℕ). flat_map line_text lines ++ x) (sym last) ∙
     sym (flat_map-append line_text lines (next ∷ [])))))
 
--- where the next line is refused, so are all
+-- if the next line is refused, so is the whole part
 pub line_refused : (signed rest line after : List ℕ) (fault : NoteFault) → rest ≡ line ++ newline ∷ after →
     Lacks newline line →
     ((all : List SignatureParts) → AreSignatureLines signed all →

@@ -1,4 +1,4 @@
--- Signature lines: a text is the body of one line at most, and which it is.
+-- Signature lines: a text is the body of at most one line.
 use Rattle.std.proofs.Common.{◌≡◌, ◌≢◌, ℕ, ◌+◌, ◌<◌, List, ◌∷◌, ◌++◌, length, get_or, sym, ap, ◌∙◌, subst, arith}
 use Rattle.std.specs.Prelude.{Err, Option, Some, None, MatchOption}
 use Rattle.base64.specs.GeneralPurpose.{IsBytes}
@@ -30,18 +30,18 @@ signed_bytes_fit line h = IsBytes-append (big_bytes 4 line.id) line.signature (f
 pub length-signed_bytes : (line : SignatureParts) → length (signed_bytes line) ≡ length line.signature + 4
 length-signed_bytes line = omega arith
 
--- a weaker clause of an option
+-- a clause of an option follows from a stronger one
 pub option_weaker : {T P R : Type 0} {Q S : T → Type 0} (o : Option T) → MatchOption o P Q → (P → R) →
     ((x : T) → Q x → S x) → MatchOption o R S
 option_weaker None h f g = f h
 option_weaker (Some x) h f g = g x h
 
--- where nothing after the em dash and a space has a space, there are no two words
+-- without a second space after the em dash, there are no two words
 pub no_words : (text rest : List ℕ) → text ≡ em_dash ++ space ∷ rest →
     ((i : ℕ) → i < length rest → get_or rest i 0 ≢ space) → (name more : List ℕ) → text ≢ words name more
 no_words text rest is lacks name more e = no_cut space rest name more (cc) (Lacks-from_reads space rest lacks)
 
--- the words of a text that is a line's body
+-- the words of a line's body are the name and the base64 of the line
 pub line_words : (text name encoded : List ℕ) → text ≡ words name encoded → Lacks space name → (line : SignatureParts) →
     IsSignatureLine line → text ≡ line_body line → (name ≡ line.name) × (encoded ≡ base64_of (signed_bytes line))
 line_words text name encoded is lacks line h e =

@@ -1,4 +1,4 @@
--- The bytes of a key's name: as its characters, none is white space in ASCII.
+-- The name of a key has no white space, also if it is read byte by byte.
 use Rattle.std.proofs.Common.{◌≡◌, ℕ, ◌<◌, Bool, true, false, not, ◌||◌, nat_eq, List, [], ◌∷◌, get_or, refl, ap}
 use Rattle.std.proofs.Common.{arith, lit<}
 use Rattle.std.specs.List.{list_all}
@@ -14,7 +14,7 @@ not_true : (b : Bool) → not b ≡ true → b ≡ false
 not_true true h = absurd cc
 not_true false h = refl
 
--- white space and the plus
+-- white space or a plus
 abbrev is_barred : ℕ → Bool
 is_barred c = is_whitespace c || nat_eq c 43
 

@@ -1,4 +1,4 @@
--- Bytes have one reading as a key file.
+-- Bytes are read as a key file in only one way.
 use Rattle.std.proofs.Common.{◌≡◌, ◌≢◌, ℕ, suc, ◌+◌, List, [], ◌∷◌, ◌++◌, length, refl, sym, ap, ◌∙◌, subst, arith}
 use Rattle.std.proofs.Common.{append_assoc, length-append}
 use Rattle.std.specs.Prelude.{Ok, Err}
@@ -15,7 +15,7 @@ use Rattle.signed_note.proofs.NameBytes.{name_lacks_space}
 use Rattle.signed_note.proofs.KeyWords.{same_words}
 use Rattle.signed_note.proofs.KeyLines.{key_line_lacks, kinds_differ}
 
--- the words of a text are of one name, one id and one list of bytes
+-- the words of a text have only one name, id and list of bytes
 one_key : (text name : List ℕ) (id : ℕ) (bytes other : List ℕ) (n : ℕ) (more : List ℕ) → HasWords text name id bytes →
     HasWords text other n more → (name ≡ other) × (id ≡ n) × (bytes ≡ more)
 one_key text name id bytes other n more h g =
@@ -44,7 +44,7 @@ Pins-same x y n i s =
     let third : record x { name = y.name; id = y.id } ≡ y = ap (λ (v : List (List ℕ)). record y { digests = v }) s in
     first ∙ (second ∙ third)
 
--- a line gives one key
+-- a line gives at most one key
 one_key_line : (line : List ℕ) (key other : KeyLine) → IsKeyLine line key → IsKeyLine line other → key ≡ other
 one_key_line line (Hmac k) (Hmac j) h g =
     let whole = sym h.1 ∙ g.1 in
@@ -63,7 +63,7 @@ one_key_line line (Pin p) (Pin q) h g =
     (subst (λ (x : List ℕ). HasWords x q.name q.id g.2.0) (sym text) g.2.1) in
     ap Pin (Pins-same p q same.0 same.1 (h.2.3 ∙ (ap (λ (d : List ℕ). d ∷ []) same.2 ∙ sym g.2.3)))
 
--- two first lines of keys are one
+-- two first lines that give keys are the same line
 same_line : (a b d e : List ℕ) (key other : KeyLine) → a ++ newline ∷ b ≡ d ++ newline ∷ e → IsKeyLine a key →
     IsKeyLine d other → (a ≡ d) × (b ≡ e)
 same_line a b d e key other is h g = cut_once newline a b d e is (key_line_lacks a key h) (key_line_lacks d other g)
@@ -82,7 +82,7 @@ one_file bytes (k ∷ keys) (j ∷ others) h g =
     one_file h.1 keys others h.4 (subst (λ (x : List ℕ). IsKeyFile x others) (sym cut.1) g.4) in
     ap (λ (x : KeyLine). x ∷ keys) head ∙ ap (λ (xs : List KeyLine). j ∷ xs) tail
 
--- a file has no bad line
+-- a key file has no bad line
 no_bad_line : (bytes front rest : List ℕ) (keys good : List KeyLine) → IsKeyFile bytes keys → IsKeyFile front good →
     bytes ≡ front ++ rest → rest ≢ [] → BeginsWithNoKey rest → ⊥
 no_bad_line bytes front rest [] [] h g is some bad = some (ap (λ (x : List ℕ). x ++ rest) (sym g) ∙ (sym is ∙ h))
@@ -97,7 +97,7 @@ no_bad_line bytes front rest (k ∷ keys) (j ∷ good) h g is some bad =
     (sym h.2 ∙ (is ∙ (ap (λ (x : List ℕ). x ++ rest) g.2 ∙ append_assoc g.0 (newline ∷ g.1) rest))) h.3 g.3 in
     no_bad_line h.1 g.1 rest keys good h.4 g.4 cut.1 some bad
 
--- the first bad line has one number
+-- the number of the first bad line is unique
 one_number : (front rest other more : List ℕ) (good fine : List KeyLine) → IsKeyFile front good → IsKeyFile other fine →
     front ++ rest ≡ other ++ more → BeginsWithNoKey rest → BeginsWithNoKey more → length good ≡ length fine
 one_number front rest other more [] [] h g is bad worse = refl

@@ -1,4 +1,4 @@
--- The pins of a line: those of one digest.
+-- The pins of a line have one digest.
 use Rattle.std.proofs.Common.{◌≡◌, ℕ, zero, suc, ◌<◌, List, [], ◌∷◌, length, refl, sym, ap, ◌∙◌, subst, arith}
 use Rattle.std.specs.List.{swap}
 use Rattle.std.specs.List.Sorted.{IsPermutation}
@@ -13,7 +13,7 @@ swap_one d zero zero l m = refl
 swap_one d (suc i) j l m = absurd (omega (arith, l))
 swap_one d zero (suc j) l m = absurd (omega (arith, m))
 
--- a list of one is in one order
+-- a list with one item has only one order
 pub one_order : {X : Type 0} (d : X) (ys : List X) → IsPermutation (d ∷ []) ys → ys ≡ d ∷ []
 one_order d ys h =
     IsPermutation-keeps (d ∷ []) (λ l. l ≡ d ∷ []) refl

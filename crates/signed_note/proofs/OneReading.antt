@@ -1,4 +1,4 @@
--- Bytes have one reading as a note.
+-- Bytes are read as a note in only one way.
 use Rattle.std.proofs.Common.{◌≡◌, ◌≢◌, ◌↔◌, IsTrue, ℕ, zero, suc, ◌<◌, ◌≤◌, Bool, List, [], ◌∷◌, length, take, drop}
 use Rattle.std.proofs.Common.{refl, sym, ap, subst, ◌∙◌, arith, append_assoc, inl, inr}
 use Rattle.std.specs.Prelude.{Result, Ok, Err, All}
@@ -66,7 +66,7 @@ notes_are_read bytes text other lines others p q =
     let split = split_once bytes text (flat_map line_text lines) other (flat_map line_text others) p.split q.split in
     (split.0, same_lines lines others split.1 p.well_formed q.well_formed)
 
--- the place of a fault in the order
+-- the rank of a fault in the order of the faults
 abbrev rank_of : NoteFault → ℕ
 rank_of NoteTooLong = 0
 rank_of NotText = 1
@@ -79,7 +79,7 @@ abbrev rank : Result NoteParts NoteFault → ℕ
 rank (Ok parts) = 5
 rank (Err fault) = rank_of fault
 
--- what an answer further on says of the bytes
+-- facts about the bytes from a later answer in the order
 length_passed : (bytes : List ℕ) (a : Result NoteParts NoteFault) → ReadsNote bytes a → 0 < rank a →
     length bytes ≤ MAX_NOTE_LEN
 length_passed bytes (Ok parts) h lt = h.1.short
@@ -148,7 +148,7 @@ rank_most : (a : Result NoteParts NoteFault) → rank a < 6
 rank_most (Ok parts) = omega arith
 rank_most (Err fault) = omega (arith, rank_of_fault fault)
 
--- two answers are not one further on than the other
+-- no answer comes later in the order than another answer
 no_further : (bytes : List ℕ) (a b : Result NoteParts NoteFault) → ReadsNote bytes a → ReadsNote bytes b →
     a ≢ Err OutOfMemory → rank a < rank b → ⊥
 no_further bytes (Ok parts) b p q ne lt = omega (arith, rank_most b)
@@ -168,7 +168,7 @@ no_further bytes (Err BadSignatureLine) b p q ne lt =
     p.4 note.1 (record { whole = same.1; well_formed = note.2.well_formed })
 no_further bytes (Err OutOfMemory) b p q ne lt = ne refl
 
--- the fault of a place in the order
+-- the fault with that rank
 abbrev fault_at : ℕ → NoteFault
 fault_at zero = NoteTooLong
 fault_at (suc zero) = NotText
@@ -193,7 +193,7 @@ NoteParts-same x y b t l =
     ap (λ (v : List SignatureParts). record y { lines = v }) l in
     first ∙ (second ∙ third)
 
--- two notes are equal exactly where their bytes are
+-- two notes are equal exactly if their bytes are
 pub same_notes : (x y : NoteParts) → IsNote x.bytes x.text x.lines → IsNote y.bytes y.text y.lines → (b : Bool) →
     b ≡ bytes_eq x.bytes y.bytes → IsTrue b ↔ (x ≡ y)
 same_notes x y p q b is = (

@@ -1,4 +1,4 @@
--- What a signature line encodes: its base64 and its id.
+-- The bytes of a signature line's base64: the id and the signature.
 use Rattle.std.proofs.Common.{◌≡◌, ◌≢◌, ℕ, zero, suc, ◌+◌, ◌*◌, ◌/◌, ◌%◌, ◌<◌, ◌^◌, Bool, true, List, [], ◌∷◌, ◌++◌}
 use Rattle.std.proofs.Common.{length, replicate, refl, ◌∙◌, arith}
 use Rattle.std.specs.Prelude.{slice_index}
@@ -36,7 +36,7 @@ base64_lacks_newline bytes =
     (symbols_lack newline symbols bytes (reads_other newline symbols (Lacks-from_test newline symbols refl) (λ e. cc)))
     (Lacks-replicate newline 61 (padding_len (length bytes)) (λ e. cc))
 
--- each element passes
+-- each item passes the test
 abbrev pub Passing : (ℕ → Bool) → List ℕ → Type 0
 Passing p [] = Unit {0}
 Passing p (x ∷ xs) = (p x ≡ true) × Passing p xs
@@ -76,7 +76,7 @@ symbols_pass p t (x ∷ y ∷ z ∷ rest) h small =
 table_passes : (i : ℕ) → i < 64 → is_note_char (slice_index symbols i) ≡ true
 table_passes i lt = AllPass-from_list_all is_note_char symbols refl i 0 lt
 
--- base64 may stand in a note
+-- base64 may occur in a note
 pub base64_passes : (bytes : List ℕ) → IsBytes bytes → Passing is_note_char (base64_of bytes)
 unfolding base64_of
 base64_passes bytes small =
@@ -88,7 +88,7 @@ pub base64_is_ascii : (bytes : List ℕ) → IsAscii (base64_of bytes)
 unfolding base64_of
 base64_is_ascii bytes = IsAscii-encode_of standard bytes
 
--- an id, from its four bytes and back
+-- the id is the number of its four bytes
 pub number_is : (bytes : List ℕ) → big_number 4 bytes ≡ from_be_bytes w32 bytes
 number_is bytes = omega arith
 

@@ -1,4 +1,4 @@
--- A digest looked up among sorted ones.
+-- The search for a digest among sorted ones.
 use Rattle.std.proofs.Common.{◌≡◌, ⊎_elim, ℕ, List, length, slice_index_or, sym, ap, ◌∙◌, arith}
 use Rattle.std.specs.Prelude.{Result, Ok, Err}
 use Rattle.std.specs.Cmp.Lexicographic.{slice_cmp}

@@ -1,4 +1,4 @@
--- What the steps of reading a note come to.
+-- The answer of reading a note, from its steps.
 use Rattle.std.proofs.Common.{◌≡◌, ◌≢◌, ℕ, ◌≤◌, true, false, nat_eq, List, [], ◌∷◌, length, refl, sym, ap, subst, ◌∙◌}
 use Rattle.std.proofs.Common.{arith}
 use Rattle.std.specs.Prelude.{Err}
@@ -29,7 +29,7 @@ pub some_bytes : (xs : List ℕ) → nat_eq (length xs) 0 ≡ false → xs ≢ [
 some_bytes [] h e = cc
 some_bytes (x ∷ xs) h e = cc
 
--- what was read as a text, cut at a blank line and is not empty behind it is the note's part
+-- bytes that were read as text, and split at a blank line with bytes after it, have a signature part
 pub part_of : (bytes read text signed : List ℕ) → length bytes ≤ MAX_NOTE_LEN → read ≡ bytes → IsUtf8 bytes →
     list_all is_note_char (chars read) ≡ true → IsNoteSplit read text signed → nat_eq (length signed) 0 ≡ false →
     HasPart bytes text signed
@@ -42,7 +42,7 @@ part_of bytes read text signed short same utf8 pass split some = record {
   some = some_bytes signed some;
 }
 
--- a readable note whose part is lines is a note
+-- the bytes are a note if they are readable and their part is signature lines
 pub note_from_lines : (bytes text signed : List ℕ) (lines : List SignatureParts) → HasPart bytes text signed →
     line_count signed ≤ MAX_LINES → AreSignatureLines signed lines → IsNote bytes text lines
 note_from_lines bytes text signed [] part few are = absurd (part.some are.whole)
@@ -55,7 +55,7 @@ note_from_lines bytes text signed (line ∷ lines) part few are = record {
   few = omega (arith, ap line_count are.whole, line_count-lines (line ∷ lines) are.well_formed);
 }
 
--- what refuses its lines refuses the note
+-- a fault of the signature lines is a fault of the note
 pub note_refused : (bytes text signed : List ℕ) (fault : NoteFault) → HasPart bytes text signed →
     line_count signed ≤ MAX_LINES → ReadsSignatureLines signed (Err fault) → ReadsNote bytes (Err fault)
 note_refused bytes text signed NoteTooLong part few h = absurd h

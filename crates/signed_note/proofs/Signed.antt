@@ -27,7 +27,7 @@ use Rattle.tlog_text.proofs.Hashes.{length-base64_of}
 use Rattle.signed_note.proofs.Payloads.{Passing, base64_passes, base64_is_ascii}
 use Rattle.signed_note.proofs.Trust.{accepts, opens_is}
 
--- from a later cut at c on
+-- the second cut at c is within the list from the first cut on
 cut_later : (c : ℕ) (a b d e : List ℕ) → Lacks c a → a ++ (c ∷ b) ≡ d ++ (c ∷ e) → (w : List ℕ) × (c ∷ b ≡ w ++ (c ∷ e))
 cut_later c [] b d e p h = (d, h)
 cut_later c (x ∷ a) b [] e p h = let same : x ≡ c = cc in absurd (p.0 same)
@@ -49,7 +49,7 @@ AllPass-from_passing : (p : ℕ → Bool) (xs : List ℕ) → Passing p xs → A
 AllPass-from_passing p [] h = All-nil (λ x. p x ≡ true)
 AllPass-from_passing p (x ∷ xs) h = All-cons (λ y. p y ≡ true) x xs h.0 (AllPass-from_passing p xs h.1)
 
--- texts one after the other
+-- two texts in order are a text
 pub text_append : (a b : List ℕ) → IsNoteText a → IsNoteText b → IsNoteText (a ++ b)
 text_append a b p q = record {
   utf8 = IsUtf8-append a b p.utf8 q.utf8;
@@ -91,7 +91,7 @@ unfolding chars encode
 newline_text =
     record { utf8 = (newline ∷ [], (refl, refl)); characters = AllPass-from_list_all is_note_char (newline ∷ []) refl }
 
--- a line of such a name may stand in a note
+-- the line of a name of this crate may occur in a note
 pub line_is_text : (line : SignatureParts) → IsSignatureLine line → IsOwnName line.name → IsNoteText (line_text line)
 line_is_text line h own =
     let encoded =
@@ -112,7 +112,7 @@ signed_line_fits text k own small = record {
   bytes = hmac_fits k.secret text;
 }
 
--- the line that a shared key signs with has at most 309 bytes
+-- the line that a shared key makes has at most 309 bytes
 length-signed_line : (text : List ℕ) (k : Secret) → IsOwnName k.name → length (line_text (signed_line text k)) ≤ 309
 length-signed_line text k own =
     let line : SignatureParts = signed_line text k in
@@ -126,14 +126,14 @@ length-signed_line text k own =
     let whole : length (line_text line) ≡ length (line_body line) + 1 = length-append (line_body line) (newline ∷ []) in
     omega arith
 
--- the text of the line, its parts to the right
+-- the text of the line, with its parts joined from the right
 pub line_text-right : (name encoded : List ℕ) →
     (em_dash ++ space ∷ (name ++ space ∷ encoded)) ++ newline ∷ []
     ≡ em_dash ++ space ∷ (name ++ space ∷ (encoded ++ newline ∷ []))
 line_text-right name encoded =
     ap (λ (x : List ℕ). em_dash ++ space ∷ x) (append_assoc name (space ∷ encoded) (newline ∷ []))
 
--- what is signed is a note
+-- the signed bytes are a note
 pub signed_is_note : (text : List ℕ) (k : Secret) → IsLawfulText text → IsOwnName k.name → k.id < 2 ^ 32
     → IsNote (text ++ newline ∷ line_text (signed_line text k)) text (signed_line text k ∷ [])
 signed_is_note text k lawful own small =
@@ -169,7 +169,7 @@ signed_opens text k =
     sym (rw taken refl) in
     (opens_is (λ (key : Key). key) text (line ∷ []) (secret_key k ∷ []) true any).0 refl
 
--- what is written is that note
+-- the written bytes are that note
 pub written : (items text name encoded : List ℕ) (k : Secret) →
     items ≡ note_of_line text name encoded → name ≡ k.name →
     encoded ≡ base64_of (signed_bytes (signed_line text k))

@@ -1,4 +1,4 @@
--- The last blank line of a note: where it is, and that it separates in one way.
+-- The last blank line of a note splits it in only one way.
 use Rattle.std.proofs.Common.{◌≡◌, ◌⊎◌, inl, inr, ℕ, suc, ◌+◌, ◌<◌, List, [], ◌∷◌, ◌++◌, length, take, drop, get_or}
 use Rattle.std.proofs.Common.{refl, sym, ap, ◌∙◌, subst, arith, append_assoc, length-append, drop-cons}
 use Rattle.std.proofs.lemmas.List.{append-nil, take_more, take-append-drop, get_or-append-add, length-take-le}
@@ -19,7 +19,7 @@ blank_in front after =
       second = next;
     }
 
--- the place of the blank line of a split
+-- a split has a blank line
 pub blank_of_split : (bytes text signed : List ℕ) → IsNoteSplit bytes text signed → (at : ℕ) × IsBlank bytes at
 blank_of_split bytes text signed s =
     let front = s.ended.0 in
@@ -28,7 +28,7 @@ blank_of_split bytes text signed s =
     (ap (λ (x : List ℕ). x ++ newline ∷ signed) s.ended.1 ∙ append_assoc front (newline ∷ []) (newline ∷ signed)) in
     (length front, subst (λ b. IsBlank b (length front)) (sym whole) (blank_in front signed))
 
--- at the last blank line the bytes are split
+-- the last blank line splits the bytes
 pub split_at_blank : (bytes : List ℕ) (at : ℕ) → IsBlank bytes at → ((j : ℕ) → at < j → IsBlank bytes j → ⊥) →
     IsNoteSplit bytes (take (at + 1) bytes) (drop (at + 2) bytes)
 split_at_blank bytes at blank last =
@@ -53,7 +53,7 @@ split_at_blank bytes at blank last =
           (subst (λ b. IsBlank b (length (text ++ before))) (sym longer) (blank_in (text ++ before) more));
     }
 
--- of two prefixes of one list one begins with the other
+-- if two lists begin the same list, one of them begins with the other
 overlap : (t x u y : List ℕ) → t ++ x ≡ u ++ y →
     ((w : List ℕ) × (u ≡ t ++ w) × (x ≡ w ++ y)) ⊎ ((w : List ℕ) × (t ≡ u ++ w) × (y ≡ w ++ x))
 overlap [] x u y e = inl (u, refl, e)
@@ -66,7 +66,7 @@ overlap (a ∷ t) x (b ∷ u) y e =
       | inr h ↦ inr (h.0, rw heads (ap (λ (z : List ℕ). b ∷ z) h.1), h.2)
     ]
 
--- what ends in a newline ends in it also without a prefix of it
+-- a list that ends in a newline still does without a part of its start, unless nothing is left
 ends_still : (t w front : List ℕ) (z : ℕ) (v : List ℕ) → w ≡ z ∷ v → t ++ w ≡ front ++ newline ∷ [] → EndsInNewline w
 ends_still [] w front z v is e = (front, e)
 ends_still (a ∷ t) w [] z v is e =
@@ -74,7 +74,7 @@ ends_still (a ∷ t) w [] z v is e =
 ends_still (a ∷ t) w (b ∷ front) z v is e =
     let tails : t ++ w ≡ front ++ newline ∷ [] = cc in ends_still t w front z v is tails
 
--- a later end of the text has no place
+-- the text of a split cannot be longer
 no_later : (bytes text signed other more w : List ℕ) → IsNoteSplit bytes text signed → IsNoteSplit bytes other more →
     other ≡ text ++ w → newline ∷ signed ≡ w ++ newline ∷ more → w ≡ []
 no_later bytes text signed other more [] s r longer e = refl
@@ -97,6 +97,6 @@ split_once bytes text signed other more s r =
           (h.1 ∙ (ap (λ (x : List ℕ). other ++ x) none ∙ append-nil other), sym (cc rest))
     ]
 
--- the text is a prefix of the bytes
+-- the text begins the bytes
 pub text_front : (bytes text signed : List ℕ) → IsNoteSplit bytes text signed → take (length text) bytes ≡ text
 text_front bytes text signed s = ap (take (length text)) s.whole ∙ take-append_seam text (newline ∷ signed)

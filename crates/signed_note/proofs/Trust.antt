@@ -1,4 +1,4 @@
--- The test of opening and the relation that it decides.
+-- The test whether a note opens decides the relation.
 use Rattle.std.proofs.Common.{◌≡◌, ℕ, Bool, true, nat_eq, ◌||◌, ◌&&◌, List, [], ◌∷◌, map, refl, sym, ◌∙◌, ap}
 use Rattle.std.proofs.Common.{Any}
 use Rattle.std.specs.List.{list_any}

@@ -1,4 +1,4 @@
--- Key files: a line for each key, `hmac NAME ID SECRET` or `pin NAME ID DIGEST`.
+-- Key files: each line is a key, `hmac NAME ID SECRET` or `pin NAME ID DIGEST`.
 use Rattle.std.specs.Prelude.{◌≡◌, ◌≢◌, ℕ, ◌+◌, ◌<◌, ◌^◌, codes, List, [], ◌∷◌, ◌++◌, length}
 use Rattle.std.specs.Prelude.{Result, Ok, Err, ⊤}
 use Rattle.hex.specs.Hex.{decode_of}
@@ -9,30 +9,32 @@ use Rattle.signed_note.specs.declared.key_line.KeyLine.TheVariants.{Hmac, Pin}
 use Rattle.signed_note.specs.declared.fault.KeyFileFault.{KeyFileFault}
 use Rattle.signed_note.specs.declared.fault.KeyFileFault.TheVariants.{BadKeyLine, OutOfMemory}
 
--- the text is the hexadecimal of the bytes, two digits a byte, in either case
+-- the text is the hexadecimal of the bytes: two digits for each byte, in upper or lower case
 abbrev pub IsHexOf : List ℕ → List ℕ → Type 0
 IsHexOf text bytes = decode_of text ≡ Ok bytes
 
--- three words with single spaces between them: a name, the 8 digits of an id, and more digits
+-- the text is three words with single spaces between them: a name, the 8 digits of an id, and more
+-- digits
 pub record AreWords (text name : List ℕ) (id : ℕ) (digits : List ℕ) : Type 0 where
   pub id_digits : List ℕ
   pub whole : text ≡ name ++ space ∷ (id_digits ++ space ∷ digits)
   pub small : id < 2 ^ 32
   pub id_is : IsHexOf id_digits (big_bytes 4 id)
 
--- NAME ID DIGITS, a name of a key of this crate, and the digits of those bytes
+-- the text is NAME ID DIGITS, with a name that a key of this crate may have, and the digits of
+-- those bytes
 pub record HasWords (text name : List ℕ) (id : ℕ) (bytes : List ℕ) : Type 0 where
   pub digits : List ℕ
   pub words : AreWords text name id digits
   pub own_name : IsOwnName name
   pub bytes_are : IsHexOf digits bytes
 
--- NAME ID SECRET of a shared key: a secret of 1 to 64 bytes
+-- the text is NAME ID SECRET of a shared key, with a secret of 1 to 64 bytes
 abbrev pub IsSecretText : List ℕ → KeyLine → Type 0
 IsSecretText text (Hmac k) = HasWords text k.name k.id k.secret × IsSecret k.secret
 IsSecretText text (Pin p) = ⊥
 
--- NAME ID DIGEST of pinned texts: one digest of 32 bytes
+-- the text is NAME ID DIGEST of pinned texts, with one digest of 32 bytes
 abbrev pub IsPinText : List ℕ → KeyLine → Type 0
 IsPinText text (Hmac k) = ⊥
 IsPinText text (Pin p) =
@@ -46,19 +48,19 @@ IsKeyLine line (Hmac k) =
 IsKeyLine line (Pin p) =
     (text : List ℕ) × (line ≡ codes "pin" ++ space ∷ text) × IsPinText text (Pin p)
 
--- the bytes are the lines of those keys, each ended by a newline; an empty file has no keys
+-- the bytes are the lines of those keys, each with a newline; an empty file has no keys
 abbrev pub IsKeyFile : List ℕ → List KeyLine → Type 0
 IsKeyFile bytes [] = bytes ≡ []
 IsKeyFile bytes (key ∷ keys) =
     (line : List ℕ) × (rest : List ℕ) × (bytes ≡ line ++ newline ∷ rest) × IsKeyLine line key
     × IsKeyFile rest keys
 
--- the bytes do not begin with the ended line of a key
+-- the bytes do not begin with a line that gives a key
 abbrev pub BeginsWithNoKey : List ℕ → Type 0
 BeginsWithNoKey bytes =
     (line rest : List ℕ) (key : KeyLine) → bytes ≡ line ++ newline ∷ rest → ¬ IsKeyLine line key
 
--- lines of keys stand first, and the line after them, which has that number from 1, is none
+-- the line with that number, counted from 1, is the first that gives no key
 pub record IsBadLine (bytes : List ℕ) (number : ℕ) : Type 0 where
   pub front : List ℕ
   pub rest : List ℕ
@@ -69,13 +71,14 @@ pub record IsBadLine (bytes : List ℕ) (number : ℕ) : Type 0 where
   pub some : rest ≢ []
   pub bad : BeginsWithNoKey rest
 
--- what each answer of a reader of key files says of the bytes
+-- when a reader of key files may return each answer
 abbrev pub ReadsKeys : List ℕ → Result (List KeyLine) KeyFileFault → Type 0
 ReadsKeys bytes (Ok keys) = IsKeyFile bytes keys
 ReadsKeys bytes (Err (BadKeyLine number)) = IsBadLine bytes number
 ReadsKeys bytes (Err OutOfMemory) = ⊤
 
--- what each answer of a reader of the line of that number says, by what makes a value the line's
+-- when a reader of the line with that number may return each answer, if Is relates the line to a
+-- value
 abbrev pub ReadsAs : {X : Type 0} → (X → Type 0) → ℕ → Result X KeyFileFault → Type 0
 ReadsAs Is number (Ok x) = Is x
 ReadsAs {X = X} Is number (Err (BadKeyLine n)) = (n ≡ number) × ((x : X) → ¬ Is x)

@@ -1,4 +1,4 @@
--- What verifiers of notes are, as contracts see them (C2SP signed-note, "Signatures").
+-- Models of the verifiers of notes, for contracts (C2SP signed-note, "Signatures").
 use Rattle.std.specs.Prelude.{◌≡◌, ℕ, List, Bool}
 use Rattle.std.specs.List.{list_any}
 use Rattle.std.specs.List.Sorted.{IsPermutation}
@@ -6,19 +6,19 @@ use Rattle.std.specs.Str.{bytes_eq}
 use Rattle.sha2.specs.Sha256.{sha256}
 use Rattle.signed_note.specs.Hmac.{hmac}
 
--- a verifier: its name, its key id, and which signatures it accepts over which texts
+-- a verifier: its name, its key id, and the test whether it accepts a signature over a text
 pub record Key : Type 0 where
   pub name : List ℕ
   pub id : ℕ
   pub accepts : List ℕ → List ℕ → Bool
 
--- a key of a shared secret: its name, its key id, and the secret
+-- a key with a shared secret: its name, its key id, and the secret
 pub record Secret : Type 0 where
   pub name : List ℕ
   pub id : ℕ
   pub secret : List ℕ
 
--- the key of a shared secret accepts exactly its mac of the text
+-- the key with a shared secret accepts exactly its MAC of the text
 abbrev pub secret_key : Secret → Key
 secret_key k =
     record {
@@ -34,8 +34,7 @@ pub record Pins : Type 0 where
   pub id : ℕ
   pub digests : List (List ℕ)
 
--- the key of pinned texts accepts exactly the texts whose digest is listed, whatever the signature
--- is
+-- the key of pinned texts accepts exactly the texts with a listed digest, under any signature
 abbrev pub pinned_key : Pins → Key
 pinned_key k =
     record {
@@ -44,7 +43,7 @@ pinned_key k =
       accepts = λ text signature. list_any (λ d. bytes_eq d (sha256 text)) k.digests;
     }
 
--- pinned texts of that name, that id and those digests, in whatever order the digests stand
+-- pinned texts with that name, id and list of digests, in any order
 pub record ArePins (name : List ℕ) (id : ℕ) (digests : List (List ℕ)) (k : Pins) : Type 0 where
   pub name_is : k.name ≡ name
   pub id_is : k.id ≡ id

@@ -1,4 +1,4 @@
--- What the definitions say, as laws.
+-- Laws of the definitions.
 use Rattle.std.specs.Prelude.{◌≡◌, ℕ, List}
 use Rattle.tlog_text.specs.Answers.{HasOneAnswer}
 use Rattle.signed_note.specs.Notes.{SignatureParts, IsNote}
@@ -9,22 +9,22 @@ use Rattle.signed_note.specs.declared.limits.TheConstants.{MAX_NAME_LEN, MAX_SEC
 use Rattle.signed_note.specs.declared.fault.NoteFault.TheVariants as note
 use Rattle.signed_note.specs.declared.fault.KeyFileFault.TheVariants as key_file
 
--- bytes have one text and one list of lines as a note
+-- bytes are a note with at most one text and one list of lines
 abbrev pub NoteHasOneReading : Type 0
 NoteHasOneReading =
     (bytes text other : List ℕ) (lines others : List SignatureParts) →
     IsNote bytes text lines → IsNote bytes other others → (text ≡ other) × (lines ≡ others)
 
--- bytes have one answer as a note, OutOfMemory apart
+-- reading bytes as a note has one answer, apart from OutOfMemory
 abbrev pub OneNoteAnswer : Type 0
 OneNoteAnswer = HasOneAnswer note.OutOfMemory ReadsNote
 
--- bytes have one answer as a key file, OutOfMemory apart
+-- reading bytes as a key file has one answer, apart from OutOfMemory
 abbrev pub OneKeyAnswer : Type 0
 OneKeyAnswer = HasOneAnswer key_file.OutOfMemory ReadsKeys
 
--- how many bytes a note, a text to be signed, the name of a key of this crate and its secret have at
--- most, and how many signature lines a note has
+-- the limits of this crate: the lengths of a note, of a text to sign, of a key's name and of a
+-- secret in bytes, and the number of signature lines
 pub record HasNoteLimits : Type 0 where
   pub note : MAX_NOTE_LEN ≡ 1000000
   pub lines : MAX_LINES ≡ 100

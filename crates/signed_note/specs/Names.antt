@@ -1,4 +1,4 @@
--- Which characters a note may have, and which names a key (C2SP signed-note, "Format" and
+-- The characters that a note and the name of a key may have (C2SP signed-note, "Format" and
 -- "Signatures").
 use Rattle.std.specs.Prelude.{◌≡◌, ℕ, ◌<◌, ◌≤◌, Bool, not, ◌||◌, ◌==◌, nat_le, List, [], ◌∷◌, ◌++◌}
 use Rattle.std.specs.Prelude.{length}
@@ -15,31 +15,31 @@ newline = 10
 abbrev pub space : ℕ
 space = 32
 
--- a note has no character below U+0020 other than newline
+-- a note may have the character: a newline, or a character from U+0020 on
 abbrev pub is_note_char : ℕ → Bool
 is_note_char c = c == newline || nat_le space c
 
--- the bytes are UTF-8, of characters that a note may have
+-- the bytes are UTF-8 and have only characters that a note may have
 pub record IsNoteText (bytes : List ℕ) : Type 0 where
   pub utf8 : IsUtf8 bytes
   pub characters : AllPass is_note_char (chars bytes)
 
--- the last character is a newline
+-- the last character of the text is a newline
 abbrev pub EndsInNewline : List ℕ → Type 0
 EndsInNewline text = (front : List ℕ) × (text ≡ front ++ newline ∷ [])
 
--- a key's name has no Unicode white space and no plus (U+002B)
+-- the name of a key may have the character: not Unicode white space, and not a plus (U+002B)
 abbrev pub is_name_char : ℕ → Bool
 is_name_char c = not (is_whitespace c || c == 43)
 
--- a key's name: not empty, of those characters
+-- the name of a key: not empty, and only characters that it may have
 pub record IsKeyName (name : List ℕ) : Type 0 where
   pub utf8 : IsUtf8 name
   pub some : 0 < length name
   pub characters : AllPass is_name_char (chars name)
 
--- the name of a key of this crate has no character below U+0020 either, and at most 255 bytes, so
--- that it may stand in a note
+-- the name of a key of this crate: it may occur in a note, so it has no character below U+0020, and
+-- it has at most 255 bytes
 pub record IsOwnName (name : List ℕ) : Type 0 where
   pub key_name : IsKeyName name
   pub printed : AllPass (nat_le space) (chars name)

@@ -1,5 +1,5 @@
--- Signed notes (C2SP signed-note, "Format" and "Signatures"). `IsBlank` and `is_accepted_by` are
--- cited by the contracts of private functions alone.
+-- Signed notes (C2SP signed-note, "Format" and "Signatures"). Only contracts of private functions
+-- cite `IsBlank` and `is_accepted_by`.
 use Rattle.std.specs.Prelude.{◌≡◌, ◌≢◌, ℕ, ◌+◌, ◌<◌, ◌≤◌, ◌^◌, Bool, IsTrue, List, [], ◌∷◌, ◌++◌}
 use Rattle.std.specs.Prelude.{length, slice_index, All, Any, ◌==◌, ◌&&◌}
 use Rattle.std.specs.List.{flat_map}
@@ -12,13 +12,13 @@ use Rattle.signed_note.specs.Hmac.{hmac}
 use Rattle.signed_note.specs.Keys.{Key, Secret}
 use Rattle.signed_note.specs.declared.limits.TheConstants.{MAX_LINES, MAX_NOTE_LEN, MAX_TEXT_LEN}
 
--- a signature line, read: its key's name, its key id, and its signature
+-- a signature line: the name of its key, its key id, and its signature
 pub record SignatureParts : Type 0 where
   pub name : List ℕ
   pub id : ℕ
   pub signature : List ℕ
 
--- a note, read: all its bytes, its text and its signature lines
+-- a note: all its bytes, its text and its signature lines
 pub record NoteParts : Type 0 where
   pub bytes : List ℕ
   pub text : List ℕ
@@ -28,39 +28,40 @@ pub record NoteParts : Type 0 where
 abbrev pub em_dash : List ℕ
 em_dash = 226 ∷ 128 ∷ 148 ∷ []
 
--- what is signed with: the key id of four bytes, the highest first, and the signature
+-- the bytes that a signature line encodes: the key id in four bytes, big-endian, then the signature
 abbrev pub signed_bytes : SignatureParts → List ℕ
 signed_bytes line = big_bytes 4 line.id ++ line.signature
 
--- a signature line's text: the em dash, the key's name and the base64, with a space between each
+-- the text of a signature line: the em dash, the name of the key and the base64, with single spaces
+-- between them
 abbrev pub line_body : SignatureParts → List ℕ
 line_body line = em_dash ++ space ∷ (line.name ++ space ∷ (base64_of (signed_bytes line)))
 
--- a signature line as it stands in a note, with the newline that ends it
+-- a signature line in a note, with its newline
 abbrev pub line_text : SignatureParts → List ℕ
 line_text line = line_body line ++ newline ∷ []
 
--- a line has a key's name, an id of 32 bits and a signature that is not empty
+-- the line has the name of a key, an id of 32 bits and a signature that is not empty
 pub record IsSignatureLine (line : SignatureParts) : Type 0 where
   pub name : IsKeyName line.name
   pub id : line.id < 2 ^ 32
   pub some : 0 < length line.signature
   pub bytes : IsBytes line.signature
 
--- the last blank line of a note separates its text, the last newline with it, from its signature
+-- the last blank line of the note separates its text, which ends in a newline, from its signature
 -- part
 pub record IsNoteSplit (bytes text signed : List ℕ) : Type 0 where
   pub whole : bytes ≡ text ++ newline ∷ signed
   pub ended : EndsInNewline text
   pub last : (before after : List ℕ) → newline ∷ signed ≢ before ++ newline ∷ (newline ∷ after)
 
--- two newlines stand together at that place
+-- two newlines in a row begin at that position
 pub record IsBlank (bytes : List ℕ) (at : ℕ) : Type 0 where
   pub within : at + 1 < length bytes
   pub first : slice_index bytes at ≡ newline
   pub second : slice_index bytes (at + 1) ≡ newline
 
--- the bytes are a note of that text and those signature lines
+-- the bytes are a note with that text and those signature lines
 pub record IsNote (bytes text : List ℕ) (lines : List SignatureParts) : Type 0 where
   pub short : length bytes ≤ MAX_NOTE_LEN
   pub readable : IsNoteText bytes
@@ -75,22 +76,22 @@ pub record IsAcceptedBy (text : List ℕ) (line : SignatureParts) (key : Key) : 
   pub id : key.id ≡ line.id
   pub signature : IsTrue (key.accepts text line.signature)
 
--- a note opens under the keys: some line of it is accepted by some key; lines of other keys, and
--- lines that their key does not accept, count for nothing
+-- the note opens under the keys: some key accepts some line. All other lines are ignored
 unfoldable pub Opens : List ℕ → List SignatureParts → List Key → Type 0
 Opens text lines keys = Any (λ line. Any (λ key. IsAcceptedBy text line key) keys) lines
 
--- whether the key accepts the line's signature over the text, as a test
+-- the test whether the key accepts the line's signature over the text
 abbrev pub is_accepted_by : List ℕ → SignatureParts → Key → Bool
 is_accepted_by text line key =
     bytes_eq key.name line.name && (key.id == line.id && key.accepts text line.signature)
 
--- a text that may be signed: it may stand in a note, ends in a newline, and leaves room for a line
+-- the text may be signed: it may occur in a note, ends in a newline, and leaves room for a
+-- signature line
 pub record IsLawfulText (text : List ℕ) : Type 0 where
   pub readable : IsNoteText text
   pub ended : EndsInNewline text
   pub short : length text ≤ MAX_TEXT_LEN
 
--- the line that a shared key signs a text with: its name, its id and its mac of the text
+-- the signature line of a shared key for a text: its name, its id and its MAC of the text
 abbrev pub signed_line : List ℕ → Secret → SignatureParts
 signed_line text k = record { name = k.name; id = k.id; signature = hmac k.secret text }

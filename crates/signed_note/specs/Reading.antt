@@ -1,6 +1,6 @@
--- What each answer of a reader of notes says of the bytes: the first refusal that applies, in the
--- order of the faults. An answer other than OutOfMemory is determined by the bytes.
--- `ReadsBase64` is cited by the contracts of private functions alone.
+-- The answers of a reader of notes: the note, or the first refusal that applies, in the order of
+-- the faults. The bytes determine the answer, unless it is OutOfMemory. Only contracts of private
+-- functions cite `ReadsBase64`.
 use Rattle.std.specs.Prelude.{◌≡◌, ◌≢◌, ℕ, ◌+◌, ◌-◌, ◌<◌, ◌≤◌, ◌==◌, if◌then◌else◌, List, []}
 use Rattle.std.specs.Prelude.{length, slice_index, All, Result, Ok, Err, count_by, ⊤}
 use Rattle.std.specs.List.{flat_map}
@@ -17,19 +17,19 @@ use Rattle.signed_note.specs.declared.fault.NoteFault.TheVariants as note
 use Rattle.signed_note.specs.declared.fault.KeyFault.{KeyFault}
 use Rattle.signed_note.specs.declared.fault.KeyFault.TheVariants as key
 
--- how many lines a signature part has, a last line without its newline counted
+-- the number of lines of a signature part; a last line without its newline counts
 abbrev pub line_count : List ℕ → ℕ
 line_count signed =
     count_by (λ b. b == newline) signed
     + (if length signed == 0 then 0
     else if slice_index signed (length signed - 1) == newline then 0 else 1)
 
--- the part is signature lines, each well formed and ended
+-- the part is signature lines, each well formed and with its newline
 pub record AreSignatureLines (signed : List ℕ) (lines : List SignatureParts) : Type 0 where
   pub whole : signed ≡ flat_map line_text lines
   pub well_formed : All IsSignatureLine lines
 
--- what each answer of a reader of base64 says: the text is that of these bytes, or of none
+-- when a reader of base64 may return each answer
 abbrev pub ReadsBase64 : List ℕ → Result (List ℕ) NoteFault → Type 0
 ReadsBase64 text (Ok bytes) = IsBytes bytes × (text ≡ base64_of bytes)
 ReadsBase64 text (Err note.BadSignatureLine) =
@@ -40,8 +40,7 @@ ReadsBase64 text (Err note.NotText) = ⊥
 ReadsBase64 text (Err note.NoSignatures) = ⊥
 ReadsBase64 text (Err note.TooManySignatures) = ⊥
 
--- what each answer of a reader of one signature line says: the text, without its newline, is that
--- line, or none
+-- when a reader of one signature line, without its newline, may return each answer
 abbrev pub ReadsLine : List ℕ → Result SignatureParts NoteFault → Type 0
 ReadsLine text (Ok line) = IsSignatureLine line × (text ≡ line_body line)
 ReadsLine text (Err note.BadSignatureLine) =
@@ -52,7 +51,7 @@ ReadsLine text (Err note.NotText) = ⊥
 ReadsLine text (Err note.NoSignatures) = ⊥
 ReadsLine text (Err note.TooManySignatures) = ⊥
 
--- what each answer of a reader of signature parts says: the part is these lines, or none
+-- when a reader of signature parts may return each answer
 abbrev pub ReadsSignatureLines : List ℕ → Result (List SignatureParts) NoteFault → Type 0
 ReadsSignatureLines signed (Ok lines) = AreSignatureLines signed lines
 ReadsSignatureLines signed (Err note.BadSignatureLine) =
@@ -63,20 +62,20 @@ ReadsSignatureLines signed (Err note.NotText) = ⊥
 ReadsSignatureLines signed (Err note.NoSignatures) = ⊥
 ReadsSignatureLines signed (Err note.TooManySignatures) = ⊥
 
--- the bytes are short enough, UTF-8, and without characters below U+0020 other than newline
+-- the bytes are not too long, are UTF-8, and have no character below U+0020 except newlines
 pub record IsReadable (bytes : List ℕ) : Type 0 where
   pub short : length bytes ≤ MAX_NOTE_LEN
   pub readable : IsNoteText bytes
 
--- the bytes are readable, and divide into a text and a signature part that is not empty
+-- the bytes are readable, and split into a text and a signature part that is not empty
 pub record HasPart (bytes text signed : List ℕ) : Type 0 where
   pub readable : IsReadable bytes
   pub split : IsNoteSplit bytes text signed
   pub some : signed ≢ []
 
--- what each answer of a reader of notes says of the bytes: Ok, that they are a note, with its text
--- and its signature lines; a fault, why they are none, each fault where those before it do not
--- apply. A text without a blank line has NoSignatures
+-- when a reader of notes may return each answer. Ok: the bytes are a note with that text and those
+-- lines. A fault: it applies to the bytes, and no earlier one does; bytes without a blank line have
+-- NoSignatures
 abbrev pub ReadsNote : List ℕ → Result NoteParts NoteFault → Type 0
 ReadsNote bytes (Ok parts) = (parts.bytes ≡ bytes) × IsNote bytes parts.text parts.lines
 ReadsNote bytes (Err note.NoteTooLong) = MAX_NOTE_LEN < length bytes
@@ -92,7 +91,7 @@ ReadsNote bytes (Err note.BadSignatureLine) =
     × ((lines : List SignatureParts) → ¬ AreSignatureLines signed lines)
 ReadsNote bytes (Err note.OutOfMemory) = ⊤
 
--- what each answer of a constructor of a shared key says of what it is given
+-- when the constructor of a shared key may return each answer
 abbrev pub MakesSecret : List ℕ → ℕ → List ℕ → Result Secret KeyFault → Type 0
 MakesSecret name id secret (Ok k) =
     IsOwnName name × IsSecret secret × (k ≡ record { name = name; id = id; secret = secret })
@@ -100,7 +99,7 @@ MakesSecret name id secret (Err key.BadName) = ¬ IsOwnName name
 MakesSecret name id secret (Err key.BadSecret) = IsOwnName name × (¬ IsSecret secret)
 MakesSecret name id secret (Err key.OutOfMemory) = ⊤
 
--- what each answer of a constructor of pinned texts says of what it is given
+-- when the constructor of pinned texts may return each answer
 abbrev pub MakesPins : List ℕ → ℕ → List (List ℕ) → Result Pins KeyFault → Type 0
 MakesPins name id digests (Ok k) = IsOwnName name × ArePins name id digests k
 MakesPins name id digests (Err key.BadName) = ¬ IsOwnName name

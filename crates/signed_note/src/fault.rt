@@ -1,12 +1,12 @@
-//! Why a note, a key or a key file is refused.
+//! Why a note, a key or a key file was refused.
 //!
-//! Of the refusals of one call the first that applies is answered, in the order in which they stand
-//! here. `OutOfMemory` may come before any of them.
+//! A call returns the first fault that applies, in the order below. `OutOfMemory` may come before
+//! any of them.
 
 use std::alloc::{AllocError, AllocFailed};
 use thiserror::Error;
 
-/// Why bytes are not read as a note.
+/// Why bytes were refused as a note.
 #[derive(Debug, Drop, PartialEq, Eq, Clone, Copy, Error)]
 pub enum NoteFault {
     /// There are more than 1,000,000 bytes.
@@ -18,10 +18,11 @@ pub enum NoteFault {
     /// There is no blank line, or nothing after the last one.
     #[error("NoSignatures")]
     NoSignatures,
-    /// The signature part has more than 100 lines, a last line without its newline counted.
+    /// The signature part has more than 100 lines. A last line without its newline counts.
     #[error("TooManySignatures")]
     TooManySignatures,
-    /// A line of the signature part is not an em dash, a key's name and base64, or lacks its newline.
+    /// A line of the signature part has no newline, or is not an em dash, the name of a key and
+    /// base64.
     #[error("BadSignatureLine")]
     BadSignatureLine,
     /// Memory was refused.
@@ -51,14 +52,14 @@ impl<T: Drop> From<AllocFailed<T>> for NoteFault {
     }
 }
 
-/// Why a key is not made.
+/// Why a key was refused.
 #[derive(Debug, Drop, PartialEq, Eq, Clone, Copy, Error)]
 pub enum KeyFault {
     /// The name is empty, has over 255 bytes, or has Unicode white space, a plus or a character below
     /// U+0020.
     #[error("BadName")]
     BadName,
-    /// The secret has not 1 to 64 bytes.
+    /// The secret is empty or has over 64 bytes.
     #[error("BadSecret")]
     BadSecret,
     /// Memory was refused.
@@ -77,10 +78,10 @@ impl From<AllocError> for KeyFault {
     }
 }
 
-/// Why a key file is not read.
+/// Why a key file was refused.
 #[derive(Debug, Drop, PartialEq, Eq, Clone, Copy, Error)]
 pub enum KeyFileFault {
-    /// The line of that number, from 1, is the first that is no key line.
+    /// The line with that number, counted from 1, is the first that gives no key.
     #[error("BadKeyLine")]
     BadKeyLine(usize),
     /// Memory was refused.
@@ -113,7 +114,7 @@ impl<T: Drop> From<AllocFailed<T>> for KeyFileFault {
 /// Why a note does not open.
 #[derive(Debug, Drop, PartialEq, Eq, Clone, Copy, Error)]
 pub enum OpenFault {
-    /// No line has the name and id of a key that accepts its signature over the text.
+    /// No line has the name and id of a key that accepts the line's signature over the text.
     #[error("NoTrustedSignature")]
     NoTrustedSignature,
 }

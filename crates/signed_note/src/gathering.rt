@@ -1,4 +1,4 @@
-//! The pins of a key file, joined by name and id.
+//! Joins the pins of a key file by name and id.
 
 ghost use Rattle.std.specs.Prelude.{◌≡◌, ◌<◌, ◌∷◌, [], ◌++◌, IfOk, IfSome, OnOk, length, map};
 ghost use Rattle.std.specs.List.{HoldsAt};
@@ -11,7 +11,8 @@ use std::alloc::{AllocError, Global};
 use std::cmp::Ordering;
 use std::marker::Model;
 
-// Pinned texts of one name and id, while lines are gathered: the digests stand in the order of the lines.
+// Pinned texts of one name and id, while lines are gathered. The digests have the order of the
+// lines.
 #[derive(Drop)]
 struct PinLines {
     name: String,
@@ -32,7 +33,7 @@ impl Model for PinLines {
 }
 
 impl PinLines {
-    // Adds the digests of pinned texts.
+    // Appends the digests of pinned texts.
     fn append(&mut self, texts: &PinnedTexts) -> Result<(), AllocError>
         ensures { OnOk result (self.new
             ≡ record self.old { digests = self.old.digests ++ texts.now.digests }) }
@@ -41,7 +42,7 @@ impl PinLines {
     }
 }
 
-// Shared keys come first, all alike, and then pins by their name and id.
+// Shared keys come first and are all equal; then come pins by name and id.
 fn order(a: &KeyLine, b: &KeyLine) -> Ordering
     ensures { result ≡ line_cmp a.now b.now }
 {
@@ -57,7 +58,8 @@ fn order(a: &KeyLine, b: &KeyLine) -> Ordering
     }
 }
 
-// Where the pins of the name and id of pinned texts are. Lines are gathered in order, so only the last can be these.
+// The index of the pins with the same name and id. Lines are gathered in order, so only the last
+// pins can have them.
 fn find_gathered(gathered: &[PinLines], texts: &PinnedTexts) -> Option<usize>
     ensures within { IfSome result (λ at. at < length gathered.now) }
     ensures found { IfSome result (HoldsAt (λ k. (k.name ≡ texts.now.name) × (k.id ≡ texts.now.id))
@@ -71,7 +73,7 @@ fn find_gathered(gathered: &[PinLines], texts: &PinnedTexts) -> Option<usize>
     None
 }
 
-// Adds pinned texts to those of their name and id, or behind all where there are none.
+// Adds pinned texts to those with the same name and id, or at the end if there are none.
 fn gather(gathered: &mut Vec<PinLines>, texts: PinnedTexts) -> Result<(), AllocError>
     ensures { OnOk result (AcceptsAlike (map pinned_key gathered.new.items)
         (map pinned_key gathered.old.items ++ pinned_key texts ∷ [])) }
@@ -84,7 +86,8 @@ fn gather(gathered: &mut Vec<PinLines>, texts: PinnedTexts) -> Result<(), AllocE
     Ok(())
 }
 
-// The shared keys of the lines, and their pins by name and id. Sorted lines of one name and id stand together.
+// The shared keys of the lines, and their pins by name and id. Sorting brings lines with one name
+// and id together.
 fn gather_all(
     alloc: Global,
     lines: Vec<KeyLine>,
@@ -104,7 +107,7 @@ fn gather_all(
     Ok((secrets, pins))
 }
 
-// Adds pins to the keys.
+// Adds the pins as one key.
 fn add_pins(keys: &mut Vec<KeyLine>, pins: PinLines) -> Result<(), AllocError>
     ensures { OnOk result (AddsPins keys.old.items keys.new.items pins) }
 {
@@ -113,16 +116,18 @@ fn add_pins(keys: &mut Vec<KeyLine>, pins: PinLines) -> Result<(), AllocError>
     Ok(())
 }
 
-/// The keys of the lines of a key file, with all pinned texts of one name and id in one `Pin`, so that a text is hashed once
-/// however many are pinned. A note opens under them exactly where it opens under the lines'. The shared keys come first.
+/// The keys of the lines of a key file, with all pinned texts of one name and id in one `Pin`. So a
+/// text is hashed only once for any number of pins. A note opens under these keys exactly if it
+/// opens under the keys of the lines. The shared keys come first.
 ///
 /// ```text
-/// join_pins(alloc, read_keys(alloc, &bytes)?)?   // of a thousand lines `pin log 00000001 ..` one key
+/// join_pins(alloc, read_keys(alloc, &bytes)?)?   // one key for a thousand lines
+/// `pin log 00000001 ..`
 /// ```
 ///
 /// # Errors
 ///
-/// `AllocError` where memory was refused.
+/// `AllocError` if memory was refused.
 pub fn join_pins(alloc: Global, lines: Vec<KeyLine>) -> Result<Vec<KeyLine>, AllocError>
     ensures { IfOk result (λ joined. JoinsPins lines.items joined.items) }
 {

@@ -6,7 +6,7 @@ ghost use Rattle.signed_note.specs.Hmac.{hmac, masked};
 
 use sha2::{Digest, Sha256};
 
-/// The key, with zeros up to 64 bytes, and each byte xor the mask.
+/// The key with zeros up to 64 bytes, and each byte xor the mask.
 fn masked_block(key: &[u8], mask: u8) -> [u8; 64]
     requires { length key.now ≤ 64 }
     ensures { result ≡ masked mask key.now }
@@ -18,7 +18,7 @@ fn masked_block(key: &[u8], mask: u8) -> [u8; 64]
     block
 }
 
-/// The digest of two pieces as one message.
+/// The SHA-256 digest of two pieces as one message.
 fn digest_of_parts(first: &[u8], second: &[u8]) -> [u8; 32]
     ensures { result ≡ sha256 (first.now ++ second.now) }
 {
@@ -28,7 +28,7 @@ fn digest_of_parts(first: &[u8], second: &[u8]) -> [u8; 32]
     hasher.finalize()
 }
 
-/// The HMAC of a message.
+/// The HMAC-SHA-256 of a message.
 #[tactic(auto, unfolding(crate::specs::Hmac::hmac))]
 pub fn hmac_of(key: &[u8], message: &[u8]) -> [u8; 32]
     requires { length key.now ≤ 64 }

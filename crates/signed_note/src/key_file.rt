@@ -1,4 +1,4 @@
-//! Key files.
+//! Reads key files.
 
 ghost use Rattle.tlog_text.specs.Answers.{seen};
 ghost use Rattle.signed_note.specs.KeyFiles.{IsSecretText, IsPinText, IsKeyLine, ReadsAs, ReadsKeys};
@@ -11,7 +11,7 @@ use crate::pinned::PinnedTexts;
 use hex::FromHex;
 use std::alloc::Global;
 
-/// The shared key of a line after its first word.
+/// The shared key of a line, from the text after its first word.
 fn secret_of(alloc: Global, number: usize, text: &str) -> Result<KeyLine, KeyFileFault>
     ensures { ReadsAs (IsSecretText text.now) number result }
 {
@@ -27,7 +27,7 @@ fn secret_of(alloc: Global, number: usize, text: &str) -> Result<KeyLine, KeyFil
     }
 }
 
-/// The pinned text of a line after its first word.
+/// The pinned text of a line, from the text after its first word.
 fn pin_of(alloc: Global, number: usize, text: &str) -> Result<KeyLine, KeyFileFault>
     ensures { ReadsAs (IsPinText text.now) number result }
 {
@@ -47,7 +47,7 @@ fn pin_of(alloc: Global, number: usize, text: &str) -> Result<KeyLine, KeyFileFa
     }
 }
 
-/// The key of the line of that number.
+/// The key of the line with that number.
 fn key_of(alloc: Global, number: usize, line: &[u8]) -> Result<KeyLine, KeyFileFault>
     ensures { ReadsAs (IsKeyLine line.now) number result }
 {
@@ -63,17 +63,17 @@ fn key_of(alloc: Global, number: usize, line: &[u8]) -> Result<KeyLine, KeyFileF
     Err(KeyFileFault::BadKeyLine(number))
 }
 
-/// Reads a key file: the keys of its lines, in their order.
+/// Reads a key file: the keys of its lines, in order.
 ///
-/// Each line ends in a newline and is `hmac NAME ID SECRET` or `pin NAME ID DIGEST`, with single spaces.
-/// NAME is one that `HmacKey::new` takes; ID is 8, DIGEST 64 and SECRET 2 to 128 hexadecimal digits, an
-/// even number, in either case. An empty file has no keys.
+/// Each line is `hmac NAME ID SECRET` or `pin NAME ID DIGEST`, with single spaces and a newline at
+/// its end. `HmacKey::new` must accept NAME. ID has 8 hexadecimal digits, DIGEST 64, and SECRET an
+/// even number from 2 to 128, in upper or lower case. An empty file has no keys.
 ///
 /// # Errors
 ///
-/// `BadKeyLine` with the number, from 1, of the first line that is none of these. An empty line, a last
-/// line without its newline and a line whose bytes are not UTF-8 are such. `OutOfMemory` where memory was
-/// refused.
+/// `BadKeyLine` with the number, counted from 1, of the first line that gives no key. Examples are
+/// an empty line, a last line without its newline, and a line that is not UTF-8. `OutOfMemory` if
+/// memory was refused.
 pub fn read_keys(alloc: Global, bytes: &[u8]) -> Result<Vec<KeyLine>, KeyFileFault>
     ensures { ReadsKeys bytes.now (seen (λ v. v.items) result) }
 {

@@ -1,13 +1,13 @@
-//! Keys of a key file.
+//! The keys of a key file.
 
 use crate::mac_key::HmacKey;
 use crate::pinned::PinnedTexts;
 
-/// A key as a line of a key file gives it.
+/// The key of a line of a key file.
 #[derive(Debug, Drop)]
 pub enum KeyLine {
-    /// `hmac NAME ID SECRET`: a key of a shared secret.
+    /// `hmac NAME ID SECRET`: a key with a shared secret.
     Hmac(HmacKey),
-    /// `pin NAME ID DIGEST`: a text that was verified elsewhere, by its SHA-256.
+    /// `pin NAME ID DIGEST`: the SHA-256 digest of a text that was verified elsewhere.
     Pin(PinnedTexts),
 }

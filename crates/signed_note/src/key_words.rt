@@ -11,7 +11,7 @@ use byteorder::{BigEndian, ByteOrder};
 use hex::{FromHex, FromHexError};
 use std::alloc::Global;
 
-/// The first line, without its newline, and what follows it.
+/// The first line, without its newline, and the bytes after it.
 pub fn first_line(bytes: &[u8]) -> Option<(&[u8], &[u8])>
     ensures found { IfSome result (λ x. bytes.now ≡ x.0.now ++ newline ∷ x.1.now) }
     ensures first { IfSome result (λ x. (i : ℕ) → i < length x.0.now
@@ -23,7 +23,7 @@ pub fn first_line(bytes: &[u8]) -> Option<(&[u8], &[u8])>
     Some((&bytes[..at], &bytes[at + 1..]))
 }
 
-/// The id of 32 bits that eight digits are.
+/// The id that eight hexadecimal digits give.
 fn id_of(digits: &str) -> Option<u32>
     ensures found { IfSome result (λ id. (id < 2 ^ 32) × IsHexOf digits.now (big_bytes 4 id)) }
     ensures none { IfNone result ((id : ℕ) → ¬ IsHexOf digits.now (big_bytes 4 id)) }
@@ -32,7 +32,7 @@ fn id_of(digits: &str) -> Option<u32>
     Some(BigEndian::read_u32(&bytes))
 }
 
-/// The name, the id and the other digits of a line after its first word.
+/// The name, the id and the last digits of a line, from the text after its first word.
 pub fn words_of(text: &str) -> Option<(&str, u32, &str)>
     ensures found { IfSome result (λ x. AreWords text.now x.0.now x.1 x.2.now) }
     ensures first { IfSome result (λ x. (i : ℕ) → i < length x.0.now
@@ -46,7 +46,7 @@ pub fn words_of(text: &str) -> Option<(&str, u32, &str)>
     Some((name, id, digits))
 }
 
-/// The bytes that digits of the line of that number are.
+/// The bytes that the hexadecimal digits give, on the line with that number.
 pub fn bytes_of(alloc: Global, number: usize, digits: &str) -> Result<Vec<u8>, KeyFileFault>
     ensures { ReadsAs (IsHexOf digits.now) number (seen (λ v. v.items) result) }
 {

@@ -1,27 +1,27 @@
-//! What the grammars say, as laws of the definitions that the contracts cite.
+//! Laws of the grammars, for the definitions that the contracts cite.
 //!
-//! A law is the contract of a function with an empty body: the proof is all that there is of it.
+//! A law is a function with an empty body: only its contract counts.
 ghost use Rattle.signed_note.specs.Laws.{NoteHasOneReading, OneNoteAnswer, OneKeyAnswer, HasNoteLimits};
 
-/// Bytes are a note of one text and one list of signature lines at most.
+/// Bytes are a note with at most one text and one list of signature lines.
 pub fn notes_law()
     ensures { NoteHasOneReading }
 {}
 
-/// Bytes have one answer of `Note::read`, `OutOfMemory` apart. So it is `Ok` exactly where the bytes
-/// are a note, and each refusal comes exactly where it is the first that applies.
+/// `Note::read` has one answer for bytes, apart from `OutOfMemory`. So it returns `Ok` exactly if
+/// the bytes are a note, and a refusal exactly if it is the first that applies.
 pub fn one_answer_law()
     ensures { OneNoteAnswer }
 {}
 
-/// Bytes have one answer of `read_keys`, `OutOfMemory` apart: they are a key file of one list of keys
-/// at most, and otherwise one line is the first bad one.
+/// `read_keys` has one answer for bytes, apart from `OutOfMemory`. The bytes are a key file with
+/// only one list of keys, or one line is the first bad one.
 pub fn one_key_answer_law()
     ensures { OneKeyAnswer }
 {}
 
-/// A note has at most 1,000,000 bytes and 100 signature lines, and a text to be signed 900,000 bytes. The
-/// name of a key of this crate has at most 255 bytes, and a shared secret 64.
+/// A note has at most 1,000,000 bytes and 100 signature lines. A text to sign has at most 900,000
+/// bytes, the name of a key of this crate 255, and a shared secret 64.
 pub fn limits_law()
     ensures { HasNoteLimits }
 {}

@@ -1,11 +1,11 @@
-//! Signed notes and the keys that they open under (C2SP signed-note).
+//! Signed notes and the keys that check them (C2SP signed-note).
 //!
-//! A note is a text and, after a blank line, the signature lines of one or more keys. `Note::read` reads
-//! one, `open_note` says whether some line is a signature of a known key, and `sign` makes one. What
-//! checks a signature is a `Verifier`: `HmacKey` and `PinnedTexts` are the kinds of this crate, `read_keys`
-//! reads them from a key file, and a caller may bring kinds of its own.
+//! A note is a text, a blank line, and the signature lines of one or more keys. `Note::read` reads
+//! a note, `open_note` checks whether a known key signed it, and `sign` makes one. A `Verifier`
+//! checks signatures. This crate has two kinds, `HmacKey` and `PinnedTexts`; `read_keys` reads them
+//! from a key file. A caller may add other kinds.
 //!
-//! A note is opened so:
+//! This opens a note:
 //!
 //! ```text
 //! let note = Note::read(alloc, &bytes)?;

@@ -1,12 +1,12 @@
-//! How long notes, names and secrets may be.
+//! The greatest lengths of notes, names and secrets.
 
 /// The greatest length of a note, in bytes.
 pub(crate) const MAX_NOTE_LEN: usize = 1_000_000;
 
-/// The most signature lines that a note has.
+/// The greatest number of signature lines of a note.
 pub(crate) const MAX_LINES: usize = 100;
 
-/// The greatest length of a text to be signed, in bytes: the note has room for its line then.
+/// The greatest length of a text to sign, in bytes: the note then has room for a signature line.
 pub(crate) const MAX_TEXT_LEN: usize = 900_000;
 
 /// The greatest length of the name of a key of this crate, in bytes.

@@ -14,8 +14,8 @@ use byteorder::{BigEndian, ByteOrder};
 use std::alloc::{AllocError, Global};
 use std::marker::Model;
 
-/// One line of a note's signature part: the name and id of a key, and its signature (C2SP signed-note,
-/// "Format").
+/// One line of the signature part of a note: the name and id of a key, and its signature (C2SP
+/// signed-note, "Format").
 #[derive(Debug, Drop)]
 pub struct SignatureLine {
     name: String,
@@ -33,7 +33,7 @@ impl Model for SignatureLine {
 }
 
 impl SignatureLine {
-    /// The key's name.
+    /// The name of the key.
     pub fn name(&self) -> &str
         ensures { result.now ≡ self.now.name }
     {
@@ -54,7 +54,7 @@ impl SignatureLine {
         &self.signature
     }
 
-    /// An equal line.
+    /// A copy of the line.
     pub(crate) fn copy(&self, alloc: Global) -> Result<SignatureLine, AllocError>
         ensures { IfOk result (λ l. l ≡ self.now) }
     {
@@ -66,7 +66,7 @@ impl SignatureLine {
     }
 }
 
-/// The name and the base64 of a line: what stands round the first space after the em dash.
+/// The name and the base64 of a line: the texts around the first space after the em dash.
 fn words_of(line: &str) -> Option<(&str, &str)>
     ensures found { IfSome result (λ x. line.now
         ≡ em_dash ++ space ∷ (x.0.now ++ space ∷ x.1.now)) }
@@ -78,7 +78,7 @@ fn words_of(line: &str) -> Option<(&str, &str)>
     line.strip_prefix("\u{2014} ")?.split_once(' ')
 }
 
-/// The bytes whose base64 the text is.
+/// The bytes that the text encodes in base64.
 fn decoded_of(alloc: Global, text: &str) -> Result<Vec<u8>, NoteFault>
     ensures { ReadsBase64 text.now (seen (λ v. v.items) result) }
 {
@@ -89,12 +89,12 @@ fn decoded_of(alloc: Global, text: &str) -> Result<Vec<u8>, NoteFault>
     }
 }
 
-/// Reads a line without its newline.
+/// Reads a signature line without its newline.
 ///
 /// # Errors
 ///
-/// `BadSignatureLine` where it is not an em dash, a key's name and base64 of at least five bytes, with a
-/// space between each; `OutOfMemory`.
+/// `BadSignatureLine` if the line is not an em dash, the name of a key and base64 of at least five
+/// bytes, with single spaces between them. `OutOfMemory` if memory was refused.
 pub fn read_line(alloc: Global, line: &str) -> Result<SignatureLine, NoteFault>
     ensures { ReadsLine line.now result }
 {

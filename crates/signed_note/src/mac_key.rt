@@ -1,4 +1,4 @@
-//! Keys of a shared secret.
+//! Keys with a shared secret.
 
 ghost use Rattle.std.specs.Prelude.{◌≡◌};
 ghost use Rattle.signed_note.specs.Keys.{secret_key};
@@ -15,12 +15,13 @@ use std::alloc::Global;
 use std::fmt;
 use std::marker::Model;
 
-/// A key of a shared secret of 1 to 64 bytes: its signatures are HMAC-SHA-256 of the text (RFC 2104).
+/// A key with a shared secret of 1 to 64 bytes. Its signature is the HMAC-SHA-256 of the text (RFC
+/// 2104).
 ///
 /// # Examples
 ///
-/// `HmacKey::new(alloc, "ex", 1, b"Jefe")?` prints as `HmacKey { name: ex, id: 1, .. }`, and accepts its
-/// `mac` of a text as the signature over it.
+/// `HmacKey::new(alloc, "ex", 1, b"Jefe")?` prints as `HmacKey { name: ex, id: 1, .. }`. It accepts
+/// its `mac` of a text as the signature over that text.
 #[derive(Drop)]
 pub struct HmacKey {
     name: String,
@@ -41,13 +42,13 @@ impl Model for HmacKey {
 }
 
 impl HmacKey {
-    /// A key of that name, id and secret.
+    /// A key with that name, id and secret.
     ///
     /// # Errors
     ///
-    /// In this order: `BadName` where the name is empty, has over 255 bytes, or has Unicode white space, a
-    /// plus or a character below U+0020; `BadSecret` where the secret has not 1 to 64 bytes;
-    /// `OutOfMemory`.
+    /// In this order: `BadName` if the name is empty, has over 255 bytes, or has Unicode white
+    /// space, a plus or a character below U+0020; `BadSecret` if the secret is empty or has over 64
+    /// bytes; `OutOfMemory`.
     pub fn new(alloc: Global, name: &str, id: u32, secret: &[u8]) -> Result<HmacKey, KeyFault>
         ensures { MakesSecret name.now id secret.now result }
     {
@@ -64,7 +65,7 @@ impl HmacKey {
         })
     }
 
-    /// The key's name, which may stand in a note.
+    /// The name of the key, which may occur in a note.
     pub(crate) fn own_name(&self) -> &str
         ensures name { result.now ≡ self.now.name }
         ensures own { IsOwnName self.now.name }
@@ -72,7 +73,8 @@ impl HmacKey {
         &self.name
     }
 
-    /// HMAC-SHA-256 of the message under the secret (RFC 2104, section 2). Takes no memory.
+    /// The HMAC-SHA-256 of the message under the secret (RFC 2104, section 2). The call allocates
+    /// no memory.
     pub fn mac(&self, message: &[u8]) -> [u8; 32]
         ensures { result ≡ hmac self.now.secret message.now }
     {
@@ -80,7 +82,7 @@ impl HmacKey {
     }
 }
 
-/// Prints the name and the id, and not the secret.
+/// Prints the name and the id, but not the secret.
 impl fmt::Debug for HmacKey {
     ghost use Rattle.std.specs.Prelude.{codes, ◌++◌, Some};
     ghost use Rattle.std.specs.Fmt.{decimal};

@@ -1,4 +1,4 @@
-//! Names of keys, and characters of notes.
+//! The names of keys, and the characters of notes.
 
 ghost use Rattle.std.specs.Prelude.{◌≡◌, ◌↔◌, IsTrue, nat_le};
 ghost use Rattle.std.specs.List.{list_all};
@@ -7,7 +7,7 @@ ghost use Rattle.signed_note.specs.Names.{is_note_char, is_name_char, space, IsK
 
 use crate::limits::MAX_NAME_LEN;
 
-/// Whether no character is below U+0020 but newlines.
+/// Whether each character is a newline or at least U+0020.
 pub fn is_note_text(text: &str) -> bool
     ensures { result ≡ list_all is_note_char (chars text.now) }
 {

@@ -16,16 +16,17 @@ use crate::parts::{count_lines, parts_of, read_lines};
 use std::alloc::{AllocError, Global};
 use std::marker::Model;
 
-/// A signed note: a text, and the lines of its signature part (C2SP signed-note, "Format").
+/// A signed note: a text, and the signature lines after it (C2SP signed-note, "Format").
 ///
 /// # Examples
 ///
-/// Of the note `a`, an empty line and the line of an em dash, `x` and `AQIDBAU=` the text is `a\n`, and
-/// its one line has the name `x`, the id 16909060 and the signature of one byte 5.
+/// A note is the line `a`, an empty line, and a line of an em dash, `x` and `AQIDBAU=`. Its text is
+/// `a\n`. Its only signature line has the name `x`, the id 16909060 and the signature of one byte
+/// 5.
 #[derive(Debug, Drop)]
 pub struct Note {
     whole: String,
-    // How many of the first bytes are the text.
+    // The length of the text, which begins the note, in bytes.
     text_len: usize,
     lines: Vec<SignatureLine>,
 }
@@ -44,21 +45,21 @@ impl Model for Note {
 impl Note {
     /// Reads a note.
     ///
-    /// The text is UTF-8 and ends in a newline; the last blank line separates it from the signature part,
-    /// of which each line is an em dash, a space, the key's name, a space, base64 and a newline. The
-    /// base64 is standard, padded and canonical, and gives the key id of four bytes, the highest first,
-    /// and a signature that is not empty.
+    /// The text is UTF-8 and ends in a newline. The last blank line separates it from the signature
+    /// part. Each line of that part is an em dash, a space, the name of the key, a space, base64
+    /// and a newline. The base64 is standard, padded and canonical. It encodes the key id in four
+    /// bytes, big-endian, and a signature that is not empty.
     ///
     /// # Errors
     ///
     /// The first that applies, in this order:
     /// - `NoteTooLong`: more than 1,000,000 bytes.
-    /// - `NotText`: no UTF-8, or a character below U+0020 other than newline.
+    /// - `NotText`: not UTF-8, or a character below U+0020 other than newline.
     /// - `NoSignatures`: no blank line, or nothing after the last one.
-    /// - `TooManySignatures`: more than 100 lines after it, a last one without its newline counted.
-    /// - `BadSignatureLine`: one of these lines is not as above, or lacks its newline.
+    /// - `TooManySignatures`: more than 100 lines after it; a last line without its newline counts.
+    /// - `BadSignatureLine`: one of these lines has another form, or no newline.
     ///
-    /// `OutOfMemory` where memory was refused, before any of them or after.
+    /// `OutOfMemory` if memory was refused, before any of them or after.
     pub fn read(alloc: Global, bytes: &[u8]) -> Result<Note, NoteFault>
         ensures { ReadsNote bytes.now result }
     {
@@ -88,7 +89,7 @@ impl Note {
         })
     }
 
-    /// An equal note.
+    /// A copy of the note.
     ///
     /// # Errors
     ///
@@ -107,7 +108,7 @@ impl Note {
         })
     }
 
-    /// All bytes of the note, which are a note of its text and its lines.
+    /// All bytes of the note.
     pub fn bytes(&self) -> &[u8]
         ensures bytes { result.now ≡ self.now.bytes }
         ensures is_note { IsNote self.now.bytes self.now.text self.now.lines }
@@ -115,14 +116,14 @@ impl Note {
         self.whole.as_bytes()
     }
 
-    /// The text that is signed, its last newline with it.
+    /// The signed text, with its last newline.
     pub fn text(&self) -> &str
         ensures { result.now ≡ self.now.text }
     {
         &self.whole[..self.text_len]
     }
 
-    /// The signature lines, in their order.
+    /// The signature lines, in order.
     pub fn lines(&self) -> &[SignatureLine]
         ensures { result.now ≡ self.now.lines }
     {
@@ -130,7 +131,7 @@ impl Note {
     }
 }
 
-/// Notes are equal where their bytes are: these have one text and one list of lines.
+/// Notes are equal if their bytes are: the bytes determine the text and the lines.
 impl PartialEq for Note {
     ghost eq = { on (λ n. n.bytes) bytes_eq };
 

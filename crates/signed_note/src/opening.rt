@@ -1,4 +1,4 @@
-//! Which notes are trusted.
+//! The check whether a note is trusted.
 
 ghost use Rattle.std.specs.Prelude.{◌≡◌, ◌↔◌, IsOk, map};
 ghost use Rattle.std.specs.List.{list_any};
@@ -9,7 +9,7 @@ use crate::line::SignatureLine;
 use crate::note::Note;
 use crate::verifier::Verifier;
 
-/// Whether the line is a signature of that key over the text.
+/// Whether the key accepts the line as its signature over the text.
 fn is_accepted(text: &str, line: &SignatureLine, one: &Box<dyn Verifier>) -> bool
     ensures { result ≡ is_accepted_by text.now line.now (key one.now) }
 {
@@ -18,7 +18,7 @@ fn is_accepted(text: &str, line: &SignatureLine, one: &Box<dyn Verifier>) -> boo
         && one.accepts(text.as_bytes(), line.signature())
 }
 
-/// Whether the line is a signature of one of the keys.
+/// Whether one of the keys accepts the line.
 fn is_trusted(text: &str, line: &SignatureLine, keys: &[Box<dyn Verifier>]) -> bool
     ensures { result ≡ list_any (λ k. is_accepted_by text.now line.now (key k)) keys.now }
 {
@@ -30,7 +30,7 @@ fn is_trusted(text: &str, line: &SignatureLine, keys: &[Box<dyn Verifier>]) -> b
     false
 }
 
-/// Whether some line is a signature of one of the keys.
+/// Whether one of the keys accepts one of the lines.
 fn opens(text: &str, lines: &[SignatureLine], keys: &[Box<dyn Verifier>]) -> bool
     ensures { result ≡ list_any (λ line.
         list_any (λ k. is_accepted_by text.now line (key k)) keys.now) lines.now }
@@ -43,14 +43,14 @@ fn opens(text: &str, lines: &[SignatureLine], keys: &[Box<dyn Verifier>]) -> boo
     false
 }
 
-/// Whether the note is trusted: `Ok` exactly where some line and some key have equal name and id and the
-/// key accepts the line's signature over the text (C2SP signed-note, "Signatures"). Lines of unknown keys
-/// are ignored, and a line of a known key that the key does not accept is passed over. The keys may be of
-/// unlike kinds. Takes no memory.
+/// Whether the note is trusted (C2SP signed-note, "Signatures"). The result is `Ok` exactly if some
+/// line and some key have the same name and id, and the key accepts the line's signature over the
+/// text. Lines of unknown keys are ignored, and so are lines that their key does not accept. The
+/// keys may be of different kinds. The call allocates no memory.
 ///
 /// # Errors
 ///
-/// `NoTrustedSignature` where there is no such line and key.
+/// `NoTrustedSignature` if no key accepts a line.
 pub fn open_note(note: &Note, keys: &[Box<dyn Verifier>]) -> Result<(), OpenFault>
     ensures { IsOk result ↔ Opens note.now.text note.now.lines (map (λ k. key k) keys.now) }
 {

@@ -1,4 +1,4 @@
-//! The parts of a note: its text, and the lines of its signature part.
+//! The parts of a note: its text and its signature lines.
 
 ghost use Rattle.std.specs.Prelude.{◌≡◌, ℕ, ◌+◌, ◌<◌, ◌≤◌, List, length, IfSome, IfNone};
 ghost use Rattle.tlog_text.specs.Answers.{seen};
@@ -10,7 +10,7 @@ use crate::limits::MAX_NOTE_LEN;
 use crate::line::{SignatureLine, read_line};
 use std::alloc::Global;
 
-/// The last place at which two newlines stand together.
+/// The last position of two newlines in a row.
 fn blank_line(bytes: &[u8]) -> Option<usize>
     ensures found { IfSome result (λ at. IsBlank bytes.now at) }
     ensures last { IfSome result (λ at. (j : ℕ) → at < j → ¬ IsBlank bytes.now j) }
@@ -26,8 +26,8 @@ fn blank_line(bytes: &[u8]) -> Option<usize>
     None
 }
 
-/// The text of a note, its last newline with it, and its signature part: what stands round the last
-/// blank line.
+/// The text of a note, with its last newline, and the signature part: the parts before and after
+/// the last blank line.
 pub fn parts_of(whole: &str) -> Option<(&str, &str)>
     ensures found { IfSome result (λ x. IsNoteSplit whole.now x.0.now x.1.now) }
     ensures none { IfNone result ((text signed : List ℕ) → ¬ IsNoteSplit whole.now text signed) }
@@ -36,7 +36,7 @@ pub fn parts_of(whole: &str) -> Option<(&str, &str)>
     Some((&whole[..at + 1], &whole[at + 2..]))
 }
 
-/// How many lines a signature part has, a last line without its newline counted.
+/// The number of lines of a signature part. A last line without its newline counts.
 pub fn count_lines(signed: &[u8]) -> usize
     requires { length signed.now ≤ MAX_NOTE_LEN }
     ensures { result ≡ line_count signed.now }
@@ -53,7 +53,8 @@ pub fn count_lines(signed: &[u8]) -> usize
 ///
 /// # Errors
 ///
-/// `BadSignatureLine` where the part is not signature lines, each ended by a newline; `OutOfMemory`.
+/// `BadSignatureLine` if the part is not signature lines, each with its newline. `OutOfMemory` if
+/// memory was refused.
 pub fn read_lines(alloc: Global, signed: &str) -> Result<Vec<SignatureLine>, NoteFault>
     ensures { ReadsSignatureLines signed.now (seen (λ v. v.items) result) }
 {

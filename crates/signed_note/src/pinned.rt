@@ -17,15 +17,16 @@ use sha2::{Digest, Sha256};
 use std::alloc::Global;
 use std::marker::Model;
 
-/// The SHA-256 digests of texts that the operator verified elsewhere. The signature of a pinned text is
-/// not looked at, so that a note of a key that this crate cannot check, as of Ed25519, opens all the same.
+/// The SHA-256 digests of texts that the operator verified elsewhere. A pinned text is accepted
+/// under any signature. So a note opens even if this crate cannot check the signatures of its key,
+/// such as Ed25519.
 ///
 /// # Examples
 ///
-/// `PinnedTexts::new(alloc, "ex", 1, digests)?`, where `digests` has the SHA-256 of a text, accepts that
-/// text under any signature.
+/// If `digests` has the SHA-256 of a text, `PinnedTexts::new(alloc, "ex", 1, digests)?` accepts
+/// that text under any signature.
 ///
-/// The digests are kept sorted: a text is hashed once, however many are pinned.
+/// The digests are sorted. A text is hashed once, for any number of pins.
 #[derive(Debug, Drop)]
 pub struct PinnedTexts {
     pub(crate) name: String,
@@ -48,7 +49,7 @@ impl Model for PinnedTexts {
     ghost invariant = { λ k. IsOwnName (string_bytes k.name) × IsSorted (slice_cmp nat_cmp) k.digests.items };
 }
 
-/// Whether the digest is one of these, which are sorted.
+/// Whether the digest is one of the sorted digests.
 fn lists(digests: &[[u8; 32]], digest: &[u8; 32]) -> bool
     requires { IsSorted (slice_cmp nat_cmp) digests.now }
     ensures { result ≡ list_any (λ d. bytes_eq d digest.now) digests.now }
@@ -57,7 +58,7 @@ fn lists(digests: &[[u8; 32]], digest: &[u8; 32]) -> bool
 }
 
 impl PinnedTexts {
-    // The pins of a name that a key may have. Sorting takes no memory.
+    // The pins of a name that a key may have. Sorting allocates no memory.
     pub(crate) fn of_parts(name: String, id: u32, digests: Vec<[u8; 32]>) -> PinnedTexts
         requires { IsOwnName (string_bytes name) }
         ensures { ArePins (string_bytes name) id digests.items result }
@@ -67,12 +68,12 @@ impl PinnedTexts {
         PinnedTexts { name, id, digests }
     }
 
-    /// Pins under that name and id.
+    /// Pins with that name and id.
     ///
     /// # Errors
     ///
-    /// `BadName` where the name is empty, has over 255 bytes, or has Unicode white space, a plus or a
-    /// character below U+0020; `OutOfMemory`. It is never `BadSecret`.
+    /// `BadName` if the name is empty, has over 255 bytes, or has Unicode white space, a plus or a
+    /// character below U+0020. `OutOfMemory` if memory was refused. `BadSecret` is never returned.
     pub fn new(
         alloc: Global,
         name: &str,

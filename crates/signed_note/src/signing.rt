@@ -1,4 +1,4 @@
-//! Making notes.
+//! Makes signed notes.
 
 ghost use Rattle.std.specs.Prelude.{◌≡◌, [], ◌∷◌, ◌++◌, IfOk, OnOk, string_bytes};
 ghost use Rattle.tlog_text.specs.Hash.{base64_of};
@@ -14,7 +14,7 @@ use base64::engine::general_purpose::STANDARD;
 use byteorder::{BigEndian, ByteOrder};
 use std::alloc::{AllocError, Global};
 
-/// The key id of four bytes, the highest first, and the signature.
+/// The key id in four bytes, big-endian, and the signature.
 fn payload_of(id: u32, signature: &[u8; 32]) -> [u8; 36]
     ensures { result ≡ big_bytes 4 id ++ signature.now }
 {
@@ -24,7 +24,7 @@ fn payload_of(id: u32, signature: &[u8; 32]) -> [u8; 36]
     payload
 }
 
-/// The base64 of the bytes.
+/// The standard base64 of the bytes.
 #[tactic(auto, unfolding(tlog_text::specs::Hash::base64_of))]
 fn encoded_of(alloc: Global, bytes: &[u8]) -> Result<String, AllocError>
     ensures { IfOk result (λ t. string_bytes t ≡ base64_of bytes.now) }
@@ -32,18 +32,18 @@ fn encoded_of(alloc: Global, bytes: &[u8]) -> Result<String, AllocError>
     STANDARD.encode(alloc, bytes)
 }
 
-/// A text, a blank line, and the line of a name and a base64.
+/// A text, a blank line, and a signature line with that name and base64.
 fn note_of(alloc: Global, text: &str, name: &str, encoded: &str) -> Result<String, AllocError>
     ensures { IfOk result (λ t. string_bytes t ≡ note_of_line text.now name.now encoded.now) }
 {
     format!(in alloc; "{text}\n\u{2014} {name} {encoded}\n")
 }
 
-/// Signs a text: a note of the text and one line, with the key's name, its id and its mac of the text.
-/// The note opens under the key.
+/// Signs a text. The note has the text and one signature line: the name of the key, its id and its
+/// MAC of the text. The note opens under the key.
 ///
-/// The text is at most 900,000 bytes, ends in a newline and has no character below U+0020 other than
-/// newline.
+/// The text must have at most 900,000 bytes, end in a newline and have no character below U+0020
+/// other than newline.
 ///
 /// # Errors
 ///

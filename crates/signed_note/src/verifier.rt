@@ -1,16 +1,16 @@
-//! What checks signatures.
+//! Verifiers: they check signatures.
 
-/// A verifier of notes: a key's name and id, and which signatures it accepts over which texts (C2SP
-/// signed-note, "Signatures"). Lists of verifiers of unlike kinds are held as `Box<dyn Verifier>`,
-/// which the caller makes. None of the calls takes memory.
+/// A verifier of notes: the name and id of a key, and the test whether it accepts a signature over
+/// a text (C2SP signed-note, "Signatures"). The caller makes each verifier a `Box<dyn Verifier>`,
+/// so that a list may have different kinds. The calls allocate no memory.
 pub trait Verifier: Drop {
     ghost use Rattle.std.specs.Prelude.{◌≡◌};
     ghost use Rattle.signed_note.specs.Keys.{Key};
 
-    /// What contracts know of the verifier.
+    /// The model of the verifier in contracts.
     ghost key: { Self → Key };
 
-    /// The key's name, as it stands in signature lines.
+    /// The name of the key, as in signature lines.
     fn name(&self) -> &str
         ensures { result.now ≡ (key self.now).name };
 

@@ -1,4 +1,4 @@
--- What reading answers, from what its steps answer.
+-- The answer of reading, from the answers of its steps.
 use Rattle.std.proofs.Common.{◌≡◌, ◌≢◌, ℕ, suc, ◌-◌, ◌<◌, ◌≤◌, ◌==◌, ◌||◌, Bool, true, false, List, [], ◌∷◌, length}
 use Rattle.std.proofs.Common.{map, take, drop, get_or, Result, Ok, Err, refl, sym, ◌∙◌, ap, subst, arith, inl, inr}
 use Rattle.std.specs.List.{AllByRecursion, Contains, list_any}
@@ -14,7 +14,7 @@ use Rattle.tlog_checkpoint.specs.Parts.{ReadsFields}
 use Rattle.tlog_checkpoint.specs.Reading.{ReadsCheckpoint, HasTooFewLines, HasEmptyLine}
 use Rattle.tlog_checkpoint.proofs.LineLemmas.{one_lines}
 
--- a list of no length is empty
+-- a list of length 0 is empty
 nil_from_test : (line : List ℕ) → (length line == 0) ≡ true → line ≡ []
 nil_from_test [] h = refl
 nil_from_test (b ∷ bs) h = absurd (omega (arith, eqb-true (length (b ∷ bs)) 0 h))
@@ -33,7 +33,7 @@ module _ {R : Type 0} (now : R → List ℕ) where
   abbrev has_empty : List R → Bool
   has_empty refs = list_any (λ r. length (now r) == 0) refs
 
-  -- the empty line that was found
+  -- an empty line was found
   empty_among : (refs : List R) → has_empty refs ≡ true → Contains (map now refs) []
   empty_among [] h = absurd cc
   empty_among (r ∷ refs) h = elim (cases_Bool (length (now r) == 0)) [
@@ -43,7 +43,7 @@ module _ {R : Type 0} (now : R → List ℕ) where
         (suc more.0, omega arith, more.2)
   ]
 
-  -- none is empty where none was found
+  -- no line is empty if none was found
   all_full : (refs : List R) → has_empty refs ≡ false → AllByRecursion IsTextLine (map now refs) →
       AllByRecursion IsFullLine (map now refs)
   all_full [] h lines = tt
@@ -51,7 +51,7 @@ module _ {R : Type 0} (now : R → List ℕ) where
       let parts = or_false (length (now r) == 0) (has_empty refs) h in
       (record { not_empty = λ none. full (now r) parts.0 none; is_line = lines.0 }, all_full refs parts.1 lines.1)
 
--- the first three items, and the others
+-- the first three items, followed by the others
 first_three : {R : Type 0} (d : R) (xs : List R) → 3 ≤ length xs →
     xs ≡ get_or xs 0 d ∷ get_or xs 1 d ∷ get_or xs 2 d ∷ take (length xs - 3) (drop 3 xs)
 first_three d [] h = absurd (omega arith)
@@ -60,7 +60,7 @@ first_three d (x ∷ y ∷ []) h = absurd (omega arith)
 first_three {R = R} d (x ∷ y ∷ z ∷ xs) h =
     ap (λ (rest : List R). x ∷ y ∷ z ∷ rest) (sym (take_all (length (x ∷ y ∷ z ∷ xs) - 3) xs (omega arith)))
 
--- what the fields' lines answer is what the text answers
+-- the answer for the lines of the fields is the answer for the text
 from_fields : (text o s r : List ℕ) (e : List (List ℕ)) (a : Result Checkpoint CheckpointFault) →
     HasFields text o s r e → ReadsFields o s r e a → ReadsCheckpoint text a
 from_fields text o s r e (Ok c) h is =
@@ -105,13 +105,13 @@ from_fields text o s r e (Err BadRoot) h is =
     }
 from_fields text o s r e (Err OutOfMemory) h is = tt
 
--- a text of fewer than three lines
+-- the text has fewer than three lines
 pub few_lines : (text : List ℕ) (found : List (List ℕ)) → HasLines text found → length found < 3 → HasTooFewLines text
 few_lines text found h few lines is = let same : lines ≡ found = one_lines text lines found is h in rw same few
 
 module _ {R : Type 0} (now : R → List ℕ) (text : List ℕ) (refs : List R) (lines : HasLines text (map now refs))
     (enough : 3 ≤ length refs) where
-  -- a text with an empty line
+  -- the text has an empty line
   pub empty_line : has_empty now refs ≡ true → HasEmptyLine text
   empty_line h =
       record {
@@ -122,7 +122,7 @@ module _ {R : Type 0} (now : R → List ℕ) (text : List ℕ) (refs : List R) (
         has_empty = empty_among now refs h;
       }
 
-  -- a text with none
+  -- the text has no empty line
   pub no_empty_line : (d : R) (a : Result Checkpoint CheckpointFault) → has_empty now refs ≡ false
       → ReadsFields (now (get_or refs 0 d)) (now (get_or refs 1 d)) (now (get_or refs 2 d))
       (map now (take (length refs - 3) (drop 3 refs))) a → ReadsCheckpoint text a

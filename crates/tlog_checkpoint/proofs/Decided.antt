@@ -1,4 +1,4 @@
--- Each text is a checkpoint, or refused for one of the reasons that the refusals name.
+-- Each text is a checkpoint, or one of the refusals applies to it.
 use Rattle.std.proofs.Common.{◌≡◌, ◌≢◌, ℕ, ◌+◌, ◌-◌, ◌==◌, ◌⊎◌, List, [], ◌∷◌, ◌++◌, length, map, take, drop, get_or}
 use Rattle.std.proofs.Common.{Result, Ok, Err, refl, ap, arith, inl, inr, lit<}
 use Rattle.std.specs.List.{list_any}
@@ -17,7 +17,7 @@ use Rattle.tlog_text.proofs.Decided.{number_decided, hash_decided}
 use Rattle.tlog_shape.specs.declared.TheConstants.{MAX_SIZE}
 use Rattle.tlog_checkpoint.proofs.Answered.{few_lines, empty_line, no_empty_line}
 
--- a text ends in a newline or does not
+-- the text ends in a newline
 EndsInNewline : List ℕ → Type 0
 EndsInNewline text = (body : List ℕ) × (text ≡ body ++ 10 ∷ [])
 
@@ -49,7 +49,7 @@ end_decided (b ∷ c ∷ rest) = elim (end_decided (c ∷ rest)) [
   | inr none ↦ inr (newline_more b (c ∷ rest) (λ is. cc is) none)
 ]
 
--- an answer other than OutOfMemory
+-- the fields have an answer other than OutOfMemory
 FieldsAnswered : List ℕ → List ℕ → List ℕ → List (List ℕ) → Type 0
 FieldsAnswered o s r e = (a : Result Checkpoint CheckpointFault) × (a ≢ Err OutOfMemory) × ReadsFields o s r e a
 

@@ -1,4 +1,4 @@
--- A text and its lines: cutting the text at its newlines and ending each line with one undo each other.
+-- Cutting a text at its newlines is the reverse of ending each line with a newline.
 use Rattle.std.proofs.Common.{◌≡◌, ◌≢◌, ℕ, Bool, true, false, not, List, [], ◌∷◌, ◌++◌, refl, sym, ◌∙◌, ap}
 use Rattle.std.proofs.Common.{append_assoc, inl, inr}
 use Rattle.std.specs.List.{list_all, AllByRecursion, slice_split, onto_first}
@@ -6,12 +6,12 @@ use Rattle.std.proofs.lemmas.List.{append_cancel_right}
 use Rattle.std.proofs.lemmas.Bool.{cases_Bool, eqb-true, and_parts}
 use Rattle.tlog_checkpoint.specs.Lines.{is_newline, ended, text_of, IsTextLine, HasLines}
 
--- a byte that is no newline
+-- the byte is not a newline
 not_true : (b : Bool) → not b ≡ true → b ≡ false
 not_true true h = absurd cc
 not_true false h = refl
 
--- the first line is cut off at its newline
+-- a cut at the newline splits off the first line
 split_first : (line rest : List ℕ) → IsTextLine line →
     slice_split is_newline (line ++ 10 ∷ rest) ≡ line ∷ slice_split is_newline rest
 split_first [] rest h = refl
@@ -22,7 +22,7 @@ split_first (b ∷ bs) rest h =
     split_first bs rest parts.1 in
     rw (here, later) refl
 
--- the parts of a text of lines are the lines, and nothing after the last newline
+-- the parts of a text of lines are the lines, and an empty part after the last newline
 pub split-text_of : (lines : List (List ℕ)) → AllByRecursion IsTextLine lines →
     slice_split is_newline (text_of lines) ≡ lines ++ [] ∷ []
 split-text_of [] h = refl
@@ -30,14 +30,14 @@ split-text_of (line ∷ lines) h =
     rw (append_assoc line (10 ∷ []) (text_of lines))
     (split_first line (text_of lines) h.0 ∙ ap (λ (x : List (List ℕ)). line ∷ x) (split-text_of lines h.1))
 
--- a text is one list of lines at most
+-- a text has at most one list of lines
 pub one_lines : (text : List ℕ) (a b : List (List ℕ)) → HasLines text a → HasLines text b → a ≡ b
 one_lines text a b p q =
     append_cancel_right a b ([] ∷ [])
     (sym (split-text_of a p.are_lines) ∙ ap (slice_split is_newline) (sym p.is_text ∙ q.is_text) ∙
     split-text_of b q.are_lines)
 
--- what stands before the first cut gains a byte
+-- the first part gains a byte at its start
 text_of-onto_first : (b : ℕ) (parts : List (List ℕ)) (body : List ℕ) → text_of parts ≡ body ++ 10 ∷ [] →
     text_of (onto_first b parts) ≡ b ∷ body ++ 10 ∷ []
 text_of-onto_first b [] [] h = absurd cc
@@ -49,7 +49,7 @@ are_lines-onto_first : (b : ℕ) (parts : List (List ℕ)) → is_newline b ≡ 
 are_lines-onto_first b [] h p = (rw h refl, tt)
 are_lines-onto_first b (part ∷ parts) h p = (rw h p.0, p.1)
 
--- the parts of a text are the lines of that text with a newline at its end
+-- the parts of a text are the lines of that text with a newline added
 pub text_of-split : (body : List ℕ) → text_of (slice_split is_newline body) ≡ body ++ 10 ∷ []
 text_of-split [] = refl
 text_of-split (b ∷ bs) = elim (cases_Bool (is_newline b)) [
@@ -66,11 +66,11 @@ are_lines-split (b ∷ bs) = elim (cases_Bool (is_newline b)) [
   | inr kept ↦ rw kept (are_lines-onto_first b (slice_split is_newline bs) kept (are_lines-split bs))
 ]
 
--- the lines of a text that ends in a newline
+-- a text that ends in a newline has lines
 pub lines_of_body : (text body : List ℕ) → text ≡ body ++ 10 ∷ [] → HasLines text (slice_split is_newline body)
 lines_of_body text body h = record { is_text = h ∙ sym (text_of-split body); are_lines = are_lines-split body }
 
--- lines end in a newline
+-- a text of one or more lines ends in a newline
 ends_in_newline : (line : List ℕ) (lines : List (List ℕ)) →
     (front : List ℕ) × (text_of (line ∷ lines) ≡ front ++ 10 ∷ [])
 ends_in_newline line [] = (line, rw (append_assoc line (10 ∷ []) []) refl)
@@ -80,7 +80,7 @@ ends_in_newline line (next ∷ lines) =
       ap (λ (x : List ℕ). ended line ++ x) more.1 ∙ sym (append_assoc (ended line) more.0 (10 ∷ [])),
     )
 
--- a text that ends in no newline has no lines
+-- a text that does not end in a newline has no lines
 pub no_lines : (text : List ℕ) → ((front : List ℕ) → text ≢ front ++ 10 ∷ []) → (lines : List (List ℕ)) →
     HasLines text lines → lines ≡ []
 no_lines text none [] h = refl

@@ -1,4 +1,4 @@
--- One text has one answer: no two of the ways to answer it fit together.
+-- One text has one answer: two different answers never apply to it.
 use Rattle.std.proofs.Common.{◌≡◌, ◌≢◌, ℕ, zero, suc, ◌<◌, ◌≤◌, List, [], ◌∷◌, length, Result, IfOk, get_or, Ok, Err}
 use Rattle.std.proofs.Common.{refl, sym, ◌∙◌, subst, arith, ◌⊎◌, inl, inr}
 use Rattle.std.specs.List.{AllByRecursion, Contains}
@@ -17,18 +17,18 @@ use Rattle.tlog_checkpoint.specs.Laws.{OneCheckpointAnswer, TextIsOneCheckpoint}
 use Rattle.tlog_checkpoint.proofs.LineLemmas.{one_lines}
 use Rattle.tlog_checkpoint.proofs.Uniqueness.{reads_writable, lines_from_fields, one_fields}
 
--- among full lines is no empty one
+-- full lines include no empty line
 none_empty : (lines : List (List ℕ)) → AllByRecursion IsFullLine lines → (k : ℕ) → k < length lines →
     get_or lines k [] ≡ [] → ⊥
 none_empty [] h k lt is = omega arith
 none_empty (line ∷ lines) h zero lt is = h.0.not_empty is
 none_empty (line ∷ lines) h (suc k) lt is = none_empty lines h.1 k (omega arith) is
 
--- an answer behind a test: the refusal where it fails, or one of those where it holds
+-- the answer after a test: the refusal if the test fails, or another answer if it holds
 abbrev Behind : {Y : Type 0} → Y → Type 0 → (Y → Type 0) → Y → Type 0
 Behind refusal Fails Holds a = ((a ≡ refusal) × Fails) ⊎ Holds a
 
--- answers behind a test are the same where those are for which it holds
+-- two answers after a test are equal, if the answers for which the test holds are equal
 one_behind : {Y : Type 0} (refusal : Y) (Fails : Type 0) (Holds : Y → Type 0) →
     ((c : Y) → Fails → Holds c → ⊥) → (a b : Y) → (Holds a → Holds b → a ≡ b) → Behind refusal Fails Holds a →
     Behind refusal Fails Holds b → a ≡ b
@@ -40,7 +40,7 @@ one_behind refusal Fails Holds apart a b next (inr p) (inr q) = next p q
 abbrev Reading : Type 0
 Reading = Result Checkpoint CheckpointFault
 
--- what the lines of the fields answer: by a test of the size, one of its range, and one of the root
+-- the answer for the lines of the fields, by tests of the size, its range and the root
 module _ (o s r : List ℕ) (e : List (List ℕ)) where
   abbrev Rooted : ℕ → Reading → Type 0
   Rooted n a =
@@ -70,7 +70,7 @@ module _ (o s r : List ℕ) (e : List (List ℕ)) where
       (one_range p.0 a b) p.2 (rw same at q.2)
 
 module _ (text : List ℕ) where
-  -- the text has fields, and the answer is theirs
+  -- the text has fields, and this is their answer
   abbrev Full : Reading → Type 0
   Full a =
       (o : List ℕ) × (s : List ℕ) × (r : List ℕ) × (e : List (List ℕ)) × HasFields text o s r e × OfFields o s r e a
@@ -130,12 +130,12 @@ one_reading text a b p q =
     let same : Ok a ≡ Ok b = one_answer text (Ok a) (Ok b) (λ is. cc is) (λ is. cc is) p q in
     cc same
 
--- a checkpoint's text is read as that checkpoint
+-- the text of a checkpoint is read as that checkpoint
 pub only : (text : List ℕ) (a : Result Checkpoint CheckpointFault) → ReadsCheckpoint text a → (c : Checkpoint) →
     IsCheckpoint text c.origin c.size c.root c.extensions → a ≢ Err OutOfMemory → a ≡ Ok c
 only text a p c q other = one_answer text a (Ok c) other (λ is. cc is) p q
 
--- what is read can be written
+-- a checkpoint that was read can be written
 pub ok_writable : (text : List ℕ) (a : Result Checkpoint CheckpointFault) → ReadsCheckpoint text a →
     IfOk a IsWritableCheckpoint
 ok_writable text (Ok c) p = reads_writable text c p

@@ -1,4 +1,4 @@
--- One text, one checkpoint: the grammar's laws.
+-- The grammar gives a text at most one checkpoint.
 use Rattle.std.proofs.Common.{◌≡◌, ℕ, ◌<◌, ◌^◌, arith, List, [], ◌∷◌, refl, sym, ◌∙◌}
 use Rattle.std.specs.List.{AllByRecursion}
 use Rattle.tlog_checkpoint.specs.Lines.{HasLines, text_of, IsTextLine}
@@ -11,12 +11,12 @@ are_lines : (lines : List (List ℕ)) → AllByRecursion IsFullLine lines → Al
 are_lines [] h = tt
 are_lines (line ∷ lines) h = (h.0.is_line, are_lines lines h.1)
 
--- fields are lines
+-- the fields are the lines of the text
 pub lines_from_fields : (text o s r : List ℕ) (e : List (List ℕ)) → HasFields text o s r e →
     HasLines text (o ∷ s ∷ r ∷ e)
 lines_from_fields text o s r e h = record { is_text = h.is_text; are_lines = are_lines (o ∷ s ∷ r ∷ e) h.are_full }
 
--- the fields of a text are one list
+-- a text has only one list of fields
 pub record SameFields (o s r : List ℕ) (e : List (List ℕ)) (o' s' r' : List ℕ) (e' : List (List ℕ)) : Type 0 where
   pub origin : o ≡ o'
   pub size : s ≡ s'

@@ -1,4 +1,4 @@
--- What is written is a checkpoint's text: the lines of its fields are lines, and not empty.
+-- The written text is that of the checkpoint: its fields are lines and not empty.
 use Rattle.std.proofs.Common.{◌≡◌, ◌≢◌, ℕ, ◌<◌, List, [], ◌∷◌, ◌++◌, length, refl, sym, ◌∙◌, ap, subst, arith}
 use Rattle.std.proofs.Common.{append_assoc}
 use Rattle.tlog_checkpoint.specs.declared.Checkpoint.{Checkpoint}
@@ -23,7 +23,7 @@ root_full line root is =
     let some : 0 < length line = omega (arith, ap length is.is_base64, length-hash root is.is_hash) in
     record { not_empty = some_full line some; is_line = subst IsTextLine (sym is.is_base64) (base64_lacks_newline root) }
 
--- a text that was made line by line
+-- the text was made line by line
 pub joined_lines : (one two three text origin size root : List ℕ) (extensions : List (List ℕ)) → one ≡ ended origin →
     two ≡ one ++ ended size → three ≡ two ++ ended root → text ≡ three ++ text_of extensions
     → text ≡ text_of (origin ∷ size ∷ root ∷ extensions)
@@ -32,7 +32,7 @@ joined_lines one two three text o s r e a b c d =
     (append_assoc (ended o ++ ended s) (ended r) (text_of e) ∙
     append_assoc (ended o) (ended s) (ended r ++ text_of e)))
 
--- the text of a checkpoint's lines
+-- the text of a checkpoint's lines is the text of the checkpoint
 pub written : (text size root : List ℕ) (c : Checkpoint) → IsWritableCheckpoint c → IsDecimal size c.size →
     IsHashText root c.root
     → text ≡ text_of (c.origin ∷ size ∷ root ∷ c.extensions) → IsCheckpoint text c.origin c.size c.root c.extensions

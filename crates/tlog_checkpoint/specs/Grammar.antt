@@ -1,5 +1,5 @@
--- The grammar of a checkpoint's text (C2SP tlog-checkpoint, "Note text"), as a relation between a
--- whole text and what it says.
+-- The grammar of a checkpoint's text (C2SP tlog-checkpoint, "Note text"): a relation between a
+-- whole text and its values.
 use Rattle.std.specs.Prelude.{◌≡◌, ◌≢◌, ℕ, ◌≤◌, List, [], ◌∷◌}
 use Rattle.std.specs.List.{AllByRecursion}
 use Rattle.tlog_shape.specs.declared.TheConstants.{MAX_SIZE}
@@ -13,12 +13,12 @@ pub record IsFullLine (line : List ℕ) : Type 0 where
   pub not_empty : line ≢ []
   pub is_line : IsTextLine line
 
--- The text is at least three lines, and none of its lines is empty.
+-- The text has at least three lines, and no line is empty.
 pub record HasFields (text origin size root : List ℕ) (extensions : List (List ℕ)) : Type 0 where
   pub is_text : text ≡ text_of (origin ∷ size ∷ root ∷ extensions)
   pub are_full : AllByRecursion IsFullLine (origin ∷ size ∷ root ∷ extensions)
 
--- The text is the checkpoint of this origin, size, root and these extension lines.
+-- The text is the checkpoint with this origin, size, root and list of extension lines.
 pub record IsCheckpoint (text origin : List ℕ) (size : ℕ) (root : List ℕ)
     (extensions : List (List ℕ)) : Type 0 where
   pub size_line : List ℕ
@@ -28,7 +28,8 @@ pub record IsCheckpoint (text origin : List ℕ) (size : ℕ) (root : List ℕ)
   pub in_range : size ≤ MAX_SIZE
   pub has_root : IsHashText root_line root
 
--- What can be written: an origin and extensions that are lines and not empty, and a size in range.
+-- The checkpoint can be written: its origin and extensions are lines and not empty, and its size is
+-- in range.
 pub record IsWritableCheckpoint (checkpoint : Checkpoint) : Type 0 where
   pub origin : IsFullLine checkpoint.origin
   pub size : checkpoint.size ≤ MAX_SIZE

@@ -1,4 +1,4 @@
--- What the grammar of checkpoints says, as laws of its definitions.
+-- Laws of the grammar of checkpoints.
 use Rattle.std.specs.Prelude.{◌≡◌, ◌≢◌, ℕ, List, Result, Err}
 use Rattle.tlog_checkpoint.specs.declared.Checkpoint.{Checkpoint}
 use Rattle.tlog_checkpoint.specs.declared.fault.CheckpointFault.{CheckpointFault}
@@ -8,25 +8,25 @@ use Rattle.tlog_text.specs.Hash.{Is32Bytes}
 use Rattle.tlog_checkpoint.specs.Grammar.{IsCheckpoint, IsWritableCheckpoint}
 use Rattle.tlog_checkpoint.specs.Reading.{ReadsCheckpoint}
 
--- a text is one checkpoint at most
+-- a text is at most one checkpoint
 abbrev pub TextIsOneCheckpoint : Type 0
 TextIsOneCheckpoint =
     (text : List ℕ) (a b : Checkpoint) → IsCheckpoint text a.origin a.size a.root a.extensions →
     IsCheckpoint text b.origin b.size b.root b.extensions → a ≡ b
 
--- a checkpoint has one text at most
+-- a checkpoint has at most one text
 abbrev pub CheckpointHasOneText : Type 0
 CheckpointHasOneText =
     (s t origin : List ℕ) (size : ℕ) (root : List ℕ) (extensions : List (List ℕ)) →
     IsCheckpoint s origin size root extensions → IsCheckpoint t origin size root extensions → s ≡ t
 
--- what a text is can be written
+-- a checkpoint with a text can be written
 abbrev pub WhatIsReadIsWritable : Type 0
 WhatIsReadIsWritable =
     (text : List ℕ) (c : Checkpoint) → IsCheckpoint text c.origin c.size c.root c.extensions →
     IsWritableCheckpoint c
 
--- two answers to one text other than OutOfMemory are the same
+-- reading a text has one answer, apart from OutOfMemory
 abbrev pub OneCheckpointAnswer : Type 0
 OneCheckpointAnswer = HasOneAnswer OutOfMemory ReadsCheckpoint
 
@@ -36,7 +36,7 @@ EachTextHasAnswer =
     (text : List ℕ) →
     (a : Result Checkpoint CheckpointFault) × (a ≢ Err OutOfMemory) × ReadsCheckpoint text a
 
--- what can be written, with a hash of 32 bytes, has a text
+-- a checkpoint that can be written has a text, if its root is a hash of 32 bytes
 abbrev pub EachWritableHasText : Type 0
 EachWritableHasText =
     (c : Checkpoint) → IsWritableCheckpoint c → Is32Bytes c.root →

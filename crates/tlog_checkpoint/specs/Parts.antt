@@ -1,5 +1,5 @@
--- What the steps of reading a checkpoint answer. `ReadsCheckpointLines` and `ReadsFields` are cited
--- by the contracts of private functions alone.
+-- The answers of the steps that read a checkpoint. Only contracts of private functions cite
+-- `ReadsCheckpointLines` and `ReadsFields`.
 use Rattle.std.specs.Prelude.{◌≡◌, ℕ, ◌<◌, ◌≤◌, List, [], Result, Ok, Err, ⊤}
 use Rattle.tlog_shape.specs.declared.TheConstants.{MAX_SIZE}
 use Rattle.tlog_checkpoint.specs.declared.Checkpoint.{Checkpoint}
@@ -11,7 +11,7 @@ use Rattle.tlog_checkpoint.specs.Lines.{HasLines}
 use Rattle.tlog_text.specs.Number.{IsDecimal}
 use Rattle.tlog_text.specs.Hash.{IsHashText}
 
--- the lines of a text, also where they are few or empty
+-- the lines of a text, even if they are few or empty
 abbrev pub ReadsCheckpointLines : List ℕ → Result (List (List ℕ)) CheckpointFault → Type 0
 ReadsCheckpointLines text (Ok lines) = HasLines text lines
 ReadsCheckpointLines text (Err TooFewLines) =
@@ -22,7 +22,7 @@ ReadsCheckpointLines text (Err SizeTooLarge) = ⊥
 ReadsCheckpointLines text (Err BadRoot) = ⊥
 ReadsCheckpointLines text (Err OutOfMemory) = ⊤
 
--- the number of a size's line
+-- the number on the line of the size
 abbrev pub ReadsSize : List ℕ → Result ℕ CheckpointFault → Type 0
 ReadsSize line (Ok n) = IsDecimal line n × (n ≤ MAX_SIZE)
 ReadsSize line (Err BadSize) = (n : ℕ) → ¬ IsDecimal line n
@@ -32,7 +32,7 @@ ReadsSize line (Err EmptyLine) = ⊥
 ReadsSize line (Err BadRoot) = ⊥
 ReadsSize line (Err OutOfMemory) = ⊥
 
--- the hash of a root's line
+-- the hash on the line of the root
 abbrev pub ReadsRoot : List ℕ → Result (List ℕ) CheckpointFault → Type 0
 ReadsRoot line (Ok root) = IsHashText line root
 ReadsRoot line (Err BadRoot) = (root : List ℕ) → ¬ IsHashText line root
@@ -42,7 +42,7 @@ ReadsRoot line (Err BadSize) = ⊥
 ReadsRoot line (Err SizeTooLarge) = ⊥
 ReadsRoot line (Err OutOfMemory) = ⊥
 
--- the checkpoint of these lines, none of which is empty
+-- the checkpoint of these lines, if no line is empty
 abbrev pub ReadsFields :
     List ℕ → List ℕ → List ℕ → List (List ℕ) → Result Checkpoint CheckpointFault → Type 0
 ReadsFields origin size root extensions (Ok c) =

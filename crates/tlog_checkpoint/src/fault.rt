@@ -1,4 +1,4 @@
-//! Why a text is no checkpoint.
+//! Why a text is not a checkpoint.
 
 ghost use Rattle.std.specs.Prelude.{◌≡◌};
 ghost use Rattle.tlog_checkpoint.specs.declared.fault.CheckpointFault.TheVariants.{OutOfMemory};
@@ -6,8 +6,8 @@ ghost use Rattle.tlog_checkpoint.specs.declared.fault.CheckpointFault.TheVariant
 use std::alloc::{AllocError, AllocFailed};
 use thiserror::Error;
 
-/// Why a text was not read as a checkpoint. Of those that apply, the first in this order is
-/// answered; `OutOfMemory` may come before any of them.
+/// Why a text was refused as a checkpoint. The first fault that applies, in this order, is
+/// returned; `OutOfMemory` may come before any of them.
 #[derive(Debug, Drop, PartialEq, Eq, Clone, Copy, Error)]
 pub enum CheckpointFault {
     /// The text has fewer than three lines, or bytes after its last newline.

@@ -7,7 +7,7 @@ use tlog_hash::Hash;
 use tlog_shape::MAX_SIZE;
 use tlog_text::{NumberFault, read_hash, read_number};
 
-/// The size that the line gives in decimal digits, however many they are.
+/// The size that the line gives in decimal digits, however many there are.
 pub fn size_of(line: &str) -> Result<u64, CheckpointFault>
     ensures { ReadsSize line.now result }
 {

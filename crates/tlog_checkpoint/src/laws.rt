@@ -1,25 +1,25 @@
-//! What the grammar of checkpoints says, as laws of the definitions that the contracts cite.
+//! Laws of the grammar of checkpoints, for the definitions that the contracts cite.
 //!
-//! A law is the contract of a function with an empty body: the proof is all that there is of it.
+//! A law is a function with an empty body: only its contract counts.
 ghost use Rattle.tlog_checkpoint.specs.Laws.{TextIsOneCheckpoint, CheckpointHasOneText, WhatIsReadIsWritable, OneCheckpointAnswer, EachTextHasAnswer, EachWritableHasText};
 
-/// A text is one checkpoint at most, so a text that `write` wrote is read as what was written.
+/// A text is at most one checkpoint. So a text that `write` wrote is read as the same checkpoint.
 pub fn one_reading_law()
     ensures { TextIsOneCheckpoint }
 {}
 
-/// A checkpoint has one text at most, so what was read is written back byte by byte.
+/// A checkpoint has at most one text. So a checkpoint that was read is written as the same bytes.
 pub fn one_text_law()
     ensures { CheckpointHasOneText }
 {}
 
-/// What a text is read as can be written.
+/// A checkpoint that was read can be written.
 pub fn writable_law()
     ensures { WhatIsReadIsWritable }
 {}
 
-/// Two answers to one text are the same, `OutOfMemory` apart: a checkpoint's text is never
-/// refused, and each other text has one refusal, the first that applies.
+/// Reading a text has one answer, apart from `OutOfMemory`. The text of a checkpoint is never
+/// refused, and any other text has one refusal, the first that applies.
 pub fn one_answer_law()
     ensures { OneCheckpointAnswer }
 {}
@@ -30,7 +30,7 @@ pub fn each_answered_law()
     ensures { EachTextHasAnswer }
 {}
 
-/// What can be written has a text.
+/// A checkpoint that can be written has a text, if its root is a hash of 32 bytes.
 pub fn written_law()
     ensures { EachWritableHasText }
 {}

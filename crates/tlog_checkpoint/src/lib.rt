@@ -1,14 +1,14 @@
-//! Checkpoints of a transparency log: their text, read and written exactly (C2SP tlog-checkpoint,
-//! "Note text").
+//! Reads and writes the text of a checkpoint of a transparency log, byte for byte (C2SP
+//! tlog-checkpoint, "Note text").
 //!
-//! The text is lines that each end in a newline:
+//! The text has these lines, and each ends in a newline:
 //!
 //! 1. the origin, which names the log;
 //! 2. the size of the tree, in ASCII decimal digits without leading zeros;
 //! 3. the root hash of the tree, in standard base64 (RFC 4648, section 4) with padding;
-//! 4. any number of extension lines, which nobody has to understand.
+//! 4. any number of extension lines, which a reader may ignore.
 //!
-//! No line is empty. `read` takes exactly such texts, and `write` writes the one text of a
+//! No line is empty. `read` accepts exactly such texts. `write` writes the only text of a
 //! checkpoint.
 //!
 //! ```text
@@ -35,15 +35,15 @@ pub use text::{Line, Lines};
 use tlog_hash::Hash;
 pub use writing::write;
 
-/// What a checkpoint says of its log.
+/// A checkpoint: the size and root of a log's tree.
 #[derive(Debug, Drop, PartialEq, Eq)]
 pub struct Checkpoint {
     /// The name of the log: one line, without its newline.
     pub origin: Line,
-    /// How many entries the log has.
+    /// The number of entries of the log.
     pub size: u64,
     /// The root hash of the tree of those entries.
     pub root: Hash,
-    /// The lines after the root, without their newlines, in the text's order.
+    /// The lines after the root, in order and without their newlines.
     pub extensions: Lines,
 }

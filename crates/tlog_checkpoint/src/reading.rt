@@ -1,4 +1,4 @@
-//! Checkpoints read from their text.
+//! Reads checkpoints from text.
 
 ghost use Rattle.std.specs.Prelude.{◌≡◌, ◌==◌, ◌≢◌, ℕ, List, Ok, Err, [], ◌∷◌, ◌++◌, length, map, IfOk, MatchOption};
 ghost use Rattle.std.specs.List.{list_any, slice_split};
@@ -15,7 +15,7 @@ use crate::fields::{root_of, size_of};
 use crate::text::{Line, Lines};
 use std::alloc::{AllocError, Global};
 
-/// The text without the newline that ends it, if one does.
+/// The text without its last newline, if it ends in one.
 fn without_last_newline(text: &str) -> Option<&str>
     ensures { MatchOption result ((front : List ℕ) → text.now ≢ front ++ 10 ∷ []) (λ body. text.now
         ≡ body.now ++ 10 ∷ []) }
@@ -30,7 +30,7 @@ fn parts_of(alloc: Global, text: &str) -> Result<Vec<&str>, AllocError>
     text.split('\n').collect(alloc)
 }
 
-/// The lines of the text, each of which ends in a newline.
+/// The lines of the text. Each line ends in a newline.
 fn lines_of(alloc: Global, text: &str) -> Result<Vec<&str>, CheckpointFault>
     ensures { ReadsCheckpointLines text.now (seen (λ v. map (λ line. line.now) v.items) result) }
 {
@@ -40,7 +40,7 @@ fn lines_of(alloc: Global, text: &str) -> Result<Vec<&str>, CheckpointFault>
     Ok(parts_of(alloc, body)?)
 }
 
-/// Whether some line has no bytes.
+/// Whether some line is empty.
 fn has_empty_line(lines: &[&str]) -> bool
     ensures { result ≡ list_any (λ line. length line.now == 0) lines.now }
 {
@@ -81,7 +81,7 @@ fn checkpoint_of(
     })
 }
 
-/// What `read` answers. Its other clauses follow from this one.
+/// The result of `read`, whose other clauses follow from this one.
 fn checkpoint_in(alloc: Global, text: &str) -> Result<Checkpoint, CheckpointFault>
     ensures { ReadsCheckpoint text.now result }
 {
@@ -95,9 +95,9 @@ fn checkpoint_in(alloc: Global, text: &str) -> Result<Checkpoint, CheckpointFaul
     checkpoint_of(alloc, origin, size, root, extensions)
 }
 
-/// The checkpoint that the text is (C2SP tlog-checkpoint, "Note text").
+/// Reads a checkpoint (C2SP tlog-checkpoint, "Note text").
 ///
-/// Ok comes exactly where the grammar relates the whole text to a checkpoint.
+/// The result is `Ok` exactly if the whole text is a checkpoint by the grammar.
 ///
 /// # Errors
 ///
@@ -109,14 +109,14 @@ fn checkpoint_in(alloc: Global, text: &str) -> Result<Checkpoint, CheckpointFaul
 /// - `SizeTooLarge`: its number is over 9223372036854775807, however many digits it has;
 /// - `BadRoot`: the third line is not the standard base64 of exactly 32 bytes, padded and canonical.
 ///
-/// `OutOfMemory` may come at any text. A carriage return is a byte of its line like others.
+/// `OutOfMemory` may be returned for any text. A carriage return is an ordinary byte of its line.
 pub fn read(alloc: Global, text: &str) -> Result<Checkpoint, CheckpointFault>
-    // What is read is a checkpoint of that text, and each refusal is the first that applies.
+    // The result is a checkpoint with that text, or the first refusal that applies.
     ensures answer { ReadsCheckpoint text.now result }
     // The text of a checkpoint is read as that checkpoint, unless memory was refused.
     ensures only { (c : Checkpoint) → IsCheckpoint text.now c.origin c.size c.root c.extensions
         → result ≢ Err CheckpointFault.OutOfMemory → result ≡ Ok c }
-    // What was read can be written.
+    // A checkpoint that was read can be written.
     ensures writable { IfOk result IsWritableCheckpoint }
 {
     checkpoint_in(alloc, text)

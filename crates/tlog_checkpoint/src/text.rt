@@ -1,4 +1,4 @@
-//! Texts that contracts see as their bytes, wherever they lie in memory.
+//! Texts that contracts see as their bytes.
 
 ghost use Rattle.std.specs.Prelude.{◌≡◌, ◌↔◌, IsTrue, map, string_bytes};
 ghost use Rattle.std.specs.Cmp.Rules.{comparing};
@@ -23,7 +23,7 @@ impl Model for Line {
 }
 
 impl Line {
-    /// A line of that text. `write` requires that it can stand in a checkpoint.
+    /// A line with that text. `write` requires that a line is not empty and contains no newline.
     pub fn new(text: String) -> Self
         ensures { result ≡ string_bytes text }
     {
@@ -37,10 +37,10 @@ impl Line {
         self.text.as_str()
     }
 
-    /// The text of the line, given back without memory.
+    /// The text of the line, without a copy.
     ///
     /// ```text
-    /// read(alloc, text)?.origin.into_string()   // "ex", of a checkpoint whose first line is `ex`
+    /// read(alloc, text)?.origin.into_string()   // "ex", if the first line of the text is `ex`
     /// ```
     pub fn into_string(self) -> String
         ensures { string_bytes result ≡ self }
@@ -82,7 +82,7 @@ impl Model for Lines {
 }
 
 impl Lines {
-    /// Makes the lines of a text.
+    /// A list of these lines.
     pub fn new(lines: Vec<String>) -> Self
         ensures { result ≡ map string_bytes lines.items }
     {
@@ -96,7 +96,7 @@ impl Lines {
         self.lines.as_slice()
     }
 
-    /// The lines, in order, given back without memory.
+    /// The lines, in order and without a copy.
     ///
     /// ```text
     /// for line in read(alloc, text)?.extensions.into_vec() { .. }   // each line as a `String`

@@ -1,4 +1,4 @@
-//! Checkpoints written as their text.
+//! Writes checkpoints as text.
 
 ghost use Rattle.std.specs.Prelude.{◌≡◌, ◌++◌, IfOk, OnOk, map, string_bytes};
 ghost use Rattle.tlog_checkpoint.specs.Lines.{ended, text_of};
@@ -12,7 +12,7 @@ use std::alloc::{AllocError, Global};
 use tlog_hash::Hash;
 use tlog_text::{push_hash, push_number};
 
-/// Adds the line and its newline.
+/// Appends the line and a newline.
 fn add_line(text: &mut String, line: &str) -> Result<(), AllocError>
     ensures { OnOk result (string_bytes text.new ≡ string_bytes text.old ++ ended line.now) }
 {
@@ -20,7 +20,7 @@ fn add_line(text: &mut String, line: &str) -> Result<(), AllocError>
     text.push('\n')
 }
 
-/// Adds the line of the size.
+/// Appends the line of the size.
 fn add_size(text: &mut String, size: u64) -> Result<(), AllocError>
     ensures ok { OnOk result (string_bytes text.new ≡ string_bytes text.old
         ++ ended (decimal size)) }
@@ -30,7 +30,7 @@ fn add_size(text: &mut String, size: u64) -> Result<(), AllocError>
     text.push('\n')
 }
 
-/// Adds the line of the root.
+/// Appends the line of the root.
 fn add_root(text: &mut String, root: &Hash) -> Result<(), AllocError>
     ensures ok { OnOk result (string_bytes text.new ≡ string_bytes text.old
         ++ ended (base64_of root.now)) }
@@ -40,7 +40,7 @@ fn add_root(text: &mut String, root: &Hash) -> Result<(), AllocError>
     text.push('\n')
 }
 
-/// Adds the lines, each with its newline.
+/// Appends the lines, each with a newline.
 fn add_lines(text: &mut String, lines: &[String]) -> Result<(), AllocError>
     ensures { OnOk result (string_bytes text.new ≡ string_bytes text.old
         ++ text_of (map string_bytes lines.now)) }
@@ -51,10 +51,10 @@ fn add_lines(text: &mut String, lines: &[String]) -> Result<(), AllocError>
     Ok(())
 }
 
-/// The one text of the checkpoint, which `read` reads as that checkpoint.
+/// The only text of the checkpoint, which `read` reads as the same checkpoint.
 ///
-/// The origin and the extension lines must not be empty and hold no newline, and the size must be
-/// at most 9223372036854775807.
+/// The origin and the extension lines must not be empty or contain a newline. The size must be at
+/// most 9223372036854775807.
 ///
 /// # Errors
 ///

@@ -10,12 +10,12 @@ use Rattle.tlog_hash.specs.Tree.{Join, tree_of}
 use Rattle.tlog_hash.proofs.Trees.{tree_of-one, tree_of-append, induction}
 use Rattle.tlog_hash.specs.Blocks.{graft, IsCut, joined_up}
 
--- the total is more than all blocks but one hold, and no more than all hold
+-- the total fills all blocks but the last, and the last one at least in part
 pub record IsBetween (b blocks total : ℕ) : Type 0 where
   pub above : blocks * b < total + b
   pub upto : total ≤ blocks * b
 
--- k blocks of b items each
+-- the list bs has k full blocks of b items each
 pub record IsFull {A : Type 0} (b k : ℕ) (bs : List (List A)) : Type 0 where
   pub cut : IsCut b bs
   pub total : length (joined_up bs) ≡ k * b
@@ -35,7 +35,7 @@ module _ {A : Type 0} (b : ℕ) (some : 0 < b) where
       let at : length x ≡ b = c.0 in
       record { above = omega (arith, h.above, e, at); upto = omega (arith, h.upto, e, at) }
 
-  -- some blocks from the left, but not all
+  -- the first k blocks of a cut are full, if they are not all of its blocks
   pub cut_left : (k : ℕ) (bs : List (List A)) → 0 < k → k < length bs → IsCut b bs → IsFull b k (take k bs)
   cut_left k [] p q c = absurd c
   cut_left k (x ∷ []) p q c = absurd (omega arith)
@@ -55,7 +55,7 @@ module _ {A : Type 0} (b : ℕ) (some : 0 < b) where
 pub power_times : (j k : ℕ) → IsPowerOfTwo k → IsPowerOfTwo (k * 2 ^ j)
 power_times j k h = record { exponent = h.exponent + j; is = ap (λ m. m * 2 ^ j) h.is ∙ sym (pow-add 2 h.exponent j) }
 
--- where a list that is cut into blocks of a power of two is split
+-- a list that is cut into blocks of a power of two is split between two blocks
 pub split_of-blocks : (j m n : ℕ) → 2 ≤ m → m * 2 ^ j < n + 2 ^ j → n ≤ m * 2 ^ j → split_of m * 2 ^ j ≡ split_of n
 split_of-blocks j m n two above upto =
     let k = split_of m in
@@ -68,7 +68,7 @@ split_of-blocks j m n two above upto =
     let one' : 1 * 2 ^ j ≤ k * 2 ^ j = mul-le _ _ _ _ one (omega arith) in
     split_of-unique n (k * 2 ^ j) (omega arith) (power_times j k (split_of-power m two)) (omega arith) (omega arith)
 
--- two parts of a list of blocks, where its tree is split
+-- the two parts of a list of blocks at the split of its tree
 pub record IsSplit {A : Type 0} (b : ℕ) (xs ys : List (List A)) : Type 0 where
   pub some_left : 0 < length xs
   pub some_right : 0 < length ys
@@ -120,7 +120,7 @@ module _ {A : Type 0} (j : ℕ) where
         tree_is = ap tree_of (flat_map-append (λ y. y) xs ys) ∙ tree_of-append (joined_up xs) (joined_up ys) two' at';
       }
 
-  -- what holds of one block, and of the two parts together, holds of all lists of blocks
+  -- a property of one block, and of two parts together, holds for all lists of blocks
   pub cut_induction : (P : List (List A) → Type 0) → ((x : List A) → 0 < length x → length x ≤ 2 ^ j → P (x ∷ [])) →
       ((xs ys : List (List A)) → IsSplit (2 ^ j) xs ys → P xs → P ys → P (xs ++ ys)) → (bs : List (List A)) →
       IsCut (2 ^ j) bs → P bs
@@ -139,7 +139,7 @@ module _ {A : Type 0} (j : ℕ) where
       tree_of-append (map f xs) (map f ys) (omega (arith, len_x, len_y, h.some_left, h.some_right))
       (rw (len_x, len_y) h.at)
 
-  -- the tree of a list is the tree of its blocks, with each block's own tree in its place
+  -- the tree of a list is the tree of its blocks, with each block replaced by its own tree
   pub tree_of-blocks : (bs : List (List A)) → IsCut (2 ^ j) bs → tree_of (joined_up bs) ≡ graft tree_of (tree_of bs)
   tree_of-blocks bs c =
       cut_induction (λ bs. tree_of (joined_up bs) ≡ graft tree_of (tree_of bs))

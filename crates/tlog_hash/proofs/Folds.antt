@@ -54,7 +54,7 @@ module _ (digest : List ℕ → List ℕ) where
   mth-graft (One x) = sym (mth-tree x)
   mth-graft (Join l r) = λ i. digest (1 ∷ mth-graft l i ++ mth-graft r i)
 
-  -- folding a row is folding the folds of its blocks
+  -- the fold of a row is the fold of the folds of its blocks
   pub fold_of-blocks : (j : ℕ) (bs : List (List (List ℕ))) → IsCut (2 ^ j) bs →
       fold_of digest (joined_up bs) ≡ fold_of digest (map (fold_of digest) bs)
   unfolding fold_of
@@ -62,7 +62,7 @@ module _ (digest : List ℕ → List ℕ) where
       ap (root digest) (tree_of-blocks j bs c) ∙ fold-graft (tree_of bs) ∙
       sym (ap (root digest) (tree_of-map (fold_of digest) bs))
 
-  -- the tree hash is the fold of the blocks' tree hashes
+  -- the tree hash of a list is the fold of its blocks' tree hashes
   pub mth-blocks : (j : ℕ) (bs : List (List (List ℕ))) → IsCut (2 ^ j) bs →
       mth digest (joined_up bs) ≡ fold_of digest (map (mth digest) bs)
   unfolding fold_of
@@ -77,7 +77,7 @@ module _ {A : Type 0} (b : ℕ) where
   length-ranges first zero es = refl
   length-ranges first (suc count) es = omega (arith, length-ranges (first + 1) count es)
 
-  -- one range more, at the end
+  -- one more range at the end
   pub ranges_more : (first count : ℕ) (es : List A) →
       ranges b first (count + 1) es ≡ ranges b first count es ++ part ((first + count) * b) b es ∷ []
   ranges_more first zero es = let e : first * b ≡ (first + 0) * b = omega arith in ap (λ n. part n b es ∷ []) e
@@ -126,7 +126,7 @@ module _ {A : Type 0} (b : ℕ) where
       flat_map-append (λ y. y) bs (x ∷ []) ∙ ap (λ ys. joined_up bs ++ ys) (flat_map-cons (λ y. y) x [] ∙ append-nil x)
 
 module _ (digest : List ℕ → List ℕ) where
-  -- the tree hash is the fold of the tree hashes of blocks of 256^level entries
+  -- the tree hash of a list is the fold of the tree hashes of its blocks of 256^level entries
   pub mth-level : (level : ℕ) (bs : List (List (List ℕ))) → IsCut (256 ^ level) bs →
       mth digest (joined_up bs) ≡ fold_of digest (map (mth digest) bs)
   mth-level level bs c = mth-blocks digest (8 * level) bs (subst (λ b. IsCut b bs) (level_power level) c)

@@ -6,7 +6,7 @@ use Rattle.tlog_hash.specs.Rows.{ranges}
 use Rattle.tlog_hash.specs.Tree.{leaf_hash, mth}
 use Rattle.tlog_hash.proofs.Trees.{mth-one}
 
--- the hashes of the lowest level are leaf hashes
+-- the hashes of level 0 are the leaf hashes
 pub rows_of_leaves : (digest : List ℕ → List ℕ) (w first : ℕ) (es : List (List ℕ)) → first + w ≤ length es →
     map (mth digest) (ranges 1 first w es) ≡ map (leaf_hash digest) (take w (drop first es))
 rows_of_leaves digest zero first es le = refl

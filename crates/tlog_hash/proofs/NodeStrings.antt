@@ -1,4 +1,4 @@
--- Nodes of a list's tree, by strings and by blocks.
+-- The nodes of a list's tree, by their strings and by blocks.
 use Rattle.std.proofs.Common.{subst, inl, inr, refl, ◌↔◌, ◌⊎◌, ◌≡◌, ℕ, ◌+◌, ◌-◌, ◌<◌, ◌≤◌, List, [], ◌∷◌, ◌++◌, length}
 use Rattle.std.proofs.Common.{take, drop, map, sym, ap, ◌∙◌, arith, length-take, length-drop, length-append}
 use Rattle.std.proofs.Common.{take-append-drop}
@@ -25,7 +25,7 @@ module _ {A : Type 0} where
       length-append (take (split_of (length xs)) xs) (drop (split_of (length xs)) xs))) xs
 
 module _ (digest : List ℕ → List ℕ) where
-  -- ---- joins of a row, by its tree
+  -- ---- the joins of a row, by its tree
 
   abbrev in_pairs : Tree (List ℕ) → List ℕ → Type 0
   in_pairs t y = Contains (map joined (pairs digest t)) y
@@ -89,7 +89,7 @@ module _ (digest : List ℕ → List ℕ) where
   node_parts es two s x h = subst (λ t. IsNode digest t s x) (tree_of-join es two) h
 
   module _ (P : List ℕ → Type 0) where
-    -- what holds of all strings of the tree holds of each node's
+    -- a property of all strings of the tree holds for the string of each node
     pub all_nodes : (es : List (List ℕ)) → AllByRecursion P (strings digest es) → (s : ℕ) (x : Node) →
         IsNode digest (tree_of es) s x → P x.string
     all_nodes es =
@@ -134,7 +134,7 @@ module _ (digest : List ℕ → List ℕ) where
               ]
             ]
 
-    -- what holds of each node's string holds of all strings of the tree
+    -- a property of each node's string holds for all strings of the tree
     pub nodes_all : (es : List (List ℕ)) (s : ℕ) → ((x : Node) → IsNode digest (tree_of es) s x → P x.string) →
         AllByRecursion P (strings digest es)
     nodes_all es =
@@ -188,7 +188,7 @@ module _ (digest : List ℕ → List ℕ) where
             (r (s + size_of (tree_of xs)) (λ x n. into x (inr (inr n))))
             (subst P (λ i. 1 ∷ sym (mth-tree digest xs) i ++ sym (mth-tree digest ys) i) joins_them))
 
-  -- a node of that string
+  -- the tree has a node with that string
   pub record HasNode (es : List (List ℕ)) (s : ℕ) (y : List ℕ) : Type 0 where
     pub node : Node
     pub is : IsNode digest (tree_of es) s node
@@ -207,7 +207,7 @@ module _ (digest : List ℕ → List ℕ) where
       (recursion_from_All (Contains (strings digest es)) (strings digest es)
       (All-contains_itself (strings digest es))) s x n
 
-  -- the strings of two or more entries, by the nodes
+  -- the strings of two or more entries, by those of the two parts
   pub strings_join : (es : List (List ℕ)) → 2 ≤ length es → (y : List ℕ) →
       Contains (strings digest es) y
       ↔ (Contains (strings digest (take (split_of (length es)) es)) y

@@ -1,4 +1,4 @@
--- The shape of a tree: what else is known of it is its length.
+-- The shape of a tree depends only on the length of its list.
 use Rattle.std.proofs.Common.{◌≡◌, ℕ, ◌+◌, ◌-◌, ◌≤◌, List, [], ◌∷◌, length, take, drop, map, replicate, sym, refl, ap}
 use Rattle.std.proofs.Common.{◌∙◌, arith}
 use Rattle.std.proofs.lemmas.List.{length-replicate, take-replicate, drop-replicate}
@@ -18,7 +18,7 @@ map_blank : {A : Type 0} (xs : List A) → map (blank {A = A}) xs ≡ replicate 
 map_blank [] = refl
 map_blank (x ∷ xs) = ap (λ ys. 0 ∷ ys) (map_blank xs)
 
--- a list's tree has the shape of its length
+-- the tree of a list has the shape of the list's length
 pub shape_of : {A : Type 0} (xs : List A) → map_tree (blank {A = A}) (tree_of xs) ≡ shape (length xs)
 unfolding shape
 shape_of xs = sym (tree_of-map (blank) xs) ∙ ap tree_of (map_blank xs)

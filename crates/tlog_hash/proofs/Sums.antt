@@ -1,10 +1,10 @@
--- The test digest of the strings that a tree hashes.
+-- The test digest.
 use Rattle.std.proofs.Common.{◌≡◌, ℕ, ◌+◌, ◌%◌, List, ◌∷◌, ◌++◌, replicate, sum, sym, ap, ◌∙◌, arith}
 use Rattle.std.proofs.Math.Nat.{mod-add-mod}
 use Rattle.std.proofs.lemmas.List.Sums.{sum_by-cons, sum_by-append}
 use Rattle.tlog_hash.specs.Sum.{sum_digest}
 
--- a digest whose first byte is that sum
+-- a digest that begins with the sum of the string is its test digest
 pub sum_digest-is : (string : List ℕ) (first : ℕ) → first ≡ sum string % 256 →
     first ∷ replicate 31 0 ≡ sum_digest string
 unfolding sum_digest

@@ -1,16 +1,15 @@
--- The nodes of the tree of a list of entries (RFC 6962, section 2.1). `IsJoin` is a word of proofs
--- alone.
+-- The nodes of the tree of a list of entries (RFC 6962, section 2.1). Only proofs use `IsJoin`.
 use Rattle.std.specs.Prelude.{◌≡◌, ◌⊎◌, ℕ, ◌+◌, List, ◌∷◌, ◌++◌}
 use Rattle.tlog_hash.specs.Tree.{Tree, Empty, One, Join, root, size_of, leaf_hash}
 use Rattle.tlog_hash.specs.Blocks.{map_tree}
 
--- a node: its entries are as many as len from start on, and its hashing hashes the string
+-- a node: it covers len entries from the entry start on, and its hash is the digest of the string
 pub record Node : Type 0 where
   pub start : ℕ
   pub len : ℕ
   pub string : List ℕ
 
--- x is the node of these three
+-- x is the node with these three fields
 pub record IsThis (start len : ℕ) (string : List ℕ) (x : Node) : Type 0 where
   pub start_is : x.start ≡ start
   pub len_is : x.len ≡ len
@@ -21,7 +20,7 @@ module _ (digest : List ℕ → List ℕ) where
   abbrev pub entries_root : Tree (List ℕ) → List ℕ
   entries_root t = root digest (map_tree (leaf_hash digest) t)
 
-  -- x is a node of the tree of entries whose first entry has the number start
+  -- x is a node of the tree, whose first entry has the index start
   abbrev pub IsNode : Tree (List ℕ) → ℕ → Node → Type 0
   IsNode Empty start x = ⊥
   IsNode (One e) start x = IsThis start 1 (0 ∷ e) x
@@ -29,7 +28,7 @@ module _ (digest : List ℕ → List ℕ) where
       IsThis start (size_of l + size_of r) (1 ∷ entries_root l ++ entries_root r) x
       ⊎ (IsNode l start x ⊎ IsNode r (start + size_of l) x)
 
-  -- the string joins the hashes of two parts of the tree of hashes
+  -- the string joins the hashes of the two children of a node, in a tree of hashes
   abbrev pub IsJoin : Tree (List ℕ) → List ℕ → Type 0
   IsJoin Empty y = ⊥
   IsJoin (One hash) y = ⊥

@@ -1,31 +1,32 @@
-//! What the standard says of the tree, as laws of the definitions that the contracts cite.
+//! Laws of RFC 6962 for the tree, as the contracts cite it.
 //!
-//! A law is the contract of a function with an empty body: the proof is all that there is of it.
+//! A law is a function with an empty body: only its contract counts.
 ghost use Rattle.tlog_hash.specs.Laws.{MthIsTreeHash, FoldMeetsEquations, StringsFollowSplit, TreeGoesByBlocks, NodesAreStrings};
 
-/// MTH meets the equations of RFC 6962, section 2.1, and nothing else does.
+/// MTH meets the equations of RFC 6962, section 2.1, and it is the only such function.
 pub fn tree_hash_law()
     ensures { MthIsTreeHash }
 {}
 
-/// `fold_of` meets the equations of the tree hash over a row of hashes, and no other function does.
+/// `fold_of` meets the equations of the tree hash for rows of hashes, and it is the only such
+/// function for rows that are not empty.
 pub fn fold_law()
     ensures { FoldMeetsEquations }
 {}
 
-/// The strings that the tree hash of two or more entries hashes are those of both parts, and the one
-/// that joins them.
+/// The tree hash of two or more entries hashes the strings of both parts, and the string that joins
+/// the hashes of the two parts.
 pub fn strings_law()
     ensures { StringsFollowSplit }
 {}
 
-/// The tree of a list is that of its blocks of a power of two of items, with each block's own tree in
-/// its place. So a tile's row stands for the entries below it.
+/// The tree of a list is the tree of its blocks, each replaced by its own tree, if each block has
+/// the same power of two of items. So the row of a tile can replace the entries below it.
 pub fn blocks_law()
     ensures { TreeGoesByBlocks }
 {}
 
-/// The strings that the tree hash hashes are those of the tree's nodes.
+/// The tree hash hashes exactly the strings of the tree's nodes.
 pub fn nodes_law()
     ensures { NodesAreStrings }
 {}

@@ -1,9 +1,9 @@
 //! Tree hashes of a transparency log (RFC 6962, section 2.1; RFC 9162, section 2.1.1).
 //!
-//! A tree hash is of one digest function, which `TreeHash` stands for: SHA-256 in the product, by
-//! `Sha256Tree`, and a digest that collides at once in tests, by `SumTree`. `tree_hash` is the hash
-//! of a list of entries, and `fold` that of a row of hashes; `pairs` gives the pairs of hashes that
-//! are joined on the way.
+//! `TreeHash` is the digest function of a tree. `Sha256Tree` is SHA-256, for the product; `SumTree`
+//! is a digest for tests, with collisions that are easy to find. `tree_hash` is the hash of a list
+//! of entries, and `fold` the hash of a row of hashes. `pairs` returns the pairs of hashes that
+//! `fold` joins.
 //!
 //! ```text
 //! let root = tree_hash::<Sha256Tree>(&[b"", b"\x00", b"\x10"]);
@@ -27,12 +27,12 @@ pub use tree::{fold, pairs, tree_hash};
 /// A digest of 32 bytes.
 pub type Hash = [u8; 32];
 
-/// The hashes of a tree, all of one digest function.
+/// The hashes of a tree, with one digest function.
 pub trait TreeHash {
     /// The digest of a byte string.
     ghost digest: { List ℕ → List ℕ };
 
-    /// The hash of the empty list of entries: the digest of no bytes.
+    /// The hash of the empty list of entries: the digest of the empty string.
     fn empty() -> Hash
         ensures { result ≡ digest [] };
 

@@ -1,4 +1,4 @@
-//! The hash of the standard.
+//! SHA-256, the digest of RFC 6962.
 ghost use Rattle.sha2.specs.Sha256.{sha256};
 ghost use Rattle.sha2.proofs.Facts256.{length-sha256};
 

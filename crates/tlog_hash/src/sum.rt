@@ -1,13 +1,13 @@
-//! A lawful hash for tests.
+//! A digest for tests.
 ghost use Rattle.std.specs.Prelude.{◌≡◌, ◌∷◌, ◌+◌, ◌%◌, replicate, sum};
 ghost use Rattle.tlog_hash.specs.Sum.{sum_digest};
 ghost use Rattle.tlog_hash.specs.Sum.{length-sum_digest};
 
 use crate::{Hash, TreeHash};
 
-/// Tree hashes by a sum: the first byte of a digest is the sum of the string's bytes modulo 256, and
-/// all others are zero. It is a lawful `TreeHash` whose strings collide at once, and so it shows what
-/// a mirror does where they do.
+/// Tree hashes by a sum: the first byte of a digest is the sum of the string's bytes modulo 256,
+/// and all others are zero. It is a lawful `TreeHash` with collisions that are easy to find. Tests
+/// use it to show how a mirror handles them.
 pub struct SumTree;
 
 impl TreeHash for SumTree {
@@ -28,7 +28,7 @@ impl TreeHash for SumTree {
     }
 }
 
-// The digest of a string with that sum.
+// The digest of each string with that sum.
 fn digest_of(sum: u8) -> Hash
     ensures { result ≡ sum ∷ replicate 31 0 }
 {
@@ -37,7 +37,7 @@ fn digest_of(sum: u8) -> Hash
     digest
 }
 
-// The sum of the bytes and what went before them, modulo 256.
+// The sum of `before` and the bytes, modulo 256.
 fn sum_from(before: u8, bytes: &[u8]) -> u8
     ensures { result ≡ (before + sum bytes.now) % 256 }
 {

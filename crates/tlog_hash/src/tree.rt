@@ -1,4 +1,4 @@
-//! Hashes of rows and of lists of entries.
+//! The hashes of rows and of lists of entries.
 ghost use Rattle.std.specs.Prelude.{◌≡◌, ◌<◌, [], ◌++◌, length, map, IfOk, OnOk};
 ghost use Rattle.tlog_hash.specs.Tree.{fold_of, mth, pairs_of};
 
@@ -6,9 +6,9 @@ use crate::{Hash, TreeHash};
 use std::alloc::{AllocError, Global};
 use tlog_shape::split;
 
-/// The hash over a row of hashes: the tree hash with these in the place of leaf hashes.
+/// The fold of a row of hashes: the tree hash with the row in place of the leaf hashes.
 ///
-/// It takes no memory.
+/// It allocates no memory.
 pub fn fold<H: TreeHash>(row: &[Hash]) -> Hash
     requires { 0 < length row.now }
     ensures { result ≡ fold_of H.digest row.now }
@@ -22,9 +22,9 @@ pub fn fold<H: TreeHash>(row: &[Hash]) -> Hash
     H::node(&left, &right)
 }
 
-/// The tree hash of a list of entries, MTH of RFC 6962, section 2.1.
+/// The tree hash of a list of entries: MTH of RFC 6962, section 2.1.
 ///
-/// It takes no memory.
+/// It allocates no memory.
 pub fn tree_hash<H: TreeHash>(entries: &[&[u8]]) -> Hash
     ensures { result ≡ mth H.digest (map (λ e. e.now) entries.now) }
 {
@@ -40,7 +40,7 @@ pub fn tree_hash<H: TreeHash>(entries: &[&[u8]]) -> Hash
     }
 }
 
-/// The pairs of hashes that `fold` joins, children before parents and left before right.
+/// The pairs of hashes that `fold` joins: children before parents, and left before right.
 ///
 /// # Errors
 ///
@@ -54,7 +54,7 @@ pub fn pairs<H: TreeHash>(alloc: Global, row: &[Hash]) -> Result<Vec<(Hash, Hash
     Ok(out)
 }
 
-// Adds the pairs of a row, and answers its hash.
+// Appends the pairs of a row, and returns its fold.
 fn add_pairs<H: TreeHash>(row: &[Hash], out: &mut Vec<(Hash, Hash)>) -> Result<Hash, AllocError>
     requires { 0 < length row.now }
     ensures hash { IfOk result (λ hash. hash ≡ fold_of H.digest row.now) }

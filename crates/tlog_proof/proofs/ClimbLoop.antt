@@ -1,4 +1,4 @@
--- The loop that reads a proof from the leaf up, for any value.
+-- The loop that reads a proof from the leaf up, for values of any type.
 use Rattle.std.proofs.Common.{Bool, true, false, inl, inr, ◌≡◌, ℕ, suc, ◌+◌, ◌*◌, ◌/◌, ◌%◌, ◌^◌, ◌<◌, ◌≤◌, List, []}
 use Rattle.std.proofs.Common.{◌∷◌, ◌++◌, reverse, Option, Some, None, sym, refl, ap, ◌∙◌, arith, eqb}
 use Rattle.std.proofs.lemmas.List.{reverse-append}
@@ -34,7 +34,7 @@ module _ {V : Type 0} (on_right on_left : List ℕ → V → V) where
       keeps h rq ∙ (λ j. climb on_right on_left (shape (et j)) (ef j) h rq) ∙
       lone_up on_right on_left c c h (omega arith) rq ∙ (λ j. climb on_right on_left (shape (ec j)) c h rq)
 
-  -- a hash on the left
+  -- a hash joins from the left
   pub left_joins : (f s f' s' : ℕ) (r : V) (p : List ℕ) (new : V) (rest : List (List ℕ)) → f' % 2 ≡ 1 → f' ≤ s' →
       Keeps f s f' s' → new ≡ on_left p r →
       climb on_right on_left (shape (s' / 2 + 1)) (f' / 2) new (reverse rest)
@@ -48,7 +48,7 @@ module _ {V : Type 0} (on_right on_left : List ℕ → V → V) where
       ∙ pair_up on_right on_left 1 r p new (inr (refl, sym is)) (omega arith) (s' + 1) (s' + 1) (s' / 2 + 1) c
       (omega arith) (omega arith) (record { upto = omega arith; above = omega arith }) (omega arith) (reverse rest))
 
-  -- a hash on the right
+  -- a hash joins from the right
   pub right_joins : (f s : ℕ) (r : V) (p : List ℕ) (new : V) (rest : List (List ℕ)) → f % 2 ≡ 0 → f < s →
       new ≡ on_right p r →
       climb on_right on_left (shape (s / 2 + 1)) (f / 2) new (reverse rest)
@@ -61,7 +61,7 @@ module _ {V : Type 0} (on_right on_left : List ℕ → V → V) where
       ∙ pair_up on_right on_left 0 r p new (inl (refl, sym is)) (omega arith) (s + 1) (s + 1) (s / 2 + 1) c
       (omega arith) (omega arith) (record { upto = omega arith; above = omega arith }) (omega arith) (reverse rest))
 
-  -- a hash too many
+  -- the path has a hash too many
   pub too_many : (f s : ℕ) (r : V) (p : List ℕ) (rest : List (List ℕ)) → s ≡ 0 →
       climb on_right on_left (shape (s + 1)) f r (reverse (p ∷ rest)) ≡ None
   too_many f s r p rest z =
@@ -69,7 +69,7 @@ module _ {V : Type 0} (on_right on_left : List ℕ → V → V) where
       omega arith in (λ j. climb on_right on_left ((ap shape one ∙ shape-one) j) f r (turned p rest j)) ∙
       none_more on_right on_left f r p (reverse rest)
 
-  -- at the end
+  -- the path has too few hashes
   pub too_few : (f s : ℕ) (r : V) → (s ≡ 0 → ⊥) → climb on_right on_left (shape (s + 1)) f r [] ≡ None
   too_few f s r some = none_empty on_right on_left (s + 1) f r (omega arith)
 
@@ -77,7 +77,7 @@ module _ {V : Type 0} (on_right on_left : List ℕ → V → V) where
   at_root f s r z =
       let one : s + 1 ≡ 1 = omega arith in ap (λ t. climb on_right on_left t f r []) (ap shape one ∙ shape-one)
 
--- ---- the blocks that the first tree is made of
+-- ---- the blocks of the first tree
 
 pub blocks_more : (n m f s : ℕ) → f % 2 ≡ 1 → HasBlocks n m f s → HasBlocks n m (f / 2) (s / 2)
 blocks_more n m f s odd h =
@@ -121,7 +121,7 @@ empty_path digest n m g path some lt is =
 
 -- ---- the answers
 
--- what is refused does not hold
+-- a refused path leads to no value
 pub refused : {X : Type 0} (o : Option X) (value : X) (b : Bool) → b ≡ false → o ≡ None → IsTrue b ↔ (o ≡ Some value)
 refused o value b is none = (λ h. absurd (let e : b ≡ true = h in cc (e, is)), λ h. absurd (cc (h, none)))
 
@@ -138,7 +138,7 @@ answered_inside index size o r root b inside is some =
       λ h. d.1 (let e : o ≡ Some root = h.1 in let same : r ≡ root = cc (e, some) in same),
     )
 
--- the first root was right
+-- the first root is right
 pub answered : (o : Option (List ℕ × List ℕ)) (r roots : List ℕ × List ℕ) (a b : Bool) → a ≡ pointwise eqb r.0 roots.0 →
     a ≡ true → b ≡ pointwise eqb r.1 roots.1 → o ≡ Some r → IsTrue b ↔ (o ≡ Some roots)
 answered o r roots a b a_is yes_a b_is some =
@@ -148,7 +148,7 @@ answered o r roots a b a_is yes_a b_is some =
       λ h. d.1 (let e : Some r ≡ Some roots = sym some ∙ h in let same : r ≡ roots = cc e in ap (λ x. x.1) same),
     )
 
--- the first root was wrong
+-- the first root is wrong
 pub first_wrong : (o : Option (List ℕ × List ℕ)) (r roots : List ℕ × List ℕ) (a b : Bool) →
     a ≡ pointwise eqb r.0 roots.0 → a ≡ false → b ≡ false → o ≡ Some r → IsTrue b ↔ (o ≡ Some roots)
 first_wrong o r roots a b a_is wrong b_is some =

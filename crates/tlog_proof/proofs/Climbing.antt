@@ -1,4 +1,4 @@
--- Climbing from the leaves: a tree of n items is one of half as many pairs.
+-- One level up: a tree of n items becomes a tree of their pairs.
 use Rattle.std.proofs.Common.{inl, inr, ◌⊎◌, ◌≡◌, ℕ, zero, suc, ◌+◌, ◌-◌, ◌*◌, ◌<◌, ◌≤◌, List, [], ◌∷◌, ◌++◌, Some}
 use Rattle.std.proofs.Common.{None, sym, refl, ap, ◌∙◌, arith}
 use Rattle.std.proofs.lemmas.Bool.{cases_lt, lt-ltb, le-ltb}
@@ -11,7 +11,7 @@ use Rattle.tlog_hash.specs.Shape.{shape}
 use Rattle.tlog_hash.proofs.Cuts.{split_of-blocks}
 use Rattle.tlog_hash.proofs.Shapes.{shape-one, shape-join, size_of-shape}
 
--- n items are m pairs, the last of which may be one item alone
+-- n items make m pairs, and the last pair may be one item alone
 pub record IsHalf (n m : ℕ) : Type 0 where
   pub upto : n ≤ 2 * m
   pub above : 2 * m < n + 2
@@ -31,7 +31,7 @@ module _ {V : Type 0} (on_right on_left : List ℕ → V → V) where
       ≡ option_map (on_left p) (climb on_right on_left r (i - size_of l) h q)
   climb-right l r i h p q le = rw (le-ltb i (size_of l) le)
 
-  -- h beside p gives h', h on the left for d = 0 and on the right for d = 1
+  -- the value h and the hash p join to new: the hash on the right for d = 0, and on the left for d = 1
   abbrev pub IsBeside : ℕ → V → List ℕ → V → Type 0
   IsBeside d h p new = ((d ≡ 0) × (on_right p h ≡ new)) ⊎ ((d ≡ 1) × (on_left p h ≡ new))
 
@@ -54,7 +54,7 @@ module _ {V : Type 0} (on_right on_left : List ℕ → V → V) where
       ap (λ n. climb on_right on_left (Join (One 0) (One 0)) n h (z ∷ (rq ++ p ∷ []))) b.0 ∙
       ap (option_map (on_left z)) (none_more 0 h p rq)
 
-  -- both trees are entered on the left, or both on the right
+  -- both trees are entered on the left
   record GoesLeft (h : V) (p : List ℕ) (new : V) (a b : Tree ℕ) (i c : ℕ) : Type 0 where
     inside : i < size_of a
     inside_up : c < size_of b
@@ -95,7 +95,7 @@ module _ {V : Type 0} (on_right on_left : List ℕ → V → V) where
         (λ j. climb on_right on_left ((ap shape is ∙ s2) j) (i j) h (rq ++ p ∷ [])) ∙ pair d h p new beside rq ∙
         sym (λ j. climb on_right on_left ((ap shape m1 ∙ shape-one) j) (c0 j) new rq)
 
-    -- an item of a whole pair goes up to its pair
+    -- an item of a whole pair goes up with its sibling
     pub pair_up : (f n m c : ℕ) → n ≤ f → 2 ≤ n → IsHalf n m → 2 * c + 1 < n → (rq : List (List ℕ)) →
         climb on_right on_left (shape n) (2 * c + d) h (rq ++ p ∷ []) ≡ climb on_right on_left (shape m) c new rq
     pair_up zero n m c fuel two half whole rq = absurd (omega arith)
@@ -150,7 +150,7 @@ module _ {V : Type 0} (on_right on_left : List ℕ → V → V) where
   last_step h l a m b i c past past_up same (z ∷ rq) =
       climb-right l a i h z rq past ∙ ap (option_map (on_left z)) (same rq) ∙ sym (climb-right m b c h z rq past_up)
 
-  -- an item alone at the end goes up as it is
+  -- an item alone at the end goes up unchanged
   pub lone_up : (f c : ℕ) (h : V) → c ≤ f → (rq : List (List ℕ)) →
       climb on_right on_left (shape (2 * c + 1)) (2 * c) h rq ≡ climb on_right on_left (shape (c + 1)) c h rq
   lone_up f zero h fuel rq = refl

@@ -17,14 +17,14 @@ use Rattle.tlog_hash.proofs.Cuts.{split_of-blocks}
 use Rattle.tlog_hash.proofs.Shapes.{shape-one, shape-join, size_of-shape}
 use Rattle.tlog_proof.proofs.Climbing.{climb-left, climb-right}
 
--- n items are count blocks of 2^j, the last of which may be shorter, and m items are c + 1 blocks
+-- n items make count blocks of 2^j, and the last block may be shorter; m items make exactly c + 1 full blocks
 pub record IsCounted (j n count m c : ℕ) : Type 0 where
   pub upto : n ≤ count * 2 ^ j
   pub above : count * 2 ^ j < n + 2 ^ j
   pub first_is : m ≡ (c + 1) * 2 ^ j
   pub even : c % 2 ≡ 0
 
--- the value that the climb begins with: g itself where m is a power of two, else the first hash of the path
+-- the value that the climb begins with: g if m is a power of two, and otherwise the first hash of the path
 abbrev pub IsStart : ℕ → List ℕ → List ℕ → List (List ℕ) → List (List ℕ) → Type 0
 IsStart c g v rest path = ((c ≡ 0) × (path ≡ rest) × (g ≡ v)) ⊎ ((0 < c) × (path ≡ v ∷ rest))
 
@@ -36,7 +36,7 @@ from_products i k c h =
           mul-le _ _ _ _ a (omega arith) in absurd (omega arith)
     ]
 
--- an odd power of two is 1
+-- the only odd power of two is 1
 odd_power : (k : ℕ) → IsPowerOfTwo k → k % 2 ≡ 1 → k ≡ 1
 odd_power k h odd = at h.exponent h.is
   where
@@ -95,7 +95,7 @@ module _ (digest : List ℕ → List ℕ) where
       let b = split_of-below n two in let l =
       size_of-shape (split_of n) in let r = size_of-shape (n - split_of n) in omega (arith, b, l, r)
 
-  -- the whole of a tree
+  -- the first tree is the whole tree
   pub whole : (n : ℕ) (flag : Bool) (g : List ℕ) (path : List (List ℕ)) → 1 ≤ n →
       cons_in digest (shape n) n flag g path ≡ at_end flag g path
   whole n flag g path some = elim (cases_lt 1 n) [
@@ -105,7 +105,7 @@ module _ (digest : List ℕ → List ℕ) where
         cons-whole (shape (split_of n)) (shape (n - split_of n)) n flag g path (sym (sizes n two))
   ]
 
-  -- an empty path shows nothing, but that all of a first root is the whole
+  -- an empty path shows nothing, unless the first tree with its known root is the whole tree
   pub none_at : (n m : ℕ) (flag : Bool) (g : List ℕ) → 1 ≤ m → m ≤ n → (flag ≡ false) ⊎ (m < n) →
       cons_in digest (shape n) m flag g [] ≡ None
   none_at n m flag g some le why = elim (cases_lt m n) [
@@ -120,7 +120,7 @@ module _ (digest : List ℕ → List ℕ) where
         ]
   ]
 
-  -- as IsStart, of paths with the last hash first
+  -- like IsStart, for a path with its last hash first
   abbrev IsTurned : Bool → ℕ → List ℕ → List ℕ → List (List ℕ) → List (List ℕ) → Type 0
   IsTurned flag c g v rq path =
       ((flag ≡ true) × (c ≡ 0) × (path ≡ rq) × (g ≡ v)) ⊎ (((flag ≡ false) ⊎ (0 < c)) × (path ≡ rq ++ v ∷ []))
@@ -301,7 +301,7 @@ module _ (digest : List ℕ → List ℕ) where
         ]) rq path start
         ∙ sym (ap (λ t. up t c rq) (shape-join count two_count))
 
--- `cons` from the leaves up
+-- `cons` read from the leaves up
 pub cons_climbs : (digest : List ℕ → List ℕ) (j n count m c : ℕ) → IsCounted j n count m c → m < n →
     (g v : List ℕ) (rest path : List (List ℕ)) → IsStart c g v rest path →
     cons digest m n true g path ≡ climb (both_right digest) (both_left digest) (shape count) c (v, v) (reverse rest)

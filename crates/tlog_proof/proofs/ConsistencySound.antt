@@ -1,4 +1,4 @@
--- A consistency proof that is accepted shows a prefix.
+-- An accepted consistency proof shows that the first list is a prefix of the second.
 use Rattle.std.proofs.Common.{subst, Bool, true, false, inl, inr, ◌≡◌, ℕ, ◌+◌, ◌-◌, ◌*◌, ◌<◌, ◌≤◌, List, [], ◌∷◌, ◌++◌}
 use Rattle.std.proofs.Common.{length, reverse, take, drop, Option, Some, None, sym, refl, ap, ◌∙◌, arith, length-take}
 use Rattle.std.proofs.Common.{length-drop, take-append-drop}
@@ -32,7 +32,7 @@ two_of a b = Some (a, b)
 both_same : (h a b : List ℕ) → two_of h h ≡ two_of a b → a ≡ b
 both_same h a b e = let q = some_same (h, h) (a, b) e in sym (ap (λ x. x.0) q) ∙ ap (λ x. x.1) q
 
--- both roots are one at the end
+-- both roots are equal at the end of a path
 end_same : (flag : Bool) (g : List ℕ) (q : List (List ℕ)) (a b : List ℕ) → at_end flag g q ≡ Some (a, b) → a ≡ b
 end_same true g [] a b e = both_same g a b e
 end_same true g (h ∷ q) a b e = absurd (cc e)
@@ -73,7 +73,7 @@ module _ (digest : List ℕ → List ℕ) (size : (s : List ℕ) → length (dig
         root = ap (mth digest) whole ∙ mth-append digest xs ys two' at;
       }
 
-  -- a root has one list
+  -- a root has only one list
   one_list : (xs : List (List ℕ)) → (ys : List (List ℕ)) → length xs ≡ length ys → mth digest xs ≡ mth digest ys →
       Good xs → Good ys → xs ≡ ys
   one_list xs =
@@ -325,14 +325,14 @@ shows digest size ds es path some le all clean e =
     weaken : (P : List ℕ → Type 0) (ys : List (List ℕ)) → ((y : List ℕ) → Contains ys y → P y) → AllByRecursion P ys
     weaken P ys f = recursion_from_All P ys (All-weaker (Contains ys) P f ys (All-contains_itself ys))
 
--- what holds of each hash of a path holds of them in the other order
+-- a property of each hash of a path holds in the reverse order too
 turned : (P : List ℕ → Type 0) (path : List (List ℕ)) → AllByRecursion P path → AllByRecursion P (reverse path)
 turned P [] all = tt
 turned P (p ∷ path) all =
     subst (AllByRecursion P) (sym (reverse-append (p ∷ []) path))
     (all-append P (reverse path) (p ∷ []) (turned P path all.1) (all.0, tt))
 
--- equal sizes are read as the whole
+-- for equal sizes, the first tree is the whole tree
 equal_sizes : (digest : List ℕ → List ℕ) (n m : ℕ) (g root : List ℕ) (path : List (List ℕ)) → 0 < m → m ≡ n →
     path ≡ [] → g ≡ root → cons digest m n true g path ≡ Some (g, root)
 unfolding cons

@@ -19,7 +19,7 @@ use Rattle.tlog_hash.proofs.Folds.{mth-tree}
 use Rattle.tlog_hash.proofs.NodeStrings.{size_of-tree, string_of_node}
 
 module _ (digest : List ℕ → List ℕ) where
-  -- the entry at that place of the tree
+  -- the entry with that index in the tree
   abbrev at : ℕ → Tree (List ℕ) → List ℕ
   at i Empty = []
   at i (One e) = e
@@ -126,7 +126,7 @@ mapped f (Some x) y e = record { inner = x; is = refl; value = (let v : f x ≡ 
 
 module _ (digest : List ℕ → List ℕ) (size : (s : List ℕ) → length (digest s) ≡ 32) (P : List ℕ → Type 0)
     (same : (x y : List ℕ) → P x → P y → digest x ≡ digest y → x ≡ y) (e : List ℕ) (leaf : P (0 ∷ e)) where
-  -- P holds of the strings of all nodes
+  -- P holds for the string of each node
   abbrev AllNodes : Tree (List ℕ) → Type 0
   AllNodes Empty = Unit {0}
   AllNodes (One d) = P (0 ∷ d)

@@ -1,4 +1,4 @@
--- How many hashes a path has.
+-- The number of hashes of a path.
 use Rattle.std.proofs.Common.{Bool, true, false, ◌≡◌, ℕ, zero, suc, ◌+◌, ◌-◌, ◌*◌, ◌^◌, ◌<◌, ◌≤◌, List, [], ◌∷◌, ◌++◌}
 use Rattle.std.proofs.Common.{length, take, drop, Ok, inl, inr, refl, ap, arith, length-take, length-drop}
 use Rattle.std.proofs.Common.{length-append}
@@ -20,7 +20,7 @@ use Rattle.tlog_proof.proofs.Readers.{equal_not}
 use Rattle.tlog_proof.proofs.Paths.{left_of, right_of}
 use Rattle.tlog_proof.proofs.Subproofs.{all_of, left_of as sub_left_of, right_of as sub_right_of}
 
--- both parts of a list of at most 2^(j + 1) have at most 2^j
+-- both parts of a list of at most 2^(j + 1) entries have at most 2^j
 record IsHalved (j : ℕ) (es : List (List ℕ)) : Type 0 where
   left : length (take (split_of (length es)) es) ≤ 2 ^ j
   right : length (drop (split_of (length es)) es) ≤ 2 ^ j
@@ -137,9 +137,9 @@ unfolding path_of subproof_of
 paths_are_short digest j es fits =
     (λ i. paths_fit digest es j fits i, λ m some le. proofs_fit digest es j fits m true some le)
 
--- ---- what is made of a list of fewer than 2^63 entries can be written
+-- ---- a proof that was made from a list of fewer than 2^63 entries can be written
 
--- an answer of a path
+-- the path was made for these arguments
 pub record IsMadePath (digest : List ℕ → List ℕ) (es : List (List ℕ)) (size index : ℕ)
     (path : List (List ℕ)) : Type 0 where
   pub within : size ≤ length es
@@ -161,7 +161,7 @@ made_path digest es size index path e = elim (cases_lt (length es) size) [
       ]
 ]
 
--- an answer of a path between two sizes
+-- the path between two sizes was made for these arguments
 pub record IsMadeProof (digest : List ℕ → List ℕ) (es : List (List ℕ)) (first second : ℕ)
     (path : List (List ℕ)) : Type 0 where
   pub within : second ≤ length es

@@ -1,4 +1,4 @@
--- Lines of a proof's text: a line is read in one way.
+-- Each line of a proof's text is read in only one way.
 use Rattle.std.proofs.Common.{◌≡◌, ◌≢◌, ℕ, zero, suc, ◌+◌, ◌<◌, ◌≤◌, Bool, true, false, not, nat_eq, ◌&&◌, List, []}
 use Rattle.std.proofs.Common.{◌∷◌, ◌++◌, length, drop, get_or, append_assoc, refl, sym, subst, ap, ◌∙◌, arith}
 use Rattle.std.proofs.Common.{length-append}
@@ -22,13 +22,13 @@ use Rattle.tlog_proof.specs.Reading.{FindsThat}
 use Rattle.tlog_proof.specs.declared.fault.TextFault.{TextFault}
 use Rattle.tlog_proof.specs.declared.fault.TextFault.TheVariants.{BadProofText, OutOfMemory}
 
--- a weaker clause of an option
+-- a clause of an option follows from a stronger one
 pub option_weaker : {T P R : Type 0} {Q S : T → Type 0} (o : Option T) → MatchOption o P Q → (P → R) →
     ((x : T) → Q x → S x) → MatchOption o R S
 option_weaker None h f g = f h
 option_weaker (Some x) h f g = g x h
 
--- a fault says the same of whatever was sought
+-- a fault means the same for every property
 pub fault_same : {X Y : Type 0} (fault : TextFault) (P : X → Type 0) (Q : Y → Type 0) → FindsThat (Err fault) P →
     FindsThat (Err fault) Q
 fault_same BadProofText P Q h = h
@@ -54,7 +54,7 @@ Lacks-from_reads : (xs : List ℕ) → LacksNewline xs → Lacks xs
 Lacks-from_reads [] h = tt
 Lacks-from_reads (x ∷ xs) h = (h zero (omega arith), Lacks-from_reads xs (λ i lt. h (suc i) (omega arith)))
 
--- also past the end, where 0 is read
+-- this also holds after the end, where get_or gives 0
 reads_other : (xs : List ℕ) → Lacks xs → (i : ℕ) → get_or xs i 0 ≢ 10
 reads_other [] p i = λ e. cc
 reads_other (x ∷ xs) p zero = p.0
@@ -70,7 +70,7 @@ Lacks-from_test (x ∷ xs) h =
     let parts = both (not (nat_eq x 10)) (list_all (λ b. not (nat_eq b 10)) xs) h in
     (λ e. let same = (Decides-eqb x 10).1 e in absurd (cc (same, parts.0)), Lacks-from_test xs parts.1)
 
--- two cuts at a newline, of parts that lack it, are one
+-- two cuts at the first newline are the same cut
 cut_once : (a b d e : List ℕ) → a ++ (10 ∷ b) ≡ d ++ (10 ∷ e) → Lacks a → Lacks d → (a ≡ d) × (b ≡ e)
 cut_once [] b [] e h p q = (refl, cc)
 cut_once [] b (y ∷ d) e h p q = let same : y ≡ 10 = cc in absurd (q.0 same)
@@ -81,19 +81,19 @@ cut_once (x ∷ a) b (y ∷ d) e h p q =
     let rest = cut_once a b d e tails p.1 q.1 in
     (cc, rest.1)
 
--- a line of a name is of one value, and followed by one rest
+-- a line with a name has only one value and one rest
 pub line_once : (name value rest other more : List ℕ) → LacksNewline value → LacksNewline other →
     line name value rest ≡ line name other more → (value ≡ other) × (rest ≡ more)
 line_once name value rest other more p q e =
     cut_once value rest other more (append_cancel_left name (value ++ 10 ∷ rest) (other ++ 10 ∷ more) e)
     (Lacks-from_reads value p) (Lacks-from_reads other q)
 
--- what is added after a line's rest is added after the line
+-- bytes after the rest of a line are bytes after the line
 pub line-append : (name value rest ys : List ℕ) → line name value rest ++ ys ≡ line name value (rest ++ ys)
 line-append name value rest ys =
     append_assoc name (value ++ 10 ∷ rest) ys ∙ ap (λ xs. name ++ xs) (append_assoc value (10 ∷ rest) ys)
 
--- what follows a newline of a text is text
+-- the bytes after a newline of a UTF-8 text are UTF-8
 after_newline : (text front after : List ℕ) → IsUtf8 text → text ≡ front ++ 10 ∷ after → IsUtf8 after
 after_newline text front after u is =
     let n = length front in
@@ -156,12 +156,12 @@ pub hashes-push : (path : List (List ℕ)) (hash : List ℕ) → AllByRecursion 
 hashes-push [] hash all h = (h, tt)
 hashes-push (p ∷ path) hash all h = (all.0, hashes-push path hash all.1 h)
 
--- a line is not nothing
+-- a line is not empty
 line_is_some : (name value rest : List ℕ) → line name value rest ≡ [] → ⊥
 line_is_some name value rest e =
     let n = ap length e in omega (arith, n, length-append name (value ++ 10 ∷ rest), length-append value (10 ∷ rest))
 
--- the rest of a path's lines, of which some were read
+-- the rest of the lines of a path, after some of them were read
 pub record IsRest (done path : List (List ℕ)) (rest : List ℕ) : Type 0 where
   pub more : List (List ℕ)
   pub whole : path ≡ done ++ more
@@ -177,7 +177,7 @@ rest_of_path (d ∷ done) (h ∷ path) rest p q e =
     let r = rest_of_path done path rest p.1 q.1 same.1 in
     record { more = r.more; whole = (λ i. sym same.0 i ∷ r.whole i); rest_is = r.rest_is; hashes = r.hashes }
 
--- where nothing is left, all was read
+-- if nothing is left, the whole path was read
 pub all_read : (done path : List (List ℕ)) (rest : List ℕ) → IsRest done path rest → rest ≡ [] → done ≡ path
 all_read done path rest r empty = at r.more r.whole r.rest_is
   where
@@ -185,7 +185,7 @@ all_read done path rest r empty = at r.more r.whole r.rest_is
     at [] whole is = sym (whole ∙ append-nil done)
     at (h ∷ more) whole is = absurd (line_is_some (codes "path ") (base64_of h) (path_lines more []) (sym is ∙ empty))
 
--- where something is left, there is one more hash
+-- if something is left, there is one more hash
 pub record HasNext (done path : List (List ℕ)) (rest : List ℕ) : Type 0 where
   pub hash : List ℕ
   pub after : List ℕ
@@ -218,7 +218,7 @@ path_lines-append (p ∷ path) ys =
     line-append (codes "path ") (base64_of p) (path_lines path []) ys ∙
     ap (hash_line (codes "path ") p) (path_lines-append path ys)
 
--- three pieces that were added one after the other
+-- three pieces were appended
 pub three_added : (old a b c one two new : List ℕ) → one ≡ old ++ a → two ≡ one ++ b → new ≡ two ++ c →
     new ≡ old ++ (a ++ (b ++ c))
 three_added old a b c one two new p q r =

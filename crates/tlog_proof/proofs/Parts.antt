@@ -1,4 +1,4 @@
--- Paths within a range of a list.
+-- Inclusion paths within a range of a list.
 use Rattle.std.proofs.Common.{Bool, false, ◌≡◌, ℕ, ◌+◌, ◌-◌, ◌<◌, ◌≤◌, List, [], ◌∷◌, ◌++◌, length, get_or, take, drop}
 use Rattle.std.proofs.Common.{sym, ap, ◌∙◌, arith, length-take, length-drop, append_assoc}
 use Rattle.std.proofs.lemmas.List.{take-take, drop-take, drop-drop, drop_more, append-nil}
@@ -104,12 +104,12 @@ module _ (digest : List ℕ → List ℕ) where
       ap (λ n. proof_in digest n flag (tree_of (part start len es))) (is ∙ sym size) ∙
       all_of digest (part start len es) flag (omega arith)
 
--- one more hash at the end of what was added
+-- one more hash is appended
 pub then_push : (old mid new path more : List (List ℕ)) (h : List ℕ) → mid ≡ old ++ path → new ≡ mid ++ h ∷ [] →
     more ≡ path ++ h ∷ [] → new ≡ old ++ more
 then_push old mid new path more h added pushed is =
     pushed ∙ ap (λ xs. xs ++ h ∷ []) added ∙ append_assoc old path (h ∷ []) ∙ ap (λ xs. old ++ xs) (sym is)
 
--- nothing was added
+-- nothing was appended
 pub none_added : (old more : List (List ℕ)) → more ≡ [] → old ≡ old ++ more
 none_added old more is = sym (ap (λ xs. old ++ xs) is ∙ append-nil old)

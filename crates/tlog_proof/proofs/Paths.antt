@@ -1,4 +1,4 @@
--- The equations of RFC 6962, section 2.1.1, for how an inclusion proof is made.
+-- The equations of RFC 6962, section 2.1.1, for the path of an inclusion proof.
 use Rattle.std.proofs.Common.{inl, inr, ◌≡◌, ℕ, ◌-◌, ◌<◌, ◌≤◌, List, [], ◌∷◌, ◌++◌, length, take, drop, sym, ap, ◌∙◌}
 use Rattle.std.proofs.Common.{arith, length-take, length-drop}
 use Rattle.std.proofs.lemmas.Bool.{cases_lt, lt-ltb, le-ltb}

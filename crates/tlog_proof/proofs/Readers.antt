@@ -1,4 +1,4 @@
--- The equations of `incl` and `cons`, and that they leave nothing open.
+-- The equations of `incl` and `cons`, and that no other function meets them.
 use Rattle.std.proofs.Common.{rules, Bool, true, false, ◌⊎◌, inl, inr, ◌≡◌, ℕ, ◌+◌, ◌-◌, ◌<◌, ◌≤◌, List, [], ◌∷◌, ◌++◌}
 use Rattle.std.proofs.Common.{reverse, Option, Some, None, sym, refl, ap, ◌∙◌, arith}
 use Rattle.std.proofs.lemmas.List.{reverse-append, reverse-reverse}
@@ -21,11 +21,11 @@ shape-none : shape 0 ≡ Empty
 unfolding shape
 shape-none = tree_of-none
 
--- the last hash of a path is the first of the path turned round
+-- the last hash of a path is the first hash of the reversed path
 last-first : (path : List (List ℕ)) (hash : List ℕ) → reverse (path ++ hash ∷ []) ≡ hash ∷ reverse path
 last-first path hash = reverse-append path (hash ∷ [])
 
--- how many leaves a tree has
+-- a tree has no leaf, one leaf, or more
 three : (n : ℕ) → (n ≡ 0) ⊎ ((n ≡ 1) ⊎ (2 ≤ n))
 three n =
     elim (cases_lt n 1) [
@@ -106,7 +106,7 @@ incl_equations digest = (
 
 -- ---- consistency
 
--- two hashes and more are too many
+-- two hashes or more are too many
 end-long : (flag : Bool) (g y z : List ℕ) (xs : List (List ℕ)) → at_end flag g ((xs ++ y ∷ []) ++ z ∷ []) ≡ None
 end-long true g y z [] = refl
 end-long true g y z (x ∷ xs) = refl
@@ -114,7 +114,7 @@ end-long false g y z [] = refl
 end-long false g y z (x ∷ []) = refl
 end-long false g y z (x ∷ w ∷ xs) = refl
 
--- at_end is the same from either end
+-- at_end gives the same result for the reversed path
 end-turned : (flag : Bool) (g : List ℕ) (path : List (List ℕ)) → at_end flag g (reverse path) ≡ at_end flag g path
 end-turned flag g [] = refl
 end-turned true g (h ∷ []) = refl
@@ -219,7 +219,7 @@ module _ (digest : List ℕ → List ℕ) where
       ap (λ t. cons_in digest t m flag g []) (shape-join n two) ∙
       cons-short digest (shape (split_of n)) (shape (n - split_of n)) m flag g (omega (arith, sizes digest n two))
 
-  -- how the two sizes lie
+  -- the four cases of two sizes
   four : (m n : ℕ) → (m ≡ 0) ⊎ ((n < m) ⊎ (((m ≡ n) × (1 ≤ n)) ⊎ ((0 < m) × (m < n))))
   four m n = elim (cases_lt n m) [
     | inl past ↦ inr (inl past)
@@ -234,7 +234,7 @@ module _ (digest : List ℕ → List ℕ) where
     abbrev IsSame : List (List ℕ) → ℕ → ℕ → Bool → List ℕ → Type 0
     IsSame rq m n flag g = read m n flag g (reverse rq) ≡ cons_in digest (shape n) m flag g rq
 
-    -- where one step down does not help, all is said
+    -- the equations alone decide all cases except one step down
     or_within : (rq : List (List ℕ)) (m n : ℕ) (flag : Bool) (g : List ℕ) → (0 < m → m < n → IsSame rq m n flag g) →
         IsSame rq m n flag g
     or_within rq m n flag g within = elim (four m n) [

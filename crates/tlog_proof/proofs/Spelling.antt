@@ -1,4 +1,4 @@
--- A text is one proof at most, a proof has one text, and texts are short.
+-- A text is at most one proof, a proof has one text, and each text is short.
 use Rattle.std.proofs.Common.{◌≡◌, ℕ, ◌+◌, ◌*◌, ◌<◌, ◌≤◌, List, [], ◌∷◌, ◌++◌, length, get_or, refl, sym, ap, ◌∙◌, lit<}
 use Rattle.std.proofs.Common.{arith, length-append}
 use Rattle.std.specs.Prelude.{codes}
@@ -13,7 +13,7 @@ use Rattle.tlog_proof.specs.Text.{HasHashes, HasOneSpelling, IsProofText}
 use Rattle.tlog_text.proofs.Hashes.{length-hash}
 use Rattle.tlog_proof.proofs.Lines.{number_line_once, hash_line_once, rest_of_path, all_read, length-decimal}
 
--- paths of the same lines are one
+-- paths with the same lines are equal
 paths_same : (p q : List (List ℕ)) → AllByRecursion Is32Bytes p → AllByRecursion Is32Bytes q →
     path_lines p [] ≡ path_lines q [] → p ≡ q
 paths_same p q all other e = all_read p q [] (rest_of_path p q [] all other e) refl

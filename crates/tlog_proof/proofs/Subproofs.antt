@@ -1,4 +1,4 @@
--- The equations of RFC 6962, section 2.1.2, for how a consistency proof is made.
+-- The equations of RFC 6962, section 2.1.2, for the path of a consistency proof.
 use Rattle.std.proofs.Common.{Bool, true, false, inl, inr, ◌≡◌, ℕ, ◌+◌, ◌-◌, ◌<◌, ◌≤◌, List, [], ◌∷◌, ◌++◌, length}
 use Rattle.std.proofs.Common.{reverse, take, drop, sym, refl, ap, ◌∙◌, arith, length-take, length-drop}
 use Rattle.std.proofs.lemmas.List.{reverse-append}

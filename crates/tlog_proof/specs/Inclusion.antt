@@ -1,5 +1,5 @@
--- Inclusion proofs: how a path is made (RFC 6962, section 2.1.1), and how it is read (RFC 9162,
--- section 2.1.3).
+-- Inclusion proofs: making a path (RFC 6962, section 2.1.1), and checking it (RFC 9162, section
+-- 2.1.3).
 use Rattle.std.specs.Prelude.{◌≡◌, ◌⊎◌, ℕ, ◌-◌, ◌<◌, ◌≤◌, List, [], ◌∷◌, ◌++◌, reverse, Option}
 use Rattle.std.specs.Prelude.{Some, nat_lt, if◌then◌else◌}
 use Rattle.std.specs.Option.{option_map}
@@ -9,7 +9,7 @@ use Rattle.tlog_hash.specs.Shape.{shape}
 use Rattle.tlog_proof.specs.Climb.{climb}
 
 module _ (digest : List ℕ → List ℕ) where
-  -- the hashes beside the way from that entry of the tree up to the root
+  -- the siblings of the nodes from that entry up to the root
   abbrev pub path_in : ℕ → Tree (List ℕ) → List (List ℕ)
   path_in index Empty = []
   path_in index (One entry) = []
@@ -17,33 +17,34 @@ module _ (digest : List ℕ → List ℕ) where
       if nat_lt index (size_of l) then path_in index l
       ++ entries_root digest r ∷ [] else path_in (index - size_of l) r ++ entries_root digest l ∷ []
 
-  -- PATH(m, D[n]) of RFC 6962, m being the index
+  -- PATH(m, D[n]) of RFC 6962, with the index as m
   unfoldable pub path_of : ℕ → List (List ℕ) → List (List ℕ)
   path_of index entries = path_in index (tree_of entries)
 
-  -- a hash to the right of the way joins the hash so far
+  -- a hash on the right joins the hash so far
   abbrev pub hash_right : List ℕ → List ℕ → List ℕ
   hash_right hash value = digest (1 ∷ value ++ hash)
 
-  -- a hash to the left of the way joins the hash so far
+  -- a hash on the left joins the hash so far
   abbrev pub hash_left : List ℕ → List ℕ → List ℕ
   hash_left hash value = digest (1 ∷ hash ++ value)
 
-  -- the root that a path leads to in a tree of that shape, the hash nearest to the root first
+  -- the root that a path leads to in a tree of that shape; the path has the hash nearest to the
+  -- root first
   abbrev pub incl_in : Tree ℕ → ℕ → List ℕ → List (List ℕ) → Option (List ℕ)
   incl_in tree index leaf path = climb hash_right hash_left tree index leaf path
 
-  -- the root of `size` entries that a path leads to from the leaf hash of the entry at the index;
-  -- None where the path fits no tree of that size
+  -- the root of `size` entries that a path leads to, from the leaf hash of the entry with that
+  -- index. The result is None if the path does not fit a tree of that size
   unfoldable pub incl : ℕ → ℕ → List ℕ → List (List ℕ) → Option (List ℕ)
   incl index size leaf path = incl_in (shape size) index leaf (reverse path)
 
-  -- an inclusion proof is right: the path leads from the leaf hash of entry number `index` to the
-  -- root of a tree of that size
+  -- the inclusion proof is right: the path leads from the leaf hash of the entry with that index to
+  -- the root of a tree of that size
   abbrev pub IsInclusion : List ℕ → ℕ → ℕ → List (List ℕ) → List ℕ → Type 0
   IsInclusion leaf index size path root = (index < size) × (incl index size leaf path ≡ Some root)
 
-  -- the string is hashed where an inclusion path is checked; the path has the hash nearest to the
+  -- the string is hashed while an inclusion path is checked; the path has the hash nearest to the
   -- root first
   abbrev pub IsHashed : Tree ℕ → ℕ → List ℕ → List (List ℕ) → List ℕ → Type 0
   IsHashed Empty index leaf path string = ⊥

@@ -1,5 +1,4 @@
--- What the standards say of proofs, as laws of the definitions in Inclusion.antt and
--- Consistency.antt.
+-- Laws of the standards for the definitions in Inclusion.antt and Consistency.antt.
 use Rattle.std.specs.Prelude.{◌≡◌, ◌⊎◌, ℕ, ◌+◌, ◌-◌, ◌^◌, ◌<◌, ◌≤◌, Bool, true, false, List, []}
 use Rattle.std.specs.Prelude.{◌∷◌, ◌++◌, length, reverse, take, drop, Option, Some, None}
 use Rattle.std.specs.Prelude.{slice_index_or}
@@ -12,9 +11,9 @@ use Rattle.tlog_proof.specs.Inclusion.{path_of, incl, IsInclusion, IsHashed}
 use Rattle.tlog_proof.specs.Consistency.{at_end, both_right, both_left, subproof_of, proof_of, cons}
 use Rattle.tlog_proof.specs.Consistency.{IsConsistency, IsHashedBoth}
 
--- ---- how proofs are made
+-- ---- making proofs
 
--- the equations of PATH (RFC 6962, section 2.1.1)
+-- path meets the equations of PATH (RFC 6962, section 2.1.1)
 pub record IsPathMaker (digest : List ℕ → List ℕ) (path : ℕ → List (List ℕ) → List (List ℕ))
     : Type 0 where
   pub one : (entry : List ℕ) → path 0 (entry ∷ []) ≡ []
@@ -27,7 +26,8 @@ pub record IsPathMaker (digest : List ℕ → List ℕ) (path : ℕ → List (Li
       2 ≤ length entries → let k = split_of (length entries) in
       path m entries ≡ path (m - k) (drop k entries) ++ mth digest (take k entries) ∷ []
 
--- path_of meets the equations of PATH, and for an entry that is there no other function does
+-- path_of meets the equations of PATH, and any other such function agrees with it for each entry of
+-- a list
 abbrev pub PathEquations : Type 0
 PathEquations =
     (digest : List ℕ → List ℕ) →
@@ -36,7 +36,7 @@ PathEquations =
     (m : ℕ) (entries : List (List ℕ)) → m < length entries →
     path m entries ≡ path_of digest m entries)
 
--- the equations of SUBPROOF (RFC 6962, section 2.1.2)
+-- subproof meets the equations of SUBPROOF (RFC 6962, section 2.1.2)
 pub record IsSubproofMaker (digest : List ℕ → List ℕ)
     (subproof : ℕ → List (List ℕ) → Bool → List (List ℕ)) : Type 0 where
   pub held :
@@ -54,8 +54,8 @@ pub record IsSubproofMaker (digest : List ℕ → List ℕ)
       subproof m entries flag
       ≡ subproof (m - k) (drop k entries) false ++ mth digest (take k entries) ∷ []
 
--- PROOF(m, D[n]) is SUBPROOF(m, D[n], true), which meets its equations; and for 0 < m <= n no other
--- function does
+-- PROOF(m, D[n]) is SUBPROOF(m, D[n], true). SUBPROOF meets its equations, and any other such
+-- function agrees with it for 0 < m <= n
 abbrev pub ProofEquations : Type 0
 ProofEquations =
     (digest : List ℕ → List ℕ) →
@@ -66,17 +66,18 @@ ProofEquations =
     (m : ℕ) (entries : List (List ℕ)) (flag : Bool) → 0 < m → m ≤ length entries →
     subproof m entries flag ≡ subproof_of digest m entries flag)
 
--- of at most 2^j entries a path has at most j hashes, and a consistency proof one more
+-- for at most 2^j entries, an inclusion path has at most j hashes, and a consistency path at most j
+-- + 1
 abbrev pub PathsAreShort : Type 0
 PathsAreShort =
     (digest : List ℕ → List ℕ) (j : ℕ) (entries : List (List ℕ)) → length entries ≤ 2 ^ j →
     ((i : ℕ) → length (path_of digest i entries) ≤ j)
     × ((m : ℕ) → 0 < m → m ≤ length entries → length (proof_of digest m entries) ≤ j + 1)
 
--- ---- how proofs are read
+-- ---- checking proofs
 
--- the equations of a reader of paths, which read PATH backwards: the last hash of a path is the one
--- nearest to the root (RFC 9162, section 2.1.3)
+-- read meets the equations that reverse PATH: the last hash of a path is the one nearest to the
+-- root (RFC 9162, section 2.1.3)
 pub record IsPathReader (digest : List ℕ → List ℕ)
     (read : ℕ → ℕ → List ℕ → List (List ℕ) → Option (List ℕ)) : Type 0 where
   pub none : (i : ℕ) (leaf : List ℕ) (path : List (List ℕ)) → read i 0 leaf path ≡ None
@@ -93,7 +94,7 @@ pub record IsPathReader (digest : List ℕ → List ℕ)
       read i n leaf (path ++ hash ∷ [])
       ≡ option_map (λ v. digest (1 ∷ hash ++ v)) (read (i - split_of n) (n - split_of n) leaf path)
 
--- incl meets the equations of a reader of paths, and no other function does
+-- incl meets the equations that reverse PATH, and it is the only such function
 abbrev pub InclEquations : Type 0
 InclEquations =
     (digest : List ℕ → List ℕ) →
@@ -102,8 +103,7 @@ InclEquations =
     (i n : ℕ) (leaf : List ℕ) (path : List (List ℕ)) →
     read i n leaf path ≡ incl digest i n leaf path)
 
--- the equations of a reader of consistency paths, which read SUBPROOF backwards (RFC 9162, section
--- 2.1.4)
+-- read meets the equations that reverse SUBPROOF (RFC 9162, section 2.1.4)
 pub record IsSubproofReader (digest : List ℕ → List ℕ)
     (read : ℕ → ℕ → Bool → List ℕ → List (List ℕ) → Option (List ℕ × List ℕ)) : Type 0 where
   pub none :
@@ -124,7 +124,7 @@ pub record IsSubproofReader (digest : List ℕ → List ℕ)
       read m n flag root (path ++ hash ∷ [])
       ≡ option_map (both_left digest hash) (read (m - split_of n) (n - split_of n) false root path)
 
--- cons meets the equations of a reader of consistency paths, and no other function does
+-- cons meets the equations that reverse SUBPROOF, and it is the only such function
 abbrev pub ConsEquations : Type 0
 ConsEquations =
     (digest : List ℕ → List ℕ) →
@@ -134,18 +134,18 @@ ConsEquations =
     (m n : ℕ) (flag : Bool) (root : List ℕ) (path : List (List ℕ)) →
     read m n flag root path ≡ cons digest m n flag root path)
 
--- ---- what is made is accepted
+-- ---- a proof that was made is accepted
 
--- the path that is made for an entry is accepted for its leaf hash, its index, and the size and
--- tree hash of the list
+-- the path made for an entry is accepted for its leaf hash, its index, and the size and tree hash
+-- of the list
 abbrev pub MadeInclusionHolds : Type 0
 MadeInclusionHolds =
     (digest : List ℕ → List ℕ) (entries : List (List ℕ)) (i : ℕ) → i < length entries →
     IsInclusion digest (digest (0 ∷ slice_index_or entries i [])) i (length entries)
     (path_of digest i entries) (mth digest entries)
 
--- the path that is made from m entries to all of them leads to the two tree hashes, and is
--- accepted, for equal sizes too
+-- the path made from m entries to all entries leads to both tree hashes, and it is accepted, for
+-- equal sizes too
 abbrev pub MadeConsistencyHolds : Type 0
 MadeConsistencyHolds =
     (digest : List ℕ → List ℕ) (entries : List (List ℕ)) (m : ℕ) → 0 < m → m ≤ length entries →
@@ -154,14 +154,14 @@ MadeConsistencyHolds =
     × IsConsistency digest m (mth digest (take m entries)) (length entries) (mth digest entries)
     (proof_of digest m entries)
 
--- ---- what is accepted is so
+-- ---- an accepted proof shows the truth
 
--- no two different strings that P says something of have one digest
+-- two strings with the property P and the same digest are equal
 abbrev pub HasNoClash : (List ℕ → List ℕ) → (List ℕ → Type 0) → Type 0
 HasNoClash digest P = (x y : List ℕ) → P x → P y → digest x ≡ digest y → x ≡ y
 
--- the string is one that the check hashes, that of the entry, or one that the tree hash of the
--- entries hashes
+-- the string is hashed by the check, is that of the entry, or is hashed by the tree hash of the
+-- entries
 abbrev pub IsMetByInclusion :
     (List ℕ → List ℕ) → List (List ℕ) → ℕ → List ℕ → List (List ℕ) → List ℕ → Type 0
 IsMetByInclusion digest entries i entry path string =
@@ -169,8 +169,8 @@ IsMetByInclusion digest entries i entry path string =
     ⊎ (IsHashed digest (shape (length entries)) i (digest (0 ∷ entry)) (reverse path) string
     ⊎ Contains (strings digest entries) string)
 
--- a path that is accepted for entry i of a list shows that entry, where nothing that is hashed
--- collides
+-- a path that is accepted for index i of a list shows that entry, unless two of the hashed strings
+-- collide
 abbrev pub AcceptedInclusionShows : Type 0
 AcceptedInclusionShows =
     (digest : List ℕ → List ℕ) → ((s : List ℕ) → length (digest s) ≡ 32) →
@@ -179,14 +179,14 @@ AcceptedInclusionShows =
     IsInclusion digest (digest (0 ∷ entry)) i (length entries) path (mth digest entries) →
     slice_index_or entries i [] ≡ entry
 
--- the string is one that the check hashes, or one that the tree hash of either list hashes
+-- the string is hashed by the check, or by the tree hash of either list
 abbrev pub IsMetByConsistency : (List ℕ → List ℕ) → (ds es path : List (List ℕ)) → List ℕ → Type 0
 IsMetByConsistency digest ds es path string =
     IsHashedBoth digest (shape (length es)) (length ds) true (mth digest ds) (reverse path) string
     ⊎ (Contains (strings digest ds) string ⊎ Contains (strings digest es) string)
 
--- a path of hashes that is accepted for the sizes and roots of two lists shows that the first is a
--- prefix of the second, where nothing that is hashed collides
+-- a path that is accepted for the sizes and roots of two lists shows that the first is a prefix of
+-- the second, unless two of the hashed strings collide
 abbrev pub AcceptedConsistencyShows : Type 0
 AcceptedConsistencyShows =
     (digest : List ℕ → List ℕ) → ((s : List ℕ) → length (digest s) ≡ 32) →

@@ -1,4 +1,4 @@
--- What is asked for, and what is answered.
+-- The proof that is requested, and the answer.
 use Rattle.std.specs.Prelude.{ℕ, ◌∷◌, List, [], length, take, slice_index_or, nat_lt}
 use Rattle.std.specs.Prelude.{nat_le, nat_eq, if◌then◌else◌, Result, Ok, Err}
 use Rattle.tlog_hash.specs.Tree.{mth}
@@ -15,8 +15,7 @@ use Rattle.tlog_proof.specs.declared.proof.Proof.{Proof}
 use Rattle.tlog_proof.specs.declared.proof.Proof.TheVariants.{Inclusion, Consistency}
 
 module _ (digest : List ℕ → List ℕ) where
-  -- the path for an index in the tree of the first entries, as many as size, or the first refusal
-  -- that applies
+  -- the path for an index in the tree of the first size entries, or the first refusal that applies
   abbrev pub inclusion_in : List (List ℕ) → ℕ → ℕ → Result (List (List ℕ)) ProofFault
   inclusion_in entries size index =
       if nat_lt (length entries) size then Err NoSuchSize
@@ -36,7 +35,7 @@ module _ (digest : List ℕ → List ℕ) where
       else
       Ok (proof_of digest first (take second entries))))
 
-  -- the proof that was asked for: the path with the numbers asked for, the roots, and the leaf hash
+  -- the requested proof: the path with the requested numbers, the roots, and the leaf hash
   abbrev pub asked_proof : List (List ℕ) → Ask → Result Proof ProofFault
   asked_proof entries (AskInclusion size index) =
       seen
@@ -49,7 +48,7 @@ module _ (digest : List ℕ → List ℕ) where
       (mth digest (take second entries)) path)
       (consistency_in entries first second)
 
-  -- the proof is accepted
+  -- the check accepts the proof
   abbrev pub Holds : Proof → Type 0
   Holds (Inclusion size index root leaf path) = IsInclusion digest leaf index size path root
   Holds (Consistency first first_root second second_root path) =

@@ -1,5 +1,5 @@
--- What is said of a range of each list that a value may stand for, its hashes alone being known.
--- `AddsHashes` and `FailsForMemory` are cited by the contracts of private functions alone.
+-- Hashes of a range of entries, for each list that a value may represent, since only its hashes are
+-- known. Only contracts of private functions cite `AddsHashes` and `FailsForMemory`.
 use Rattle.std.specs.Prelude.{◌≡◌, ℕ, ◌+◌, ◌<◌, ◌≤◌, List, ◌++◌, length}
 use Rattle.tlog_hash.specs.Tree.{mth}
 use Rattle.tlog_hash.specs.Rows.{part}
@@ -7,7 +7,7 @@ use Rattle.tlog_proof.specs.declared.make.ProofFault.{ProofFault}
 use Rattle.tlog_proof.specs.declared.make.ProofFault.TheVariants.{OutOfMemory}
 
 module _ (lists : List (List ℕ) → Type 0) (start len : ℕ) where
-  -- each list has the range, and this is its tree hash
+  -- each list has the range, and this is the tree hash of the range
   abbrev pub HashesRange : (List ℕ → List ℕ) → List ℕ → Type 0
   HashesRange digest hash =
       (entries : List (List ℕ)) → lists entries →
@@ -17,14 +17,15 @@ module _ (lists : List (List ℕ) → Type 0) (start len : ℕ) where
   abbrev pub LacksRange : Type 0
   LacksRange = (entries : List (List ℕ)) → lists entries → length entries < start + len
 
-  -- of each list that has the range, what is made of it stands behind the old hashes
+  -- for each list that has the range, the new hashes are the old ones followed by those made from
+  -- the range
   abbrev pub AddsHashes :
       (List (List ℕ) → List (List ℕ)) → List (List ℕ) → List (List ℕ) → Type 0
   AddsHashes made old new =
       (entries : List (List ℕ)) → lists entries → start + len ≤ length entries →
       new ≡ old ++ made (part start len entries)
 
-  -- where a list has the range, the fault says that memory was refused
+  -- if a list has the range, the fault is OutOfMemory
   abbrev pub FailsForMemory : ProofFault → Type 0
   FailsForMemory fault =
       (entries : List (List ℕ)) → lists entries → start + len ≤ length entries → fault ≡ OutOfMemory

@@ -1,8 +1,8 @@
-//! The checks of proofs, by the loops of RFC 9162 over the bits of sizes and indices.
+//! Checks of proofs, by the loops of RFC 9162 over the bits of sizes and indices.
 //!
-//! Neither takes memory, and neither adds, multiplies or shifts a number out of its 64 bits, whatever
-//! it is given. In the loops `node` and `end`, which the standard calls fn and sn, are the numbers of
-//! the node on the way and of the last node, in the level of the tree that is reached.
+//! The checks allocate no memory, and no number overflows 64 bits, for any argument. In the loops,
+//! `node` and `end` are fn and sn of the standard: the numbers of the current node and of the last
+//! node, in their level of the tree.
 ghost use Rattle.std.specs.Prelude.{◌≡◌, ◌↔◌, ◌<◌, ◌≤◌, ◌+◌, ◌%◌, [], IsTrue, true};
 ghost use Rattle.tlog_proof.specs.Inclusion.{IsInclusion};
 ghost use Rattle.tlog_proof.specs.Consistency.{cons, IsConsistency};
@@ -10,11 +10,11 @@ ghost use Rattle.tlog_proof.specs.Steps.{KeepsIncl, KeepsBoth, HasBlocks, LeadsT
 
 use tlog_hash::{Hash, TreeHash};
 
-/// Whether the path shows that the entry with that leaf hash has that index in the tree of that size
-/// and root (RFC 9162, section 2.1.3.2).
+/// Whether the path shows that the entry with that leaf hash has that index, in the tree of that
+/// size and root (RFC 9162, section 2.1.3.2).
 ///
-/// It is false where the index is not below the size, and where the path has a hash too many or too
-/// few. A yes does not fix the size: another size can lead to the same root by the same path.
+/// The result is false if the index is not below the size, or if the path has too many or too few
+/// hashes. True does not prove the size: another size can lead to the same root by the same path.
 pub fn check_inclusion<H: TreeHash>(
     leaf: &Hash,
     index: u64,
@@ -50,8 +50,9 @@ pub fn check_inclusion<H: TreeHash>(
 
 /// Whether the path shows that the tree of the first size and root is a prefix of the tree of the
 /// second (RFC 9162, section 2.1.4.2).
-///
-/// Equal sizes have the empty path and equal roots (own: the standard leaves them out). It is false
+/// For equal sizes, the path must be empty and the roots equal (own rule: the standard leaves this
+/// case out). The result is false if the first size is 0 or greater than the second. True does not
+/// prove the sizes.
 /// where the first size is 0 or greater than the second. A yes does not fix the sizes.
 pub fn check_consistency<H: TreeHash>(
     first: u64,
@@ -72,7 +73,7 @@ pub fn check_consistency<H: TreeHash>(
     grows::<H>(first, first_root, second, second_root, path)
 }
 
-// Whether nothing is to be shown, and nothing is.
+// Whether the path is empty and the roots are equal.
 fn are_equal(first_root: &Hash, second_root: &Hash, path: &[Hash]) -> bool
     ensures { IsTrue result ↔ ((path.now ≡ []) × (first_root.now ≡ second_root.now)) }
 {
@@ -99,8 +100,7 @@ fn grows<H: TreeHash>(
         return false;
     }
     let at = to_block(first - 1, second - 1);
-    // The index is 0 where the first size is a power of two: the first root stands before the
-    // path.
+    // The index is 0 if the first size is a power of two. The first root then begins the path.
     if at.0 == 0 {
         leads_to::<H>(at.0, at.1, first_root, path, first_root, second_root)
     } else {
@@ -150,8 +150,8 @@ fn leads_to<H: TreeHash>(
     false
 }
 
-// Goes up from a node that has no partner, to where it has one on its left. The numbers are those of
-// the node and of the last one of its level.
+// Goes up from a node without a sibling, to an ancestor with a sibling on its left. The numbers are
+// those of the node and of the last node of its level.
 fn to_partner(index: u64, last: u64) -> (u64, u64)
     requires some { 0 < index }
     requires within { index ≤ last }
@@ -170,7 +170,7 @@ fn to_partner(index: u64, last: u64) -> (u64, u64)
     (node, end)
 }
 
-// Goes up from the last leaf of the first tree, as long as that ends a pair.
+// Goes up from the last leaf of the first tree, while the node is the right child of a pair.
 fn to_block(index: u64, last: u64) -> (u64, u64)
     requires { index < last }
     ensures even { result.0 % 2 ≡ 0 }

@@ -1,12 +1,11 @@
-//! Why a text is no proof.
+//! Why a text is not a proof.
 ghost use Rattle.std.specs.Prelude.{◌≡◌};
 ghost use Rattle.tlog_proof.specs.declared.fault.TextFault.TheVariants.{OutOfMemory};
 
 use std::alloc::{AllocError, AllocFailed};
 use thiserror::Error;
 
-/// Why a text was not read as a proof.
-/// For example the empty text is none.
+/// Why a text was refused as a proof. For example, the empty text is not a proof.
 #[derive(Debug, Drop, PartialEq, Eq, Clone, Copy, Error)]
 pub enum TextFault {
     /// The text is not one that `write_text` writes.

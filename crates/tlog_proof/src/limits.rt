@@ -1,7 +1,8 @@
-//! How long paths and texts of proofs may be.
+//! The greatest lengths of paths and of texts of proofs.
 
-/// The most hashes that the path of a proof's text has.
+/// The greatest number of hashes in the path of a proof's text.
 pub(crate) const MAX_PATH: usize = 64;
 
-/// The greatest length of the text of a proof, in bytes, where a reader may stop. The longest has 3,365.
+/// The greatest length of a proof's text, in bytes; a reader may stop there. The longest text has
+/// 3,365 bytes.
 pub const MAX_TEXT_LEN: usize = 8192;

@@ -1,4 +1,4 @@
-//! Paths of a list, by the hashes of its ranges alone.
+//! Makes paths from the hashes of ranges of a list.
 ghost use Rattle.std.specs.Prelude.{◌≡◌, ◌+◌, ◌<◌, ◌≤◌, ◌^◌, ℕ, List, IfOk, IfErr, OnOk};
 ghost use Rattle.tlog_proof.specs.Answers.{AnswersAs};
 ghost use Rattle.tlog_proof.specs.Inclusion.{path_of};
@@ -13,18 +13,18 @@ use thiserror::Error;
 use tlog_hash::Hash;
 use tlog_shape::split;
 
-/// Why no proof is made, in the order in which it is found.
-/// Of three entries `Ask::Inclusion { size: 4, index: 0 }` asks for a size, and `{ size: 3, index: 3 }`
-/// for an index, that is not there.
+/// Why no proof was made, in the order in which the faults are found. For three entries,
+/// `Ask::Inclusion { size: 4, index: 0 }` is `NoSuchSize`, and `{ size: 3, index: 3 }` is
+/// `NoSuchIndex`.
 #[derive(Debug, Drop, PartialEq, Eq, Clone, Copy, Error)]
 pub enum ProofFault {
-    /// The list is shorter than the size, or the second size, that is asked for.
+    /// The list has fewer entries than the requested size, or second size.
     #[error("NoSuchSize")]
     NoSuchSize,
     /// The index is not below the size.
     #[error("NoSuchIndex")]
     NoSuchIndex,
-    /// From the tree of no entries there is no consistency proof.
+    /// The first tree is empty, and no consistency proof begins with it.
     #[error("FirstIsZero")]
     FirstIsZero,
     /// The first size is greater than the second.
@@ -43,13 +43,13 @@ impl<T: Drop> From<AllocFailed<T>> for ProofFault {
     }
 }
 
-/// The path that shows the entry of that index in the tree of the first `size` entries: PATH of RFC
-/// 6962, section 2.1.1.
+/// The path that shows the entry with that index in the tree of the first `size` entries: PATH of
+/// RFC 6962, section 2.1.1.
 ///
 /// # Errors
 ///
-/// The first that applies: `NoSuchSize` where the list has fewer entries, `NoSuchIndex` where the index is
-/// not below the size; `OutOfMemory` at any step.
+/// The first that applies: `NoSuchSize` if the list has fewer entries, `NoSuchIndex` if the index
+/// is not below the size. `OutOfMemory` may come at any step.
 pub fn inclusion<R: Ranges>(
     alloc: Global,
     ranges: &R,
@@ -71,13 +71,13 @@ pub fn inclusion<R: Ranges>(
     Ok(path)
 }
 
-/// The path that shows that the tree of the first `first` entries is a prefix of that of the first
-/// `second`: PROOF of RFC 6962, section 2.1.2, and no hashes for equal sizes.
+/// The path that shows that the tree of the first `first` entries is a prefix of the tree of the
+/// first `second`. It is PROOF of RFC 6962, section 2.1.2, or the empty path for equal sizes.
 ///
 /// # Errors
 ///
-/// The first that applies: `NoSuchSize` where the list has fewer than `second` entries, `FirstIsZero` where
-/// `first` is 0, `Backwards` where `first` is the greater; `OutOfMemory` at any step.
+/// The first that applies: `NoSuchSize` if the list has fewer than `second` entries, `FirstIsZero`
+/// if `first` is 0, `Backwards` if `first` is the greater. `OutOfMemory` may come at any step.
 pub fn consistency<R: Ranges>(
     alloc: Global,
     ranges: &R,
@@ -102,7 +102,7 @@ pub fn consistency<R: Ranges>(
     Ok(path)
 }
 
-/// The tree hash of a range that is within the list.
+/// The tree hash of a range.
 pub(crate) fn hash_of<R: Ranges>(ranges: &R, start: u64, len: u64) -> Result<Hash, ProofFault>
     ensures ok { IfOk result (HashesRange (R.lists ranges.now) start len R.digest) }
     ensures err { IfErr result (λ _. LacksRange (R.lists ranges.now) start len) }
@@ -113,7 +113,7 @@ pub(crate) fn hash_of<R: Ranges>(ranges: &R, start: u64, len: u64) -> Result<Has
     }
 }
 
-// Adds the path for an index, counted from the start of a range, within that range.
+// Appends the path for an index within a range; the index is counted from the start of the range.
 fn add_path<R: Ranges>(
     ranges: &R,
     start: u64,
@@ -142,8 +142,8 @@ fn add_path<R: Ranges>(
     Ok(())
 }
 
-// Adds the path from the first entries of a range to all of it. Where all of it is the first tree,
-// `held` says that the checker knows its root.
+// Appends the path from the first entries of a range to the whole range. `held` says that the
+// checker knows the root of the first entries.
 fn add_subproof<R: Ranges>(
     ranges: &R,
     start: u64,

@@ -7,8 +7,8 @@ ghost use Rattle.std.proofs.Common.{rules};
 use std::marker::Model;
 use tlog_hash::Hash;
 
-/// The hashes of a proof, the one nearest to the root last. A contract sees the list of them.
-/// That of the last of three entries is one hash, the tree hash of the first two.
+/// The hashes of a proof, with the hash nearest to the root last. Contracts see it as a list. For
+/// example, the path of the last of three entries is one hash: the tree hash of the first two.
 #[derive(Debug, Drop)]
 pub struct HashPath {
     hashes: Vec<Hash>,
@@ -37,7 +37,7 @@ impl HashPath {
         self.hashes.as_slice()
     }
 
-    /// The hashes, given back without memory.
+    /// The hashes, without a copy.
     ///
     /// ```text
     /// match proof { Proof::Inclusion { path, .. } => path.into_vec(), .. }   // the hashes, as a `Vec`

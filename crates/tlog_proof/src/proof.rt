@@ -1,4 +1,4 @@
-//! Whole proofs: what is asked for, and the answer with all that a check needs.
+//! Whole proofs: the request, and the answer with everything that a check needs.
 ghost use Rattle.std.specs.Prelude.{◌↔◌, ◌≤◌, ℕ, List, length, IsTrue, IfOk};
 ghost use Rattle.tlog_proof.specs.Answers.{AnswersAs};
 ghost use Rattle.tlog_shape.specs.declared.TheConstants.{MAX_SIZE};
@@ -12,20 +12,19 @@ use crate::ranges::Ranges;
 use std::alloc::Global;
 use tlog_hash::{Hash, TreeHash};
 
-/// What a proof is asked for.
-/// `Ask::Inclusion { size: 3, index: 2 }` asks for the last of three entries.
+/// A request for a proof. `Ask::Inclusion { size: 3, index: 2 }` is for the last of three entries.
 #[derive(Debug, Drop, PartialEq, Eq, Clone, Copy)]
 pub enum Ask {
-    /// That the entry of an index is in the tree of a size.
+    /// A proof that the entry with the index is in the tree of that size.
     Inclusion { size: u64, index: u64 },
-    /// That the tree of the first size is a prefix of that of the second.
+    /// A proof that the tree of the first size is a prefix of the tree of the second.
     Consistency { first: u64, second: u64 },
 }
 
-/// A proof with all that a check of it needs.
-/// `examples/inclusion-2-of-3.proof` is one as text.
+/// A proof with everything that a check needs. `examples/inclusion-2-of-3.proof` has the text of
+/// one.
 ///
-/// Who relies on a yes compares the roots with those of a checkpoint.
+/// A caller who relies on the check must also compare the roots with those of a checkpoint.
 #[derive(Debug, Drop, PartialEq, Eq)]
 pub enum Proof {
     /// The entry with that leaf hash has that index in the tree of that size and root.
@@ -46,12 +45,12 @@ pub enum Proof {
     },
 }
 
-/// Makes the proof that is asked for. Of a list of at most 9223372036854775807 entries it can be
+/// Makes the requested proof. If the list has at most 9223372036854775807 entries, the proof can be
 /// written as text.
 ///
 /// # Errors
 ///
-/// Those of `inclusion` or `consistency`, in their order.
+/// The faults of `inclusion` or `consistency`, in their order.
 pub fn prove<R: Ranges>(alloc: Global, ranges: &R, ask: Ask) -> Result<Proof, ProofFault>
     ensures answer { (entries : List (List ℕ)) → R.lists ranges.now entries
         → AnswersAs ProofFault.OutOfMemory (λ proof. proof) result
@@ -87,8 +86,8 @@ pub fn prove<R: Ranges>(alloc: Global, ranges: &R, ask: Ask) -> Result<Proof, Pr
     }
 }
 
-/// Whether the proof is right for its own sizes and roots: `check_inclusion` or `check_consistency` of
-/// its fields. It takes no memory.
+/// Whether the proof is right for its own sizes and roots, by `check_inclusion` or
+/// `check_consistency`. The call allocates no memory.
 pub fn holds<H: TreeHash>(proof: &Proof) -> bool
     ensures { IsTrue result ↔ Holds H.digest proof.now }
 {

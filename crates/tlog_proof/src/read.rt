@@ -1,4 +1,4 @@
-//! Proofs from text.
+//! Reads proofs from text.
 ghost use Rattle.std.specs.Prelude.{◌≡◌, ◌≤◌, [], length, IfSome, IfOk};
 ghost use Rattle.std.specs.List.{AllByRecursion};
 ghost use Rattle.tlog_text.specs.Hash.{Is32Bytes};
@@ -15,12 +15,12 @@ use tlog_hash::Hash;
 use tlog_shape::MAX_SIZE;
 use tlog_text::{read_hash, read_number};
 
-/// Reads the text of a proof: exactly what `write_text` writes of one.
+/// Reads the text of a proof: exactly a text that `write_text` writes.
 ///
 /// # Errors
 ///
-/// `BadProofText` for any other text, one with a leading zero, with base64 that is not canonical, or
-/// without its last newline among them; `OutOfMemory` at any step.
+/// `BadProofText` for any other text. Examples are a leading zero, base64 that is not canonical,
+/// and a last line without a newline. `OutOfMemory` may come at any step.
 pub fn read_text(alloc: Global, text: &str) -> Result<Proof, TextFault>
     ensures { ReadsProof text.now result }
 {
@@ -79,7 +79,7 @@ fn read_consistency(alloc: Global, text: &str) -> Result<Proof, TextFault>
     })
 }
 
-// The value of the first line, which begins with that name, and what follows the line.
+// The value of the first line, if it begins with that name, and the text after the line.
 fn field<'a>(text: &'a str, name: &str) -> Option<(&'a str, &'a str)>
     ensures sound { IfSome result (λ r. LacksNewline r.0.now
         × (text.now ≡ line name.now r.0.now r.1.now)) }
@@ -88,7 +88,7 @@ fn field<'a>(text: &'a str, name: &str) -> Option<(&'a str, &'a str)>
     text.strip_prefix(name)?.split_once('\n')
 }
 
-// The number of the first line, and what follows the line.
+// The number on the first line, and the text after the line.
 fn number_field<'a>(text: &'a str, name: &str) -> Option<(u64, &'a str)>
     ensures sound { IfSome result (λ r. (r.0 ≤ MAX_SIZE)
         × (text.now ≡ number_line name.now r.0 r.1.now)) }
@@ -101,7 +101,7 @@ fn number_field<'a>(text: &'a str, name: &str) -> Option<(u64, &'a str)>
     }
 }
 
-// The hash of the first line, and what follows the line.
+// The hash on the first line, and the text after the line.
 fn hash_field<'a>(text: &'a str, name: &str) -> Result<(Hash, &'a str), TextFault>
     ensures sound { IfOk result (λ r. Is32Bytes r.0 × (text.now ≡ hash_line name.now r.0 r.1.now)) }
     ensures complete { FindsHash (λ r. r.0) (λ r. r.1.now) text.now name.now result }

@@ -1,4 +1,4 @@
-//! Proofs as text.
+//! Writes proofs as text.
 ghost use Rattle.std.specs.Prelude.{◌≡◌, ◌++◌, [], OnOk, IfOk, string_bytes};
 ghost use Rattle.std.specs.List.{AllByRecursion};
 ghost use Rattle.tlog_text.specs.Hash.{Is32Bytes};
@@ -11,12 +11,13 @@ use tlog_text::{push_hash, push_number};
 
 /// The text of a proof.
 ///
-/// Its first line is `inclusion` or `consistency`. The lines `size N`, `index I`, `root ROOT` and
-/// `leaf HASH` follow, or `first M`, `root ROOT`, `second N` and `root ROOT`, and then a line
-/// `path HASH` for each hash of the path. Each line ends in a newline; numbers are decimal without
-/// leading zeros, and hashes standard base64 with padding.
+/// The first line is `inclusion` or `consistency`. The next lines are `size N`, `index I`,
+/// `root ROOT` and `leaf HASH`, or `first M`, `root ROOT`, `second N` and `root ROOT`. A line
+/// `path HASH` follows for each hash of the path. Each line ends in a newline. Numbers are decimal
+/// without leading zeros, and hashes are standard base64 with padding.
 ///
-/// Numbers of at most 9223372036854775807 and at most 64 hashes of the path are the condition.
+/// Each size and index must be at most 9223372036854775807, and the path must have at most 64
+/// hashes.
 ///
 /// # Errors
 ///
@@ -59,7 +60,7 @@ pub fn write_text(alloc: Global, proof: &Proof) -> Result<String, AllocError>
     Ok(text)
 }
 
-// Adds the line of a number.
+// Appends the line of a number.
 fn add_number(text: &mut String, name: &str, n: u64) -> Result<(), AllocError>
     ensures { OnOk result (string_bytes text.new
         ≡ string_bytes text.old ++ number_line name.now n []) }
@@ -69,7 +70,7 @@ fn add_number(text: &mut String, name: &str, n: u64) -> Result<(), AllocError>
     text.push('\n')
 }
 
-// Adds the line of a hash.
+// Appends the line of a hash.
 fn add_hash(text: &mut String, name: &str, hash: &Hash) -> Result<(), AllocError>
     ensures ok { OnOk result (string_bytes text.new
         ≡ string_bytes text.old ++ hash_line name.now hash.now []) }
@@ -81,7 +82,7 @@ fn add_hash(text: &mut String, name: &str, hash: &Hash) -> Result<(), AllocError
     Ok(())
 }
 
-// Adds the lines of a path.
+// Appends the lines of a path.
 fn add_hashes(text: &mut String, path: &[Hash]) -> Result<(), AllocError>
     ensures ok { OnOk result (string_bytes text.new
         ≡ string_bytes text.old ++ path_lines path.now []) }

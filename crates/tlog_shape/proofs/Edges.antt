@@ -1,4 +1,4 @@
--- Which tiles a tree has.
+-- The tiles of a tree.
 use Rattle.std.proofs.Common.{◌≡◌, inl, inr, ℕ, ◌+◌, ◌-◌, ◌*◌, ◌/◌, ◌%◌, ◌^◌, ◌<◌, ◌≤◌, refl, sym, ap, ◌∙◌, arith}
 use Rattle.std.proofs.Math.Nat.{div-mul-le_self, lt-div-mul-add, div-eq_of_lt, div-one, mod-eq_of_lt}
 use Rattle.std.proofs.lemmas.Bool.{cases_lt}
@@ -8,7 +8,7 @@ use Rattle.tlog_shape.specs.Edge.{width_of, IsTop, IsTileOfNode, RangeHasNode}
 use Rattle.tlog_shape.proofs.Levels.{level_power, level_positive, level_mono}
 use Rattle.tlog_shape.proofs.Splits.{power_le}
 
--- a block that is counted is within the whole, and the other way round
+-- a block with an index below the count of whole blocks ends within n, and the reverse
 pub fits-index : (index n size : ℕ) → 0 < size → (index + 1) * size ≤ n → index < n / size
 fits-index index n size some fits = omega (arith, le-div (index + 1) n size some fits)
 
@@ -20,7 +20,7 @@ index-fits index n size below =
 
 -- ---- the top level
 
--- a level whose blocks are larger than the tree has width 0
+-- if the blocks of a level are larger than the tree, the level has width 0
 width_none : (n level : ℕ) → n < 256 ^ level → width_of n level ≡ 0
 width_none n level below = ap (λ q. q % 256) (div-eq_of_lt below)
 
@@ -37,7 +37,7 @@ module _ (n level : ℕ) (within : level ≤ 7) (below : n < 256 ^ (level + 1)) 
             absurd (omega (arith, some, width_none n other (omega (arith, below, large))))
       ]
 
-  -- the first level from above that has a width
+  -- the first level from above with a width is the top level
   pub top_found : 0 < width_of n level → IsTop n level
   top_found some =
       record {
@@ -49,7 +49,7 @@ module _ (n level : ℕ) (within : level ≤ 7) (below : n < 256 ^ (level + 1)) 
         greatest = λ other _ width. none_above other width;
       }
 
--- no level above the lowest has a width
+-- level 0 is the top level if the tree is smaller than one block of level 1
 pub top_lowest : (n : ℕ) → n < 256 ^ 1 → IsTop n 0
 top_lowest n below =
     record {
@@ -61,7 +61,7 @@ top_lowest n below =
 
 -- ---- the tile of a node
 
--- a level whose blocks fit into a number of 64 bits
+-- if a block of the level fits into a number of 64 bits, the level is at most 7
 pub level_within : (level n : ℕ) → 256 ^ level ≤ n → n < 2 ^ 64 → level ≤ 7
 level_within level n above below =
     elim (cases_lt level 8) [
@@ -71,7 +71,7 @@ level_within level n above below =
           absurd (omega (arith, above, below, large))
     ]
 
--- a larger power of two is a multiple of a smaller one
+-- the whole is a multiple of the size
 record IsMultiple (size whole : ℕ) : Type 0 where
   times : ℕ
   is : whole ≡ times * size
@@ -89,8 +89,8 @@ level_multiple size level power upto =
     let m = power_multiple e high le in
     record { times = m.times; is = level_power (level + 1) ∙ m.is ∙ ap (λ k. m.times * k) (sym power.is) }
 
--- a node of a power of two of entries, aligned to its size, that begins in a block of a multiple of that size ends in
--- it
+-- a node that is aligned to its size begins and ends in the same block, if the block's size is a multiple of the
+-- node's
 within_block : (start size whole times : ℕ) → 0 < size → start % size ≡ 0 → whole ≡ times * size → 0 < whole →
     start + size ≤ (start / whole + 1) * whole
 within_block start size whole times some aligned is positive =
@@ -112,7 +112,7 @@ within_block start size whole times some aligned is positive =
     let more : (a + 1) * size ≡ a * size + size = omega arith in
     omega (arith, next, more, start_is, counted)
 
--- the span of a tile whose level was counted up to the first that leaves nothing
+-- the node has at most 256^(level + 1) entries, if size - 1 entries do not fill a block of that size
 pub spans_node : (size level rest : ℕ) → 2 ≤ size → rest ≡ (size - 1) / 256 ^ (level + 1) → rest ≡ 0 →
     size ≤ 256 ^ (level + 1)
 spans_node size level rest several rest_is done =
@@ -137,6 +137,6 @@ module _ (start size level index : ℕ) (several : 2 ≤ size) (upto : size ≤ 
             (level_positive (level + 1)));
       }
 
--- one level more
+-- if n entries fill a block of that size, the size is at most n
 pub rest_positive : (n size : ℕ) → 0 < size → 0 < n / size → size ≤ n
 rest_positive n size some positive = omega (arith, index-fits 0 n size positive)

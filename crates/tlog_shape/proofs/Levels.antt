@@ -14,13 +14,13 @@ level_power (suc level) =
 pub level_positive : (level : ℕ) → 0 < 256 ^ level
 level_positive level = rw (level_power level) (pow_pos (8 * level))
 
--- the next level's size
+-- a block of the next level has 256 times as many entries
 pub level_next : (level : ℕ) → 256 ^ (level + 1) ≡ 256 * 256 ^ level
 level_next level =
     let e : level + 1 ≡ suc level = omega arith in
     ap (λ m. 256 ^ m) e ∙ pow-succ' 256 level
 
--- shifting by a byte goes up one level
+-- shifting a number by one more byte divides it by a block of the next level
 pub shift_level : (n level : ℕ) → n / 256 ^ level / 256 ≡ n / 256 ^ (level + 1)
 shift_level n level =
     let e : 8 * level + 8 ≡ 8 * (level + 1) = omega arith in

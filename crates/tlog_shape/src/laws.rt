@@ -1,9 +1,10 @@
-//! What the standard says of the split, and the greatest size, as laws of what the contracts cite.
+//! Laws of the split and of the greatest size of a tree, for the definitions that the contracts
+//! cite.
 //!
-//! A law is the contract of a function with an empty body: the proof is all that there is of it.
+//! A law is a function with an empty body: only its contract counts.
 ghost use Rattle.tlog_shape.specs.Laws.{SplitIsLargestPower, GreatestSizeHas63Bits};
 
-/// The split of two or more is the largest power of two that is smaller.
+/// The split of `n`, for `n` of at least 2, is the largest power of two smaller than `n`.
 pub fn split_law()
     ensures { SplitIsLargestPower }
 {}

@@ -1,4 +1,4 @@
-//! Where a tree is split.
+//! The split of a tree.
 ghost use Rattle.std.specs.Prelude.{◌≡◌, ◌↔◌, ◌<◌, ◌≤◌, IsTrue};
 ghost use Rattle.tlog_shape.specs.Split.{split_of, IsPowerOfTwo};
 

@@ -1,4 +1,4 @@
--- Each text is a number or none, and a hash or none.
+-- Each text either spells a number or spells none, and the same holds for hashes.
 use Rattle.std.proofs.Common.{◌≡◌, ℕ, zero, suc, ◌==◌, ◌&&◌, ◌⊎◌, Bool, true, List, [], ◌∷◌, length, get_or, nat_lt}
 use Rattle.std.proofs.Common.{Result, Ok, Err, refl, sym, ◌∙◌, ap, subst, arith, inl, inr, lit<}
 use Rattle.std.specs.List.{list_all}
@@ -16,7 +16,7 @@ use Rattle.tlog_text.specs.Number.{IsDecimal}
 use Rattle.tlog_text.specs.Hash.{base64_of, IsHashText}
 use Rattle.tlog_text.proofs.Decimals.{decimal_here, no_digits}
 
--- a text is a number or none
+-- a text either spells a number or spells none
 pub number_decided : (text : List ℕ) → IsDecimal text (digits_value 10 text) ⊎ ((n : ℕ) → IsDecimal text n → ⊥)
 number_decided text = elim (cases_lt 0 (length text)) [
   | inr none ↦ inr (λ n is. omega (arith, is.numeral.0))
@@ -32,7 +32,7 @@ number_decided text = elim (cases_lt 0 (length text)) [
   ]
 ]
 
--- numbers below 256, by a test
+-- a list that passes the test has only numbers below 256
 bytes_from_test : (b : List ℕ) → list_all (λ x. nat_lt x 256) b ≡ true → IsBytes b
 bytes_from_test [] h i = lit< tt
 bytes_from_test (x ∷ xs) h zero = ltb-true x 256 (and_parts (nat_lt x 256) (list_all (λ y. nat_lt y 256) xs) h).0
@@ -44,7 +44,7 @@ test_from_bytes [] h = refl
 test_from_bytes (x ∷ xs) h =
     and_from (nat_lt x 256) (list_all (λ y. nat_lt y 256) xs) (lt-ltb x 256 (h 0)) (test_from_bytes xs (λ i. h (suc i)))
 
--- what was decoded is the hash, where its encoding is the text
+-- the test whether b is a hash with this text as its base64
 is_hash_of : List ℕ → List ℕ → Bool
 is_hash_of text b = bytes_eq text (base64_of b) && (list_all (λ x. nat_lt x 256) b && (length b == 32))
 
@@ -73,7 +73,7 @@ unfolding base64_of
 decoded_hash text hash h =
     ap (decode_of standard) h.is_base64 ∙ decode_of-encode_of standard hash refl h.is_hash.are_bytes
 
--- a text is a hash or none
+-- a text either spells a hash or spells none, shown from the result of decoding it
 hash_by_decoding : (text : List ℕ) (d : Result (List ℕ) DecodeError) → decode_of standard text ≡ d →
     ((hash : List ℕ) × IsHashText text hash) ⊎ ((hash : List ℕ) → IsHashText text hash → ⊥)
 hash_by_decoding text (Err e) is =

@@ -1,4 +1,4 @@
--- The digits of a number.
+-- The decimal digits of a number.
 use Rattle.std.proofs.Common.{◌≡◌, ◌≢◌, ℕ, ◌+◌, ◌<◌, ◌≤◌, ◌^◌, Bool, true, false, List, length, get_or, refl, sym}
 use Rattle.std.proofs.Common.{subst, ◌∙◌, ap, arith, rules, Ok, Err, inl, inr, map, lit<, lit≤, MatchBool}
 use Rattle.std.specs.List.{list_all}
@@ -19,28 +19,28 @@ use Rattle.tlog_text.specs.Number.{IsDecimal, ReadsNumber}
 own : IsNumeralModel (λ ds. list_all is_ascii_digit ds ≡ true) (digits_value 10)
 own = numerals_by_value _ (search rules)
 
--- digits with no leading zero give their number
+-- digits without a leading zero spell their number
 pub decimal_here : (ds : List ℕ) → 0 < length ds → list_all is_ascii_digit ds ≡ true →
     (1 < length ds → get_or ds 0 0 ≢ 48) → IsDecimal ds (digits_value 10 ds)
 decimal_here ds some digits zero = record { numeral = (some, own.to ds digits); no_leading_zero = zero; value = refl }
 
--- what has another byte than digits gives none
+-- a text with a byte other than a digit spells no number
 pub no_digits : (ds : List ℕ) (n : ℕ) → list_all is_ascii_digit ds ≡ false → IsDecimal ds n → ⊥
 no_digits ds n other is =
     let digits : list_all is_ascii_digit ds ≡ true = own.from ds is.numeral.1 in
     cc
 
--- the test of digits with no leading zero says whether they give a number
+-- for a text without a leading zero: if all bytes are digits it spells a number, and otherwise it spells none
 pub decimal_test : (ds : List ℕ) (r : Bool) → 0 < length ds → (1 < length ds → get_or ds 0 0 ≢ 48) →
     r ≡ list_all is_ascii_digit ds → MatchBool r (IsDecimal ds (digits_value 10 ds)) ((n : ℕ) → IsDecimal ds n → ⊥)
 decimal_test ds true some zero is = decimal_here ds some (sym is) zero
 decimal_test ds false some zero is = λ n. no_digits ds n (sym is)
 
--- a decimal has one number
+-- a text spells at most one number
 pub one_number : (ds : List ℕ) (m n : ℕ) → IsDecimal ds m → IsDecimal ds n → m ≡ n
 one_number ds m n p q = sym p.value ∙ q.value
 
--- the number, where reading it gave one
+-- a number that was read successfully is the number that the text spells
 pub number_read : (E : Type 0) (ds : List ℕ) (n : ℕ) → IsDecimal ds (digits_value 10 ds) →
     ParsesUnsigned {E = E} 64 10 ds (Ok n) → IsDecimal ds n
 number_read E ds n is parses =
@@ -48,7 +48,7 @@ number_read E ds n is parses =
     let e : n ≡ digits_value 10 ds = ok.1 in
     rw e is
 
--- the number is large where reading it failed
+-- if reading the digits failed, their number is at least 2^64
 pub number_large : (E : Type 0) (ds : List ℕ) (e : E) → IsDecimal ds (digits_value 10 ds) →
     ParsesUnsigned {E = E} 64 10 ds (Err e) → 2 ^ 64 ≤ digits_value 10 ds
 number_large E ds e is parses =
@@ -58,21 +58,21 @@ number_large E ds e is parses =
       | inr ge ↦ ge
     ]
 
--- where a zero stands first it stands alone
+-- a number with a leading zero has only that one digit
 short : (ds : List ℕ) → (1 < length ds → get_or ds 0 0 ≢ 48) → 0 < length ds → get_or ds 0 0 ≡ 48 → length ds ≡ 1
 short ds zero some first = elim (cases_lt 1 (length ds)) [
   | inl lt ↦ absurd (zero lt first)
   | inr ge ↦ omega arith
 ]
 
--- a number has one decimal
+-- a number has at most one decimal text
 pub decimal_is : (ds : List ℕ) (n : ℕ) → n < 2 ^ 64 → IsDecimal ds n → ds ≡ decimal n
 decimal_is ds n lt is =
     let low : digits_value 10 ds < 2 ^ 64 = omega (arith, is.value) in
     sym (decimal-digits_value own ds (own.from ds is.numeral.1) is.numeral.0
     (short ds is.no_leading_zero is.numeral.0) low) ∙ ap decimal is.value
 
--- no zero stands first in two digits or more
+-- a decimal with two digits or more does not begin with a zero
 first_digit : (n : ℕ) → n < 2 ^ 64 → 1 < length (decimal n) → get_or (decimal n) 0 0 ≢ 48
 first_digit n lt more first = elim (cases_lt 0 n) [
   | inl some ↦
@@ -91,7 +91,7 @@ first_digit n lt more first = elim (cases_lt 0 n) [
       omega arith
 ]
 
--- what a number is written as is its decimal
+-- the decimal text of a number spells that number
 pub decimal_written : (n : ℕ) → n < 2 ^ 64 → IsDecimal (decimal n) n
 decimal_written n lt =
     let is = decimal_is_IsNumeral n (omega arith) in
@@ -103,7 +103,7 @@ numbers_are_spelled = record {
   one_text = λ text n lt. (decimal_is text n lt, λ e. subst (λ t. IsDecimal t n) (sym e) (decimal_written n lt));
 }
 
--- a text that is refused is no number that is taken
+-- a refused text spells no number up to the greatest
 pub refused_number : (greatest : ℕ) (text : List ℕ) (e : NumberFault) → ReadsNumber greatest text (Err e) → (n : ℕ) →
     IsDecimal text n → n ≤ greatest → ⊥
 refused_number greatest text NotANumber refused n is small = refused n is

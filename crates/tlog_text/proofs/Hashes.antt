@@ -26,7 +26,7 @@ length-base64_of bytes =
     length-append _ (replicate (padding_len (length bytes)) 61) ∙
     rw (length-encode_symbols symbols bytes, length-replicate {A = ℕ} (padding_len (length bytes)) 61) refl
 
--- bytes have one base64, and base64 is of one list of bytes
+-- two lists of bytes with the same base64 are equal
 pub base64_of-same : (a b : List ℕ) → IsBytes a → IsBytes b → base64_of a ≡ base64_of b → a ≡ b
 unfolding base64_of
 base64_of-same a b pa pb e =
@@ -51,10 +51,10 @@ hashes_are_spelled = record {
   symbols = λ text hash h. ap length h.is_base64 ∙ length-hash hash h.is_hash;
 }
 
--- ---- what the decoder says of a text of 44 symbols
+-- ---- the result of decoding a text of 44 symbols
 
 module _ (text : List ℕ) (bytes : (i : ℕ) → slice_index text i < 256) (symbols_44 : length text ≡ 44) where
-  -- a text that is decoded to 32 bytes is that hash
+  -- a text that decodes to 32 bytes spells that hash
   pub is_text : (hash : List ℕ) → IsBytes hash → length hash ≡ 32 → decode_of standard text ≡ Ok hash →
       IsHashText text hash
   unfolding base64_of
@@ -65,12 +65,12 @@ module _ (text : List ℕ) (bytes : (i : ℕ) → slice_index text i < 256) (sym
         is_base64 = decode_of_strict standard text hash (refl, refl) bytes ok;
       }
 
-  -- a hash's text is decoded to the hash
+  -- the text of a hash decodes to that hash
   pub is_decoded : (hash : List ℕ) → IsHashText text hash → decode_of standard text ≡ Ok hash
   unfolding base64_of
   is_decoded hash h = (decode_of_iff standard text hash (refl, refl) bytes h.is_hash.are_bytes).1 h.is_base64
 
-  -- how many bytes are decoded
+  -- the number of bytes that were decoded
   decoded_len : (r : Result ℕ DecodeSliceError) (n : ℕ) → r ≡ decode_slice_of standard text 33 → r ≡ Ok n →
       (decode_of standard text ≡ Ok (decoded_bytes_of standard text)) × (length (decoded_bytes_of standard text) ≡ n)
   decoded_len r n value ok =
@@ -80,7 +80,7 @@ module _ (text : List ℕ) (bytes : (i : ℕ) → slice_index text i < 256) (sym
       let parts = or_error_ok _ _ n (sym room ∙ sym value ∙ ok) in
       (ap (λ e. decode_outcome e (decoded_bytes_of standard text)) parts.0, parts.1)
 
-  -- 32 bytes that are decoded are the hash of the text
+  -- if 32 bytes were decoded, they are the hash that the text spells
   pub found : (old new : List ℕ) (r : Result ℕ DecodeSliceError) (n : ℕ) → r ≡ decode_slice_of standard text 33 →
       r ≡ Ok n → n ≡ 32 →
       IsWrittenOver (decoded_bytes_of standard text) old new → IsBytes (decoded_bytes_of standard text) →
@@ -92,7 +92,7 @@ module _ (text : List ℕ) (bytes : (i : ℕ) → slice_index text i < 256) (sym
       let front : take 32 new ≡ d = rw written (take_at d (drop (length d) old) 32 len) in
       subst (IsHashText text) (sym front) (is_text d are len is.0)
 
-  -- bytes of another number are no hash
+  -- if another number of bytes was decoded, the text spells no hash
   pub other_len : (r : Result ℕ DecodeSliceError) (n : ℕ) → r ≡ decode_slice_of standard text 33 → r ≡ Ok n →
       (n ≡ 32 → ⊥) → (hash : List ℕ) → IsHashText text hash → ⊥
   other_len r n value ok not_32 hash h =
@@ -101,7 +101,7 @@ module _ (text : List ℕ) (bytes : (i : ℕ) → slice_index text i < 256) (sym
       let same : decoded_bytes_of standard text ≡ hash = cc twice in
       not_32 (sym is.1 ∙ (ap length same ∙ h.is_hash.are_32))
 
-  -- what is refused decodes to nothing
+  -- if the decoder refuses the text, the text spells no hash
   pub refused : (r : Result ℕ DecodeSliceError) → r ≡ decode_slice_of standard text 33 → ((n : ℕ) → r ≡ Ok n → ⊥) →
       (hash : List ℕ) → IsHashText text hash → ⊥
   refused (Ok n) value none hash h = none n refl

@@ -1,4 +1,4 @@
--- No newline stands in digits or in base64.
+-- Digits and base64 contain no newline.
 use Rattle.std.proofs.Common.{◌≡◌, ◌≢◌, ℕ, zero, suc, ◌+◌, ◌*◌, ◌/◌, ◌%◌, ◌==◌, Bool, true, not, List, [], ◌∷◌, length}
 use Rattle.std.proofs.Common.{replicate, slice_index, refl, ◌∙◌, arith}
 use Rattle.std.specs.Prelude.{IsTrue}
@@ -17,24 +17,24 @@ not_newline b = not (b == 10)
 abbrev pub LacksNewline : List ℕ → Type 0
 LacksNewline bytes = IsTrue (list_all not_newline bytes)
 
--- a byte other than 10
+-- a byte other than 10 is not a newline
 no_newline : (b : ℕ) → b ≢ 10 → not (b == 10) ≡ true
 no_newline b h = rw (ne_eqb b 10 h) refl
 
--- digits
+-- digits contain no newline
 pub digits_lack_newline : (ds : List ℕ) → AllDigits 10 ds → LacksNewline ds
 digits_lack_newline [] h = refl
 digits_lack_newline (d ∷ ds) h =
     let range = digit_from_value d h.0 in
     and_from _ _ (no_newline d (λ is. omega arith)) (digits_lack_newline ds h.1)
 
--- what holds of each item of a list, and of 0, holds at each index
+-- if every item of a list passes the test, so does the item at each index, where an index out of range gives 0
 at_each : (xs : List ℕ) → list_all not_newline xs ≡ true → (k : ℕ) → not_newline (slice_index xs k) ≡ true
 at_each [] h k = refl
 at_each (x ∷ xs) h zero = (and_parts (not_newline x) (list_all not_newline xs) h).0
 at_each (x ∷ xs) h (suc k) = at_each xs (and_parts (not_newline x) (list_all not_newline xs) h).1 k
 
--- the symbols of base64, of a table that lacks the newline
+-- base64 contains no newline, if its table of symbols contains none
 symbols_lack : (t m : List ℕ) → ((k : ℕ) → not_newline (slice_index t k) ≡ true) →
     list_all not_newline (encode_symbols t m) ≡ true
 unfolding encode_symbols
@@ -48,7 +48,7 @@ padding_lacks : (n : ℕ) → list_all not_newline (replicate n 61) ≡ true
 padding_lacks zero = refl
 padding_lacks (suc n) = padding_lacks n
 
--- the table of standard base64 lacks the newline
+-- the table of standard base64 contains no newline
 no_newline_in_table : list_all not_newline standard.encode_table ≡ true
 no_newline_in_table = refl
 

@@ -1,11 +1,11 @@
-//! Numbers and hashes as a log's texts spell them, and the words for what a reader answers.
+//! The texts of numbers and hashes in a log's files, and notions for the answers of readers.
 //!
-//! A number is ASCII decimal digits without leading zeros, and a hash of 32 bytes is standard base64
-//! with padding (RFC 4648, section 4). Each is spelled in one way: `read_number` and `read_hash` read
-//! exactly that, and take no memory, and `push_number` and `push_hash` write it. The texts of
-//! checkpoints and proofs, and the words of a command line, are read by these.
+//! A number is ASCII decimal digits without leading zeros. A hash of 32 bytes is standard base64
+//! with padding (RFC 4648, section 4). Each value has exactly one text. `read_number` and
+//! `read_hash` accept only that text and allocate no memory; `push_number` and `push_hash` write
+//! it. The readers of checkpoints, proofs and command lines use these calls.
 //!
-//! The line `size 100` of a text `line` is read and written so:
+//! This reads and writes the line `size 100` of a text:
 //!
 //! ```text
 //! let digits = line.strip_prefix("size ").ok_or("no size")?;

@@ -1,4 +1,4 @@
-//! Numbers in decimal.
+//! Numbers as decimal text.
 ghost use Rattle.std.specs.Prelude.{◌≡◌, ◌++◌, ℕ, MatchBool, OnOk, string_bytes};
 ghost use Rattle.std.specs.Char.{is_ascii_digit};
 ghost use Rattle.std.specs.Fmt.{decimal};
@@ -9,26 +9,26 @@ ghost use Rattle.tlog_text.specs.Number.{IsDecimal, ReadsNumber};
 use std::alloc::AllocError;
 use thiserror::Error;
 
-/// Why a text is no number that is taken.
-/// `01` is none, and `300` is too large where 255 is the greatest that is taken.
+/// Why a text was refused as a number. If 255 is the greatest number, `01` is not a number and
+/// `300` is too large.
 #[derive(Debug, Drop, PartialEq, Eq, Clone, Copy, Error)]
 pub enum NumberFault {
     /// The text is not decimal digits, or has a leading zero before another digit.
     #[error("NotANumber")]
     NotANumber,
-    /// The number is over the greatest that is taken, however many digits it has.
+    /// The number is over the greatest, however many digits it has.
     #[error("TooLarge")]
     TooLarge,
 }
 
-// Whether the text has ASCII digits alone.
+// Whether the text has only ASCII digits.
 fn are_digits(text: &str) -> bool
     ensures { result ≡ list_all is_ascii_digit text.now }
 {
     text.as_bytes().iter().all(|byte| byte.is_ascii_digit())
 }
 
-// Whether the text is decimal digits without leading zeros.
+// Whether the text has at least one digit, only digits, and no leading zero.
 fn is_decimal(text: &str) -> bool
     ensures { MatchBool result (IsDecimal text.now (digits_value 10 text.now))
         ((n : ℕ) → ¬ IsDecimal text.now n) }
@@ -43,13 +43,13 @@ fn is_decimal(text: &str) -> bool
     are_digits(text)
 }
 
-/// The number that the text spells, of at most `greatest`: ASCII decimal digits without leading zeros,
-/// of which there may be any number.
+/// The number that the text spells: ASCII decimal digits without leading zeros, at most `greatest`.
+/// The text may have any number of digits.
 ///
 /// # Errors
 ///
-/// `NotANumber` where the text is no such digits, a sign and the empty text among them, and `TooLarge`
-/// where their number is over `greatest`.
+/// `NotANumber` if the text is not such digits; a sign or an empty text is refused too. `TooLarge`
+/// if the number is over `greatest`.
 ///
 /// # Examples
 ///
@@ -67,7 +67,7 @@ pub fn read_number(text: &str, greatest: u64) -> Result<u64, NumberFault>
     }
 }
 
-/// Adds the one text of the number.
+/// Appends the decimal text of the number.
 ///
 /// # Errors
 ///

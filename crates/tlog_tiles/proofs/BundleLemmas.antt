@@ -1,4 +1,4 @@
--- Entries one after the other, as a loop reads them.
+-- The entries of a bundle, in order.
 use Rattle.std.proofs.Common.{◌≡◌, ◌≢◌, ℕ, suc, false, nat_eq, ◌+◌, ◌*◌, ◌^◌, ◌<◌, ◌≤◌, List, [], ◌∷◌, ◌++◌, length}
 use Rattle.std.proofs.Common.{take, drop, All, Result, Ok, Err, refl, sym, ap, ◌∙◌, append_assoc, length-append, arith}
 use Rattle.std.specs.List.{flat_map}
@@ -12,7 +12,7 @@ use Rattle.tlog_tiles.specs.declared.bundle.BundleFault.TheVariants.{BundleShort
 use Rattle.tlog_tiles.specs.Laws.{BundlesAreShort}
 use Rattle.tlog_tiles.specs.Bundle.{entry_text, IsBundle, HasBundle, ReadsBundle}
 
--- the entry at the start is known from the bytes
+-- the bytes determine the entry at their start
 pub entry_one : (d e a b : List ℕ) → length d < 2 ^ 16 → length e < 2 ^ 16 → entry_text d ++ a ≡ entry_text e ++ b →
     (d ≡ e) × (a ≡ b)
 entry_one d e a b hd he h =
@@ -49,7 +49,7 @@ rest_of k e after rest front (x ∷ xs) fits p b =
           record { count = omega arith; fits = All-tail (λ y. length y < 2 ^ 16) x xs b.fits; text = refl };
     }
 
--- behind an entry stand the others
+-- the other entries follow the first one
 pub HasBundle-rest : (k : ℕ) (e after rest : List ℕ) → length e < 2 ^ 16 →
     HasBundle (suc k) (entry_text e ++ after) rest → HasBundle k after rest
 HasBundle-rest k e after rest fits h = rest_of k e after rest h.front h.entries fits h.parts h.is_bundle
@@ -65,12 +65,12 @@ first_of_bundle k bytes rest front (x ∷ xs) p b = (
   p ∙ (ap (λ (f : List ℕ). f ++ rest) b.text ∙ append_assoc (entry_text x) (flat_map entry_text xs) rest),
 )
 
--- a bundle of an entry or more begins with an entry
+-- a bundle that is not empty begins with an entry
 pub HasBundle-first : (k : ℕ) (bytes rest : List ℕ) → HasBundle (suc k) bytes rest →
     (e : List ℕ) × (after : List ℕ) × (length e < 2 ^ 16) × (bytes ≡ entry_text e ++ after)
 HasBundle-first k bytes rest h = first_of_bundle k bytes rest h.front h.entries h.parts h.is_bundle
 
--- one entry more
+-- one more entry
 pub joined_push : (bytes rest after e : List ℕ) (es : List (List ℕ)) → bytes ≡ flat_map entry_text es ++ rest →
     rest ≡ entry_text e ++ after → bytes ≡ flat_map entry_text (es ++ e ∷ []) ++ after
 joined_push bytes rest after e es p q =
@@ -81,7 +81,7 @@ joined_push bytes rest after e es p q =
     ap (λ (x : List ℕ). x ++ after)
     (sym (split ∙ ap (λ (x : List ℕ). flat_map entry_text es ++ x) (append-nil (entry_text e))))))
 
--- bytes that are left over after a bundle
+-- bytes follow the bundle
 pub left_over : (width : ℕ) (bytes rest : List ℕ) (es : List (List ℕ)) → nat_eq (length rest) 0 ≡ false →
     length es ≡ width → All (λ e. length e < 2 ^ 16) es → bytes ≡ flat_map entry_text es ++ rest →
     (next : ℕ) × (others : List ℕ) × HasBundle width bytes (next ∷ others)
@@ -99,7 +99,7 @@ left_over width bytes (x ∷ xs) es some count fits text = (
   },
 )
 
--- entries at the start, that many, are known from the bytes
+-- the bytes determine the given number of entries at their start
 pub bundle_one : (es fs : List (List ℕ)) (a b : List ℕ) → length es ≡ length fs → All (λ e. length e < 2 ^ 16) es →
     All (λ e. length e < 2 ^ 16) fs → flat_map entry_text es ++ a ≡ flat_map entry_text fs ++ b → (es ≡ fs) × (a ≡ b)
 bundle_one [] [] a b n p q h = (refl, h)
@@ -130,7 +130,7 @@ ok_long width bytes es next rest p q =
     (bundle_one es q.entries [] (next ∷ rest) (p.count ∙ sym q.is_bundle.count) p.fits q.is_bundle.fits same).1 in
     absurd cc
 
--- an answer other than OutOfMemory is the only one
+-- there is only one answer other than OutOfMemory
 pub answer_one : (width : ℕ) (bytes : List ℕ) (a b : Result (List (List ℕ)) BundleFault) → a ≢ Err OutOfMemory →
     b ≢ Err OutOfMemory → ReadsBundle width bytes a → ReadsBundle width bytes b → a ≡ b
 answer_one width bytes (Ok es) (Ok fs) m n p q =

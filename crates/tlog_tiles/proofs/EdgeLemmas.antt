@@ -1,4 +1,4 @@
--- The edge of a tree.
+-- The right edge of a tree.
 use Rattle.std.proofs.Common.{◌≡◌, ◌≢◌, ◌↔◌, ℕ, zero, suc, nat_eq, Bool, true, false, if◌then◌else◌, ◌+◌, ◌*◌, ◌/◌, ◌^◌}
 use Rattle.std.proofs.Common.{◌<◌, ◌≤◌, List, [], ◌∷◌, ◌++◌, All, AllPairs, sym, ap, subst, ◌∙◌, inl, inr, arith}
 use Rattle.std.specs.List.{Contains}
@@ -15,11 +15,11 @@ use Rattle.tlog_tiles.specs.declared.paths.Path.TheVariants.{Checkpoint, Tile, E
 use Rattle.tlog_tiles.specs.Edge.{edge_at, edge_below, edge_of, level_of}
 use Rattle.tlog_tiles.specs.Tiles.{IsEdgeTile, IsPartialIn}
 
--- the numbers of the partial tile of a level: as many hashes as the level has
+-- the full tiles and the partial tile of a level have all hashes of the level
 pub hashes_of : (n level : ℕ) → 256 * edge_index_of n level + width_of n level ≡ n / 256 ^ level
 hashes_of n level = omega (arith, shift_level n level)
 
--- a tile within a tree has hashes of the tree
+-- the hashes of a tile within a tree are hashes of the tree
 within_hashes : (n level index width : ℕ) → (256 * index + width) * 256 ^ level ≤ n →
     256 * index + width ≤ n / 256 ^ level
 within_hashes n level index width h = (le-div_iff_mul-le (level_positive level)).1 h
@@ -28,7 +28,7 @@ hashes_within : (n level index width : ℕ) → 256 * index + width ≤ n / 256 
     (256 * index + width) * 256 ^ level ≤ n
 hashes_within n level index width h = (le-div_iff_mul-le (level_positive level)).0 h
 
--- the partial tile of a level is the widest of its place
+-- the partial tile of a level is the widest tile at its index
 edge_partial : (n level : ℕ) → level ≤ 7 → width_of n level ≢ 0 →
     IsPartialIn n level (edge_index_of n level) (width_of n level)
 edge_partial n level fits some =
@@ -48,7 +48,7 @@ edge_partial n level fits some =
       widest = λ wider more h. let most = within_hashes n level (edge_index_of n level) wider h.within in omega arith;
     }
 
--- a partial tile that is the widest of its place is that of its level
+-- a partial tile that is the widest at its index is the one of its level
 pub record IsAtEdge (n level index width : ℕ) : Type 0 where
   pub index_is : index ≡ edge_index_of n level
   pub width_is : width ≡ width_of n level
@@ -74,7 +74,7 @@ partial_edge n level index width h =
     most_of : (k : ℕ) → (k ≤ n / 256 ^ level → ⊥) → n / 256 ^ level < k
     most_of k f = omega arith
 
--- what is listed of a level
+-- a level without a partial tile adds no path
 edge_at-none : (n level : ℕ) → nat_eq (width_of n level) 0 ≡ true → edge_at n level ≡ []
 edge_at-none n level e =
     ap (λ (b : Bool). if b then [] else Tile level (edge_index_of n level) (width_of n level) ∷ []) e
@@ -141,7 +141,7 @@ pub edge_is : (n : ℕ) (path : Path) → Contains (edge_of n) path ↔ IsEdgeTi
 unfolding edge_of
 edge_is n path = (below_is n 8 path (omega arith), is_below n path)
 
--- levels rise below a level
+-- the levels rise, and are below the given one
 record RisesBelow (n levels : ℕ) : Type 0 where
   rises : AllPairs (λ lower higher. level_of lower < level_of higher) (edge_below n levels)
   below : All (λ path. level_of path < levels) (edge_below n levels)

@@ -1,4 +1,4 @@
--- The groups that are written for a number.
+-- The groups of an index as they are written.
 use Rattle.std.proofs.Common.{◌≡◌, ◌≢◌, ℕ, zero, suc, ◌+◌, ◌*◌, ◌/◌, ◌%◌, ◌<◌, ◌≤◌, List, [], ◌∷◌, ◌++◌, All, refl, sym}
 use Rattle.std.proofs.Common.{ap, subst, ◌∙◌, append_assoc, arith}
 use Rattle.std.specs.List.{flat_map}
@@ -9,7 +9,7 @@ use Rattle.tlog_tiles.specs.Path.{three_digits, group_text, groups_within, group
 use Rattle.tlog_tiles.specs.Path.{BeginsAboveZero, IsIndex}
 use Rattle.tlog_tiles.proofs.IndexLemmas.{group_positive}
 
--- the first number of groups_within is only a bound
+-- the first argument of groups_within is only a bound
 pub groups_within-bound : (a b number : ℕ) → number ≤ a → number ≤ b → groups_within a number ≡ groups_within b number
 groups_within-bound zero zero number p q = refl
 groups_within-bound zero (suc b) number p q = let none : number ≡ 0 = omega arith in rw none refl
@@ -29,7 +29,7 @@ groups_text-more (suc n) some =
     ap (λ (x : List ℕ). x ++ group_text (suc n))
     (groups_within-bound n (suc n / 1000) (suc n / 1000) (omega arith) (omega arith))
 
--- the last three digits are those of the last group
+-- the last three digits of a number are those of its last group
 three_digits-add : (b g : ℕ) → three_digits (b * 1000 + g) ≡ three_digits g
 three_digits-add b g =
     let hundreds : (b * 1000 + g) / 100 % 10 ≡ g / 100 % 10 = omega arith in
@@ -40,7 +40,7 @@ three_digits-add b g =
 thousands : (b g : ℕ) → g < 1000 → (b * 1000 + g) / 1000 ≡ b
 thousands b g p = omega arith
 
--- groups behind those of a number are those of the number that they make with it
+-- the groups of before, followed by more groups, are the groups of the number that they make together
 pub groups_text-groups : (before : ℕ) (groups : List ℕ) → All (λ group. group < 1000) groups →
     (before ≡ 0 → BeginsAboveZero groups) →
     groups_text before ++ flat_map group_text groups ≡ groups_text (number_of before groups)
@@ -56,7 +56,7 @@ groups_text-groups before (g ∷ groups) all begins =
     ∙ groups_text-groups (before * 1000 + g) groups (All-tail (λ (k : ℕ). k < 1000) g groups all)
     (λ z. absurd (omega arith)))
 
--- an index has one spelling
+-- an index has only one text
 pub index_spelled : (text : List ℕ) (n : ℕ) → IsIndex text n → text ≡ index_text n
 index_spelled text n h =
     let number = number_of 0 h.groups in
@@ -122,7 +122,7 @@ groups_within-of (suc bound) (suc n) p =
       number_is = number;
     }
 
--- an index has a spelling
+-- each index has a text
 pub index_written : (n : ℕ) → IsIndex (index_text n) n
 index_written n =
     let h = groups_within-of (n / 1000) (n / 1000) (omega arith) in
@@ -137,7 +137,7 @@ index_written n =
       index_is = parts ∙ ap (λ k. k * 1000 + n % 1000) (sym h.number_is);
     }
 
--- no dot stands in an index
+-- an index contains no dot
 three_digits-dot : (g : ℕ) → All (λ c. c ≢ 46) (three_digits g)
 three_digits-dot g =
     let P : ℕ → Type 0 = λ c. c ≢ 46 in

@@ -6,7 +6,7 @@ use Rattle.std.proofs.lemmas.List.Elements.{All-head, All-tail, All-nil, All-con
 use Rattle.std.proofs.lemmas.List.{append-nil}
 use Rattle.tlog_tiles.specs.Path.{three_digits, group_text, number_of, BeginsAboveZero, IsIndex}
 
--- the text is what is left of an index, behind groups that make a number
+-- the text is the rest of an index, after groups that make the number before
 pub record IsIndexAfter (before : ℕ) (text : List ℕ) (index : ℕ) : Type 0 where
   pub groups : List ℕ
   pub last : ℕ
@@ -44,7 +44,7 @@ IsIndex-after_none text n h =
       index_is = h.index_is;
     }
 
--- three digits are known from their text
+-- the text determines its first three digits
 pub digits_one : (g h : ℕ) (a b : List ℕ) → g < 1000 → h < 1000 → three_digits g ++ a ≡ three_digits h ++ b →
     (g ≡ h) × (a ≡ b)
 digits_one g h a b p q e =
@@ -54,14 +54,14 @@ digits_one g h a b p q e =
     let rest : a ≡ b = cc in
     (omega arith, rest)
 
--- digits do not begin as a group does
+-- digits do not begin like a group
 pub digits_no_group : (g h : ℕ) (a b : List ℕ) → three_digits g ++ a ≡ group_text h ++ b → ⊥
 digits_no_group g h a b e = let first : 48 + g / 100 % 10 ≡ 120 = cc in omega arith
 
 group_split : (g : ℕ) (a : List ℕ) → group_text g ++ a ≡ 120 ∷ (three_digits g ++ 47 ∷ a)
 group_split g a = refl
 
--- a group is known from its text
+-- the text determines its first group
 pub group_one : (g h : ℕ) (a b : List ℕ) → g < 1000 → h < 1000 → group_text g ++ a ≡ group_text h ++ b →
     (g ≡ h) × (a ≡ b)
 group_one g h a b p q e =
@@ -70,17 +70,17 @@ group_one g h a b p q e =
     let both = one.1 in
     (one.0, cc)
 
--- the number never falls
+-- more groups never lower the number
 pub number_of-le : (before : ℕ) (groups : List ℕ) → before ≤ number_of before groups
 number_of-le before [] = omega arith
 number_of-le before (g ∷ groups) = omega (arith, number_of-le (before * 1000 + g) groups)
 
--- groups make no 0: the first of several is not x000
+-- the number of one or more groups is above 0, since the first of several groups is not x000
 pub group_positive : (before g h : ℕ) → g ≡ h → (before ≡ 0 → 0 < h) → 0 < before * 1000 + g
 group_positive zero g h e begins = let some : 0 < h = begins refl in omega arith
 group_positive (suc before) g h e begins = omega arith
 
--- what is left of an index behind one group more
+-- the rest of an index after one more group
 pub record IsBehindGroup (before group : ℕ) (rest : List ℕ) (index : ℕ) : Type 0 where
   pub some : 0 < before * 1000 + group
   pub upto : before * 1000 + group ≤ index
@@ -119,7 +119,7 @@ module _ (before g n : ℕ) (rest : List ℕ) (fits : g < 1000) where
         };
       }
 
-  -- an index that goes on with a group
+  -- an index continues with a group
   pub IsIndexAfter-group : (text : List ℕ) → text ≡ group_text g ++ rest → IsIndexAfter before text n →
       IsBehindGroup before g rest n
   IsIndexAfter-group text e h = behind_group h.groups h.last h.fits h.last_fits h.begins (sym e ∙ h.text_is) h.index_is
@@ -153,7 +153,7 @@ IsIndexAfter-digits before g text p e =
       index_is = refl;
     }
 
--- an index that goes on with no group ends in three digits
+-- an index that continues with no group ends in three digits
 pub record EndsIndex (before : ℕ) (text : List ℕ) (index : ℕ) : Type 0 where
   pub last : ℕ
   pub fits : last < 1000
@@ -175,14 +175,14 @@ pub IsIndexAfter-end : (before n : ℕ) (text : List ℕ) →
 IsIndexAfter-end before n text none h =
     no_groups before n text h.groups h.last none h.fits h.last_fits h.text_is h.index_is
 
--- the end of an index is known from its text
+-- the text determines the end of an index
 pub end_one : (before n g : ℕ) (text after : List ℕ) → g < 1000 → text ≡ three_digits g ++ after →
     EndsIndex before text n → (n ≡ before * 1000 + g) × ([] ≡ after)
 end_one before n g text after p e h =
     let one = digits_one h.last g [] after h.fits p (append-nil (three_digits h.last) ∙ (sym h.text_is ∙ e)) in
     (h.index_is ∙ ap (λ k. before * 1000 + k) one.0, one.1)
 
--- an index is known from its text
+-- the text determines the index
 groups_one : (before n m : ℕ) (gs hs : List ℕ) (g h : ℕ) → All (λ group. group < 1000) gs →
     All (λ group. group < 1000) hs → g < 1000 → h < 1000 →
     flat_map group_text gs ++ three_digits g ≡ flat_map group_text hs ++ three_digits h →

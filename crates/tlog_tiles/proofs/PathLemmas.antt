@@ -1,4 +1,4 @@
--- Paths are known from their texts, and texts from their paths.
+-- A text determines its path, and a path determines its text.
 use Rattle.std.proofs.Common.{◌≡◌, ◌≢◌, ◌↔◌, ◌⊎◌, ℕ, Bool, if◌then◌else◌, ◌+◌, ◌^◌, ◌<◌, ◌≤◌, List, [], ◌∷◌, ◌++◌}
 use Rattle.std.proofs.Common.{length, get_or, All, Option, Some, None, Result, Ok, Err, codes, refl, sym, ap, subst}
 use Rattle.std.proofs.Common.{◌∙◌, inl, inr, append_assoc, arith}
@@ -20,7 +20,7 @@ use Rattle.tlog_tiles.proofs.TextLemmas.{first_cut, last_cut, width_cut}
 use Rattle.tlog_tiles.proofs.IndexLemmas.{index_one}
 use Rattle.tlog_tiles.proofs.GroupLemmas.{index_spelled, index_written, index-dot}
 
--- ---- the parts are known from the text
+-- ---- the text determines its parts
 
 pub below_one : (text s t u v : List ℕ) → IsBelowTile text s t → IsBelowTile text u v → (s ≡ u) × (t ≡ v)
 below_one text s t u v p q =
@@ -45,7 +45,7 @@ width_one None w v p q = p ∙ sym q
 width_one (Some text) w v p q =
     decimal_injective w v (omega (arith, p.partial)) (omega (arith, q.partial)) (sym p.text_is ∙ q.text_is)
 
--- ---- a text is the printed one
+-- ---- the text of a path is the printed one
 
 width_text-full : (w : ℕ) → w ≡ 256 → width_text w ≡ []
 width_text-full w e = ap width_text e
@@ -101,7 +101,7 @@ spelled text (Entries index width) h = (
   served_spelled (codes "entries") text index width h,
 )
 
--- ---- the printed text is a path
+-- ---- the printed text spells the path
 
 no_dot : (text front last : List ℕ) → All (λ c. c ≢ 46) text → text ≡ front ++ codes ".p/" ++ last → ⊥
 no_dot text front last none e =
@@ -192,7 +192,7 @@ written text (Entries index width) h =
 pub paths_spelled : (text : List ℕ) (path : Path) → IsPath text path ↔ (IsLawfulPath path × (text ≡ path_text path))
 paths_spelled text path = (spelled text path, written text path)
 
--- ---- a text has one answer
+-- ---- a text has only one answer
 
 served_one : (text s u : List ℕ) (i j w v : ℕ) → IsFileText s text i w → IsFileText u text j v →
     (s ≡ u) × (i ≡ j) × (w ≡ v)
@@ -206,7 +206,7 @@ served_one text s u i j w v p q =
       width_one p.width_text w v p.width_is (subst (λ (x : Option (List ℕ)). IsWidthOf x v) (sym parts.1) q.width_is),
     )
 
--- `checkpoint` does not begin as the other paths do
+-- `checkpoint` does not begin like the other paths
 no_checkpoint : (text second tail : List ℕ) → text ≡ codes "checkpoint" → IsBelowTile text second tail → ⊥
 no_checkpoint text second tail e h =
     let both : codes "checkpoint" ≡ codes "tile/" ++ second ++ 47 ∷ tail = sym e ∙ h.text_is in
@@ -233,7 +233,7 @@ path_one text (Entries i w) (Entries j v) p q =
     let one = served_one text (codes "entries") (codes "entries") i j w v p q in
     λ k. Entries (one.1 k) (one.2 k)
 
--- a path below tile/, whatever its kind
+-- a path below tile/, of either kind
 pub record IsFile (text : List ℕ) : Type 0 where
   pub second : List ℕ
   pub index : ℕ
@@ -263,7 +263,7 @@ path_level text path p q = elim (path_kind text path p) [
       (subst IsKind (below_one text f.second f.is_served.tail q.second q.tail f.is_served.below q.below).0 f.kind)
 ]
 
--- the index and the width of one text are the same
+-- the text determines the index and the width
 parts_one : (text s t u v i j : List ℕ) (w x : Option (List ℕ)) → IsBelowTile text s t → IsBelowTile text u v →
     HasWidthPart t i w → HasWidthPart v j x → (i ≡ j) × (w ≡ x)
 parts_one text s t u v i j w x p q a b =

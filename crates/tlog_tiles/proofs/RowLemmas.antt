@@ -1,4 +1,4 @@
--- Hashes one after the other.
+-- The hashes of a row, in order.
 use Rattle.std.proofs.Common.{◌≡◌, ◌≢◌, ℕ, suc, ◌+◌, ◌-◌, ◌*◌, List, [], ◌∷◌, ◌++◌, length, take, drop, All, Result, Ok}
 use Rattle.std.proofs.Common.{Err, refl, sym, ap, ◌∙◌, arith}
 use Rattle.std.proofs.Math.Seq.{take-add}
@@ -12,14 +12,14 @@ use Rattle.tlog_tiles.specs.Row.{row_text, ReadsRow}
 abbrev is_hash : List ℕ → Type 0
 is_hash h = length h ≡ 32
 
--- a row of hashes has 32 bytes a hash
+-- a row has 32 bytes for each hash
 pub length-row_text : (row : List (List ℕ)) → All (λ h. length h ≡ 32) row → length (row_text row) ≡ 32 * length row
 length-row_text [] p = refl
 length-row_text (h ∷ row) p =
     let one : length h ≡ 32 = All-head is_hash h row p in
     omega (arith, length-append h (row_text row), one, length-row_text row (All-tail is_hash h row p))
 
--- hashes are known from their bytes
+-- the bytes determine the hashes
 pub row_one : (a b : List (List ℕ)) → All (λ h. length h ≡ 32) a → All (λ h. length h ≡ 32) b → length a ≡ length b →
     row_text a ≡ row_text b → a ≡ b
 row_one [] [] p q n e = refl
@@ -36,7 +36,7 @@ row_one (g ∷ a) (h ∷ b) p q n e =
     let others = row_one a b (All-tail is_hash g a p) (All-tail is_hash h b q) (omega arith) rest in
     ap (λ (x : List ℕ). x ∷ a) first ∙ ap (λ (xs : List (List ℕ)). h ∷ xs) others
 
--- an answer other than OutOfMemory is the only one
+-- there is only one answer other than OutOfMemory
 pub row_answer_one : (width : ℕ) (bytes : List ℕ) (a b : Result (List (List ℕ)) RowFault) → a ≢ Err OutOfMemory →
     b ≢ Err OutOfMemory → ReadsRow width bytes a → ReadsRow width bytes b → a ≡ b
 row_answer_one width bytes (Ok r) (Ok s) m n p q =
@@ -49,7 +49,7 @@ row_answer_one width bytes (Err RowLength) (Err RowLength) m n p q = refl
 row_answer_one width bytes (Err OutOfMemory) b m n p q = absurd (m refl)
 row_answer_one width bytes a (Err OutOfMemory) m n p q = absurd (n refl)
 
--- one hash more of the bytes
+-- one more hash from the bytes
 pub row_push : (bytes : List ℕ) (i : ℕ) (row : List (List ℕ)) (hash : List ℕ) → take (32 * i) bytes ≡ row_text row →
     hash ≡ take (32 * i + 32 - 32 * i) (drop (32 * i) bytes) → take (32 * (i + 1)) bytes ≡ row_text (row ++ hash ∷ [])
 row_push bytes i row hash p q =

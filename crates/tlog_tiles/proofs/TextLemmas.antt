@@ -11,7 +11,7 @@ use Rattle.std.proofs.lemmas.List.Elements.{All-head, All-tail, All-from_get_or}
 use Rattle.std.specs.Option.{SomeIff}
 use Rattle.tlog_tiles.specs.Path.{HasNoSlash, IsBelowTile}
 
--- one side of a match on an option
+-- the clause for Some, from a match on an option
 pub found_only : {X : Type 0} (P : Type 0) (Q : X → Type 0) (r : Option X) → MatchOption r P Q → IfSome r Q
 found_only P Q None h = tt
 found_only P Q (Some x) h = h
@@ -20,28 +20,28 @@ pub none_only : {X : Type 0} (P : Type 0) (Q : X → Type 0) (r : Option X) → 
 none_only P Q None h = h
 none_only P Q (Some x) h = tt
 
--- a text is cut at one of its bytes
+-- a text is cut at one of its slashes
 pub cut_at : (text : List ℕ) (at : ℕ) → at < length text → get_or text at 0 ≡ 47 →
     text ≡ take at text ++ 47 ∷ drop (at + 1) text
 cut_at text at h e =
     sym (take-append-drop at text) ∙
     ap (λ (x : List ℕ). take at text ++ x) (drop_more text at 0 h ∙ ap (λ c. c ∷ drop (at + 1) text) e)
 
--- no slash in the bytes before a place
+-- the bytes before a position contain no slash
 pub no_slash-take : (text : List ℕ) (at : ℕ) → ((k : ℕ) → k < at → get_or text k 0 ≢ 47) → HasNoSlash (take at text)
 no_slash-take text at h =
     All-from_get_or (λ (c : ℕ). c ≢ 47) (take at text) 0
     (λ i p e. let n =
     length-take at text in let within : i < at = omega arith in h i within (sym (get_or-take at text i 0 within) ∙ e))
 
--- no slash in the bytes from a place on
+-- the bytes from a position on contain no slash
 pub no_slash-drop : (text : List ℕ) (at : ℕ) → ((k : ℕ) → at ≤ k → k < length text → get_or text k 0 ≢ 47) →
     HasNoSlash (drop at text)
 no_slash-drop text at h =
     All-from_get_or (λ (c : ℕ). c ≢ 47) (drop at text) 0
     (λ i p e. let n = length-drop at text in h (at + i) (omega arith) (omega arith) (sym (get_or-drop at text i 0) ∙ e))
 
--- where the first slash stands is known from the text
+-- the text determines the position of its first slash
 pub first_cut : (a b x y : List ℕ) → HasNoSlash a → HasNoSlash b → a ++ 47 ∷ x ≡ b ++ 47 ∷ y → (a ≡ b) × (x ≡ y)
 first_cut [] [] x y p q e = (refl, cc)
 first_cut [] (c ∷ b) x y p q e = let h : 47 ≡ c = cc in absurd (All-head (λ (c : ℕ). c ≢ 47) c b q (sym h))
@@ -52,7 +52,7 @@ first_cut (c ∷ a) (d ∷ b) x y p q e =
     let others = first_cut a b x y (All-tail (λ (c : ℕ). c ≢ 47) c a p) (All-tail (λ (c : ℕ). c ≢ 47) d b q) rest in
     (ap (λ e. e ∷ a) h ∙ ap (λ (xs : List ℕ). d ∷ xs) others.0, others.1)
 
--- no slash stands in a text back to front either
+-- a reversed text has no slash if the text has none
 no_slash-reverse : (a : List ℕ) → HasNoSlash a → HasNoSlash (reverse a)
 no_slash-reverse a h =
     All-from_get_or (λ (c : ℕ). c ≢ 47) (reverse a) 0
@@ -66,7 +66,7 @@ reverse-cut x a =
     (ap (λ (y : List ℕ). y ++ reverse x) (reverse-append (47 ∷ []) a) ∙
     append_assoc (reverse a) (47 ∷ []) (reverse x))
 
--- where the last slash stands is known from the text
+-- the text determines the position of its last slash
 pub last_cut : (x y a b : List ℕ) → HasNoSlash a → HasNoSlash b → x ++ 47 ∷ a ≡ y ++ 47 ∷ b → (x ≡ y) × (a ≡ b)
 last_cut x y a b p q e =
     let back : reverse a ++ 47 ∷ reverse x ≡ reverse b ++ 47 ∷ reverse y =
@@ -77,7 +77,7 @@ last_cut x y a b p q e =
       sym (reverse-reverse a) ∙ (ap (λ (t : List ℕ). reverse t) one.0 ∙ reverse-reverse b),
     )
 
--- a text with a slash in it has one
+-- a text with a slash contains a slash
 pub some_slash : (a b : List ℕ) → HasNoSlash (a ++ 47 ∷ b) → ⊥
 some_slash a b h = h (length a) 0 (omega (arith, length-append a (47 ∷ b))) (get_or_at a 47 b 0 (length a) refl)
 
@@ -85,7 +85,7 @@ some_slash a b h = h (length a) 0 (omega (arith, length-append a (47 ∷ b))) (g
 pub width_cut : (front last : List ℕ) → front ++ codes ".p/" ++ last ≡ (front ++ codes ".p") ++ 47 ∷ last
 width_cut front last = append_assoc front (codes ".p/") last ∙ sym (append_assoc front (codes ".p") (47 ∷ last))
 
--- what an option says, for the case where it is none
+-- the clause for None, from the property for None
 pub if_none : {X : Type 0} (P : Type 0) (r : Option X) → P → IfNone r P
 if_none P None h = h
 if_none P (Some x) h = tt
@@ -104,7 +104,7 @@ pub some_iff_none : {X : Type 0} (P : Type 0) (v : X) (Q : Type 0) (r : Option X
 some_iff_none P v Q None h f = f h
 some_iff_none P v Q (Some x) h f = tt
 
--- a text that begins with tile/ and has no slash more is below no second segment
+-- a text that begins with tile/ and has no other slash has no second segment with a slash after it
 pub not_below : (text rest second tail : List ℕ) → text ≡ codes "tile/" ++ rest → HasNoSlash rest →
     IsBelowTile text second tail → ⊥
 not_below text rest second tail e none h =
@@ -113,7 +113,7 @@ not_below text rest second tail e none h =
     let same : rest ≡ second ++ 47 ∷ tail = append_cancel_left (codes "tile/") rest (second ++ 47 ∷ tail) whole in
     some_slash second tail (subst HasNoSlash same none)
 
--- a text that ends in no width has none
+-- a text that does not end in a width has no width
 pub no_width : (tail x a : List ℕ) → tail ≡ x ++ 47 ∷ a → HasNoSlash a →
     ((front : List ℕ) → x ≡ front ++ codes ".p" → ⊥) → (front last : List ℕ) → HasNoSlash last →
     tail ≡ front ++ codes ".p/" ++ last → ⊥

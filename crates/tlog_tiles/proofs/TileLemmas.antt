@@ -1,4 +1,4 @@
--- What a log serves of a list of entries.
+-- The files that a log serves for a list of entries.
 use Rattle.std.proofs.Common.{◌≡◌, ℕ, ◌+◌, ◌*◌, ◌^◌, ◌<◌, ◌≤◌, List, [], ◌∷◌, ◌++◌, length, drop, All, refl, sym, ap}
 use Rattle.std.proofs.Common.{◌∙◌, arith}
 use Rattle.std.proofs.lemmas.List.{length-map, length-take-le, length-drop}
@@ -22,7 +22,7 @@ row_folds digest entries level first width some within =
     let cut = cut_full size blocks (all_ranges size first width entries within) (omega arith) (level_positive level) in
     sym (mth-level digest level blocks cut) ∙ ap (mth digest) (joined_ranges size first width entries)
 
--- a tree hash has 32 bytes where each digest has
+-- a tree hash has 32 bytes if each digest does
 root_size : (digest : List ℕ → List ℕ) → ((s : List ℕ) → length (digest s) ≡ 32) → (t : Tree (List ℕ)) →
     length (entries_root digest t) ≡ 32
 root_size digest size Empty = size []
@@ -33,14 +33,14 @@ pub mth_size : (digest : List ℕ → List ℕ) → ((s : List ℕ) → length (
     length (mth digest entries) ≡ 32
 mth_size digest size entries = ap length (mth-tree digest entries) ∙ root_size digest size (tree_of entries)
 
--- entries within the list are as many as asked for
+-- a part within the list has the requested number of entries
 pub length-part : (entries : List (List ℕ)) (start len : ℕ) → start + len ≤ length entries →
     length (part start len entries) ≡ len
 length-part entries start len within =
     let rest = length-drop start entries in
     length-take-le len (drop start entries) (omega arith)
 
--- the bytes that are served are read
+-- the true bytes are read as a row or a bundle
 pub served_is_read : (digest : List ℕ → List ℕ) → ((s : List ℕ) → length (digest s) ≡ 32) → (entries : List (List ℕ)) →
     All (λ entry. length entry < 2 ^ 16) entries → IsRead digest entries
 served_is_read digest size entries fits = record {

@@ -1,4 +1,4 @@
--- Widths in decimal digits.
+-- Widths as decimal digits.
 use Rattle.std.proofs.Common.{◌≡◌, ℕ, ◌^◌, ◌<◌, ◌≤◌, List, sym, subst, arith}
 use Rattle.std.specs.Prelude.{Err}
 use Rattle.std.specs.Str.{IsUtf8}
@@ -16,17 +16,17 @@ width_decimal text width h =
     let fits : width < 2 ^ 64 = omega (arith, h.partial) in
     subst (λ (t : List ℕ). IsDecimal t width) (sym h.text_is) (decimal_written width fits)
 
--- what is not UTF-8 is no width
+-- a text that is not UTF-8 is not a width
 pub no_text : (text : List ℕ) → (IsUtf8 text → ⊥) → (width : ℕ) → IsPartialWidth text width → ⊥
 no_text text bad width h =
     let fits : width < 10 ^ 64 = omega (arith, h.partial) in
     bad (subst IsUtf8 (sym h.text_is) (IsUtf8-from_ascii (decimal width) (IsAscii-decimal_wide width fits)))
 
--- the number of a text is the width that it gives
+-- the number that a text spells is its width
 pub number_width : (text : List ℕ) (n width : ℕ) → IsDecimal text n → IsPartialWidth text width → n ≡ width
 number_width text n width is h = one_number text n width is (width_decimal text width h)
 
--- what is refused as a number of at most 255 is no width
+-- a text that is refused as a number up to 255 is not a width
 pub no_number : (text : List ℕ) (fault : NumberFault) → ReadsNumber 255 text (Err fault) → (width : ℕ) →
     IsPartialWidth text width → ⊥
 no_number text NotANumber h width w = h width (width_decimal text width w)

@@ -1,4 +1,4 @@
-//! Bundles of entries (C2SP tlog-tiles, "Log Entries").
+//! Entry bundles (C2SP tlog-tiles, "Log Entries").
 ghost use Rattle.std.specs.Prelude.{◌≡◌, ◌<◌, ◌≤◌, ◌^◌, ◌++◌, All, List, ℕ, length, IfNone, IfOk, IfSome, map};
 ghost use Rattle.tlog_tiles.specs.Bundle.{entry_text, IsBundle, ReadsBundle};
 ghost use Rattle.tlog_text.specs.Answers.{seen};
@@ -7,14 +7,15 @@ ghost use Rattle.tlog_tiles.specs.declared.bundle.BundleFault.TheVariants.{OutOf
 use std::alloc::{AllocError, AllocFailed, Global};
 use thiserror::Error;
 
-/// Why bytes are not read as a bundle of a given width.
-/// Of width 1 the bytes `00 02 61` are short, and `00 01 61 00` are long.
+/// Why bytes were refused as a bundle of a given width. For width 1 the bytes `00 02 61` are too
+/// short, and `00 01 61 00` are too long.
 #[derive(Debug, Drop, PartialEq, Eq, Clone, Copy, Error)]
 pub enum BundleFault {
-    /// No prefix of the bytes is a bundle of that width: they end within an entry, or before the last.
+    /// The bytes do not begin with a bundle of that width: they end within an entry, or before the
+    /// last entry.
     #[error("BundleShort")]
     BundleShort,
-    /// A prefix of the bytes is a bundle of that width, and more bytes follow it.
+    /// The bytes begin with a bundle of that width, and more bytes follow it.
     #[error("BundleLong")]
     BundleLong,
     /// Memory was refused.
@@ -38,11 +39,13 @@ impl<T: Drop> From<AllocFailed<T>> for BundleFault {
     }
 }
 
-/// The greatest length of a bundle, in bytes: 256 entries of 65,535 bytes, each after its length.
+/// The greatest length of a bundle in bytes: 256 entries of 65,535 bytes, each after its two bytes
+/// of length.
 pub const MAX_BUNDLE_LEN: usize = 16_777_472;
 
-/// The entry that the bytes begin with, after its length of two bytes, big-endian, and the bytes behind it
-/// (C2SP tlog-tiles, "Log Entries"). `None` exactly where they begin with none. It takes no memory.
+/// The first entry of the bytes, and the bytes after it (C2SP tlog-tiles, "Log Entries"). The entry
+/// follows its length, two bytes big-endian. The result is `None` exactly if the bytes do not begin
+/// with an entry. The call allocates no memory.
 ///
 /// ```text
 /// split_entry(&[0, 1, 97, 9])   // Some((&[97], &[9]))
@@ -65,14 +68,14 @@ pub fn split_entry(bytes: &[u8]) -> Option<(&[u8], &[u8])>
     Some(after.split_at(len))
 }
 
-/// The entries of a bundle of `width` entries: each stands after its length, two bytes big-endian, and
-/// together they are all of the bytes (C2SP tlog-tiles, "Log Entries"). The entries are borrowed from
-/// the bytes.
+/// The entries of a bundle of `width` entries (C2SP tlog-tiles, "Log Entries"). Each entry follows
+/// its length, two bytes big-endian, and nothing follows the last entry. The entries are borrowed
+/// from the bytes.
 ///
 /// # Errors
 ///
-/// `BundleShort` exactly where no prefix of the bytes is such a bundle, `BundleLong` exactly where one
-/// is that is not all of them; either may be hidden by `OutOfMemory`.
+/// `BundleShort` exactly if the bytes do not begin with such a bundle. `BundleLong` exactly if they
+/// do, and more bytes follow. `OutOfMemory` may be returned instead of either.
 pub fn read_bundle(alloc: Global, width: u32, bytes: &[u8]) -> Result<Vec<&[u8]>, BundleFault>
     requires { width ≤ 256 }
     ensures { ReadsBundle width bytes.now (seen (λ v. map (λ e. e.now) v.items) result) }
@@ -92,7 +95,7 @@ pub fn read_bundle(alloc: Global, width: u32, bytes: &[u8]) -> Result<Vec<&[u8]>
     Ok(entries)
 }
 
-/// The bytes of the bundle of the entries: each after its length, two bytes big-endian.
+/// The bytes of the bundle of these entries: each entry after its length, two bytes big-endian.
 ///
 /// A bundle has at most 256 entries of at most 65,535 bytes each.
 ///

@@ -6,9 +6,9 @@ use crate::paths::Path;
 use std::alloc::{AllocError, Global};
 use tlog_shape::{edge_index, edge_width};
 
-/// The paths of the partial tiles of a tree of `size` entries, lowest level first. They end the tree's
-/// levels on the right: from their rows the tree's root is computed. A level of whole tiles alone has
-/// none, and so has a tree of no entries.
+/// The paths of the partial tiles of a tree of `size` entries, lowest level first. These tiles are
+/// the right edge of the tree: the root hash is computed from their rows. A level of full tiles
+/// only adds no path, so an empty tree gives no path.
 ///
 /// # Errors
 ///

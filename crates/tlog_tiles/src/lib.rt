@@ -1,11 +1,11 @@
-//! What a transparency log serves, and where (C2SP tlog-tiles).
+//! The files of a transparency log, and their paths (C2SP tlog-tiles).
 //!
-//! A log's static files are tiles of hashes, bundles of entries and a checkpoint. This crate reads and
-//! writes the bytes of a tile, here called a row of hashes (`read_row`, `write_row`), those of a
-//! bundle (`read_bundle`, `write_bundle`) and the paths under which they are served (`Path`, `print`),
-//! and names the partial tiles at the right edge of a tree (`edge_paths`).
+//! The static files of a log are tiles of hashes, entry bundles and a checkpoint. `read_row` and
+//! `write_row` read and write the bytes of a tile, which this crate calls a row of hashes.
+//! `read_bundle` and `write_bundle` do so for a bundle. `Path` and `print` are the paths of these
+//! files. `edge_paths` lists the partial tiles at the right edge of a tree.
 //!
-//! A bundle that a log serves at a path is read so:
+//! This reads a bundle that a log serves at a path:
 //!
 //! ```text
 //! let path: Path = "tile/entries/x001/234.p/2".parse()?;

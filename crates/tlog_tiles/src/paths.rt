@@ -1,4 +1,4 @@
-//! Paths of a log's files (C2SP tlog-tiles, "Parameters", "Merkle Tree" and "Log Entries").
+//! The paths of a log's files (C2SP tlog-tiles, "Parameters", "Merkle Tree" and "Log Entries").
 mod printing;
 mod reading;
 
@@ -10,36 +10,36 @@ use reading::{Kind, below_tile, index_of, kind_of, width_of, width_part};
 use std::str::FromStr;
 use thiserror::Error;
 
-/// The greatest index of a lawful path: 2^55 - 1, that of the last tile of a tree of 2^63 entries.
+/// The greatest index of a lawful path: 2^55 - 1, the last tile of a tree of 2^63 entries.
 pub(crate) const MAX_INDEX: u64 = 36028797018963967;
 
-/// The path of one of a log's files.
+/// The path of a file of a log.
 ///
-/// A lawful path has a level of at most 7, an index of at most 2^55 - 1 and a width of 1 to 256, which
-/// is 256 for a full tile or bundle. Only lawful paths are read (`Path::parse`, or `FromStr`); any path
-/// can be printed (`Path::text`, or `Display`).
+/// A lawful path has a level of at most 7, an index of at most 2^55 - 1 and a width of 1 to 256.
+/// The width is 256 for a full tile or bundle. `Path::parse` and `FromStr` read only lawful paths;
+/// `Path::text` and `Display` print any path.
 ///
-/// Paths are ordered as they are declared: the checkpoint, then tiles by level, index and width, then
-/// bundles by index and width, each rising. This serves to keep paths in sets; it is not the order in
-/// which a mirror lists what it misses.
+/// Paths are ordered as they are declared: the checkpoint, then tiles by level, index and width,
+/// then bundles by index and width. This order is for sets of paths. A mirror lists missing paths
+/// in another order.
 ///
 /// # Examples
 ///
 /// `Path::parse("tile/0/x001/x234/067.p/5")` is
-/// `Path::Tile { level: 0, index: 1234067, width: 5 }`, and that is printed so.
+/// `Path::Tile { level: 0, index: 1234067, width: 5 }`, which prints as the same text.
 #[derive(Debug, PartialEq, Eq, PartialOrd, Ord, Hash, Clone, Copy)]
 pub enum Path {
-    /// `checkpoint`: the log's newest checkpoint.
+    /// `checkpoint`: the newest checkpoint of the log.
     Checkpoint,
-    /// `tile/LEVEL/INDEX` or, of fewer than 256 hashes, `tile/LEVEL/INDEX.p/WIDTH`: `width` hashes of a
-    /// level, from the one with the number `256 * index` on.
+    /// `tile/LEVEL/INDEX`, or `tile/LEVEL/INDEX.p/WIDTH` for fewer than 256 hashes: `width` hashes
+    /// of a level, from the hash with the number `256 * index` on.
     Tile { level: u32, index: u64, width: u32 },
-    /// `tile/entries/INDEX` or `tile/entries/INDEX.p/WIDTH`: `width` entries, from the one with the
-    /// number `256 * index` on.
+    /// `tile/entries/INDEX` or `tile/entries/INDEX.p/WIDTH`: `width` entries, from the entry
+    /// `256 * index` on.
     Entries { index: u64, width: u32 },
 }
 
-/// Why a text is not a path. The first that applies is the answer.
+/// Why a text is not a path. `Path::parse` returns the first fault that applies.
 /// `tile/8/000` has a bad level, `tile/0/0` a bad index, and `tile/0/000.p/256` a bad width.
 #[derive(Debug, Drop, PartialEq, Eq, Clone, Copy, Error)]
 pub enum PathFault {
@@ -49,24 +49,24 @@ pub enum PathFault {
     /// The second segment is neither `entries` nor one digit from 0 to 7.
     #[error("BadLevel")]
     BadLevel,
-    /// The index is not in groups of three digits, each but the last behind an x and the first of
-    /// several not `x000`, or is greater than 2^55 - 1.
+    /// The index is greater than 2^55 - 1 or not in groups of three digits. Each group except the
+    /// last begins with an x, and the first of several is not `x000`.
     #[error("BadIndex")]
     BadIndex,
-    /// The width is not decimal, without leading zeros, from 1 to 255.
+    /// The width is not 1 to 255 in decimal, without leading zeros.
     #[error("BadWidth")]
     BadWidth,
 }
 
 impl Path {
-    /// The path that the text spells. A path has one spelling, and each lawful path has one.
+    /// The path that the text spells. Each lawful path has exactly one text.
     ///
-    /// It takes no memory.
+    /// It allocates no memory.
     ///
     /// # Errors
     ///
     /// The first that applies of `Unknown`, `BadLevel`, `BadIndex` and `BadWidth`, each exactly as
-    /// `PathFault` says.
+    /// `PathFault` describes it.
     pub fn parse(text: &str) -> Result<Path, PathFault>
         ensures { ReadsPath text.now result }
     {

@@ -1,4 +1,4 @@
-//! Rows of hashes, which are the bytes of tiles (C2SP tlog-tiles, "Merkle Tree").
+//! Rows of hashes: the bytes of tiles (C2SP tlog-tiles, "Merkle Tree").
 ghost use Rattle.std.specs.Prelude.{◌≡◌, IfOk, length};
 ghost use Rattle.tlog_tiles.specs.Row.{IsRow, ReadsRow};
 ghost use Rattle.tlog_text.specs.Answers.{seen};
@@ -8,11 +8,11 @@ use std::alloc::{AllocError, AllocFailed, Global};
 use thiserror::Error;
 use tlog_hash::Hash;
 
-/// Why bytes are not read as a row of a given width.
-/// For example 33 bytes are none of width 1.
+/// Why bytes were refused as a row of a given width. For example, 33 bytes are not a row of width
+/// 1.
 #[derive(Debug, Drop, PartialEq, Eq, Clone, Copy, Error)]
 pub enum RowFault {
-    /// There are not 32 times as many bytes as the width says.
+    /// The number of bytes is not 32 times the width.
     #[error("RowLength")]
     RowLength,
     /// Memory was refused.
@@ -36,13 +36,14 @@ impl<T: Drop> From<AllocFailed<T>> for RowFault {
     }
 }
 
-/// The hashes of a row of `width` hashes of 32 bytes each, which together are all of the bytes.
+/// The `width` hashes of a row. Each has 32 bytes, and nothing follows the last hash.
 ///
-/// Any width is read; a row of width 0 has no bytes (C2SP tlog-tiles, "Merkle Tree").
+/// Any width is accepted; a row of width 0 has no bytes (C2SP tlog-tiles, "Merkle Tree").
 ///
 /// # Errors
 ///
-/// `RowLength` exactly where there are not `32 * width` bytes, though `OutOfMemory` may hide it.
+/// `RowLength` exactly if the number of bytes is not `32 * width`. `OutOfMemory` may be returned
+/// instead.
 pub fn read_row(alloc: Global, width: u32, bytes: &[u8]) -> Result<Vec<Hash>, RowFault>
     ensures { ReadsRow width bytes.now (seen (λ v. v.items) result) }
 {
@@ -58,7 +59,7 @@ pub fn read_row(alloc: Global, width: u32, bytes: &[u8]) -> Result<Vec<Hash>, Ro
     Ok(row)
 }
 
-/// The bytes of a row of hashes, one after the other.
+/// The bytes of a row of hashes, in order.
 ///
 /// # Errors
 ///

@@ -1,8 +1,8 @@
-//! Laws of one event: what it answers, and what it leaves.
+//! Laws of one event: its answer, and the view after it.
 ghost use Rattle.mirror_model.specs.EventLaws.{BetweenIsLawful, RetriedEventIsOneEvent, EventGrows, EventsHaveOneAnswer, EventKeepsLawful, SelfMergeChangesNothing, RetriedMergeIsOneMerge, MergesGrow, MergesKeepLawful, RefusedMergeIsBetween, MergesHaveOneAnswer, NewNoteMeansWholeItem, RetriedTakeIsOneTake, TakesGrow, TakesKeepLawful, RefusedTakeIsBetween, TakesHaveOneAnswer};
 
-/// A take, a merge, and either of them on a list of mirrors, leaves a view that has all that the old one
-/// had, and leaves lawful views lawful.
+/// A take or a merge, also at one mirror of a list, loses nothing from a view and keeps lawful
+/// views lawful.
 pub fn event_law()
     ensures takes_grow { TakesGrow }
     ensures merges_grow { MergesGrow }
@@ -12,15 +12,15 @@ pub fn event_law()
     ensures lawful { EventKeepsLawful }
 {}
 
-/// `OutOfMemory` apart, an event has one answer and leaves one view.
+/// An event has one answer and one view after it, apart from `OutOfMemory`.
 pub fn once_law()
     ensures takes { TakesHaveOneAnswer }
     ensures merges { MergesHaveOneAnswer }
     ensures event { EventsHaveOneAnswer }
 {}
 
-/// An event for which memory was refused, done again, comes to the same as the event done once. A merge
-/// of a mirror with itself changes nothing.
+/// An event that ran out of memory and is repeated has the result of one event. A merge of a mirror
+/// with itself changes nothing.
 pub fn again_law()
     ensures takes { RetriedTakeIsOneTake }
     ensures merges { RetriedMergeIsOneMerge }
@@ -28,10 +28,10 @@ pub fn again_law()
     ensures itself { SelfMergeChangesNothing }
 {}
 
-/// What an event leaves for which memory was refused: a view between the old one and the one with all
-/// that the event brings; the old one, where the event would be refused or would collide. After a take a
-/// new note stands only if the view is the one with the item; after a merge only if all strings do. So
-/// such a view is lawful where the two others are.
+/// The view after an event that ran out of memory is between the old view and the whole one. It is
+/// the old view if the event would be refused or collide. After a take, it has a new note only if
+/// it has the whole item; after a merge, only if it has all strings. So the view is lawful if the
+/// other two are.
 pub fn refused_memory_law()
     ensures takes { RefusedTakeIsBetween }
     ensures merges { RefusedMergeIsBetween }

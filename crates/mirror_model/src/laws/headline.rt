@@ -1,20 +1,25 @@
-//! The headline: what mirrors agree on, and what they answer.
+//! The headline: mirrors agree, and their answers are true.
 ghost use Rattle.mirror_model.specs.RunLaws.{ForMirrors};
 ghost use Rattle.mirror_model.specs.Headline.{MirrorsAgree, NoPlayClashes, NoPlayToRetry, PartIsPlayed, PartIsRetried, PlaysAreOneRun, PlaysBring, PlaysGrow, PlaysKeepEntries, PlaysTellTruth, RetriedInEachPlay, RetriedRunLeaves, RunIsOnePlay, SameReachedSameView};
 
 /// The headline, over any number of mirrors of one origin, in one play or in several.
 ///
-/// Mirrors that the same valid items, and the same strings and notes of opening views, have reached hold
-/// equal views: while no two different strings of the opening views and of the valid items share a
-/// digest, or where no event was answered by a collision. Such a view is the union of what reached it. Here
-/// an event for which memory was refused is followed by the same event, before any other, in the same
-/// play or as the first of the next. What follows has no such premise.
+/// Two mirrors hold equal views, if the same valid items, and the same strings and notes of opening
+/// views, reached both. Each view is then the union of everything that reached it. There are two
+/// premises. First, no two different strings of the opening views and of the valid items share a
+/// digest, or no event was answered by a collision. Second, the same event directly follows an
+/// event that ran out of memory, in the same play or as the first of the next. The laws below do
+/// not need the second premise.
 ///
-/// While no two different strings of the opening views and of the valid items share a digest, no event is
-/// answered by a collision. From lawful views, whatever the strings: the checkpoint served says the length
-/// and the tree hash of exactly the entries served; two complete checkpoints that differ are a fork
-/// exactly where neither list of entries is a prefix of the other; and what was complete has no other
-/// entries. From any views: what was complete, or a fork, stays so.
+/// As long as no two different strings of the opening views and of the valid items share a digest,
+/// no event is answered by a collision.
+///
+/// From lawful views, for all strings, three laws hold. The served checkpoint has the length and
+/// the tree hash of exactly the served entries. Two different complete checkpoints are a fork
+/// exactly if neither list of entries is a prefix of the other. A complete checkpoint has no other
+/// entries later.
+///
+/// From any views, a complete checkpoint stays complete, and a fork stays a fork.
 pub fn headline_law()
     ensures agree { ForMirrors MirrorsAgree }
     ensures no_clash { ForMirrors NoPlayClashes }
@@ -25,9 +30,9 @@ pub fn headline_law()
     ensures entries { PlaysKeepEntries }
 {}
 
-/// Plays, one after another, are one run, and a run is one play: so the headline speaks of takes and
-/// merges that are called one by one. Over all plays each event for which memory was refused is done
-/// again where that is so in each play by itself, and where memory was refused for none.
+/// Plays in order are one run, and a run is one play. So the headline holds for takes and merges
+/// that are called one by one. In all plays, each event that ran out of memory is repeated, if each
+/// play repeats its own, or if no event ran out of memory.
 pub fn plays_law()
     ensures one_run { PlaysAreOneRun }
     ensures one_play { RunIsOnePlay }
@@ -36,8 +41,8 @@ pub fn plays_law()
     ensures none { NoPlayToRetry }
 {}
 
-/// A play of some mirrors is a play of all: it leaves the others as they are. So plays, one after
-/// another, may each be of other mirrors.
+/// A play of some mirrors is a play of all: it leaves the others unchanged. So consecutive plays
+/// may be of different mirrors.
 pub fn part_law()
     ensures played { PartIsPlayed }
     ensures retried { PartIsRetried }

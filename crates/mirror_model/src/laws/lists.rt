@@ -1,7 +1,8 @@
-//! Laws of what calls answer as lists.
+//! Laws of the lists that calls return.
 ghost use Rattle.mirror_model.specs.Listed.{ForksAreListedOnce, FrontIsListedOnce, HeadsAreListedOnce, MissingIsListedOnce, NotesAreListedOnce};
 
-/// Notes, heads, forks and paths that are listed in their order, each once and nothing else, are one list.
+/// A list of notes, tree heads, forks or paths in order, with each item once and nothing else, is
+/// unique.
 pub fn lists_law()
     ensures notes { NotesAreListedOnce }
     ensures heads { HeadsAreListedOnce }

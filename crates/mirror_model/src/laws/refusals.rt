@@ -1,8 +1,9 @@
-//! Laws of what is refused.
+//! Laws of refused items.
 ghost use Rattle.mirror_model.specs.RefusalLaws.{BundlesAreJudged, HeadNotesAreReadOnce, HeadsAreJudged, OpenHeadsAreRead, TilesAreJudged};
 
-/// An item is refused exactly where it is not valid, `OutOfMemory` apart, and for one reason. A note has one
-/// answer as a head's, and the checkpoint that is read from it says the head's size and root.
+/// An item is refused exactly if it is not valid, apart from `OutOfMemory`, and for only one
+/// reason. Reading a note as a tree head has one answer, and the checkpoint has the size and root
+/// of the tree head.
 pub fn refusals_law()
     ensures tiles { TilesAreJudged }
     ensures bundles { BundlesAreJudged }

@@ -1,14 +1,14 @@
-//! Laws of the strings that tiles and bundles give (C2SP tlog-tiles).
+//! Laws of the strings of tiles and bundles (C2SP tlog-tiles).
 ghost use Rattle.mirror_model.specs.TreeLaws.{BundleStringsAreNodes, FullRowJoinsAreNodes};
 
-/// What the fold of a true full row of level L hashes is what the tree hash of the entries hashes at
-/// the nodes of the row's range that have more than `256^L` entries.
+/// The strings that the fold of a true full row of level L hashes are those of the nodes in the
+/// row's range with more than `256^L` entries.
 pub fn full_row_law()
     ensures { FullRowJoinsAreNodes }
 {}
 
-/// What a bundle of entries, as wide as the log's size has it, gives is what the tree hash hashes at
-/// the nodes of its range.
+/// The strings of a bundle of entries, as wide as the size of the log allows, are those of the
+/// nodes in its range.
 pub fn bundle_law()
     ensures { BundleStringsAreNodes }
 {}

@@ -8,8 +8,8 @@ use std::alloc::{AllocError, Global};
 use std::fmt;
 
 impl Path {
-    /// The text of the path. Of a lawful path it is the one spelling that `Path::parse` reads; of any
-    /// other path it is made by the same rule, and is not read back.
+    /// The text of the path. The text of a lawful path is the one that `Path::parse` reads. Any
+    /// other path is printed by the same rule, but is not read back.
     ///
     /// # Errors
     ///
@@ -21,7 +21,7 @@ impl Path {
     }
 }
 
-/// The text of a path, as `Path::text` gives it.
+/// The text of the path, as `Path::text` returns it.
 ///
 /// # Errors
 ///
@@ -57,7 +57,6 @@ impl fmt::Display for Path {
     }
 }
 
-// Writes the index and the width.
 fn write_place<W: fmt::Write>(f: &mut fmt::Formatter<W>, index: u64, width: u32) -> fmt::Result
     ensures { WritesOnOk W.write_str_gives f.old result (index_text index ++ width_text width)
         f.new }
@@ -67,7 +66,7 @@ fn write_place<W: fmt::Write>(f: &mut fmt::Formatter<W>, index: u64, width: u32)
     write_width(f, width)
 }
 
-// Writes the width of a partial tile or bundle; a full one has none.
+// Writes the width of a partial tile or bundle, and nothing for a full one.
 fn write_width<W: fmt::Write>(f: &mut fmt::Formatter<W>, width: u32) -> fmt::Result
     ensures { WritesOnOk W.write_str_gives f.old result (width_text width) f.new }
 {
@@ -77,7 +76,7 @@ fn write_width<W: fmt::Write>(f: &mut fmt::Formatter<W>, width: u32) -> fmt::Res
     write!(f, ".p/{width}")
 }
 
-// Writes the groups of a number, each of which others follow; 0 has none.
+// Writes the groups of an index before the last; 0 has no group.
 fn write_groups<W: fmt::Write>(f: &mut fmt::Formatter<W>, number: u64) -> fmt::Result
     ensures { WritesOnOk W.write_str_gives f.old result (groups_text number) f.new }
 {
@@ -90,7 +89,6 @@ fn write_groups<W: fmt::Write>(f: &mut fmt::Formatter<W>, number: u64) -> fmt::R
     f.write_str("/")
 }
 
-// Writes the last three decimal digits of a number.
 fn write_three<W: fmt::Write>(f: &mut fmt::Formatter<W>, number: u64) -> fmt::Result
     ensures { WritesOnOk W.write_str_gives f.old result (three_digits number) f.new }
 {
@@ -99,7 +97,6 @@ fn write_three<W: fmt::Write>(f: &mut fmt::Formatter<W>, number: u64) -> fmt::Re
     write_digit(f, number % 10)
 }
 
-// Writes a decimal digit.
 fn write_digit<W: fmt::Write>(f: &mut fmt::Formatter<W>, digit: u64) -> fmt::Result
     requires { digit < 10 }
     ensures { WritesOnOk W.write_str_gives f.old result ((48 + digit) ∷ []) f.new }

@@ -7,16 +7,16 @@ ghost use Rattle.tlog_tiles.specs.Kind.{IsOfKind};
 use crate::paths::MAX_INDEX;
 use tlog_text::read_number;
 
-// What the second segment of a path names.
+// The kind of file that the second segment of a path is for.
 #[derive(Clone, Copy)]
 pub enum Kind {
-    // Tiles of hashes, of that level.
+    // Tiles of hashes of that level.
     Hashes(u32),
-    // Bundles of entries.
+    // Entry bundles.
     Bundles,
 }
 
-// The bytes before the first slash, and those behind it.
+// The bytes before the first slash, and those after it.
 fn cut_first(bytes: &[u8]) -> Option<(&[u8], &[u8])>
     ensures found { IfSome result (λ x. HasNoSlash x.0.now
         × (bytes.now ≡ x.0.now ++ 47 ∷ x.1.now)) }
@@ -30,7 +30,7 @@ fn cut_first(bytes: &[u8]) -> Option<(&[u8], &[u8])>
     None
 }
 
-// The bytes before the last slash, and those behind it.
+// The bytes before the last slash, and those after it.
 fn cut_last(bytes: &[u8]) -> Option<(&[u8], &[u8])>
     ensures found { IfSome result (λ x. HasNoSlash x.1.now
         × (bytes.now ≡ x.0.now ++ 47 ∷ x.1.now)) }
@@ -44,7 +44,7 @@ fn cut_last(bytes: &[u8]) -> Option<(&[u8], &[u8])>
     None
 }
 
-// What follows the prefix, where the bytes begin with it.
+// The bytes after the prefix, if they begin with it.
 fn strip_start<'a>(bytes: &'a [u8], prefix: &[u8]) -> Option<&'a [u8]>
     ensures found { IfSome result (λ rest. bytes.now ≡ prefix.now ++ rest.now) }
     ensures none { IfNone result ((rest : List ℕ) → ¬ (bytes.now ≡ prefix.now ++ rest)) }
@@ -52,7 +52,7 @@ fn strip_start<'a>(bytes: &'a [u8], prefix: &[u8]) -> Option<&'a [u8]>
     bytes.strip_prefix(prefix)
 }
 
-// What precedes the suffix, where the bytes end with it.
+// The bytes before the suffix, if they end with it.
 fn strip_end<'a>(bytes: &'a [u8], suffix: &[u8]) -> Option<&'a [u8]>
     ensures found { IfSome result (λ rest. bytes.now ≡ rest.now ++ suffix.now) }
     ensures none { IfNone result ((rest : List ℕ) → ¬ (bytes.now ≡ rest ++ suffix.now)) }
@@ -60,7 +60,8 @@ fn strip_end<'a>(bytes: &'a [u8], suffix: &[u8]) -> Option<&'a [u8]>
     bytes.strip_suffix(suffix)
 }
 
-// Of a path of three segments or more that begins with `tile`, the second and what follows it.
+// The second segment of a path of three or more segments that begins with `tile`, and the text
+// after it.
 pub fn below_tile(bytes: &[u8]) -> Option<(&[u8], &[u8])>
     ensures found { IfSome result (λ x. IsBelowTile bytes.now x.0.now x.1.now) }
     ensures none { IfNone result ((second tail : List ℕ) → ¬ IsBelowTile bytes.now second tail) }
@@ -69,7 +70,7 @@ pub fn below_tile(bytes: &[u8]) -> Option<(&[u8], &[u8])>
     cut_first(rest)
 }
 
-// What a second segment names.
+// The kind of file that a second segment is for.
 pub fn kind_of(second: &[u8]) -> Option<Kind>
     ensures found { IfSome result (λ kind. IsOfKind second.now kind) }
     ensures none { IfNone result (¬ IsKind second.now) }
@@ -83,7 +84,7 @@ pub fn kind_of(second: &[u8]) -> Option<Kind>
     }
 }
 
-// The index's text, and the width's where it is written.
+// The text of the index, and the text of the width if there is one.
 pub fn width_part(tail: &[u8]) -> (&[u8], Option<&[u8]>)
     ensures { HasWidthPart tail.now result.0.now (option_copied result.1) }
 {
@@ -95,7 +96,7 @@ pub fn width_part(tail: &[u8]) -> (&[u8], Option<&[u8]>)
     (tail, None)
 }
 
-// The number of three digits at the start, and the bytes behind them.
+// The number of the three digits at the start, and the bytes after them.
 fn three_at(bytes: &[u8]) -> Option<(u64, &[u8])>
     ensures found { IfSome result (λ x. (x.0 < 1000) × (bytes.now ≡ three_digits x.0 ++ x.1.now)) }
     ensures none { IfNone result ((group : ℕ) (rest : List ℕ) → group < 1000
@@ -117,7 +118,7 @@ fn three_at(bytes: &[u8]) -> Option<(u64, &[u8])>
     }
 }
 
-// The number of the group at the start, which others follow, and the bytes behind it.
+// The number of the group at the start, and the bytes after it.
 fn group_at(bytes: &[u8]) -> Option<(u64, &[u8])>
     ensures found { IfSome result (λ x. (x.0 < 1000) × (bytes.now ≡ group_text x.0 ++ x.1.now)) }
     ensures none { IfNone result ((group : ℕ) (rest : List ℕ) → group < 1000
@@ -129,7 +130,7 @@ fn group_at(bytes: &[u8]) -> Option<(u64, &[u8])>
     Some((number, rest))
 }
 
-// A number with one group of digits more, where a lawful path has it.
+// A number with one more group of digits, if an index may be that large.
 fn with_group(number: u64, group: u64) -> Option<u64>
     requires { group < 1000 }
     ensures { SomeIff result (number * 1000 + group ≤ MAX_INDEX) (number * 1000 + group) }
@@ -141,7 +142,7 @@ fn with_group(number: u64, group: u64) -> Option<u64>
     if next > MAX_INDEX { None } else { Some(next) }
 }
 
-// The index that a text in groups of three digits gives.
+// The index that a text in groups of three digits spells.
 pub fn index_of(text: &[u8]) -> Option<u64>
     ensures found { IfSome result (λ index. IsIndex text.now index × (index ≤ MAX_INDEX)) }
     ensures none { IfNone result ((index : ℕ) → index ≤ MAX_INDEX → ¬ IsIndex text.now index) }
@@ -162,7 +163,7 @@ pub fn index_of(text: &[u8]) -> Option<u64>
     with_group(index, group)
 }
 
-// The width that its text gives, or that of a path without one.
+// The width that the text spells; 256 without a text.
 pub fn width_of(text: Option<&[u8]>) -> Option<u32>
     ensures found { IfSome result (λ width. IsWidthOf (option_copied text.entry) width) }
     ensures none { IfNone result ((width : ℕ) → ¬ IsWidthOf (option_copied text.entry) width) }
@@ -173,7 +174,7 @@ pub fn width_of(text: Option<&[u8]>) -> Option<u32>
     partial_width(digits)
 }
 
-// A width below 256, in decimal digits.
+// A width below 256 in decimal digits.
 fn partial_width(digits: &[u8]) -> Option<u32>
     ensures found { IfSome result (λ width. IsPartialWidth digits.now width) }
     ensures none { IfNone result ((width : ℕ) → ¬ IsPartialWidth digits.now width) }

@@ -1,7 +1,7 @@
 use Rattle.signed_note.proofs.JoinedPins.{IsGathering}
 use Rattle.signed_note.proofs.gathering.gather_all.Given as goal
 
--- what is gathered of the lines so far, with those that are left
+-- the lines gathered up to here, and the rest of the lines
 abbrev pub invariant-loop-line : goal.invariant-loop-line
 invariant-loop-line l =
     goal.iterator-loop-line.can_next l.line-iterator ×

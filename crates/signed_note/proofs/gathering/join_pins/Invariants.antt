@@ -1,7 +1,7 @@
 use Rattle.signed_note.proofs.JoinedPins.{IsJoining}
 use Rattle.signed_note.proofs.gathering.join_pins.Given as goal
 
--- the keys so far, with the pins that are left
+-- the keys up to here, and the rest of the pins
 abbrev pub invariant-loop-one : goal.invariant-loop-one
 invariant-loop-one l =
     goal.iterator-loop-one.can_next l.one-iterator ×

@@ -2,7 +2,7 @@ use Rattle.std.proofs.Common.{◌≡◌, ◌++◌, List, ℕ, length}
 use Rattle.signed_note.specs.KeyFiles.{IsKeyFile}
 use Rattle.signed_note.proofs.key_file.read_keys.Given as goal
 
--- what stands before the rest is the lines of the keys so far
+-- the bytes before the rest are the lines of the keys up to here
 abbrev pub invariant-loop-rest : goal.invariant-loop-rest
 invariant-loop-rest l = (front : List ℕ) × (l.bytes ≡ front ++ l.rest) × IsKeyFile front l.keys.items
 

@@ -2,7 +2,7 @@ use Rattle.std.proofs.Common.{ℕ, ◌+◌, ◌≤◌, length}
 use Rattle.signed_note.specs.Notes.{IsBlank}
 use Rattle.signed_note.proofs.parts.blank_line.Given as goal
 
--- two newlines do not stand together from before the end on
+-- no two newlines in a row begin at the position before the end or later
 abbrev pub invariant-loop-end : goal.invariant-loop-end
 invariant-loop-end l = record {
   within : l.end ≤ length l.bytes;

@@ -7,7 +7,7 @@ use Rattle.signed_note.specs.Notes.{SignatureParts, line_text, IsSignatureLine}
 use Rattle.signed_note.specs.Reading.{AreSignatureLines}
 use Rattle.signed_note.proofs.parts.read_lines.Given as goal
 
--- the lines so far and the rest are the part, and whatever lines the part is, the rest is some of them
+-- the lines up to here and the rest make the part, and any lines of the part end with lines of the rest
 abbrev pub invariant-loop-rest : goal.invariant-loop-rest
 invariant-loop-rest l = record {
   text : shadow (Utf8 l.rest);

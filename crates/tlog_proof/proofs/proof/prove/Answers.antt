@@ -7,7 +7,7 @@ use Rattle.tlog_proof.proofs.Lengths.{path_writable, proof_writable}
 use Rattle.tlog_proof.proofs.Parts.{mth-part_one}
 use Rattle.tlog_proof.proofs.proof.prove.Goals as goal
 
--- a range of one entry has the entry's leaf hash
+-- the hash of a range of one entry is its leaf hash
 pub returns-in_ok-leaf-in-Inclusion-clause-answer : goal.returns-in_ok-leaf-in-Inclusion-clause-answer
 returns-in_ok-leaf-in-Inclusion-clause-answer g c = λ es listed.
     let d = g.R.Ranges.digest in

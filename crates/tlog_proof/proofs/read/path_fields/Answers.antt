@@ -10,7 +10,7 @@ use Rattle.tlog_proof.proofs.Lines.{after_line, rest_of_path, all_read, next_has
 use Rattle.tlog_proof.proofs.Lines.{fault_same}
 use Rattle.tlog_proof.proofs.read.path_fields.Goals as goal
 
--- something is left
+-- some bytes are left
 ne_zero : (xs : List ℕ) → false ≡ (length xs == 0) → 0 < length xs
 ne_zero [] e = absurd (cc e)
 ne_zero (x ∷ xs) e = omega arith

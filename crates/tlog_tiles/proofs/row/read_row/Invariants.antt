@@ -2,7 +2,7 @@ use Rattle.std.proofs.Common.{◌≡◌, ◌*◌, length, take, All}
 use Rattle.tlog_tiles.specs.Row.{row_text}
 use Rattle.tlog_tiles.proofs.row.read_row.Given as goal
 
--- the hashes so far are those of the bytes so far
+-- the hashes up to here are those of the bytes up to here
 abbrev pub invariant-loop-i : goal.invariant-loop-i
 invariant-loop-i l = record {
   count : length l.row.items ≡ l.i;

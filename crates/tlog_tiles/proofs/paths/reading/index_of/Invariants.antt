@@ -4,7 +4,7 @@ use Rattle.tlog_tiles.specs.Path.{IsIndex}
 use Rattle.tlog_tiles.proofs.IndexLemmas.{IsIndexAfter}
 use Rattle.tlog_tiles.proofs.paths.reading.index_of.Given as goal
 
--- the text is an index exactly where the rest of it is one behind the groups so far
+-- the text is an index exactly if the rest of it is the rest of an index after the groups that were read
 abbrev pub invariant-loop-group : goal.invariant-loop-group
 invariant-loop-group l = record {
   fits : l.index ≤ MAX_INDEX;
