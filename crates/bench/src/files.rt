@@ -1,4 +1,4 @@
-//! Files: a mirror saved and loaded again, and one put onto a shelf.
+//! Files: a mirror is saved, loaded again, and put onto a shelf.
 use crate::clock::{now, report_since};
 use crate::list::ORIGIN;
 use mirror_export::{ExportFault, export};
@@ -33,7 +33,7 @@ pub(crate) fn measure_files<H: TreeHash, R: AllocGlobal + CpuClock + Print + Epr
     Ok(())
 }
 
-// Loads a mirror from a state text, and answers how many strings it holds.
+// Loads a mirror from a state text, and returns the number of strings that it holds.
 fn load_count<H: TreeHash>(
     alloc: Global,
     keys: &[Box<dyn Verifier>],
@@ -45,7 +45,7 @@ fn load_count<H: TreeHash>(
     Ok(strings)
 }
 
-// Exports the mirror onto a shelf in memory, and answers how many files that are.
+// Exports the mirror onto a shelf in memory, and returns the number of files.
 fn export_count<H: TreeHash>(alloc: Global, mirror: &Mirror<H>) -> Result<usize, ExportFault> {
     let mut shelf = MemShelf::new(alloc);
     let answer = export(alloc, mirror, &mut shelf);

@@ -12,12 +12,12 @@ use tlog_hash::{Hash, TreeHash, tree_hash};
 /// The origin of the log.
 pub(crate) const ORIGIN: &str = "bench";
 
-/// The key that the log signs with: of its origin's name, id 1, the secret `00`.
+/// The key that signs the log, with the origin as its name, id 1 and the secret `00`.
 pub(crate) fn key(alloc: Global) -> Result<HmacKey, KeyFault> {
     HmacKey::new(alloc, ORIGIN, 1, &[0])
 }
 
-// The entry of that number: 100 bytes, the number in four of them and then twos.
+// The entry with that number: 100 bytes, the number in four of them and then twos.
 fn entry_of(number: u32) -> [u8; 100] {
     let mut entry = [2u8; 100];
     let bytes = number.to_be_bytes();
@@ -27,7 +27,7 @@ fn entry_of(number: u32) -> [u8; 100] {
     entry
 }
 
-/// The first entries, as many as that.
+/// The first `count` entries.
 pub(crate) fn entries_of(alloc: Global, count: u32) -> Result<Vec<Vec<u8>>, AllocError>
     ensures short { IfOk result (λ entries. AreShort (map (λ e. e.items) entries.items)) }
     ensures count { IfOk result (λ entries. length entries.items ≡ count) }
@@ -39,7 +39,7 @@ pub(crate) fn entries_of(alloc: Global, count: u32) -> Result<Vec<Vec<u8>>, Allo
     Ok(entries)
 }
 
-/// The time that hashing the tree of the entries takes, and its hash.
+/// The time to hash the tree of the entries, and its hash.
 pub(crate) fn hash_tree<H: TreeHash, R: AllocGlobal + CpuClock>(
     rt: &R,
     entries: &[Vec<u8>],

@@ -1,10 +1,10 @@
-//! What the work of a mirror costs, each beside the hashing alone of the same strings in the same run: pulling, walking,
-//! settling, what is served, and files.
+//! The costs of a mirror's work: pulling, walking, settling, serving, and files. Each is compared with the time to hash the
+//! same strings in the same run.
 //!
-//! Its arguments are a subject and a count of entries of 100 bytes, as `bench pulls 100000`. The subject is `pulls`,
-//! `served`, `files` or `all`. With no arguments it is `all` of 1000.
+//! The arguments are a subject and a count of entries of 100 bytes, as in `bench pulls 100000`. The subject is `pulls`,
+//! `served`, `files` or `all`. Without arguments it is `all` with 1000 entries.
 //!
-//! It prints what was done; what it measured goes to standard error, since that differs from run to run.
+//! Standard output has the work that was done. Standard error has the measurements, since they differ from run to run.
 #![tactic(auto)]
 
 mod clock;
@@ -34,7 +34,7 @@ fn main(rt: HostRuntime) -> anyhow::Result<()> {
     )
 }
 
-// Measures a subject of a log of so many entries, or all of them.
+// Measures a subject, or all of them, for a log of `count` entries.
 fn measure<H: TreeHash, R: AllocGlobal + CpuClock + Files + Print + Eprint>(
     rt: &R,
     subject: &str,
@@ -47,7 +47,7 @@ fn measure<H: TreeHash, R: AllocGlobal + CpuClock + Files + Print + Eprint>(
     answer
 }
 
-// The same of an empty mirror, under the key that the log signs with.
+// The same for an empty mirror, under the key that signs the log.
 fn measure_keyed<H: TreeHash, R: AllocGlobal + CpuClock + Files + Print + Eprint>(
     rt: &R,
     mirror: &mut Mirror<H>,
@@ -61,7 +61,7 @@ fn measure_keyed<H: TreeHash, R: AllocGlobal + CpuClock + Files + Print + Eprint
     answer
 }
 
-// Lets an empty mirror pull the log, and measures the subject by it, or each of them.
+// An empty mirror pulls the log, and the subject, or each subject, is measured with it.
 fn measure_mirror<H: TreeHash, R: AllocGlobal + CpuClock + Files + Print + Eprint>(
     rt: &R,
     mirror: &mut Mirror<H>,

@@ -1,4 +1,4 @@
-//! Pulls: a log gathered from a list of its entries, walked and settled.
+//! Pulls: a log is fetched from a list of its entries, walked and settled.
 use crate::clock::{now, report_since, resident_bytes, tell};
 use crate::list::{entries_of, hash_tree, source_of};
 use mirror_pull::{PullFault, Pulled, pull};
@@ -10,8 +10,8 @@ use std::time::CpuClock;
 use tlog_hash::{Hash, TreeHash};
 use tlog_mirror::Mirror;
 
-/// Lets a mirror pull a log of so many entries, walks it and settles it. Answers the time that hashing its tree takes, and
-/// that of a walk through it before it was settled.
+/// A mirror pulls a log of `count` entries, walks it and settles it. The results are the time to hash its tree, and the time
+/// of a walk before settling.
 pub(crate) fn measure_pull<H: TreeHash, R: AllocGlobal + CpuClock + Files + Print + Eprint>(
     rt: &R,
     mirror: &mut Mirror<H>,
@@ -24,7 +24,7 @@ pub(crate) fn measure_pull<H: TreeHash, R: AllocGlobal + CpuClock + Files + Prin
     Ok((hashing, walking?))
 }
 
-// A source over that many entries, the time that hashing their tree takes, and its root.
+// A source over `count` entries, the time to hash their tree, and its root.
 fn source_timed<H: TreeHash, R: AllocGlobal + CpuClock + Eprint>(
     rt: &R,
     count: u32,
@@ -38,8 +38,8 @@ fn source_timed<H: TreeHash, R: AllocGlobal + CpuClock + Eprint>(
     Ok((source, hashing, root))
 }
 
-// Pulls all that the source has, of so many entries and that root, walks through it, settles it, and tells what that takes.
-// It owns nothing, so that its ways out are cheap to check. Answers the time of the first walk.
+// Pulls the log of `count` entries with that root from the source, walks it, settles it, and reports the times. It owns
+// nothing, so that its ways out are cheap to check. The result is the time of the first walk.
 fn pull_from<H: TreeHash, R: AllocGlobal + CpuClock + Files + Print + Eprint>(
     rt: &R,
     mirror: &mut Mirror<H>,
@@ -78,8 +78,8 @@ fn pull_from<H: TreeHash, R: AllocGlobal + CpuClock + Files + Print + Eprint>(
     Ok(walking)
 }
 
-// DecidesFork how much more memory is resident after a pull, and after settling. The strings have 101 bytes for each entry, and 65
-// for each pair, of which there is one less.
+// Reports the growth of resident memory after a pull, and after settling. The strings have 101 bytes for each entry and 65
+// for each pair; the number of pairs is the number of entries minus one.
 fn print_memory(rt: &impl Eprint, count: u32, pulled: u64, settled: u64) {
     let bytes = 101 * u128::from(count) + 65 * u128::from(count).saturating_sub(1);
     let _ = eprintln!(rt; "  their strings have {bytes} bytes, and of it");
@@ -97,7 +97,7 @@ fn print_memory(rt: &impl Eprint, count: u32, pulled: u64, settled: u64) {
     );
 }
 
-// Pulls all that the source has. It ensures nothing, so that its caller is cheap to check.
+// Pulls the log from the source. It ensures nothing, so that its caller is cheap to check.
 fn pull_all<H: TreeHash>(
     alloc: Global,
     mirror: &mut Mirror<H>,
@@ -107,7 +107,7 @@ fn pull_all<H: TreeHash>(
     pull(alloc, mirror, keys, source)
 }
 
-// How many paths are missing of a head, and no such number where the mirror does not have it.
+// The number of missing paths of a tree head, or None if the mirror does not have it.
 fn missing_count<H: TreeHash>(
     alloc: Global,
     mirror: &Mirror<H>,
@@ -120,7 +120,7 @@ fn missing_count<H: TreeHash>(
     }
 }
 
-// Settles the heads, and answers how much is remembered.
+// Settles the tree heads, and returns the number of marks that are remembered.
 fn settle<H: TreeHash>(alloc: Global, mirror: &mut Mirror<H>) -> Result<usize, AllocError> {
     mirror.settle(alloc)?;
     Ok(mirror.remembered())

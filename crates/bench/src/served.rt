@@ -1,4 +1,4 @@
-//! What is served: tiles, bundles, proofs and the checkpoint.
+//! Served files: tiles, bundles, proofs and the checkpoint.
 use crate::clock::{now, report_since};
 use std::alloc::{AllocError, Global};
 use std::time::CpuClock;
@@ -6,13 +6,13 @@ use tlog_hash::TreeHash;
 use tlog_mirror::Mirror;
 use tlog_proof::{Ask, prove};
 
-// How often each is asked for.
+// The number of requests for each kind.
 const TIMES: u32 = 1000;
 
-// How many hashes a full tile has, and entries a full bundle.
+// The number of hashes of a full tile, and of entries of a full bundle.
 const WIDTH: u32 = 256;
 
-// A kind of parts.
+// A kind of resource.
 enum Kind {
     Tiles,
     Bundles,
@@ -20,7 +20,7 @@ enum Kind {
     Checkpoints,
 }
 
-// Each of them, and its name.
+// The kinds, with their names.
 const KINDS: [(&str, Kind); 4] = [
     ("full tiles", Kind::Tiles),
     ("full bundles", Kind::Bundles),
@@ -28,8 +28,9 @@ const KINDS: [(&str, Kind); 4] = [
     ("checkpoints", Kind::Checkpoints),
 ];
 
-/// Asks a settled mirror of that many entries for its parts; and the same once it has laid them out. The times are beside
-/// that of as many look-ups, by the time of a walk, which looks up each entry and each pair.
+/// Requests each kind from a settled mirror of `count` entries, before and after it lays out its files. The times are
+/// compared with those of the same number of look-ups. A walk gives the time of a look-up, since it looks up each entry and
+/// each pair.
 pub(crate) fn measure_served<H: TreeHash, R: AllocGlobal + CpuClock + Print + Eprint>(
     rt: &R,
     mirror: &mut Mirror<H>,
@@ -47,7 +48,7 @@ pub(crate) fn measure_served<H: TreeHash, R: AllocGlobal + CpuClock + Print + Ep
     measure_kinds(rt, mirror, count, look_ups)
 }
 
-// Lays out what the mirror serves, and reports the time.
+// Lays out the files that the mirror serves, and reports the time.
 fn lay_out<H: TreeHash, R: AllocGlobal + CpuClock + Eprint>(
     rt: &R,
     mirror: &mut Mirror<H>,
@@ -59,7 +60,7 @@ fn lay_out<H: TreeHash, R: AllocGlobal + CpuClock + Eprint>(
     Ok(())
 }
 
-// Asks for the parts of each kind, and reports the time of each and how many are given.
+// Requests each kind, and reports the time and the number of replies.
 fn measure_kinds<H: TreeHash, R: AllocGlobal + CpuClock + Print + Eprint>(
     rt: &R,
     mirror: &Mirror<H>,
@@ -76,8 +77,8 @@ fn measure_kinds<H: TreeHash, R: AllocGlobal + CpuClock + Print + Eprint>(
     Ok(())
 }
 
-// Asks the mirror for the parts of a kind, and counts those that are given. They are spread over a log of that many entries:
-// each is far from the one before.
+// Requests a kind from the mirror, and counts the replies. The requests are spread over a log of `count` entries, each far
+// from the one before.
 fn count_given<H: TreeHash>(alloc: Global, mirror: &Mirror<H>, kind: &Kind, count: u32) -> u32 {
     let mut given = 0u32;
     for number in 0..TIMES {
@@ -96,7 +97,7 @@ fn count_given<H: TreeHash>(alloc: Global, mirror: &Mirror<H>, kind: &Kind, coun
     given
 }
 
-// Whether what the mirror serves gives a proof that the entry is in the log.
+// Whether the mirror gives a proof that the entry is in the log.
 fn is_proof_given<H: TreeHash>(alloc: Global, mirror: &Mirror<H>, size: u32, index: u32) -> bool {
     let ask = Ask::Inclusion {
         size: u64::from(size),

@@ -1,12 +1,12 @@
-//! A look at a log, and the use of the library in one small program: it mirrors folders of one log in memory, one after the
-//! other, and prints what each pull came to, then the heads and what is served, then the forks.
+//! A small program with the library: it mirrors folders of one log in memory, in order, and prints the result of each pull.
+//! Then it prints the tree heads, the served checkpoint and the forks.
 //!
 //! ```text
 //! look example.com/log examples/log.keys examples/log      # an origin, a key file, and folders
 //! ```
 //!
-//! It ends with status 0; with 1 at a fault, which is on standard error below the file or folder that it is about; with 2 where
-//! there are fewer words; and with 3 where nothing is served, or there is a fork.
+//! The exit status is 0 for success, and 1 for a fault, which is on standard error after the name of its file or folder. It
+//! is 2 for too few arguments, and 3 if nothing is served or there is a fork.
 #![tactic(auto)]
 
 use byte_streams::write_whole;
@@ -41,7 +41,7 @@ fn main(rt: HostRuntime) -> anyhow::Result<ExitCode> {
     Ok(ExitCode::from(status))
 }
 
-// The answer; where it is a fault, the name of the file or folder is written to standard error first.
+// The answer; for a fault, the name of the file or folder is first written to standard error.
 fn printed<T, E>(rt: &impl Eprint, name: &str, answer: Result<T, E>) -> Result<T, E> {
     if answer.is_err() {
         let _ = eprintln!(rt; "look: {name}");
@@ -49,7 +49,7 @@ fn printed<T, E>(rt: &impl Eprint, name: &str, answer: Result<T, E>) -> Result<T
     answer
 }
 
-// Looks at the folders under the keys of a key file. Pins of one name and id are one key.
+// Mirrors the folders under the keys of a key file. Pins with the same name and id are one key.
 fn look<H: TreeHash, R: AllocGlobal + Files + Eprint, W: Write>(
     rt: &R,
     origin: &str,
@@ -68,7 +68,7 @@ fn look<H: TreeHash, R: AllocGlobal + Files + Eprint, W: Write>(
     look_under::<H, R, W>(rt, origin, &keys, folders, output)
 }
 
-// Pulls from each folder into a new mirror, and prints what came of it.
+// Pulls from each folder into a new mirror, and prints the results.
 fn look_under<H: TreeHash, R: AllocGlobal + Files + Eprint, W: Write>(
     rt: &R,
     origin: &str,
@@ -84,7 +84,7 @@ fn look_under<H: TreeHash, R: AllocGlobal + Files + Eprint, W: Write>(
     report(rt.alloc(), &mut mirror, output)
 }
 
-// Pulls what the mirror lacks from a folder, and prints what that came to.
+// Pulls the missing files from a folder, and prints the result.
 fn pull_folder<H: TreeHash, R: AllocGlobal + Files, W: Write>(
     rt: &R,
     mirror: &mut Mirror<H>,
@@ -98,7 +98,7 @@ fn pull_folder<H: TreeHash, R: AllocGlobal + Files, W: Write>(
     Ok(())
 }
 
-// Prints the heads and what is served, then the forks. The status is 3 where nothing is served, or there is a fork.
+// Prints the tree heads, the served checkpoint and the forks. The status is 3 if nothing is served or there is a fork.
 fn report<H: TreeHash, W: Write>(
     alloc: Global,
     mirror: &mut Mirror<H>,

@@ -1,4 +1,4 @@
-//! Copies that are asked over HTTP, each beside a mirror that holds the copy's checkpoint alone, complete.
+//! Copies over HTTP, each compared with a mirror that holds only the copy's checkpoint, complete.
 mod damaged;
 mod failing;
 mod logs;
@@ -17,7 +17,7 @@ use tlog_mirror::Mirror;
 const SERVER_ERROR: &str =
     "HTTP/1.1 500 Internal Server Error\r\nContent-Length: 0\r\nConnection: close\r\n\r\n";
 
-// What is asked for of C(300): what is there, narrower files, and what is not there.
+// The targets that are requested for C(300): existing files, narrower files, and files that do not exist.
 const TARGETS: &str = "/checkpoint
 /tile/0/000
 /tile/0/000.p/1
@@ -57,12 +57,11 @@ const TARGETS: &str = "/checkpoint
 /mirror/consistency/3/301
 /nothing";
 
-// The request for a target.
 fn request_for(alloc: Global, target: &str) -> Result<String, AllocError> {
     format!(in alloc; "GET {target} HTTP/1.1\r\n\r\n")
 }
 
-// What a mirror replies.
+// The reply of a mirror.
 fn reply_of_mirror<H: TreeHash>(
     alloc: Global,
     mirror: &Mirror<H>,
@@ -77,7 +76,7 @@ fn reply_of_mirror<H: TreeHash>(
     }
 }
 
-// What a copy replies, and how its call ends. It ensures nothing, so that its callers are cheap to check.
+// The reply of a copy, and the result of its call. It ensures nothing, so that its callers are cheap to check.
 fn reply_of_copy<H: TreeHash, D: ReadableShelf>(
     alloc: Global,
     shelf: &mut D,
@@ -89,7 +88,7 @@ fn reply_of_copy<H: TreeHash, D: ReadableShelf>(
     Ok(answer_from_copy::<H, D, &[u8], Vec<u8>>(alloc, shelf, "ex", &mut reader, reply))
 }
 
-// The copy replies to each target as the mirror does.
+// The copy has the same reply as the mirror for each target.
 fn reply_alike<H: TreeHash>(
     rt: &impl Abort,
     alloc: Global,
@@ -128,7 +127,7 @@ fn copy_of<H: TreeHash>(alloc: Global, n: u16) -> Result<MemShelf, Fail> {
     Ok(shelf)
 }
 
-// Of C(n) the copy and the mirror reply alike.
+// For C(n), the copy and the mirror have the same replies.
 fn replies_of(rt: &impl Abort, alloc: Global, n: u16) -> Result<(), Fail> {
     let mut shelf = copy_of::<Sha256Tree>(alloc, n)?;
     let mirror = mirror_of::<Sha256Tree>(alloc, n)?;

@@ -1,7 +1,8 @@
-//! The tests of what reads and writes streams: `byte_streams`, the client and the server of `mirror_http`, and `copy_server`.
+//! Tests of crates that read and write streams: `byte_streams`, the client and the server of `mirror_http`, and
+//! `copy_server`.
 //!
-//! They stand in a crate of their own, since a crate's tests are checked together with the crate again. There is no other
-//! code.
+//! They are in a crate of their own, since the tests of a crate are checked together with the crate again. The crate has no
+//! other code.
 #![tactic(auto)]
 
 #[cfg(test)]

@@ -1,4 +1,4 @@
-//! Mirrors that are asked over HTTP.
+//! Mirrors over HTTP.
 mod heads;
 mod memory;
 mod streams;
@@ -14,7 +14,7 @@ use std::test::Fail;
 use tlog_hash::TreeHash;
 use tlog_mirror::Mirror;
 
-// The head of the log of three entries: no bytes, 00 and 10 in hexadecimal.
+// The note of the log of three entries: the empty one, and 00 and 10 in hexadecimal.
 const NOTE: &str =
     "ex\n3\nrra8/idLcKFPsGel5VeCZNsPqbUa9eC6FZFY8yngbnc=\n\n\u{2014} good AQIDBAU=\n";
 
@@ -27,7 +27,7 @@ const BUNDLE_REQUEST: &[u8] = b"GET /tile/entries/000.p/2 HTTP/1.1\r\n\r\n";
 const BUNDLE_REPLY: &[u8] =
     b"HTTP/1.1 200 OK\r\nContent-Type: application/octet-stream\r\nContent-Length: 5\r\nConnection: close\r\n\r\n\x00\x00\x00\x01\x00";
 
-// A key that accepts the signature 05 over every text.
+// A key that accepts the signature 05 for every text.
 #[derive(Drop)]
 struct Five;
 
@@ -56,7 +56,7 @@ fn row_of_3<H: TreeHash>(alloc: Global) -> Result<Vec<u8>, AllocError> {
     Ok(row)
 }
 
-// The mirror takes the head of the three entries.
+// The mirror takes the tree head of the three entries.
 fn take_head_of_3<H: TreeHash>(alloc: Global, mirror: &mut Mirror<H>) -> Result<(), Fail> {
     let mut keys: Vec<Box<dyn Verifier>> = Vec::new(alloc);
     keys.push(Box::new(alloc, Five)?)?;
@@ -65,14 +65,14 @@ fn take_head_of_3<H: TreeHash>(alloc: Global, mirror: &mut Mirror<H>) -> Result<
     Ok(())
 }
 
-// The mirror takes that head, and then the bundle.
+// The mirror takes that tree head, and then the bundle.
 fn take_3<H: TreeHash>(alloc: Global, mirror: &mut Mirror<H>) -> Result<(), Fail> {
     take_head_of_3(alloc, mirror)?;
     mirror.take_bundle(alloc, 3, b"\x00\x00\x00\x01\x00\x00\x01\x10")?;
     Ok(())
 }
 
-// A mirror that is complete at the three entries.
+// A mirror that is complete for the three entries.
 fn mirror_of_3<H: TreeHash>(alloc: Global) -> Result<Mirror<H>, Fail> {
     let mut mirror = Mirror::<H>::new(alloc, "ex")?;
     let answer = take_3(alloc, &mut mirror);
@@ -89,8 +89,8 @@ pub(crate) fn answered<H: TreeHash, R: Read, W: Write>(
     answer(alloc, mirror, reader, writer)
 }
 
-// What was made, where all was done to it. Else it is dropped: here and by `drop`, since a drop in place has a step for each
-// field of a mirror or a source, and is dear to check.
+// The value, if everything was done to it; otherwise it is dropped. It is dropped here and by `drop`, since a drop in place
+// has a step for each field of a mirror or a source, and is expensive to check.
 pub(crate) fn kept<T: Drop>(made: T, answer: Result<(), Fail>) -> Result<T, Fail> {
     match answer {
         Ok(()) => Ok(made),

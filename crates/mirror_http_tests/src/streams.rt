@@ -1,4 +1,4 @@
-//! Streams that give and take a byte a call, that are interrupted, and that fail.
+//! Streams that give and take one byte for each call, are interrupted, and fail.
 mod scripted;
 mod timed;
 
@@ -9,7 +9,7 @@ use std::alloc::Global;
 use std::io::Read;
 use std::process::Abort;
 
-// What is read. It ensures nothing, so that its callers are cheap to check.
+// The bytes that are read. It ensures nothing, so that its callers are cheap to check.
 fn read_bytes<R: Read>(
     alloc: Global,
     reader: &mut R,
@@ -19,7 +19,7 @@ fn read_bytes<R: Read>(
     read_all(alloc, reader, most, reads)
 }
 
-// Why nothing is read, if so.
+// The fault of the read, if it fails.
 fn fault_of<R: Read>(
     alloc: Global,
     reader: &mut R,
@@ -32,7 +32,7 @@ fn fault_of<R: Read>(
     }
 }
 
-// The turns of a reader of six bytes, and what it is read to.
+// The turns of a reader of six bytes, and the result of reading it.
 const READS: [(&[Turn], Result<&[u8], StreamFault>); 6] = [
     (&[Pass(1); 7], Ok(b"abcdef")),
     (&[Pass(1); 3], Ok(b"abc")),
@@ -45,7 +45,7 @@ const READS: [(&[Turn], Result<&[u8], StreamFault>); 6] = [
     (&[Pass(6), Failed], Err(StreamFault::ReadFault)),
 ];
 
-// A byte a read, interrupted, and failing once.
+// One byte for each read, interruptions, and one failure.
 #[test]
 fn reads_by_turns(rt: HostRuntime) {
     for &(turns, want) in &READS {
@@ -53,7 +53,7 @@ fn reads_by_turns(rt: HostRuntime) {
     }
 }
 
-// What a reader of six bytes is read to by these turns.
+// The result of reading a reader of six bytes with these turns.
 fn assert_reads(rt: &impl Abort, alloc: Global, turns: &[Turn], want: Result<&[u8], StreamFault>) {
     let mut reader = ScriptedReader {
         rest: b"abcdef",
@@ -75,7 +75,8 @@ fn a_limit_of_reads(rt: HostRuntime) {
     assert!(rt; fault == Some(StreamFault::ReadFault));
     assert!(rt; endless.calls == 1_000);
     assert!(rt; endless.most_asked == CHUNK);
-    // Six reads of a byte are no end, and a seventh finds it. Where six bytes are wanted, six do.
+    // Six reads of a byte do not find the end, but a seventh does. If only six bytes are wanted,
+    // six reads are enough.
     let fault = Some(StreamFault::ReadFault);
     assert_ends(&rt, rt.alloc(), 100, 6, fault);
     assert_ends(&rt, rt.alloc(), 100, 7, None);
@@ -84,7 +85,7 @@ fn a_limit_of_reads(rt: HostRuntime) {
     assert_ends(&rt, rt.alloc(), 0, 0, None);
 }
 
-// How a reader of six bytes, that gives a byte a read, is read by so many reads.
+// The result of reading six bytes, one byte for each read, with the given number of reads.
 fn assert_ends(rt: &impl Abort, alloc: Global, most: usize, reads: u64, want: Option<StreamFault>) {
     let mut reader = ScriptedReader {
         rest: b"abcdef",
@@ -93,7 +94,7 @@ fn assert_ends(rt: &impl Abort, alloc: Global, most: usize, reads: u64, want: Op
     assert!(rt; fault_of(alloc, &mut reader, most, reads) == want);
 }
 
-// The turns of a writer, how six bytes are written to it, and those that it took.
+// The turns of a writer, the result of writing six bytes to it, and the bytes that it took.
 const WRITES: [(&[Turn], Result<(), StreamFault>, &[u8]); 7] = [
     (&[Pass(1); 6], Ok(()), b"abcdef"),
     (
@@ -116,7 +117,7 @@ const WRITES: [(&[Turn], Result<(), StreamFault>, &[u8]); 7] = [
     ),
 ];
 
-// A byte a write, interrupted, failing, and taking nothing.
+// One byte for each write, interruptions, failures, and a writer that takes nothing.
 #[test]
 fn writes_by_turns(rt: HostRuntime) {
     for &(turns, want, front) in &WRITES {
@@ -124,7 +125,7 @@ fn writes_by_turns(rt: HostRuntime) {
     }
 }
 
-// What is written of six bytes by these turns.
+// The result of writing six bytes with these turns.
 fn assert_writes(
     rt: &impl Abort,
     alloc: Global,

@@ -1,14 +1,13 @@
 //! Why a mirror does not take an item, or is not merged.
 //!
-//! A call returns the first fault that applies, in the order below. `OutOfMemory` may come before
-//! any of them.
+//! A call returns the first fault that applies, in the order below. `OutOfMemory` may come before any of them.
 
 use signed_note::NoteFault;
 use thiserror::Error;
 use tlog_checkpoint::CheckpointFault;
 
-/// Why an item is not taken. A tree head has the first seven faults or a collision. A tile or a
-/// bundle has those of its length or a collision.
+/// Why an item is not taken. A tree head has the first seven faults or a collision. A tile or a bundle has those of its
+/// length or a collision.
 #[derive(Debug, Drop, PartialEq, Eq, Clone, Copy, Error)]
 pub enum TakeFault {
     /// The bytes are not a note. The inner fault is never `OutOfMemory`.

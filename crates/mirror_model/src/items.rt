@@ -81,8 +81,8 @@ impl Rows {
     }
 }
 
-/// An item that a mirror takes from a log, with its bytes as they were received (C2SP tlog-tiles,
-/// "Merkle Tree", "Log Entries" and "Checkpoints").
+/// An item that a mirror takes from a log, with its bytes as they were received (C2SP tlog-tiles, "Merkle Tree", "Log
+/// Entries" and "Checkpoints").
 ///
 /// A width is from 1 to 256. This is a tile of one hash:
 ///
@@ -91,8 +91,7 @@ impl Rows {
 /// ```
 #[derive(Debug, Drop)]
 pub enum Item {
-    /// A signed note, and the rows of the right edge for the size of its checkpoint, lowest level
-    /// first.
+    /// A signed note, and the rows of the right edge for the size of its checkpoint, lowest level first.
     Head { note: Bytes, edge: Rows },
     /// The row of a tile: `width` hashes of 32 bytes.
     Tile { width: u32, bytes: Bytes },

@@ -19,9 +19,8 @@ pub struct HeadNote {
     pub checkpoint: Checkpoint,
 }
 
-/// Reads a note and its checkpoint, which must have that origin, and checks that the note opens
-/// under the keys (C2SP signed-note and tlog-checkpoint). Each key that may have signed a line is
-/// tried once.
+/// Reads a note and its checkpoint, which must have that origin, and checks that the note opens under the keys (C2SP
+/// signed-note and tlog-checkpoint). Each key that may have signed a line is tried once.
 ///
 /// ```text
 /// open_head(alloc, "example.com/log", &keys, &bytes)?.checkpoint.size   // 257
@@ -29,9 +28,8 @@ pub struct HeadNote {
 ///
 /// # Errors
 ///
-/// The first that applies: `Note` if the bytes are not a note; `Checkpoint` if its text is not a
-/// checkpoint; `OtherOrigin`; `NoTrustedSignature` if no key accepts a line of it. `OutOfMemory` if
-/// memory was refused, before any of them or after.
+/// The first that applies: `Note` if the bytes are not a note; `Checkpoint` if its text is not a checkpoint; `OtherOrigin`;
+/// `NoTrustedSignature` if no key accepts a line of it. `OutOfMemory` if memory was refused, before any of them or after.
 pub fn open_head(
     alloc: Global,
     origin: &str,
@@ -77,8 +75,7 @@ fn open_checkpoint(
     }
 }
 
-/// The checkpoint in the text of a note, with any origin, or None if the bytes are not such a note.
-/// No signature is checked.
+/// The checkpoint in the text of a note, with any origin, or None if the bytes are not such a note. No signature is checked.
 ///
 /// ```text
 /// checkpoint_of(alloc, &bytes)?   // Some checkpoint of size 257 with its root

@@ -1,8 +1,7 @@
 //! The reports of a mirror about its log: tree heads and forks.
 use tlog_hash::Hash;
 
-/// A tree head that is held: the size and the root of a checkpoint, and whether all strings of its
-/// tree are held.
+/// A tree head that is held: the size and the root of a checkpoint, and whether all strings of its tree are held.
 ///
 /// ```
 /// let partial = heads.iter().filter(|head| !head.complete).count();
@@ -17,8 +16,8 @@ pub struct Head {
     pub complete: bool,
 }
 
-/// Two tree heads that no single append-only log can have made. Each is a size and a root. The
-/// smaller size comes first, and for equal sizes the lesser root by bytes.
+/// Two tree heads that no single append-only log can have made. Each is a size and a root. The smaller size comes first, and
+/// for equal sizes the lesser root by bytes.
 ///
 /// ```
 /// let same_size = forks.iter().filter(|fork| fork.small.0 == fork.large.0).count();

@@ -1,8 +1,8 @@
--- Several pieces put behind a text, one after the other.
+-- Several pieces appended to a text, in order.
 use Rattle.std.proofs.Common.{◌≡◌, ℕ, List, ◌++◌, append_assoc, ◌∙◌, ap, Result, Ok, Err}
 use Rattle.std.specs.Prelude.{OnOk}
 
--- four pieces, of which the last is put where the call answers Ok
+-- four pieces; the last is appended if the call returns Ok
 pub appended_four : {X E : Type 0} (r : Result X E) (was first second third now a b c d : List ℕ) →
     first ≡ was ++ a → second ≡ first ++ b → third ≡ second ++ c → OnOk r (now ≡ third ++ d) →
     OnOk r (now ≡ was ++ (a ++ (b ++ (c ++ d))))

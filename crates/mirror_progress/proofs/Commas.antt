@@ -1,8 +1,8 @@
--- Digits in groups of three, put one after the other.
+-- Digits in groups of three, appended in order.
 use Rattle.std.proofs.Common.{◌≡◌, ℕ, List, ◌∷◌, ◌++◌, length, append_assoc, ◌∙◌, ap}
 use Rattle.mirror_progress.specs.Text.{comma_before, with_commas}
 
--- one digit more is put, and the rest is left
+-- one more digit is appended, and the rest is left
 pub commas_more : (now new rest : List ℕ) (digit : ℕ) → new ≡ now ++ digit ∷ comma_before (length rest) →
     new ++ with_commas rest ≡ now ++ with_commas (digit ∷ rest)
 commas_more now new rest digit is =

@@ -1,4 +1,4 @@
--- The lines have printed characters alone.
+-- The lines contain only printed characters.
 use Rattle.std.proofs.Common.{◌≡◌, ℕ, ◌+◌, ◌/◌, ◌%◌, ◌<◌, List, [], ◌∷◌, ◌++◌, length, take, Bool, true, false}
 use Rattle.std.proofs.Common.{Option, Some, None, refl, arith, length-take, suc, zero}
 use Rattle.std.specs.Prelude.{◌&&◌, codes, nat_lt, ◌==◌, if◌then◌else◌}
@@ -83,7 +83,7 @@ printed_decimal n = printed_onto 64 n [] refl
 printed_count : (n : ℕ) → are_printed (count_text n) ≡ true
 printed_count n = printed_commas (decimal n) (printed_decimal n)
 
--- ---- what is told
+-- ---- parts of a report
 
 printed_amount : (n : ℕ) (unit : List ℕ) → are_printed unit ≡ true → are_printed (count_text n ++ unit) ≡ true
 printed_amount n unit p = printed-append (count_text n) unit (printed_count n) p
@@ -161,7 +161,7 @@ printed_pulled held size counts =
 
 -- ---- lines
 
--- what a printed text has as a line is one
+-- the line of a printed text is a line
 pub line_is : (text bytes : List ℕ) → are_printed text ≡ true → bytes ≡ line_of text → IsLine bytes
 line_is text bytes p is = record {
   text = take 79 text;

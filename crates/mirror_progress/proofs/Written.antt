@@ -1,4 +1,4 @@
--- What was written, whether or not the writer took all.
+-- The bytes that were written, even if the writer did not take all.
 use Rattle.std.proofs.Common.{ℕ, List, length, Option, Result, Ok, Err, sym, subst, arith}
 use Rattle.std.specs.Prelude.{OnOk, OnErr}
 use Rattle.std.specs.Io.KnownBytes.{Appends}

@@ -1,4 +1,4 @@
--- What is counted of the calls of a source and of a shelf.
+-- The counted calls of a source and of a shelf.
 use Rattle.std.specs.Prelude.{◌≡◌, ◌↔◌, ℕ, List, Option, Some, None, Result, Ok, Err}
 use Rattle.signed_note.specs.Keys.{Key}
 use Rattle.tlog_tiles.specs.declared.paths.Path.{Path}
@@ -6,19 +6,19 @@ use Rattle.mirror_sources.specs.Honest.{IsHonest}
 use Rattle.mirror_progress.specs.declared.counts.Counts.{Counts}
 use Rattle.mirror_progress.specs.Text.{with_file}
 
--- a file that is found is counted, with its bytes; nothing else is
+-- a file that is found is counted, with its bytes; other answers are not counted
 abbrev pub CountsAnswer :
     {X E : Type 0} → (X → ℕ) → Counts → Counts → Result (Option X) E → Type 0
 CountsAnswer len old new (Ok (Some bytes)) = new ≡ with_file old (len bytes)
 CountsAnswer len old new (Ok None) = new ≡ old
 CountsAnswer len old new (Err e) = new ≡ old
 
--- a file that is put is counted, with its bytes; one that is not put is not
+-- a file that is put is counted, with its bytes; a failed put is not counted
 abbrev pub CountsPut : {T E : Type 0} → ℕ → Counts → Counts → Result T E → Type 0
 CountsPut len old new (Ok x) = new ≡ with_file old len
 CountsPut len old new (Err e) = new ≡ old
 
--- sources of which these answers may come are honest for the same logs
+-- sources with these answers are honest for the same logs
 abbrev pub AreHonestAlike : (Path → Option (List ℕ) → Type 0) →
     (Path → Option (List ℕ) → Type 0) → Type 0
 AreHonestAlike one other =

@@ -1,7 +1,7 @@
-//! What is counted.
+//! Counts of files and bytes.
 ghost use Rattle.std.specs.Prelude.{◌≡◌};
 
-/// How much was fetched or put: how many files, and of how many bytes in all. Each stays at its last value, 2^64 - 1.
+/// The number of files that were fetched or put, and of their bytes. Each stops at its last value, 2^64 - 1.
 ///
 /// ```text
 /// let mut counts = Counts::new();
@@ -9,16 +9,16 @@ ghost use Rattle.std.specs.Prelude.{◌≡◌};
 /// ```
 #[derive(Debug, PartialEq, Eq, Clone, Copy)]
 pub struct Counts {
-    /// How many files.
+    /// The number of files.
     pub files: u64,
-    /// How many bytes they have in all.
+    /// The number of bytes of all files.
     pub bytes: u64,
 }
 
 impl Counts {
     ghost use Rattle.mirror_progress.specs.Text.{with_file};
 
-    /// Nothing is counted yet.
+    /// Counts of zero.
     pub fn new() -> Counts
         ensures files { result.files ≡ 0 }
         ensures bytes { result.bytes ≡ 0 }
@@ -26,7 +26,7 @@ impl Counts {
         Counts { files: 0, bytes: 0 }
     }
 
-    /// Counts a file of that many bytes.
+    /// Counts a file of `len` bytes.
     pub fn add(&mut self, len: usize)
         ensures { self.new ≡ with_file self.old len }
     {

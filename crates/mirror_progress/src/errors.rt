@@ -2,7 +2,7 @@
 use std::io::{ErrorKind, Write};
 use std::{io, str};
 
-/// Standard error as a writer of text, however many of them there are.
+/// Standard error as a writer of text. Any number of these writers may exist.
 ///
 /// ```text
 /// let mut errors = StandardError::new(&rt);
@@ -21,7 +21,7 @@ impl<'a, R: Eprint> StandardError<'a, R> {
 }
 
 impl<'a, R: Eprint> Write for StandardError<'a, R> {
-    // Bytes that are no text are an error.
+    // Bytes that are not text are an error.
     fn write(&mut self, buf: &[u8]) -> io::Result<usize> {
         match str::from_utf8(buf) {
             Ok(text) => {

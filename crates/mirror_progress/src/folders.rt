@@ -3,8 +3,8 @@ use crate::task::Task;
 use mirror_folders::{DirShelf, MemShelf, NamedFolders};
 use std::fs::Files;
 
-/// Folders by their names, of which it can be told how many files were put. A `CountingShelf` tells it; the others tell
-/// nothing, and what is asked of them here changes nothing.
+/// Folders with names that may report how many files were put. A `CountingShelf` reports it. For other folders, these calls
+/// do nothing.
 ///
 /// ```text
 /// folders.begin(Task::Export);
@@ -16,21 +16,21 @@ use std::fs::Files;
 pub trait CountedFolders: NamedFolders {
     ghost use Rattle.std.specs.Prelude.{◌≡◌};
 
-    /// From now on a line now and then reports how many files were put, under the name of that command.
+    /// From now on, a line from time to time reports how many files were put, under the name of that command.
     fn begin(&mut self, _task: Task)
         ensures puts { Self.puts self.new ≡ Self.puts self.old }
         ensures held { Self.held self.new ≡ Self.held self.old }
         ensures failed { Self.failed self.new ≡ Self.failed self.old }
     {}
 
-    /// The work is done: a line says how many files were put, unless the last line says so.
+    /// The work is done. A line reports how many files were put, unless the last line did so.
     fn end(&mut self)
         ensures puts { Self.puts self.new ≡ Self.puts self.old }
         ensures held { Self.held self.new ≡ Self.held self.old }
         ensures failed { Self.failed self.new ≡ Self.failed self.old }
     {}
 
-    /// A copy was followed: a line says from how many entries to how many it grew, and how many files were put.
+    /// A copy was followed. A line reports from which size to which size it grew, and how many files were put.
     fn end_followed(&mut self, _old: u64, _size: u64)
         ensures puts { Self.puts self.new ≡ Self.puts self.old }
         ensures held { Self.held self.new ≡ Self.held self.old }

@@ -1,6 +1,6 @@
-//! Laws of what is counted.
+//! Laws of counting sources and shelves.
 //!
-//! A law is the contract of a function with an empty body: the proof is all that there is of it.
+//! A law is a function with an empty body: only its contract counts.
 ghost use Rattle.std.specs.Prelude.{◌≡◌};
 ghost use Rattle.mirror_progress.specs.Counting.{AreHonestAlike};
 
@@ -11,8 +11,8 @@ use mirror_sources::Source;
 use std::io::Write;
 use std::time::Clock;
 
-/// A source that is counted is honest for a log of some entries exactly where the one that it counts is; what it was asked
-/// for, and how many gets failed, are recorded by that one.
+/// A counting source is honest for a log of some entries exactly if its inner source is. The inner source records the
+/// requested paths and the number of failed gets.
 pub fn counted_source_law<S: Source + Drop, C: Clock + Drop, W: Write + Drop>()
     ensures honest { (counted : _)
         → AreHonestAlike (⟦<CountingSource<S, C, W> as Source>⟧.may_answer counted)
@@ -23,7 +23,7 @@ pub fn counted_source_law<S: Source + Drop, C: Clock + Drop, W: Write + Drop>()
         ≡ S.failed counted.source }
 {}
 
-/// What was put onto a shelf that is counted, and how many calls failed, are recorded by the one that it counts.
+/// The inner shelf of a counting shelf records the files that were put and the number of failed calls.
 pub fn counted_shelf_law<S: Shelf + Drop, C: Clock + Drop, W: Write + Drop>()
     ensures puts { (counted : _) → ⟦<CountingShelf<S, C, W> as Shelf>⟧.puts counted
         ≡ S.puts counted.shelf }

@@ -1,7 +1,7 @@
-//! Progress of long work: a line now and then reports how many files were fetched or put so far.
+//! Progress of long work: a line from time to time reports how many files were fetched or put.
 //!
-//! A `CountingSource` and a `CountingShelf` stand round any source and any shelf. They give and take what those do, with
-//! the same contract, and count; so a pull and an export know nothing of it.
+//! A `CountingSource` wraps any source, and a `CountingShelf` any shelf. They keep the behavior and the contract of what
+//! they wrap, and count its files. So a pull and an export need no code for progress.
 //!
 //! ```text
 //! let mut progress = Progress::new(alloc, &rt, StandardError::new(&rt));

@@ -1,4 +1,4 @@
-//! The lines that say how far the work is.
+//! The lines that report progress.
 ghost use Rattle.std.specs.Prelude.{◌≡◌, ◌∷◌, ◌++◌, IfOk, OnOk};
 ghost use Rattle.mirror_progress.specs.Text.{comma_before, with_commas, count_text, files_text, size_text, task_text, counts_text, bytes_text, share_text, progress_text, older_text, grown_text, pulled_text, line_of, IsLine};
 
@@ -6,12 +6,12 @@ use crate::counts::Counts;
 use crate::task::Task;
 use std::alloc::{AllocError, Global};
 
-// How many columns a line has at most.
+// The greatest number of columns of a line.
 const COLUMNS: usize = 79;
 
-/// How far the work of a command is, as one line of at most 80 bytes with its newline: how many files were fetched or
-/// put, and of how many in all, where that is known. Where it is not known, and for `follow` and `audit`, the line also
-/// says how many bytes those files have, in the largest decimal unit of which there is one, rounded down.
+/// The progress of a command, as one line of at most 80 bytes with its newline. The line has the number of files that were
+/// fetched or put, and the number of all files if it is known. If it is not known, and for `follow` and `audit`, the line
+/// also has the bytes of those files. They are in the largest decimal unit that gives at least 1, rounded down.
 ///
 /// ```text
 /// progress_line(alloc, Task::Pull, None, counts)           // pull: 1,024 files, 23 MB
@@ -37,8 +37,8 @@ pub fn progress_line(
     Ok(line)
 }
 
-/// What a pull came to, as such a line: `held` entries of the largest checkpoint that was held before (0 if none was), and
-/// `size` of the one that was pulled.
+/// The result of a pull, as such a line. `held` is the number of entries of the largest checkpoint that was held before (0
+/// without one), and `size` that of the pulled checkpoint.
 ///
 /// ```text
 /// pulled_line(alloc, 5_000, 5_300, counts)  // pull: 5,000 to 5,300 entries, 4 files, 91 kB
@@ -63,7 +63,7 @@ pub fn pulled_line(
     Ok(line)
 }
 
-/// What following came to, as such a line: from how many entries to how many the copy grew, and how many files were put.
+/// The result of following, as such a line: the sizes between which the copy grew, and the number of files that were put.
 ///
 /// ```text
 /// followed_line(alloc, 5_000, 5_300, counts)  // follow: 5,000 to 5,300 entries, 4 files, 91 kB
@@ -88,7 +88,7 @@ pub fn followed_line(
     Ok(line)
 }
 
-// Cuts a text to what a line has room for, and ends it.
+// Cuts a text to the length of a line, and ends it with a newline.
 fn end_line(text: &mut Vec<u8>) -> Result<(), AllocError>
     ensures { OnOk result (text.new.items ≡ line_of text.old.items) }
 {
@@ -113,7 +113,7 @@ fn push_progress(
     }
 }
 
-// How many files of how many, and for some commands their bytes.
+// The number of files done and of all files, and for some commands their bytes.
 fn push_share(
     alloc: Global,
     text: &mut Vec<u8>,
@@ -129,7 +129,7 @@ fn push_share(
     push_bytes(alloc, text, task, counts.bytes)
 }
 
-// The bytes of the files, for a command whose line says them.
+// The bytes of the files, for a command whose line has them.
 fn push_bytes(alloc: Global, text: &mut Vec<u8>, task: Task, bytes: u64) -> Result<(), AllocError>
     ensures { OnOk result (text.new.items ≡ text.old.items ++ bytes_text task bytes) }
 {
@@ -158,7 +158,7 @@ fn push_pulled(
     }
 }
 
-// That the checkpoint is older than one that is held.
+// The checkpoint is older than one that is held.
 fn push_older(alloc: Global, text: &mut Vec<u8>, size: u64, held: u64) -> Result<(), AllocError>
     ensures { OnOk result (text.new.items ≡ text.old.items ++ older_text size held) }
 {
@@ -168,7 +168,7 @@ fn push_older(alloc: Global, text: &mut Vec<u8>, size: u64, held: u64) -> Result
     push_count(alloc, text, held)
 }
 
-// From how many entries to how many the command came, and how much it fetched or put.
+// The sizes between which a command grew a log, and how much it fetched or put.
 fn push_grown(
     alloc: Global,
     text: &mut Vec<u8>,
@@ -199,7 +199,7 @@ fn push_task(text: &mut Vec<u8>, task: Task) -> Result<(), AllocError>
     }
 }
 
-// How many files, and their bytes.
+// The number of files, and their bytes.
 fn push_counts(alloc: Global, text: &mut Vec<u8>, counts: Counts) -> Result<(), AllocError>
     ensures { OnOk result (text.new.items ≡ text.old.items ++ counts_text counts) }
 {
@@ -218,7 +218,7 @@ fn push_files(alloc: Global, text: &mut Vec<u8>, n: u64) -> Result<(), AllocErro
     }
 }
 
-// A number of bytes, in the largest unit that it has one of.
+// A number of bytes, in the largest unit that gives at least 1.
 fn push_size(alloc: Global, text: &mut Vec<u8>, n: u64) -> Result<(), AllocError>
     ensures { OnOk result (text.new.items ≡ text.old.items ++ size_text n) }
 {
@@ -235,7 +235,7 @@ fn push_size(alloc: Global, text: &mut Vec<u8>, n: u64) -> Result<(), AllocError
     }
 }
 
-// A number, and what there is so much of.
+// A number and its unit.
 fn push_amount(alloc: Global, text: &mut Vec<u8>, n: u64, unit: &[u8]) -> Result<(), AllocError>
     ensures { OnOk result (text.new.items ≡ text.old.items ++ (count_text n ++ unit.now)) }
 {
@@ -251,7 +251,6 @@ fn push_count(alloc: Global, text: &mut Vec<u8>, n: u64) -> Result<(), AllocErro
     push_with_commas(text, digits.as_bytes())
 }
 
-// Digits in groups of three.
 #[tactic(auto, using(crate::proofs::Commas::commas_more))]
 fn push_with_commas(text: &mut Vec<u8>, digits: &[u8]) -> Result<(), AllocError>
     ensures { OnOk result (text.new.items ≡ text.old.items ++ with_commas digits.now) }
@@ -264,7 +263,7 @@ fn push_with_commas(text: &mut Vec<u8>, digits: &[u8]) -> Result<(), AllocError>
     Ok(())
 }
 
-// A digit that `left` others follow, and the comma behind it.
+// A digit with `left` more digits after it, and the comma after it if there is one.
 fn push_digit(text: &mut Vec<u8>, digit: u8, left: usize) -> Result<(), AllocError>
     ensures { OnOk result (text.new.items ≡ text.old.items ++ digit ∷ comma_before left) }
 {

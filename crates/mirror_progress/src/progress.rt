@@ -1,4 +1,4 @@
-//! What is reported of long work, and when.
+//! Reports of long work, and their times.
 ghost use Rattle.std.specs.Prelude.{◌≡◌, ◌↔◌, None, Some, IfOk, IsTrue, OnErr, is_some, option_map};
 ghost use Rattle.std.specs.Time.{instant_nanos};
 ghost use Rattle.byte_streams.specs.Streams.{AppendsPrefix};
@@ -19,13 +19,13 @@ use std::time::{Clock, Duration, Instant};
 use tlog_checkpoint::read;
 use tlog_tiles::Path;
 
-// A line may be written this many seconds after the last, or after the work began.
+// The least time in seconds between two lines, and before the first.
 const SECONDS: u64 = 1;
 
-/// Reports how far long work is, by a line now and then: none in the first second, and at most one a second.
+/// Reports the progress of long work by lines: none in the first second, and then at most one each second.
 ///
-/// It reports nothing until `begin`. Where the clock cannot be read, memory for a line is refused or the writer does not take
-/// it, the line is passed over.
+/// It reports nothing before `begin`. A line is skipped if the clock cannot be read, if memory for it is refused, or if the
+/// writer fails.
 ///
 /// ```text
 /// let mut progress = Progress::new(alloc, &rt, StandardError::new(&rt));
@@ -42,7 +42,7 @@ pub struct Progress<C: Clock + Drop, W: Write + Drop> {
     all: Option<u64>,
     counts: Counts,
     due: Option<Instant>,
-    // Whether the last line says what is done now.
+    // Whether the last line reports the current counts.
     is_recorded_now: bool,
 }
 
@@ -66,14 +66,14 @@ fn is_due(due: Option<Instant>, now: Instant) -> bool
     }
 }
 
-// When the next line may be written, where one was at that time or the work began.
+// The time of the next line, if a line could be written or the work began at `now`.
 fn next_due(now: Instant) -> Option<Instant>
     ensures { IsSecondAfter (instant_nanos now) (option_map instant_nanos result) }
 {
     now.checked_add(Duration::from_secs(SECONDS))
 }
 
-// When the first line may be written, where the clock gave that answer when the work began.
+// The time of the first line, by the answer of the clock when the work began.
 fn first_due(begun: &io::Result<Instant>) -> Option<Instant>
     ensures second { IfOk begun.now (λ now. IsSecondAfter (instant_nanos now)
         (option_map instant_nanos result)) }
@@ -85,7 +85,7 @@ fn first_due(begun: &io::Result<Instant>) -> Option<Instant>
     }
 }
 
-// Writes a line, as far as the writer takes it.
+// Writes a line, until the writer fails.
 fn write_line<W: Write>(writer: &mut W, line: &[u8])
     ensures { AppendsPrefix (W.contents writer.old) (W.contents writer.new) line.now }
 {
@@ -94,7 +94,7 @@ fn write_line<W: Write>(writer: &mut W, line: &[u8])
     }
 }
 
-// How many entries the checkpoint of a note has; None where the bytes are no such note, or memory was refused.
+// The number of entries of the checkpoint in a note, or None if the bytes are not such a note or memory was refused.
 fn log_size(alloc: Global, note: &[u8]) -> Option<u64> {
     let Ok(note) = Note::read(alloc, note) else {
         return None;
@@ -106,7 +106,7 @@ fn log_size(alloc: Global, note: &[u8]) -> Option<u64> {
 }
 
 impl<C: Clock + Drop, W: Write + Drop> Progress<C, W> {
-    /// It reports nothing yet. It takes no memory.
+    /// A progress that reports nothing yet. The call allocates no memory.
     pub fn new(alloc: Global, clock: C, writer: W) -> Self
         ensures writer { result.writer ≡ writer }
         ensures silent { result.due ≡ None }
@@ -125,7 +125,7 @@ impl<C: Clock + Drop, W: Write + Drop> Progress<C, W> {
         }
     }
 
-    /// Begins to report the work of a command. Nothing of it is done yet.
+    /// Begins to report the work of a command, from zero.
     pub fn begin(&mut self, task: Task)
         ensures task { self.new.task ≡ task }
         ensures all { self.new.all ≡ None }
@@ -147,7 +147,7 @@ impl<C: Clock + Drop, W: Write + Drop> Progress<C, W> {
         self.due.is_some()
     }
 
-    /// Says how many files the work is in all.
+    /// Sets the number of all files of the work.
     pub fn expect(&mut self, all: u64)
         ensures { self.new ≡ record self.old { all = Some all } }
     {
@@ -155,8 +155,8 @@ impl<C: Clock + Drop, W: Write + Drop> Progress<C, W> {
         self.is_recorded_now = false;
     }
 
-    /// Says that a file was read. Where it is the checkpoint, an audit reads all files of its log: so many are expected from then on. Of
-    /// another file or another command, and of bytes that are no note of a checkpoint, nothing changes.
+    /// Records that an audit read a file. If it is the checkpoint, the number of all files is set to the number of files of
+    /// its log. For another file, another command, or bytes that are not the note of a checkpoint, nothing changes.
     pub fn expect_log(&mut self, path: &Path, bytes: &[u8])
         ensures counts { self.new.counts ≡ self.old.counts }
         ensures task { self.new.task ≡ self.old.task }
@@ -172,14 +172,14 @@ impl<C: Clock + Drop, W: Write + Drop> Progress<C, W> {
         }
     }
 
-    /// How much is done.
+    /// The counts of the work done.
     pub fn counts(&self) -> Counts
         ensures { result ≡ self.now.counts }
     {
         self.counts
     }
 
-    /// Counts a file of that many bytes, and writes a line if it is time.
+    /// Counts a file of `len` bytes, and writes a line if it is time.
     pub fn count(&mut self, len: usize)
         ensures counted { self.new.counts ≡ with_file self.old.counts len }
         ensures recorded { ReportsOnce W.contents self.old self.new }
@@ -195,8 +195,8 @@ impl<C: Clock + Drop, W: Write + Drop> Progress<C, W> {
         }
     }
 
-    /// Reports what a pull came to, whatever the time is: from how many entries of the largest checkpoint that was held to how
-    /// many of the one that was pulled, or that this is older.
+    /// Reports the result of a pull, at any time: from the size of the largest checkpoint that was held to the size of the
+    /// pulled one, or that this one is older.
     pub fn report_pulled(&mut self, held: u64, size: u64)
         ensures counts { self.new.counts ≡ self.old.counts }
         ensures line { AppendsPrefix (W.contents self.old.writer) (W.contents self.new.writer)
@@ -208,7 +208,7 @@ impl<C: Clock + Drop, W: Write + Drop> Progress<C, W> {
         }
     }
 
-    /// Reports what following came to, whatever the time is: from how many entries to how many the copy grew.
+    /// Reports the result of following, at any time: the sizes between which the copy grew.
     pub fn report_followed(&mut self, old: u64, size: u64)
         ensures counts { self.new.counts ≡ self.old.counts }
         ensures line { AppendsPrefix (W.contents self.old.writer) (W.contents self.new.writer)
@@ -220,7 +220,7 @@ impl<C: Clock + Drop, W: Write + Drop> Progress<C, W> {
         }
     }
 
-    /// Reports how much is done, whatever the time is, unless the last line says so.
+    /// Reports the counts, at any time, unless the last line did so.
     ///
     /// ```text
     /// progress.report_done(); // export: 7,833 of 7,833 files
@@ -239,7 +239,7 @@ impl<C: Clock + Drop, W: Write + Drop> Progress<C, W> {
         }
     }
 
-    // Reports how much is done, if it is time.
+    // Reports the counts, if it is time.
     fn report_at(&mut self, now: Instant)
         ensures { ReportsAt W.contents (instant_nanos now) self.old self.new }
     {

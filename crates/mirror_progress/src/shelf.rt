@@ -1,4 +1,4 @@
-//! A shelf that is counted.
+//! A counting shelf.
 ghost use Rattle.std.specs.Prelude.{◌≡◌, Some, length};
 ghost use Rattle.mirror_folders.specs.Shelf.{RecordsPut, CountsFailures};
 ghost use Rattle.mirror_progress.specs.Counting.{CountsPut};
@@ -12,8 +12,9 @@ use std::io::Write;
 use std::time::Clock;
 use tlog_tiles::Path;
 
-/// A shelf that puts onto another, and counts it: each file that is put, and its bytes. To contracts it is that shelf: what
-/// was put and its failures are those (`counted_shelf_law`). Where the other stands for folders by their names, so does it.
+/// A shelf that puts onto another shelf, and counts each file that is put, and its bytes. In contracts, the files that were
+/// put and the failures are those of the inner shelf (`counted_shelf_law`). If the inner shelf is one for folders with
+/// names, so is this one.
 ///
 /// ```text
 /// let mut shelf = CountingShelf::new(DirShelf::new(&rt, alloc, "log"), progress);
@@ -22,14 +23,14 @@ use tlog_tiles::Path;
 /// ```
 #[derive(Drop)]
 pub struct CountingShelf<S: Shelf + Drop, C: Clock + Drop, W: Write + Drop> {
-    /// The shelf that is counted.
+    /// The inner shelf.
     pub shelf: S,
-    /// What is counted, and where it is reported.
+    /// The counts and their reports.
     pub progress: Progress<C, W>,
 }
 
 impl<S: Shelf + Drop, C: Clock + Drop, W: Write + Drop> CountingShelf<S, C, W> {
-    /// That shelf, and its progress.
+    /// A counting shelf over that shelf, with that progress.
     pub fn new(shelf: S, progress: Progress<C, W>) -> Self
         ensures shelf { result.shelf ≡ shelf }
         ensures progress { result.progress ≡ progress }

@@ -1,4 +1,4 @@
-//! A source that is counted.
+//! A counting source.
 ghost use Rattle.std.specs.Prelude.{◌≡◌, IfOk, option_map, vec_len};
 ghost use Rattle.mirror_sources.specs.Source.{RecordsGet, CountsGet, StaysWithin};
 ghost use Rattle.mirror_sources.specs.Recorded.{KeepsRecord};
@@ -10,8 +10,8 @@ use std::io::Write;
 use std::time::Clock;
 use tlog_tiles::Path;
 
-/// A source that gives what another gives, and counts it: each file that is found, and its bytes. To contracts it is that
-/// source: its answers, what it was asked for and its failures are those (`counted_source_law`).
+/// A source that gets from another source, and counts each file that is found, and its bytes. In contracts, the answers, the
+/// requested paths and the failures are those of the inner source (`counted_source_law`).
 ///
 /// ```text
 /// let mut source = CountingSource::new(source, progress);
@@ -20,14 +20,14 @@ use tlog_tiles::Path;
 /// ```
 #[derive(Drop)]
 pub struct CountingSource<S: Source + Drop, C: Clock + Drop, W: Write + Drop> {
-    /// The source that is counted.
+    /// The inner source.
     pub source: S,
-    /// What is counted, and where it is reported.
+    /// The counts and their reports.
     pub progress: Progress<C, W>,
 }
 
 impl<S: Source + Drop, C: Clock + Drop, W: Write + Drop> CountingSource<S, C, W> {
-    /// That source, and its progress.
+    /// A counting source over that source, with that progress.
     pub fn new(source: S, progress: Progress<C, W>) -> Self
         ensures source { result.source ≡ source }
         ensures progress { result.progress ≡ progress }
@@ -35,7 +35,7 @@ impl<S: Source + Drop, C: Clock + Drop, W: Write + Drop> CountingSource<S, C, W>
         CountingSource { source, progress }
     }
 
-    /// The source that was counted, which is counted no more.
+    /// The inner source, no longer counted.
     pub fn into_source(self) -> S
         ensures { result ≡ self.source }
     {

@@ -1,17 +1,17 @@
 //! The commands that report their progress.
 
-/// A command that reports its progress.
-/// `Task::Pull`, for example, reports the files that it fetched.
+/// A command that reports its progress. `Task::Pull`, for example, reports the files that it
+/// fetched.
 #[derive(Debug, Drop, PartialEq, Eq, Clone, Copy)]
 pub enum Task {
-    /// A log is built, and its files are put.
+    /// Builds a log and puts its files.
     Build,
-    /// Files are fetched.
+    /// Fetches files.
     Pull,
-    /// Files are put.
+    /// Puts files.
     Export,
-    /// A copy is brought to a larger checkpoint, and its files are put.
+    /// Brings a copy to a larger checkpoint and puts its files.
     Follow,
-    /// The files of a whole log are read.
+    /// Reads the files of a whole log.
     Audit,
 }

@@ -1,4 +1,4 @@
--- Paths that a pull asks for, one call after another.
+-- The paths that a pull requests, call after call.
 use Rattle.std.proofs.Common.{◌≡◌, ◌≢◌, ℕ, List, [], ◌∷◌, ◌++◌, Option, Some, None, Result, Ok, Err, Contains, sym, ◌∙◌}
 use Rattle.std.proofs.Common.{ap, subst, append_assoc}
 use Rattle.std.proofs.lemmas.List.{append-nil, get_or_default, map-append}
@@ -32,7 +32,7 @@ adds_record_then (Some us) (Some vs) None xs ys p q = absurd q
 adds_record_then {X} (Some us) (Some vs) (Some ws) xs ys p q =
     q ∙ (ap (λ (l : List X). l ++ ys) p ∙ append_assoc us xs ys)
 
--- a path that is not among those asked for comes once
+-- a path that was not requested yet is in the list once
 pub once_more : (before : List Path) (path : Path) → (Contains before path → ⊥) → IsOnce before →
     IsOnce (before ++ path ∷ [])
 once_more before path fresh once =
@@ -78,13 +78,13 @@ adds_some_then before middle a b c p q =
 pub some_of : (before after : List Path) (a b : Option (List Path)) → AddsTo before after a b → AddsSome before a b
 some_of before after a b p = record { more = p.more; adds = p.adds }
 
--- of two parts of a pull, one after the other, the second's answer is the answer of both
+-- the answer of the second of two parts of a pull is the answer of both
 pub asks_then : {T : Type 0} (before middle after : List Path) (a b c : Option (List Path)) (r : Result T PullFault) →
     AddsTo before middle a b → AsksPaths middle after b c r → AsksPaths before after a c r
 asks_then before middle after a b c (Ok x) p q = adds_to_then before middle after a b c p q
 asks_then before middle after a b c (Err e) p q = adds_some_then before middle a b c p q
 
--- a get that is answered by a fault
+-- a get failed
 pub some_get : (before : List Path) (path : Path) (a b : Option (List Path)) (f : SourceFault) →
     (Contains before path → ⊥) → RecordsGet {T = Option (Vec ℕ Global)} a b path (Err f) →
     AsksPaths {T = Option (Vec ℕ Global)} before before a b (Err (of_source f))
@@ -93,7 +93,7 @@ some_get before path a b source.Failed fresh recorded =
 some_get before path a b source.OutOfMemory fresh recorded =
     record { more = []; adds = record { recorded = adds_record_kept a b recorded; once = (adds_none before a).once } }
 
--- what a part asked, after which another asks nothing, whatever its answer
+-- the requests of a part, followed by a part without requests, for every answer
 pub asks_late : {T : Type 0} (before after : List Path) (a b : Option (List Path)) (r : Result T PullFault) →
     AddsTo before after a b → AsksPaths before after a b r
 asks_late before after a b (Ok x) p = p
@@ -102,7 +102,7 @@ asks_late before after a b (Err e) p = some_of before after a b p
 pub from_none : (before : List Path) (a b : Option (List Path)) → before ≡ [] → AddsSome before a b → AddsSome [] a b
 from_none before a b e p = subst (λ (l : List Path). AddsSome l a b) e p
 
--- ---- replies, one after another
+-- ---- replies, in order
 
 pub paths_then : (xs ys : List Reply) → asked_paths (xs ++ ys) ≡ asked_paths xs ++ asked_paths ys
 paths_then xs ys = map-append (λ (r : Reply). r.path) xs ys

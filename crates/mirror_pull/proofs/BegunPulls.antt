@@ -1,4 +1,4 @@
--- A pull from an honest source up to its rounds: the note that is read is the log's, and so are its head and its edge.
+-- A pull from an honest source before its rounds: the note is the log's, and so are its tree head and the right edge.
 use Rattle.std.proofs.Common.{◌≡◌, ℕ, ◌<◌, ◌^◌, List, [], ◌∷◌, ◌++◌, take, Option, Some, Contains, ◌∙◌, sym, subst}
 use Rattle.signed_note.specs.Keys.{Key}
 use Rattle.tlog_checkpoint.specs.declared.Checkpoint.{Checkpoint}
@@ -24,7 +24,7 @@ use Rattle.mirror_pull.proofs.TrueRows.{source_stays}
 use Rattle.mirror_pull.proofs.TruePulls.{IsReadHonestly, edge_fresh, first_asked, head_done, none_asked, pull_source}
 use Rattle.mirror_pull.proofs.TruePulls.{read_honestly, read_small, rounds_may, rows_of_edge, some_same}
 
--- what is known once the checkpoint is read: of the source, and of what it was asked for
+-- the source and its requests after the checkpoint was read
 pub record IsBegun (digest : List ℕ → List ℕ) (entries : List (List ℕ)) (keys : List Key) (v : View)
     (note taken : List ℕ) (size : ℕ) (read : Checkpoint) (may later : Path → Option (List ℕ) → Type 0)
     (asked : List Path) : Type 0 where
@@ -72,11 +72,11 @@ module _ {digest : List ℕ → List ℕ} {entries : List (List ℕ)} {keys : Li
     {size : ℕ} {read : Checkpoint} {may later : Path → Option (List ℕ) → Type 0} {asked after : List Path}
     {rows shown_rows : List (List ℕ)} (b : IsBegun digest entries keys v note taken size read may later asked)
     (got : AreTrueRows digest entries later (edge_of read.size) asked after rows) (rows_are : shown_rows ≡ rows) where
-  -- the rows are those of the edge of the first entries
+  -- the rows are those of the right edge of the first entries
   pub rows_are_edge : shown_rows ≡ edge_bytes digest (take read.size entries)
   rows_are_edge = rows_are ∙ (got.rows_are ∙ rows_of_edge digest entries read.size b.honestly.honest.within)
 
-  -- what is known once the head is taken
+  -- the state after the tree head was taken
   pub record MayGoOn (rest : Path → Option (List ℕ) → Type 0) (w : View) : Type 0 where
     pub taken_is : w ≡ with_head digest entries v taken read.size
     pub head : HasHead w read.size read.root

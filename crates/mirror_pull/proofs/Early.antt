@@ -1,4 +1,4 @@
--- Parts of a pull that end early, one behind another.
+-- Parts of a pull that end early, after other parts.
 use Rattle.std.proofs.Common.{◌≡◌, ℕ, suc, ◌+◌, ◌<◌, List, [], ◌∷◌, ◌++◌, length, get_or, take, drop, arith}
 use Rattle.std.proofs.Common.{Option, Some, None, Bool, Result, Ok, Err, Contains, refl, sym, ◌∙◌, ap, subst}
 use Rattle.std.proofs.Common.{Vec, Global, append_assoc}
@@ -27,7 +27,7 @@ use Rattle.mirror_pull.proofs.Askings.{adds_record_none, adds_record_kept, adds_
 use Rattle.mirror_pull.proofs.Replies.{AreRoundsSoFar, asks_found, never_none, takes_not, takes_then}
 use Rattle.mirror_pull.proofs.Replies.{found_worked, full_worked}
 
--- ---- ends, behind what went well
+-- ---- ends after successful parts
 
 pub unanswered_as :
     {At Bt : List Reply → Option Path → Type 0} {e : PullFault} {xs : List Reply} {tried : List Path} →
@@ -67,7 +67,7 @@ module _ {may : Path → Option (List ℕ) → Type 0} {a b : Option (List Path)
     recorded = p.recorded;
   }
 
-  -- an end behind what went well, with no get
+  -- an end after a successful part, without a get
   pub ends_behind : {before after : List Path} {P : List Reply → Type 0} {R : List Reply → List Path → Type 0} →
       Gathers may a b before after P → ((xs : List Reply) → after ≡ with_replies before xs → P xs → R xs []) →
       EndsWith may a b R
@@ -176,9 +176,9 @@ module _ (before middle : List Path) (path full : Path) (xs : List Reply) (first
       IsInPath digest before v path xs v (Some full)
   full_in_path digest v fresh = (full_next fresh, takes_not digest v before path xs first none p)
 
--- ---- what was found last
+-- ---- the last file that was found
 
--- bytes are found by a get, of a path that was not asked for
+-- a get of a path that was not requested before found bytes
 pub record IsFound (asked : List Path) (path : Path) (xs : List Reply) (bytes : List ℕ) : Type 0 where
   pub fresh : Contains asked path → ⊥
   pub replies_are : xs ≡ reply path (Some bytes) ∷ []
@@ -203,7 +203,7 @@ item_stops digest At v w path bytes xs ys NoEdge is at t = absurd t
 item_stops digest At v w path bytes xs ys (Head f) is at t = absurd t
 item_stops digest At v w path bytes xs ys Source is at t = absurd t
 
--- ---- one path, asked for and taken
+-- ---- one path, requested and taken
 
 pub found_stops :
     (may : Path → Option (List ℕ) → Type 0) (a b : Option (List Path)) (before after : List Path) (path : Path)
@@ -232,7 +232,7 @@ found_follows may a b before after path found bytes taken digest v w (Err e) is 
 module _ (may later : Path → Option (List ℕ) → Type 0) (a b c : Option (List Path)) (before middle after : List Path)
     (path full : Path) (first : Option (List ℕ)) (stays : StaysWithin may later) (is_full : full ≡ full_of path)
     (none : first ≡ None) (p : Gathers may a b before middle (λ xs. Asks before path xs first)) where
-  -- the row of a path that was not found, whose full path was not answered
+  -- neither the path nor its full path gave a row: the get of the full path was not answered
   pub row_unanswered : (e : PullFault) → EndsWith later b c (IsUnanswered (ComesNext middle full) e) →
       EndsWith may a c (IsUnanswered (AsksNext before (path ∷ [])) e)
   row_unanswered e q =
@@ -275,7 +275,7 @@ module _ (may later : Path → Option (List ℕ) → Type 0) (a b c : Option (Li
   full_follows second bytes taken digest v w (Err e) is same q t =
       full_stops second bytes taken digest v w e is same q t
 
--- ---- the edge
+-- ---- the right edge
 
 pub in_rows_none : (asked ps : List Path) → IsInRows asked ps [] None
 in_rows_none asked ps = record {

@@ -1,4 +1,4 @@
--- What a pull answers follows from the replies: the parts of a pull, put together.
+-- The answer of a pull follows from the replies: all parts of a pull together.
 use Rattle.std.proofs.Common.{◌≡◌, ℕ, List, [], ◌∷◌, ◌++◌, arith, Option}
 use Rattle.std.proofs.Common.{Some, None, Bool, Err, Contains, refl, sym, ◌∙◌, ap, subst, inl, inr}
 use Rattle.signed_note.specs.Keys.{Key}
@@ -139,7 +139,7 @@ module _ (digest : List ℕ → List ℕ) (keys : List Key) (v w : View) (may : 
       ends (EndsEarly digest keys v w OutOfMemory) (λ xs given. EndsExhausted note rows given
       (head_read note taken rows shown Exhausted same are t))
 
--- what taking a head answers is why a pull refuses it
+-- the fault of taking a tree head is the reason why a pull refuses it
 refuses_head : (digest : List ℕ → List ℕ) (origin : List ℕ) (keys : List Key) (note : List ℕ)
     (rows : List (List ℕ)) (f : TakeFault) → JudgesHead digest origin keys note rows (Err f) →
     RefusesHead digest origin keys note rows (of_take f)
@@ -163,9 +163,9 @@ refuses_rows digest origin keys note shown rows f same j =
     refuses_head digest origin keys note rows f
     (subst (λ (rs : List (List ℕ)). JudgesHead digest origin keys note rs (Err f)) same j)
 
--- ---- the checkpoint and the edge
+-- ---- the checkpoint and the right edge
 
--- replies that begin with that checkpoint, and those behind it
+-- replies that begin with that checkpoint, and the replies after it
 pub record IsBehind (note : List ℕ) (Are : List Reply → Type 0) (after : List Path) (replies : List Reply)
     : Type 0 where
   pub edge : List Reply
@@ -203,7 +203,7 @@ at_checkpoint origin keys none rs next c =
 
 module _ (may later : Path → Option (List ℕ) → Type 0) (a b c : Option (List Path)) (none middle : List Path)
     (note : List ℕ) (stays : StaysWithin may later) where
-  -- no answer came for the edge
+  -- a get for the right edge was not answered
   pub edge_unanswered : (origin : List ℕ) (keys : List Key) (checkpoint : Read) (found : Option (List ℕ))
       (e : PullFault) → IsOpenCheckpoint note origin keys checkpoint → none ≡ [] → found ≡ Some note →
       Gathers may a b none middle (λ xs. Asks none Checkpoint xs found) →
@@ -254,7 +254,7 @@ module _ (may later : Path → Option (List ℕ) → Type 0) (a b c : Option (Li
         replies_are = ap (λ (l : List Reply). l ++ rs) behind.replies_are;
       }) stops))
 
--- ---- a pull that went well
+-- ---- a successful pull
 
 pub head_taken :
     (digest : List ℕ → List ℕ) (v x : View) (note taken : List ℕ) (rows shown : List (List ℕ)) → taken ≡ note →
@@ -262,7 +262,7 @@ pub head_taken :
 head_taken digest v x note taken rows shown same are is =
     is ∙ ((λ i. plus digest v (item.Head (same i) shown)) ∙ (λ i. plus digest v (item.Head note (are i))))
 
--- replies to the rounds, behind those to the checkpoint and the edge
+-- replies for the rounds, after those for the checkpoint and the right edge
 pub record IsAll (note : List ℕ) (AreEdge : List Reply → Type 0) (Are : List Path → List Reply → Type 0)
     (replies : List Reply) : Type 0 where
   pub edge : List Reply

@@ -1,4 +1,4 @@
--- Paths that were not asked for yet, by their places.
+-- Paths that were not requested yet, by level and index.
 use Rattle.std.proofs.Common.{◌≡◌, ◌≢◌, ◌⊎◌, ℕ, zero, suc, ◌<◌, List, [], ◌∷◌, ◌++◌, length, get_or, take, arith}
 use Rattle.std.proofs.Common.{AllPairs, Contains, refl, sym, ◌∙◌, ap, subst, inl, inr}
 use Rattle.std.proofs.Common.{◌+◌, length-take, Option}
@@ -24,7 +24,7 @@ full_full (Entries index width) = refl
 pub fresh_unasked : (asked : List Path) (path : Path) → IsFresh asked path → Contains asked path → ⊥
 fresh_unasked asked path fresh has = fresh path has refl
 
--- nor was its full path, after the path itself where that is another
+-- after a partial path was requested, its full path was not requested yet either
 pub full_unasked : (asked : List Path) (path : Path) → path ≢ full_of path → IsFresh asked path →
     Contains (asked ++ path ∷ []) (full_of path) → ⊥
 full_unasked asked path partial fresh has = elim (Contains-push_cases asked path (full_of path) has) [
@@ -32,14 +32,14 @@ full_unasked asked path partial fresh has = elim (Contains-push_cases asked path
   | inr same ↦ partial same
 ]
 
--- a path whose file may be gone is not the full one
+-- a path whose file may be deleted is not a full path
 pub gone_partial : (n : ℕ) (path : Path) → IsGone n path → path ≢ full_of path
 gone_partial n Checkpoint gone e = absurd gone.full
 gone_partial n (Tile level index width) gone e =
     let w : width ≡ 256 = ap width_named e in omega (arith, gone.partial, w)
 gone_partial n (Entries index width) gone e = let w : width ≡ 256 = ap width_named e in omega (arith, gone.partial, w)
 
--- ---- gets, one after another
+-- ---- gets, in order
 
 pub gets_then : (n : ℕ) (ps fs qs es : List Path) (xs ys : List Reply) → Gets n ps xs fs → Gets n qs ys es →
     Gets n (ps ++ qs) (xs ++ ys) (fs ++ es)
@@ -49,7 +49,7 @@ gets_then n ps fs qs es xs ys (GetsFound path bytes {paths = ps'} {founds = fs'}
 gets_then n ps fs qs es xs ys (GetsFull path bytes {paths = ps'} {founds = fs'} {replies = xs'} gone g) h =
     GetsFull path bytes gone (gets_then n ps' fs' qs es xs' ys g h)
 
--- each path of a list was asked for, in order, and behind some of them their full paths
+-- each path of a list was requested, in order, and the full path after some of them
 pub data AsksEach : List Path → List Path → Type 0 where
   AsksNone : AsksEach [] []
   AsksOne : (path : Path) {paths gets : List Path} → AsksEach paths gets →
@@ -57,7 +57,7 @@ pub data AsksEach : List Path → List Path → Type 0 where
   AsksTwo : (path : Path) {paths gets : List Path} → AsksEach paths gets →
       AsksEach (path ∷ paths) (path ∷ full_of path ∷ gets)
 
--- the list of the paths asked for grew by these paths, and by full paths behind some of them
+-- the list of requested paths grew by these paths, and by the full paths after some of them
 pub record AddsEach (paths before after : List Path) : Type 0 where
   pub gets : List Path
   pub each : AsksEach paths gets
@@ -68,7 +68,7 @@ each_then ps gs qs hs AsksNone h = h
 each_then ps gs qs hs (AsksOne path {paths = ps'} {gets = gs'} g) h = AsksOne path (each_then ps' gs' qs hs g h)
 each_then ps gs qs hs (AsksTwo path {paths = ps'} {gets = gs'} g) h = AsksTwo path (each_then ps' gs' qs hs g h)
 
--- what was asked for is at the places of the paths
+-- each get is for a path of the list or its full path
 pub gets_each_asked : (n : ℕ) (ps fs : List Path) (xs : List Reply) → Gets n ps xs fs → AsksEach ps (asked_paths xs)
 gets_each_asked n ps fs xs GetsNone = AsksNone
 gets_each_asked n ps fs xs (GetsFound path bytes {paths = ps'} {founds = fs'} {replies = xs'} g) =
@@ -76,7 +76,7 @@ gets_each_asked n ps fs xs (GetsFound path bytes {paths = ps'} {founds = fs'} {r
 gets_each_asked n ps fs xs (GetsFull path bytes {paths = ps'} {founds = fs'} {replies = xs'} gone g) =
     AsksTwo path (gets_each_asked n ps' fs' xs' g)
 
--- the place of what was asked for
+-- a path of the list has the level and index of the get
 pub record HasPlace (paths : List Path) (get : Path) : Type 0 where
   pub path : Path
   pub listed : Contains paths path
@@ -105,7 +105,7 @@ each_place ps gs (AsksTwo path {paths = ps'} {gets = gs'} g) get c =
       ]
     ]
 
--- a path whose place is none of these stays fresh
+-- a path stays fresh if none of these paths has its level and index
 pub fresh_after : (asked after ps : List Path) (path : Path) → AddsEach ps asked after → IsFresh asked path →
     ((p : Path) → Contains ps p → full_of p ≢ full_of path) → IsFresh after path
 fresh_after asked after ps path adds fresh apart before has =
@@ -114,7 +114,7 @@ fresh_after asked after ps path adds fresh apart before has =
       | inr got ↦ (let h = each_place ps adds.gets adds.each before got in λ e. apart h.path h.listed (sym h.same ∙ e))
     ]
 
--- ---- the paths of an edge
+-- ---- the paths of a right edge
 
 level_full : (path : Path) → level_of (full_of path) ≡ level_of path
 level_full Checkpoint = refl
@@ -129,9 +129,9 @@ pub edge_apart : (size : ℕ) → AllPairs (λ a b. full_of a ≢ full_of b) (ed
 edge_apart size i j d lt within =
     lower_apart (get_or (edge_of size) i d) (get_or (edge_of size) j d) (edge_rises size i j d lt within)
 
--- ---- one path after another of a list
+-- ---- the paths of a list, in order
 
--- the places of a list of paths differ, so each is fresh when its turn comes
+-- the paths of the list differ in level or index, so each is fresh when it is requested
 pub fresh_next : (before mid ps : List Path) (i : ℕ) → i < length ps → AreFresh before ps →
     AddsEach (take i ps) before mid → IsFresh mid (get_or ps i Checkpoint)
 fresh_next before mid ps i lt are adds =
@@ -146,7 +146,7 @@ fresh_next before mid ps i lt are adds =
 pub take_one : (ps : List Path) (i : ℕ) → i < length ps → take (i + 1) ps ≡ take i ps ++ get_or ps i Checkpoint ∷ []
 take_one ps i lt = take_more ps i Checkpoint lt
 
--- ---- the gets of a list, and what they say
+-- ---- the gets of a list
 
 abbrev pub gets_none : (n : ℕ) (may : Path → Option (List ℕ) → Type 0) (before : List Path) → GetsAll n may [] before before
 gets_none n may before =

@@ -1,4 +1,4 @@
--- Honest rounds take the front, and there are few of them.
+-- Honest rounds take the front, and they are few.
 use Rattle.std.proofs.Common.{min, zero, suc, ◌≡◌, ◌⊎◌, ℕ, ◌+◌, ◌-◌, ◌*◌, ◌^◌, ◌<◌, ◌≤◌, List, [], ◌∷◌, length, take}
 use Rattle.std.proofs.Common.{get_or, length-take, refl, sym, ap, subst, inl, inr, arith}
 use Rattle.std.specs.Prelude.{Contains, max}
@@ -34,7 +34,7 @@ use Rattle.mirror_model.proofs.FullBundles.{full_bundles_serve}
 use Rattle.mirror_model.proofs.Fetching.{plus_holds}
 use Rattle.tlog_tiles.proofs.EdgeLemmas.{contains_none}
 
--- ---- where bytes were found
+-- ---- the paths with a file
 
 at_first : (x : Path) (xs : List Path) → Contains (x ∷ xs) x
 at_first x xs = (0, omega arith, refl)
@@ -47,7 +47,7 @@ first_or_later : (x : Path) (xs : List Path) (y : Path) (k : ℕ) → k < length
 first_or_later x xs y zero lt e = inl e
 first_or_later x xs y (suc k) lt e = inr (k, omega (arith, lt), e)
 
--- the bytes of each path were found at the path or, where its file may be gone, at the full path
+-- the bytes of each path were found at the path, or at the full path if its file may be deleted
 pub gets_each : (n : ℕ) (list founds : List Path) (xs : List Reply) → Gets n list xs founds → (path : Path) → Contains list path →
     Contains founds path ⊎ (IsGone n path × Contains founds (full_of path))
 gets_each n list founds xs GetsNone path c = absurd (contains_none path c)
@@ -75,7 +75,7 @@ gets_each n list founds xs (GetsFull p bytes {paths = ps} {founds = fs} {replies
           ]
     ]
 
--- ---- what is held after true bytes were taken
+-- ---- the held strings after true bytes were taken
 
 module _ (digest : List ℕ → List ℕ) (entries : List (List ℕ)) where
   pub true_grows : (founds : List Path) (v : View) → view.IsSubview v (with_true digest entries v founds)
@@ -166,9 +166,9 @@ front_round_takes digest hash entries short size v list founds replies le less e
       (gets_each (length entries) list founds replies got path ((lists.exact path).1 f)));
 }
 
--- ---- round after round
+-- ---- rounds in order
 
--- from what is held as many rounds lead to what has a front that is not empty
+-- a given number of rounds leads from the held strings to strings with a front that is not empty
 record Reaches (digest : List ℕ → List ℕ) (entries : List (List ℕ)) (held : Strings) (count : ℕ) : Type 0 where
   more : List Strings
   count_is : length more ≡ count

@@ -83,7 +83,7 @@ gains_exhausted digest keys v w path bytes (inr t) =
       same_notes = λ note h. plus_notes digest v path bytes note (t.2.within.notes_are note h);
     }
 
--- whatever is answered to a tile or a bundle, the view has gained strings alone
+-- for every answer to a tile or bundle, the view has gained only strings
 pub gains_item : (digest : List ℕ → List ℕ) (v w : View) (path : Path) (bytes : List ℕ) (r : Result Bool PullFault) →
     TakesItem digest v (item_at path bytes) r w → GainsStrings v w
 gains_item digest v w path bytes (Ok true) t = gains_same v w t.1
@@ -112,7 +112,7 @@ takes_fault digest v w path bytes take.BundleLong t = t
 takes_fault digest v w path bytes take.Collision t = t
 takes_fault digest v w path bytes take.OutOfMemory t = t
 
--- what a take answers is what a pull makes of it
+-- the answer of a take is the answer of the pull
 pub takes_item : (digest : List ℕ → List ℕ) (v w : View) (path : Path) (bytes : List ℕ)
     (r : Result (Unit {0}) TakeFault) → Takes digest [] v (item_at path bytes) (answer_of r) w →
     TakesItem digest v (item_at path bytes) (refused_of r) w
@@ -125,7 +125,7 @@ stays_itself may = record { stays = λ path answer a. a }
 pub stays_then : (a b c : Path → Option (List ℕ) → Type 0) → StaysWithin a b → StaysWithin b c → StaysWithin a c
 stays_then a b c p q = record { stays = λ path answer h. p.stays path answer (q.stays path answer h) }
 
--- a fault that may come before the head and after it comes from outside
+-- a fault that may come both before and after the tree head comes from outside
 pub outside : (e : PullFault) → EndsBeforeHead {T = Bool} (Err e) → EndsAfterHead {T = Bool} (Err e) → IsOutside e
 outside NoCheckpoint early late = absurd early
 outside NoEdge early late = absurd late
@@ -134,7 +134,7 @@ outside Source early late = inr refl
 outside Collision early late = absurd early
 outside OutOfMemory early late = inl refl
 
--- what a take answers may come after the head
+-- the answer to an item may come after the tree head
 pub late_item : (digest : List ℕ → List ℕ) (v w : View) (path : Path) (bytes : List ℕ) (r : Result Bool PullFault) →
     TakesItem digest v (item_at path bytes) r w → EndsAfterHead r
 late_item digest v w path bytes (Ok true) t = tt
@@ -161,7 +161,7 @@ counts_item digest v w path bytes a b (Err Source) same t = absurd t
 pub counts_err : (a b c : ℕ) (e : PullFault) → b ≡ a → BlamesSource {T = Bool} b c (Err e) → BlamesSource {T = Bool} a c (Err e)
 counts_err a b c e same h = subst (λ m. BlamesSource {T = Bool} m c (Err e)) same h
 
--- ---- heads
+-- ---- tree heads
 
 only : (note n : List ℕ) → Contains (note ∷ []) n → n ≡ note
 only note n (k, lt, e) = go k lt e
@@ -238,7 +238,7 @@ takes_head_err digest keys v w note rows take.BundleLong t = (tt, t.0, t.1)
 takes_head_err digest keys v w note rows take.Collision t = t
 takes_head_err digest keys v w note rows take.OutOfMemory t = t
 
--- a pull that has gained a note, and then strings
+-- a pull gained a note, and then strings
 pub grows_then : (keys : List Key) (v w x : View) → Grows keys v w → GainsStrings w x → Grows keys v x
 grows_then keys v w x p q = record {
   grows = within_trans v w x p.grows q.grows;
@@ -246,7 +246,7 @@ grows_then keys v w x p q = record {
   good = λ n h fresh. p.good n (q.same_notes n h) fresh;
 }
 
--- ---- paths that are missing
+-- ---- missing paths
 
 of_size_takeable : (size : ℕ) (path : Path) → IsOfSize size path → IsTakeable path
 of_size_takeable size Checkpoint h = h

@@ -1,4 +1,4 @@
--- What a pull keeps.
+-- A pull keeps complete tree heads and forks.
 use Rattle.std.proofs.Common.{◌≡◌, ℕ, List, Result, Ok, Err, sym, subst}
 use Rattle.signed_note.specs.Keys.{Key}
 use Rattle.mirror_model.specs.View.{View, IsSubview}

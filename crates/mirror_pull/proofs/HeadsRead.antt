@@ -1,4 +1,4 @@
--- Heads that were read.
+-- Tree heads that were read.
 use Rattle.std.proofs.Common.{◌≡◌, ℕ, List, take, Option, Result, Ok, Err, refl, sym, subst}
 use Rattle.tlog_hash.specs.Tree.{mth}
 use Rattle.tlog_tiles.specs.declared.paths.Path.{Path}
@@ -13,14 +13,14 @@ use Rattle.mirror_model.specs.declared.fault.TakeFault.TheVariants as fault
 use Rattle.mirror_model.proofs.HeadNotes.{head_once, head_of}
 use Rattle.mirror_model.proofs.RefusedHeads.{open_heads_are_read, head_notes_are_read_once}
 
--- the checkpoint that is read from a note is a head of its size and root
+-- the checkpoint that was read from a note is an open tree head with its size and root
 pub opened_head : (note origin : List ℕ) (keys : List Key) (checkpoint : Checkpoint) →
     IsOpenCheckpoint note origin keys checkpoint → IsOpenHead note origin keys checkpoint.size checkpoint.root
 opened_head note origin keys checkpoint is =
     (open_heads_are_read note origin keys checkpoint.size checkpoint.root).1
     (record { checkpoint = checkpoint; is_open = is; size_is = refl; root_is = refl })
 
--- what reading a head's note answers
+-- the answer of reading the note of a tree head
 abbrev refusal : TakeFault → Result Checkpoint TakeFault
 refusal f = Err f
 
@@ -55,7 +55,7 @@ module _ (note origin : List ℕ) (keys : List Key) (size : ℕ) (root : List �
       (head_of note origin keys checkpoint.size checkpoint.root a) (head_of note origin keys size root h) in
       (s.size_is, s.root_is)
 
--- so it is where the source is honest for that note
+-- the note of an honest source is such a tree head
 module _ (digest : List ℕ → List ℕ) (entries : List (List ℕ)) (keys : List Key) (v : View) (note taken : List ℕ)
     (size : ℕ) (may : Path → Option (List ℕ) → Type 0) (is : IsHonest digest entries v.origin keys note size may)
     (same : taken ≡ note) where

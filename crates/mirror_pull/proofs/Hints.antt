@@ -1,4 +1,4 @@
--- A hint to a source comes before a part of a pull: no answer comes that could not come before.
+-- A hint before a part of a pull allows no answer that could not come before.
 use Rattle.std.proofs.Common.{ℕ, List, ◌∷◌, [], Option, Result, Ok, Err, Bool}
 use Rattle.tlog_tiles.specs.declared.paths.Path.{Path}
 use Rattle.mirror_model.specs.View.{View}

@@ -1,4 +1,4 @@
--- A pull that an honest source left keeps each file that was answered.
+-- A pull keeps each file that an honest source gave before it failed.
 use Rattle.std.proofs.Common.{◌≡◌, ◌⊎◌, ℕ, ◌+◌, ◌^◌, ◌<◌, ◌≤◌, List, [], ◌∷◌, ◌++◌, length, get_or, take}
 use Rattle.std.proofs.Common.{arith, length-take, length-append, append_assoc, Contains, Option, Some, None, Result, Ok, Err}
 use Rattle.std.proofs.Common.{refl, sym, ◌∙◌, ap, subst, inl, inr}
@@ -63,7 +63,7 @@ module _ (digest : List ℕ → List ℕ) (hash : IsDigest digest) (entries : Li
   edge_stays v w within edge =
       held_more v.strings w.strings (edge_strings digest (edge_rows digest (take size entries))) within.strings_are edge
 
-  -- the first paths of a front were found, there or at their full paths, and taken
+  -- the first paths of a front were found, or their full paths were, and the files were taken
   pub front_fetched : (v w : View) (list before after founds : List Path) (xs : List Reply) → HasEdge v →
       list ≡ before ++ after → ListsFront digest v (take size entries) list →
       Gets (length entries) before xs founds → w ≡ with_true digest entries v founds →
@@ -125,7 +125,7 @@ module _ (digest : List ℕ → List ℕ) (hash : IsDigest digest) (entries : Li
       (rounds_join v x w list (joined lists) rounds.1 rounds.2
       (record { founds = round.founds; gets = round.gets; fetches = fetched }) rest)
 
--- ---- the last gets of a round that was left
+-- ---- the last gets of a round that the source ended
 
 asks_few : (asked : List Path) (path : Path) (xs : List Reply) (found : Option (List ℕ)) → Asks asked path xs found →
     length xs ≤ 1
@@ -137,14 +137,14 @@ next_few asked ps xs next (NextNone paths) = omega arith
 next_few asked ps xs next (NextPath path paths fresh) = omega arith
 next_few asked ps xs next (NextFull path paths none fresh) = asks_few asked path xs None none
 
--- a pull that was left in its rounds
+-- the source failed in the rounds of a pull
 pub record IsLeftBehind (digest : List ℕ → List ℕ) (keys : List Key) (v w : View) (replies : List Reply)
     (tried : List Path) : Type 0 where
   pub path : Path
   pub tried_is : tried ≡ path ∷ []
   pub at : IsBehindHead digest keys v replies w (Some path)
 
--- it was left before its head was taken, or in its rounds
+-- the source failed before the tree head was taken, or in the rounds
 left_where : (digest : List ℕ → List ℕ) (keys : List Key) (v w : View) (e : PullFault) (replies : List Reply)
     (tried : List Path) → e ≡ Source → EndsEarly digest keys v w e replies tried →
     (w ≡ v) ⊎ IsLeftBehind digest keys v w replies tried
@@ -168,14 +168,14 @@ left_where digest keys v w e replies tried is (EndsTaking stops) = inr (taking e
     taking e replies tried is (StopsClashed path bytes at t) = let no : Collision ≡ Source = is in absurd cc
     taking e replies tried is (StopsExhausted path bytes at t) = let no : OutOfMemory ≡ Source = is in absurd cc
 
--- replies by which a list of paths grew alike have the same paths
+-- if two lists of replies extend a list of paths to the same list, they have the same paths
 same_paths : (asked : List Path) (xs ys : List Reply) → with_replies asked xs ≡ with_replies asked ys →
     asked_paths xs ≡ asked_paths ys
 same_paths asked xs ys e =
     sym (drop-append_seam asked (asked_paths xs)) ∙
     (ap (λ (l : List Path). drop (length asked) l) e ∙ drop-append_seam asked (asked_paths ys))
 
--- the rounds of such a pull: whole ones, then the first gets of another one
+-- the rounds of such a pull: complete rounds, then the first gets of another round
 record RoundsLeft (digest : List ℕ → List ℕ) (entries : List (List ℕ)) (size : ℕ) (v w : View) (rest : List Reply)
     : Type 0 where
   files : List Path

@@ -1,4 +1,4 @@
--- Lists of paths in the order of what is missing, and greatest levels.
+-- Lists in the order of missing paths, and greatest levels.
 use Rattle.std.proofs.Common.{nat_eq, true, false, ◌≡◌, ℕ, zero, suc, ◌+◌, ◌^◌, ◌<◌, ◌≤◌, List, []}
 use Rattle.std.proofs.Common.{◌∷◌, length, get_or, arith, refl, sym, ◌∙◌, ap, subst, inl, inr}
 use Rattle.std.specs.Ordering.{nat_cmp, ordering_then}
@@ -34,7 +34,7 @@ path_same (Entries index width) =
 not_less : (path : Path) → path_cmp path path ≡ Less → ⊥
 not_less path less = let wrong : Less ≡ Equal = sym less ∙ path_same path in cc wrong
 
--- no path stands twice in such a list
+-- no path is in such a list twice
 pub sorted_differ : (xs : List Path) → IsStrictlySortedBy path_cmp xs → (i j : ℕ) (d : Path) → i < j → j < length xs →
     get_or xs i d ≡ get_or xs j d → ⊥
 unfolding IsStrictlySortedBy
@@ -47,7 +47,7 @@ sorted_differ (x ∷ xs) sorted zero (suc j) d lt within e =
 sorted_differ (x ∷ xs) sorted (suc i) (suc j) d lt within e =
     sorted_differ xs sorted.1 i j d (omega (arith, lt)) (omega (arith, within)) e
 
--- ---- the widest path of a place is one
+-- ---- the widest path with a level and index is unique
 
 abbrev pub kind_of : Path → ℕ
 kind_of Checkpoint = 0
@@ -91,7 +91,7 @@ top_from n (suc level) le below = elim (eqb_tells (width_of n (suc level)) 0) [
 pub has_top : (n : ℕ) → n < 256 ^ 8 → HasTop n
 has_top n small = top_from n 7 (omega arith) small
 
--- ---- tests for nothing
+-- ---- tests for empty lists
 
 pub none_if : (n : ℕ) → nat_eq n 0 ≡ true → n ≡ 0
 none_if zero e = refl

@@ -1,4 +1,4 @@
--- Paths in a set.
+-- Sets of paths.
 use Rattle.std.proofs.Common.{◌≡◌, Bool, true, false, not, List, [], ◌∷◌, ◌++◌, Contains, sym}
 use Rattle.std.specs.HashSet.{HashSet, PutsKey, contains}
 use Rattle.std.specs.List.Sorted.{IsPermutation}
@@ -10,7 +10,7 @@ use Rattle.tlog_tiles.specs.declared.paths.Path.{Path}
 use Rattle.tlog_tiles.specs.contracts.paths.PathPartialEq.TheImpl as path_eq
 use Rattle.mirror_trees.proofs.Orders.{derived, exact, equivalence}
 
--- a path that the list lacks is put into the set of the list
+-- a path that the list does not contain is put into the set of the list
 pub put_new : {S : Type 0} (items : List Path) (old new : HashSet Path S) (path : Path) (added : Bool) →
     (Contains items path → ⊥) → IsPermutation items old.keys → added ≡ not (contains (path_eq.ghosts).eq old path) →
     PutsKey old new path added → IsPermutation (items ++ path ∷ []) new.keys

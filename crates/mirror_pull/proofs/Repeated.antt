@@ -1,4 +1,4 @@
--- Files that several pulls fetch are different ones.
+-- Several pulls fetch different files.
 use Rattle.std.proofs.Common.{◌≡◌, ◌≢◌, ℕ, zero, suc, ◌+◌, ◌-◌, ◌<◌, ◌≤◌, List, [], ◌∷◌, ◌++◌, length, get_or}
 use Rattle.std.proofs.Common.{AllPairs, Contains, arith, refl, sym, ◌∙◌, ap, subst, inl, inr}
 use Rattle.std.specs.Prelude.{sum_by}
@@ -14,7 +14,7 @@ use Rattle.mirror_model.proofs.StringSets.{held_more}
 use Rattle.mirror_model.proofs.Views.{within_trans}
 use Rattle.mirror_pull.specs.Repeated.{FetchesFiles, FetchInTurn, PullsFetchFilesOnce}
 
--- ---- lists without an element, and lists of different elements
+-- ---- lists without an item, and lists of different items
 
 abbrev without : List Path → ℕ → List Path
 without [] k = []
@@ -39,7 +39,7 @@ contains_without (y ∷ ys) (suc k) (suc j) q lt e apart =
     contains_later y (without ys k) q
     (contains_without ys k j q (omega (arith, lt)) e (λ same. apart (ap suc same)))
 
--- different elements of a list are no more than it has
+-- a list of different items, all from another list, is at most as long as that list
 pub differ_within : (xs ys : List Path) → AllPairs (λ a b. a ≢ b) xs → ((q : Path) → Contains xs q → Contains ys q) →
     length xs ≤ length ys
 differ_within [] ys apart among = omega arith
@@ -76,7 +76,7 @@ pairs_append xs ys p q cross i j d lt within e =
       ]
     ]
 
--- ---- files, one pull after another
+-- ---- files, pull after pull
 
 abbrev pub joined : List (List Path) → List Path
 joined [] = []
@@ -96,7 +96,7 @@ module _ (digest : List ℕ → List ℕ) (entries : List (List ℕ)) where
   lacks_before v w path within lacked h =
       lacked (held_more v.strings w.strings (true_strings digest entries path) within.strings_are h)
 
-  -- nothing is fetched
+  -- no file was fetched
   pub fetches_none : (v w : View) → IsSubview v w → FetchesFiles digest entries v w []
   fetches_none v w within = record {
     grows = within;
@@ -125,7 +125,7 @@ module _ (digest : List ℕ → List ℕ) (entries : List (List ℕ)) where
     ];
   }
 
-  -- from what was held before
+  -- the files were fetched after an earlier view too
   pub fetches_from : (v x w : View) (fs : List Path) → IsSubview v x → FetchesFiles digest entries x w fs →
       FetchesFiles digest entries v w fs
   fetches_from v x w fs within p = fetches_then v x w [] fs (fetches_none v x within) p

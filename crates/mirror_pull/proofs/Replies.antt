@@ -1,4 +1,4 @@
--- What the parts of a pull make of the replies, one part after another.
+-- Each part of a pull follows from the replies, part after part.
 use Rattle.std.proofs.Common.{◌≡◌, ℕ, suc, ◌+◌, ◌-◌, ◌*◌, ◌^◌, ◌<◌, ◌≤◌, min, List, [], ◌∷◌, ◌++◌, length}
 use Rattle.std.proofs.Common.{map, get_or, take, drop, arith, Option, Some, None, Bool, true, false, Contains, refl, sym, ◌∙◌}
 use Rattle.std.proofs.Common.{ap, subst, inl, inr, Ok, Err}
@@ -24,7 +24,7 @@ use Rattle.mirror_pull.specs.declared.fault.PullFault.TheVariants.{OutOfMemory}
 use Rattle.mirror_pull.proofs.Askings.{adds_record_none, adds_record_then, paths_then, with_then, may_then, may_stays}
 use Rattle.mirror_pull.proofs.Freshness.{take_one}
 
--- ---- parts, one after another
+-- ---- parts, in order
 
 pub gathers_none : (may : Path → Option (List ℕ) → Type 0) (a : Option (List Path)) (before : List Path)
     (Are : List Reply → Type 0) → Are [] → Gathers may a a before before Are
@@ -68,7 +68,7 @@ pub asks_found : (asked : List Path) (path : Path) (xs : List Reply) (found othe
     Asks asked path xs found → Asks asked path xs other
 asks_found asked path xs found other e p = subst (λ (f : Option (List ℕ)). Asks asked path xs f) e p
 
--- the second get of a path is that of its full path
+-- the second get for a path is that of its full path
 pub asks_full : (before middle : List Path) (path full : Path) (xs ys : List Reply) (found other : Option (List ℕ)) →
     middle ≡ with_replies before xs → full ≡ full_of path → found ≡ other → Asks middle full ys found →
     Asks (with_replies before xs) (full_of path) ys other
@@ -82,7 +82,7 @@ some_same a b e = cc e
 pub never_none : (b : List ℕ) → None ≡ Some b → ⊥
 never_none b e = cc e
 
--- a full tile that is not found, or has another length
+-- the full tile was not found, or has another length
 pub no_row :
     (before middle : List Path) (path full : Path) (xs ys : List Reply) (found : Option (List ℕ)) →
     middle ≡ with_replies before xs → full ≡ full_of path →
@@ -104,7 +104,7 @@ not_edge e late is = subst (λ (f : PullFault). EndsAfterHead {T = Bool} (Err f)
 pub memory_no_edge : OutOfMemory ≡ NoEdge → ⊥
 memory_no_edge e = cc e
 
--- ---- what is taken
+-- ---- taken items
 
 takes_one : (digest : List ℕ → List ℕ) (v w : View) (path : Path) (bytes : List ℕ) (refused : Bool) →
     TakesItem digest v (item_at path bytes) (Ok refused) w →
@@ -116,7 +116,7 @@ takes_one digest v w path bytes false t =
     subst (λ (x : View). TakesReplies digest v (reply path (Some bytes) ∷ []) 0 x) (sym t.2)
     (TakesGood path bytes t.0 (TakesEnd (plus digest v (item_at path bytes))))
 
--- of the reply to a get
+-- the reply to a get was taken or refused
 pub takes_asked :
     (digest : List ℕ → List ℕ) (v w : View) (asked : List Path) (path : Path) (xs : List Reply)
     (found : Option (List ℕ)) (bytes taken : List ℕ) (refused : Bool) → found ≡ Some bytes → taken ≡ bytes →
@@ -128,7 +128,7 @@ takes_asked digest v w asked path xs found bytes taken refused e same (AsksNew f
     (subst (λ (b : List ℕ). TakesItem digest v (item_at path b) (Ok refused) w) same t))
 takes_asked digest v w asked path xs found bytes taken refused e same (AsksAgain has) t = absurd (never_none bytes e)
 
--- where nothing was found
+-- nothing was found at the path
 pub takes_not : (digest : List ℕ → List ℕ) (v : View) (asked : List Path) (path : Path) (xs : List Reply)
     (found : Option (List ℕ)) → found ≡ None → Asks asked path xs found → TakesReplies digest v xs 0 v
 takes_not digest v asked path xs found e (AsksNew f fresh) =
@@ -148,13 +148,13 @@ takes_then {digest} {v} {x} {w} {xs} {ys} {n} {m} k e (TakesBad {replies = rs} {
     subst (λ (z : ℕ). TakesReplies digest v (reply path (Some bytes) ∷ rs ++ ys) z w) same
     (TakesBad path bytes bad (takes_then (r + m) refl p q))
 
--- ---- one path, asked for and taken
+-- ---- one path, requested and taken
 
 module _ (may later : Path → Option (List ℕ) → Type 0) (a b c : Option (List Path)) (before middle after : List Path)
     (path full : Path) (first second : Option (List ℕ)) (stays : StaysWithin may later) (is_full : full ≡ full_of path)
     (none : first ≡ None) (p : Gathers may a b before middle (λ xs. Asks before path xs first))
     (q : Gathers later b c middle after (λ xs. Asks middle full xs second)) where
-  -- the row of a path that was not found
+  -- the path was not found, and its row is the start of the full tile
   pub row_cut : (bytes row : List ℕ) → second ≡ Some bytes → length bytes ≡ 8192 →
       row ≡ take (32 * width_named path) bytes → Gathers may a c before after (λ xs. GivesRow before path xs row)
   row_cut bytes row is long cut =
@@ -172,7 +172,7 @@ module _ (may later : Path → Option (List ℕ) → Type 0) (a b c : Option (Li
       (λ xs ys grown list m n.
       no_row before middle path full xs ys second grown is_full other (asks_found before path xs first None none m) n)
 
-  -- a path of a round that was not found, and its full path was or was not
+  -- a path of a round was not found, and its full path was found or not
   pub full_worked :
       (digest : List ℕ → List ℕ) (v w : View) (bytes taken : List ℕ) (refused : Bool) → second ≡ Some bytes →
       taken ≡ bytes → TakesItem digest v (item_at full taken) (Ok refused) w →
@@ -216,7 +216,7 @@ module _ (may : Path → Option (List ℕ) → Type 0) (a b : Option (List Path)
         takes = takes_asked digest v w before path xs found bytes taken refused is same m t;
       })
 
--- ---- what is left
+-- ---- the paths that are left
 
 pub unasked_then : {asked ps ls qs ms : List Path} → AreUnasked asked ps ls → AreUnasked asked qs ms →
     AreUnasked asked (ps ++ qs) (ls ++ ms)
@@ -245,7 +245,7 @@ unasked_out asked paths i left same lt is p has =
 at_later : (x : Path) (xs : List Path) (y : Path) → Contains xs y → Contains (x ∷ xs) y
 at_later x xs y c = (suc c.0, omega (arith, c.1), c.2)
 
--- where nothing of a list was asked for, all of it is left
+-- if no path of a list was requested, all of it is left
 pub unasked_all : (asked paths left : List Path) → AreUnasked asked paths left →
     ((path : Path) → Contains paths path → Contains asked path → ⊥) → left ≡ paths
 unasked_all asked paths left UnaskedNone none = refl
@@ -254,7 +254,7 @@ unasked_all asked paths left (UnaskedOut path {paths = ps} {left = ls} has p) no
 unasked_all asked paths left (UnaskedIn path {paths = ps} {left = ls} new p) none =
     ap (λ (l : List Path). path ∷ l) (unasked_all asked ps ls p (λ q c. none q (at_later path ps q c)))
 
--- ---- the edge
+-- ---- the right edge
 
 rows_step :
     (asked : List Path) (qs ps : List Path) (i : ℕ) (mid : List Path) (xs ys : List Reply) (rows : List (List ℕ))
@@ -325,7 +325,7 @@ list_whole digest asked ps i v w n xs le p =
 
 -- ---- rounds
 
--- rounds so far
+-- the rounds up to here
 pub record AreRoundsSoFar (digest : List ℕ → List ℕ) (size : ℕ) (root : List ℕ) (asked : List Path) (v : View)
     (rounds refused : ℕ) (w : View) (replies : List Reply) : Type 0 where
   pub many : ℕ
@@ -366,7 +366,7 @@ no_paths : (paths : List Path) → length paths ≡ 0 → paths ≡ []
 no_paths [] e = refl
 no_paths (p ∷ ps) e = absurd (omega (arith, e))
 
--- rounds after which nothing is left
+-- the rounds after which nothing is left
 pub rounds_ended :
     (digest : List ℕ → List ℕ) (size : ℕ) (root : List ℕ) (asked mid seen paths : List Path) (v w : View)
     (rounds n : ℕ) (xs : List Reply) → mid ≡ with_replies asked xs → seen ≡ mid → length paths ≡ 0 →

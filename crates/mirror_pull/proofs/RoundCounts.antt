@@ -1,4 +1,4 @@
--- Each round of a pull asks for something.
+-- Each round of a pull requests a path.
 use Rattle.std.proofs.Common.{◌≡◌, ℕ, List, [], ◌∷◌, ◌++◌, length, get_or, arith, Option, Some, None, Contains}
 use Rattle.std.proofs.Common.{refl, sym, ap, subst, inl, inr}
 use Rattle.std.proofs.lemmas.List.{append-nil}
@@ -25,7 +25,7 @@ with_none : (asked : List Path) (xs : List Reply) → length xs ≡ 0 → with_r
 with_none asked [] e = append-nil asked
 with_none asked (x ∷ xs) e = absurd (omega (arith, e))
 
--- ---- what brings no reply was asked for before
+-- ---- a path without a reply was requested before
 
 asks_has : (asked : List Path) (path : Path) (xs : List Reply) (found : Option (List ℕ)) → Asks asked path xs found →
     length xs ≡ 0 → Contains asked path

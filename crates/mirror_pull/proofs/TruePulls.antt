@@ -50,7 +50,7 @@ use Rattle.mirror_pull.proofs.TrueTakes.{InTrees, clean_gained, plus_only, plus_
 use Rattle.mirror_pull.proofs.Orders.{kind_of}
 use Rattle.mirror_pull.proofs.FrontRounds.{front_rounds_end}
 
--- ---- the rows of the edge
+-- ---- the rows of the right edge
 
 map_same : (f g : Path → List ℕ) (ps : List Path) → ((p : Path) → Contains ps p → f p ≡ g p) → map f ps ≡ map g ps
 map_same f g [] same = refl
@@ -84,7 +84,7 @@ rows_of_edge digest entries size le =
     same_bytes (Tile level index width) h = (prefixes_serve_same digest entries size le).tile level index width h.within
     same_bytes (Entries index width) h = absurd h
 
--- ---- the checkpoint, before the edge
+-- ---- the checkpoint, before the right edge
 
 edge_no_checkpoint : (size : ℕ) (path : Path) → IsEdgeTile size path → Checkpoint ≢ full_of path
 edge_no_checkpoint size Checkpoint h e = h
@@ -101,7 +101,7 @@ edge_fresh size asked is = record {
   apart = edge_apart size;
 }
 
--- ---- what was asked for before the rounds is fetched
+-- ---- the paths that were requested before the rounds were fetched
 
 settled_edge : (size : ℕ) (edge path : Path) → IsEdgeTile size edge → full_of edge ≡ full_of path → IsWithin size path →
     IsWidest size path → ⊥
@@ -138,7 +138,7 @@ edge_settled n size may asked after is got before has path same within widest =
           (sym place.same ∙ same) within widest)
     ]
 
--- ---- the parts of what was asked for
+-- ---- the parts of the list of requests
 
 pub none_asked : (none : List Path) (path : Path) → none ≡ [] → Contains none path → ⊥
 none_asked none path is has = let h = subst (λ (l : List Path). Contains l path) is has in omega (arith, h.1)
@@ -189,7 +189,7 @@ module _ (digest : List ℕ → List ℕ) (hash : IsDigest digest) (keys : List 
               };
         }
 
-    -- the head is taken
+    -- taking the tree head fails only for a reason from outside
     pub head_fault : (w : View) (taken : List ℕ) (rows : List (List ℕ)) (e : PullFault) → taken ≡ note →
         rows ≡ edge_bytes digest (take size entries) →
         TakesHead {T = Bool} digest keys v (item.Head taken rows) (Err e) w → IsOutside e
@@ -211,7 +211,7 @@ module _ (digest : List ℕ → List ℕ) (hash : IsDigest digest) (keys : List 
             (item.Head note (edge_bytes digest (take size entries))) head_strings clean) t.1)
         go OutOfMemory t = inl refl
 
-    -- after which the rounds may go on
+    -- after the tree head, the rounds may go on
     pub rounds_may :
         (edge_may later : Path → Option (List ℕ) → Type 0) (w : View) (root : List ℕ) (asked after : List Path) →
         StaysWithin may later → w ≡ with_head digest entries v note size → root ≡ mth digest (take size entries) →
@@ -240,7 +240,7 @@ module _ (digest : List ℕ → List ℕ) (hash : IsDigest digest) (keys : List 
               (edge_settled (length entries) size edge_may asked after begun got before has path same within widest);
         }
 
-    -- of no entries there are no rounds
+    -- an empty log has no rounds
     no_rounds : (lists : List (List Path)) (x w : View) (xs : List Reply) → size ≡ 0 →
         AreFrontRounds digest entries size x w lists xs → length lists ≡ 0
     no_rounds [] x w xs none rounds = refl
@@ -337,7 +337,7 @@ module _ (digest : List ℕ → List ℕ) (hash : IsDigest digest) (keys : List 
           ((plus_holds digest v (item.Head note (edge_bytes digest (take size entries))) note).note_held
           (inr (0, omega arith, refl))))
 
--- ---- from what was read
+-- ---- from the checkpoint that was read
 
 pub some_same : (a b : List ℕ) → Some a ≡ Some b → a ≡ b
 some_same a b e = cc e
@@ -345,7 +345,7 @@ some_same a b e = cc e
 pub never_none : (b : List ℕ) → None ≡ Some b → ⊥
 never_none b e = cc e
 
--- a checkpoint's size is within the limit
+-- the size of a checkpoint is within the limit
 pub read_small :
     (digest : List ℕ → List ℕ) (entries : List (List ℕ)) (origin : List ℕ) (keys : List Key) (note : List ℕ) (size : ℕ)
     (may : Path → Option (List ℕ) → Type 0) → IsHonest digest entries origin keys note size may →
@@ -353,7 +353,7 @@ pub read_small :
 read_small digest entries origin keys note size may is =
     let limit : size ≤ 9223372036854775807 = is.is_head.is_checkpoint.in_range in omega (arith, limit)
 
--- the source is honest at the size of the checkpoint that was read
+-- the source is honest for the size of the checkpoint that was read
 pub record IsReadHonestly (digest : List ℕ → List ℕ) (entries : List (List ℕ)) (keys : List Key) (v : View)
     (taken : List ℕ) (size : ℕ) (at : ℕ) (root : List ℕ) (may : Path → Option (List ℕ) → Type 0) : Type 0 where
   pub size_is : at ≡ size

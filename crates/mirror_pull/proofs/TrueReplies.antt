@@ -1,4 +1,4 @@
--- What the replies of an honest source are, one behind another: true rows, and true items, all of which are taken.
+-- The replies of an honest source: true rows and true items, which are all taken.
 use Rattle.std.proofs.Common.{◌≡◌, ℕ, suc, ◌+◌, ◌<◌, List, [], ◌∷◌, ◌++◌, length, map, take, arith}
 use Rattle.std.proofs.Common.{Contains, Option, Some, None, refl, sym, ◌∙◌, ap, subst}
 use Rattle.std.proofs.lemmas.List.{append-nil, length-append, map-append, get_or_append_left}
@@ -52,7 +52,7 @@ grown_two : (before : List Path) (path : Path) (found : Option (List ℕ)) (xs y
     ys ≡ reply path found ∷ [] → with_replies before (xs ++ ys) ≡ with_replies before xs ++ path ∷ []
 grown_two before path found xs ys e = with_then before xs ys ∙ grown (with_replies before xs) path found ys e
 
--- ---- lists of paths, the last one apart
+-- ---- lists of paths, with the last one apart
 
 pub contains_front : (qs : List Path) (rest : List Path) (p : Path) → Contains qs p → Contains (qs ++ rest) p
 contains_front qs rest p c = (
@@ -85,7 +85,7 @@ last_fresh n may before mid qs path are got =
     (adds_of_gets n may (take (length qs) ps) before mid
     (subst (λ (l : List Path). GetsAll n may l before mid) (sym (take-append_seam qs (path ∷ []))) got)))
 
--- ---- the edge
+-- ---- the right edge
 
 module _ (digest : List ℕ → List ℕ) (entries : List (List ℕ)) (may : Path → Option (List ℕ) → Type 0)
     (is : IsTrueSource digest entries may) where
@@ -139,7 +139,7 @@ module _ (digest : List ℕ → List ℕ) (entries : List (List ℕ)) (may : Pat
             old.gets new.gets);
       }
 
--- ---- what is taken of replies
+-- ---- items of replies
 
 abbrev first_of : Reply → List Reply → Reply
 first_of d [] = d
@@ -170,7 +170,7 @@ module _ (digest : List ℕ → List ℕ) where
   takes_none v w q zs n e (TakesBad path bytes bad p) =
       absurd (never_none bytes (sym (ap (λ (r : Reply). r.found) (ap (first_of (reply q None)) e))))
 
-  -- an item that is valid
+  -- the item is valid
   pub takes_item : (v w : View) (q : Path) (b : List ℕ) (zs : List Reply) (n : ℕ) → zs ≡ reply q (Some b) ∷ [] →
       IsGood digest v.origin [] (item_at q b) → TakesReplies digest v zs n w → w ≡ plus digest v (item_at q b)
   takes_item v w q b zs n e good (TakesEnd u) = absurd (no_reply (reply q (Some b)) [] e)
@@ -195,7 +195,7 @@ module _ (digest : List ℕ → List ℕ) where
       some_is : (x y : List ℕ) → Some x ≡ Some y → x ≡ y
       some_is x y same = cc same
 
-  -- the replies in two parts
+  -- the replies are split into two parts
   pub record TakesTwo (v w : View) (xs ys : List Reply) : Type 0 where
     pub middle : View
     pub count : ℕ
@@ -244,7 +244,7 @@ module _ (digest : List ℕ → List ℕ) where
         second = s.second;
       }
 
-  -- before the next get of a path nothing was found there
+  -- before the next get, nothing was found at these paths
   pub next_taken : (asked ps : List Path) (ys : List Reply) (next : Option Path) (v w : View) (n : ℕ) →
       AsksNext asked ps ys next → TakesReplies digest v ys n w → w ≡ v
   next_taken asked ps ys next v w n (NextNone paths) p = takes_nothing v w ys n refl p

@@ -1,4 +1,4 @@
--- The rows of an edge, from an honest source.
+-- The rows of the right edge from an honest source.
 use Rattle.std.proofs.Common.{◌≡◌, ◌≢◌, ℕ, ◌+◌, ◌*◌, ◌≤◌, List, [], ◌∷◌, ◌++◌, length, map, take, arith, Contains}
 use Rattle.std.proofs.Common.{Option, Some, None, refl, sym, ◌∙◌, ap, subst, append_assoc}
 use Rattle.tlog_tiles.specs.declared.paths.Path.{Path}
@@ -19,7 +19,7 @@ use Rattle.mirror_pull.specs.Asking.{IsFresh, AreFresh}
 use Rattle.mirror_pull.specs.Parts.{GetsAll, IsTilePath, IsTrueSource, IsTrueRow, AreTrueRows}
 use Rattle.mirror_pull.proofs.Freshness.{full_unasked, fresh_next, take_one, adds_of_gets, gets_none, gets_all_then}
 
--- honesty stays as fewer answers may come
+-- a true source stays true if fewer answers may come
 pub source_stays : (digest : List ℕ → List ℕ) (entries : List (List ℕ)) (may later : Path → Option (List ℕ) → Type 0) →
     StaysWithin may later → IsTrueSource digest entries may → IsTrueSource digest entries later
 source_stays digest entries may later within is =
@@ -37,7 +37,7 @@ two_more path full before middle after same e f =
     f ∙ (ap (λ (l : List Path). l ++ full ∷ []) e ∙
     (ap (λ (q : Path). (before ++ path ∷ []) ++ q ∷ []) same ∙ append_assoc before (path ∷ []) (full_of path ∷ [])))
 
--- that the full path was not asked for, where the path was
+-- if the path was not requested before, neither was its full path
 pub full_fresh : (path full : Path) (before middle : List Path) → full ≡ full_of path → path ≢ full_of path →
     middle ≡ before ++ path ∷ [] → IsFresh before path → Contains middle full → ⊥
 full_fresh path full before middle same partial e fresh has =
@@ -77,7 +77,7 @@ module _ (digest : List ℕ → List ℕ) (entries : List (List ℕ)) (may : Pat
   pub is_gone : (path : Path) → IsWithin (length entries) path → may path None → IsGone (length entries) path
   is_gone path within h = is.parts path within None h
 
-  -- the full path of one whose file may be gone is answered
+  -- the full path of one whose file may be deleted has an answer with bytes
   pub full_answers : (path : Path) → IsGone (length entries) path → may (full_of path) None → ⊥
   full_answers Checkpoint gone h = absurd gone.full
   full_answers (Tile level index width) gone h =
@@ -111,7 +111,7 @@ module _ (digest : List ℕ → List ℕ) (entries : List (List ℕ)) (may : Pat
       ap (take (32 * width)) (is.parts (Tile level index 256) gone.full (Some bytes) h) ∙
       full_tiles_begin digest is.hash entries level index width tile.upto
 
--- ---- row after row
+-- ---- rows in order
 
 pub edge_tile : (size n : ℕ) → size ≤ n → (path : Path) → Contains (edge_of size) path → IsTilePath n path
 edge_tile size n le path has = go path ((edge_is size path).0 has)
@@ -171,7 +171,7 @@ module _ (digest : List ℕ → List ℕ) (entries : List (List ℕ)) where
   rows_whole may ps before after i rows le are =
       subst (λ (l : List Path). AreTrueRows digest entries may l before after rows) (take_all i ps le) are
 
-  -- a row whose turn has come is asked for as it may be
+  -- the row of the next path follows the rows before it
   pub row_reached :
       {R : Type 0} (may : Path → Option (List ℕ) → Type 0) (qs ps before mid : List Path) (i : ℕ)
       (rows : List (List ℕ)) → qs ≡ ps → i < length qs →

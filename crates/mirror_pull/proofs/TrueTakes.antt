@@ -1,4 +1,4 @@
--- Tiles and bundles from an honest source, taken.
+-- Tiles and bundles from an honest source are taken.
 use Rattle.std.proofs.Common.{◌≡◌, ◌⊎◌, ℕ, suc, ◌+◌, ◌-◌, ◌*◌, ◌^◌, ◌<◌, ◌≤◌, min, List, [], ◌∷◌, ◌++◌, length}
 use Rattle.std.proofs.Common.{take, arith, length-take, Contains, Option, Some, None, Result, Ok, Err, Bool, true}
 use Rattle.std.proofs.Common.{false, refl, sym, ◌∙◌, ap, subst, inl, inr}
@@ -45,7 +45,7 @@ within_more m n le (Tile level index width) h =
 within_more m n le (Entries index width) h =
     record { level_fits = h.level_fits; some = h.some; upto = h.upto; within = omega (arith, h.within, le) }
 
--- bytes were found at a path of the list, or at the full path of one whose file may be gone
+-- bytes were found at a path of the list, or at the full path of one whose file may be deleted
 pub founds_each : (n : ℕ) (ps fs : List Path) (xs : List Reply) → Gets n ps xs fs → (f : Path) → Contains fs f →
     Contains ps f ⊎ ((p : Path) × Contains ps p × IsGone n p × (f ≡ full_of p))
 founds_each n ps fs xs GetsNone f c = absurd (omega (arith, c.1))
@@ -70,7 +70,7 @@ founds_each n ps fs xs (GetsFull p bytes {paths = ps'} {founds = fs'} {replies =
     ]
 
 module _ (digest : List ℕ → List ℕ) (entries : List (List ℕ)) (size : ℕ) where
-  -- a string of the tree of the entries, or of that of the first of them
+  -- the string is in the tree of the entries, or in the tree of the first entries
   abbrev pub InTrees : List ℕ → Type 0
   InTrees y = Contains (strings digest entries) y ⊎ Contains (strings digest (take size entries)) y
 
@@ -83,7 +83,7 @@ module _ (digest : List ℕ → List ℕ) (entries : List (List ℕ)) (size : �
       has_right (set.from_list (strings digest entries)) (set.from_list (strings digest (take size entries))) y
       (has_from_listed (strings digest (take size entries)) y b)
 
-  -- a view that gained strings of the trees alone collides with them no more than before
+  -- a view that gained only strings of these trees has no new collision with them
   pub clean_gained : (v w : View) → ((y : List ℕ) → Has w.strings y → Has v.strings y ⊎ InTrees y) →
       NoClashAmong digest entries v size → NoClashAmong digest entries w size
   clean_gained v w only clean =
@@ -114,7 +114,7 @@ module _ (digest : List ℕ → List ℕ) (entries : List (List ℕ)) (size : �
     short_first : AreShort (take size entries)
     short_first = All-take (λ entry. length entry < 2 ^ 16) size entries short
 
-    -- the true bytes of a path within the first entries that is the widest of its place
+    -- the strings of a path within the first entries, if it is the widest with its level and index
     pub first_strings : (path : Path) → IsWithin size path → IsWidest size path → (y : List ℕ) →
         Contains (strings_of digest (true_item digest entries path)) y → InTrees y
     first_strings Checkpoint within widest y c = absurd within
@@ -148,7 +148,7 @@ module _ (digest : List ℕ → List ℕ) (entries : List (List ℕ)) (size : �
         (record { some = within.some; most = within.upto })).good
     true_good origin (Entries index width) within = (bundles_are_true digest hash entries short index width within).good
 
-    -- those of the full path of one whose file may be gone
+    -- the strings of the full path of one whose file may be deleted
     pub full_strings : (path : Path) → IsGone (length entries) path → (y : List ℕ) →
         Contains (strings_of digest (true_item digest entries (full_of path))) y → InTrees y
     full_strings Checkpoint gone y c = absurd gone.full
@@ -164,7 +164,7 @@ module _ (digest : List ℕ → List ℕ) (entries : List (List ℕ)) (size : �
         inl (true_strings_within digest entries (Entries index 256) gone.full wide y
         (subst (λ ss. Contains ss y) b.strings_are c))
 
-    -- what is held after the true bytes of such paths, found there or at the full paths, were taken
+    -- the held strings after the true bytes of such paths, or of their full paths, were taken
     only_founds : (founds : List Path) (v : View) →
         ((f : Path) → Contains founds f → (y : List ℕ) → Contains (strings_of digest (true_item digest entries f)) y →
         InTrees y) → (y : List ℕ) → Has (with_true digest entries v founds).strings y → Has v.strings y ⊎ InTrees y
@@ -188,7 +188,7 @@ module _ (digest : List ℕ → List ℕ) (entries : List (List ℕ)) (size : �
               (sym full.3) (full_strings full.0 full.2)
         ]) y h
 
--- what a pull makes of an item that is valid and collides with nothing
+-- the pull takes an item that is valid and collides with nothing
 pub item_taken :
     (digest : List ℕ → List ℕ) (entries : List (List ℕ)) (may : Path → Option (List ℕ) → Type 0) (v w : View)
     (path found : Path) (before after : List Path) (r : Result Bool PullFault)
@@ -272,7 +272,7 @@ module _ (digest : List ℕ → List ℕ) (entries : List (List ℕ)) (size : �
       full_answers digest entries later (source_stays digest entries may later stays m.source) path (path_gone none)
       (subst (λ (q : Path). later q None) is answer)
 
--- ---- one path after another
+-- ---- paths in order
 
 pub taken_then : (digest : List ℕ → List ℕ) (entries : List (List ℕ)) (fs es : List Path) (v : View) →
     with_true digest entries v (fs ++ es) ≡ with_true digest entries (with_true digest entries v fs) es
@@ -280,7 +280,7 @@ taken_then digest entries [] es v = refl
 taken_then digest entries (f ∷ fs) es v = taken_then digest entries fs es (plus digest v (true_item digest entries f))
 
 module _ (digest : List ℕ → List ℕ) (entries : List (List ℕ)) (size : ℕ) where
-  -- what paths take stays within what may be taken
+  -- the strings gained from these paths are strings of these trees
   pub paths_only :
       (may : Path → Option (List ℕ) → Type 0) (v w : View) (before mid ps qs : List Path) →
       MayTake digest entries size may v before ps → ((p : Path) → Contains qs p → Contains ps p) →

@@ -35,7 +35,7 @@ use Rattle.mirror_pull.proofs.TrueTakes.{InTrees, clean_gained, paths_only}
 use Rattle.mirror_pull.proofs.Orders.{sorted_differ, widest_same, has_top}
 use Rattle.mirror_pull.proofs.FrontRounds.{front_round_takes, front_rounds_end}
 
--- ---- rounds, one after another
+-- ---- rounds in order
 
 rounds_push :
     (digest : List ℕ → List ℕ) (entries : List (List ℕ)) (size : ℕ) (lists : List (List Path)) (v x w : View)
@@ -59,7 +59,7 @@ rounds_push digest entries size (l ∷ ls) v x w list xs first rounds round = (
   ap (λ (g : List Reply). g ++ first) rounds.5 ∙ append_assoc rounds.1 rounds.2 first,
 )
 
--- the rounds so far, after which they may go on
+-- the rounds up to here, and more may follow
 pub record IsWorking (digest : List ℕ → List ℕ) (entries : List (List ℕ)) (size : ℕ) (root : List ℕ)
     (may later : Path → Option (List ℕ) → Type 0) (rounds : ℕ) (v w : View) (before after : List Path)
     : Type 0 where
@@ -101,7 +101,7 @@ module _ (digest : List ℕ → List ℕ) (entries : List (List ℕ)) (size : �
       subst (λ n. IsWidest n path) long (front_is_widest digest v.strings (take size entries) path f),
     )
 
-    -- nothing at the place of a path of the front was asked for
+    -- no path with the level and index of a front's path was requested
     front_fresh : (path : Path) → IsFront digest v.strings (take size entries) path → IsFresh asked path
     front_fresh path f before has same =
         let whole = front_whole path f in
@@ -140,7 +140,7 @@ module _ (digest : List ℕ → List ℕ) (entries : List (List ℕ)) (size : �
       };
     }
 
-    -- where nothing is missing the tree is held
+    -- if no path is missing, the whole tree is held
     pub none_missing : (paths : List Path) → ListsFront digest v (take size entries) paths → length paths ≡ 0 →
         HasAll v.strings (strings digest (take size entries))
     none_missing paths fronts none =
@@ -258,7 +258,7 @@ module _ (digest : List ℕ → List ℕ) (entries : List (List ℕ)) (size : �
         next = m;
       }
 
-  -- there are no eight rounds
+  -- a pull never has eight such rounds
   pub never_eight :
       (start now : Path → Option (List ℕ) → Type 0) (v x : View) (before mid : List Path) (rounds : ℕ) → 8 ≤ rounds →
       MayWork digest entries size root start v before →

@@ -1,12 +1,12 @@
--- Which fault of a pull a fault of a take is. `refused_of` and `refused_of_fault` are cited by the
--- contracts of private functions alone.
+-- The fault of a pull for each fault of a take. Only contracts of private functions cite
+-- `refused_of` and `refused_of_fault`.
 use Rattle.std.specs.Prelude.{Bool, true, false, Result, Ok, Err}
 use Rattle.mirror_model.specs.declared.fault.TakeFault.{TakeFault}
 use Rattle.mirror_model.specs.declared.fault.TakeFault.TheVariants as take
 use Rattle.mirror_pull.specs.declared.fault.PullFault.{PullFault}
 use Rattle.mirror_pull.specs.declared.fault.PullFault.TheVariants as pull
 
--- the fault of a pull at a head that was refused
+-- the fault of a pull whose tree head was refused
 abbrev pub of_take : TakeFault → PullFault
 of_take (take.Note f) = pull.Head (take.Note f)
 of_take (take.Checkpoint f) = pull.Head (take.Checkpoint f)
@@ -21,7 +21,8 @@ of_take take.BundleLong = pull.Head take.BundleLong
 of_take take.Collision = pull.Collision
 of_take take.OutOfMemory = pull.OutOfMemory
 
--- whether a tile or a bundle was refused for what it is, or the pull ends by the fault
+-- true if the tile or bundle was refused because it is not valid; otherwise the fault that ends the
+-- pull
 abbrev pub refused_of_fault : TakeFault → Result Bool PullFault
 refused_of_fault (take.Note f) = Ok true
 refused_of_fault (take.Checkpoint f) = Ok true
@@ -36,7 +37,7 @@ refused_of_fault take.BundleLong = Ok true
 refused_of_fault take.Collision = Err pull.Collision
 refused_of_fault take.OutOfMemory = Err pull.OutOfMemory
 
--- whether an answer to a tile or a bundle says that it was refused for what it is
+-- whether the answer to a tile or bundle refuses it because it is not valid
 abbrev pub refused_of : {T : Type 0} → Result T TakeFault → Result Bool PullFault
 refused_of (Ok x) = Ok false
 refused_of (Err f) = refused_of_fault f

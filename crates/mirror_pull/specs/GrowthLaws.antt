@@ -1,4 +1,4 @@
--- What a pull leaves of what was complete, and of forks.
+-- Complete tree heads and forks after a pull.
 use Rattle.std.specs.Prelude.{◌≡◌, ℕ, List, Result}
 use Rattle.signed_note.specs.Keys.{Key}
 use Rattle.node_store.specs.Strings.{NoClash}
@@ -10,8 +10,8 @@ use Rattle.mirror_pull.specs.Taking.{PullsTo}
 use Rattle.mirror_pull.specs.declared.pulling.Pulled.{Pulled}
 use Rattle.mirror_pull.specs.declared.fault.PullFault.{PullFault}
 
--- of the views before and after: what was complete stays so with the same entries, and with no
--- others while nothing collides; forks stay
+-- between two views: complete tree heads stay complete with the same entries, and with no others as
+-- long as nothing collides. Forks stay forks
 pub record KeepsHeads (digest : List ℕ → List ℕ) (old new : View) : Type 0 where
   pub complete :
       (size : ℕ) (root : List ℕ) (entries : List (List ℕ)) → Complete digest old size root entries →
@@ -22,7 +22,7 @@ pub record KeepsHeads (digest : List ℕ → List ℕ) (old new : View) : Type 0
       Complete digest old size root before → Complete digest new size root after → before ≡ after
   pub forks : (a b : Point) → IsFork digest old a b → IsFork digest new a b
 
--- after any pull, whatever it answers, complete heads and forks stay
+-- after any pull, for every answer, complete tree heads stay complete and forks stay forks
 abbrev pub PullsKeepHeads : Type 0
 PullsKeepHeads =
     (digest : List ℕ → List ℕ) (keys : List Key) (old new : View)

@@ -1,4 +1,4 @@
--- What a pull from an honest source comes to (C2SP tlog-tiles).
+-- Pulls from an honest source (C2SP tlog-tiles).
 use Rattle.std.specs.Prelude.{◌≡◌, ◌⊎◌, ℕ, ◌≤◌, max, List, [], ◌∷◌, ◌++◌, length, take, Option}
 use Rattle.std.specs.Prelude.{Some, IsTrue, Result, MatchResult, Contains}
 use Rattle.std.specs.FinSet as set
@@ -24,16 +24,17 @@ use Rattle.mirror_pull.specs.declared.fault.PullFault.{PullFault}
 use Rattle.mirror_pull.specs.declared.fault.PullFault.TheVariants.{Source, OutOfMemory}
 
 module _ (digest : List ℕ → List ℕ) (entries : List (List ℕ)) where
-  -- the item that the true bytes at a path are
+  -- the item of the true bytes at a path
   abbrev pub true_item : Path → Item
   true_item path = item_at path (true_bytes digest entries path)
 
-  -- the view after the true bytes at these paths were taken, one after another
+  -- the view after the true bytes at these paths were taken, in order
   abbrev pub with_true : View → List Path → View
   with_true v [] = v
   with_true v (path ∷ paths) = with_true (plus digest v (true_item path)) paths
 
-  -- what a view holds and the trees of the entries and of the first of them do not collide together
+  -- the strings of the view, of the tree of the entries, and of the tree of the first entries do
+  -- not collide
   abbrev pub NoClashAmong : View → ℕ → Type 0
   NoClashAmong v size =
       NoClash digest
@@ -41,8 +42,8 @@ module _ (digest : List ℕ → List ℕ) (entries : List (List ℕ)) where
       (set.union (set.from_list (strings digest entries))
       (set.from_list (strings digest (take size entries)))))
 
-  -- one round of a pull took the front: its list is the front, in order, and is not empty; each of
-  -- its paths was asked for, and the true bytes that were found were taken
+  -- a round of a pull took the front. Its list is the front, in order, and is not empty. Each path
+  -- was requested, and the true bytes that were found were taken
   pub record IsFrontRound (size : ℕ) (v w : View) (list : List Path) (replies : List Reply)
       : Type 0 where
     pub founds : List Path
@@ -51,7 +52,7 @@ module _ (digest : List ℕ → List ℕ) (entries : List (List ℕ)) where
     pub gets : Gets (length entries) list replies founds
     pub taken : w ≡ with_true v founds
 
-  -- rounds of a pull took the front, one after another
+  -- rounds of a pull took the front, in order
   abbrev pub AreFrontRounds : ℕ → View → View → List (List Path) → List Reply → Type 0
   AreFrontRounds size v w [] replies = (w ≡ v) × (replies ≡ [])
   AreFrontRounds size v w (list ∷ lists) replies =
@@ -59,12 +60,12 @@ module _ (digest : List ℕ → List ℕ) (entries : List (List ℕ)) where
       IsFrontRound size v between list first × AreFrontRounds size between w lists rest ×
       (replies ≡ first ++ rest)
 
-  -- the view with the head of the first entries
+  -- the view with the tree head of the first entries
   abbrev pub with_head : View → List ℕ → ℕ → View
   with_head v note size = plus digest v (item.Head note (edge_bytes digest (take size entries)))
 
-  -- what an honest pull asked for, and what was replied, as it may be: the checkpoint, the paths of
-  -- the edge, then those of each round
+  -- the requests of an honest pull and possible replies: the checkpoint, the paths of the right
+  -- edge, then the paths of each round
   pub record HonestGets (note : List ℕ) (size : ℕ) (v w : View)
       (may : Path → Option (List ℕ) → Type 0) (old new : Option (List Path)) (rounds : ℕ)
       : Type 0 where
@@ -78,7 +79,7 @@ module _ (digest : List ℕ → List ℕ) (entries : List (List ℕ)) where
     pub may_reply : MayReply may (reply Checkpoint (Some note) ∷ edge ++ replies)
     pub recorded : AddsToRecord old new (asked_paths (reply Checkpoint (Some note) ∷ edge ++ replies))
 
-  -- what an honest pull came to
+  -- the outcome of an honest pull
   pub record HonestOutcome (note : List ℕ) (size : ℕ) (v w : View)
       (may : Path → Option (List ℕ) → Type 0) (old new : Option (List Path)) (p : Pulled)
       : Type 0 where
@@ -96,8 +97,8 @@ module _ (digest : List ℕ → List ℕ) (entries : List (List ℕ)) where
         Has v.strings y ⊎
         (Contains (strings digest entries) y ⊎ Contains (strings digest (take size entries)) y)
 
--- a pull from an honest source goes well, unless memory is refused or the source fails, and nothing
--- collides: from whichever entries the source is honest for
+-- a pull from an honest source is successful, unless memory was refused or the source failed. This
+-- holds for each list of entries for which the source is honest, if nothing collides
 abbrev pub PullsHonestly : (List ℕ → List ℕ) → List Key → View → View →
     (Path → Option (List ℕ) → Type 0) → Option (List Path) → Option (List Path) →
     Result Pulled PullFault → Type 0

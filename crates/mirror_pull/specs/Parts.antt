@@ -1,5 +1,5 @@
--- What the parts of a pull from an honest source come to. The contracts of private functions alone
--- cite these words.
+-- Parts of a pull from an honest source. Only contracts of private functions cite these
+-- definitions.
 use Rattle.std.specs.Prelude.{◌≡◌, ◌⊎◌, ℕ, ◌≤◌, ◌<◌, ◌^◌, List, [], ◌∷◌, length, map}
 use Rattle.std.specs.Prelude.{take, Option, Contains, Bool, false, Result, MatchResult}
 use Rattle.tlog_hash.specs.Tree.{mth, strings}
@@ -33,8 +33,7 @@ IsTilePath n Checkpoint = ⊥
 IsTilePath n (Tile level index width) = IsWithin n (Tile level index width)
 IsTilePath n (Entries index width) = ⊥
 
--- what was replied to the gets of these paths, as it may be, and what the list of paths asked for
--- grew by
+-- the possible replies to the gets of these paths, and the paths that the list of requests grew by
 pub record GetsAll (n : ℕ) (may : Path → Option (List ℕ) → Type 0) (paths before after : List Path)
     : Type 0 where
   pub replies : List Reply
@@ -44,7 +43,7 @@ pub record GetsAll (n : ℕ) (may : Path → Option (List ℕ) → Type 0) (path
   pub list : after ≡ with_replies before replies
 
 module _ (digest : List ℕ → List ℕ) (entries : List (List ℕ)) where
-  -- a source of which these answers may come answers each path within the entries truly
+  -- a source with these answers gives a true answer for each path within the entries
   pub record IsTrueSource (may : Path → Option (List ℕ) → Type 0) : Type 0 where
     pub hash : IsDigest digest
     pub short : AreShort entries
@@ -53,26 +52,26 @@ module _ (digest : List ℕ → List ℕ) (entries : List (List ℕ)) where
         may path answer →
         IsTrueAnswer digest entries path answer
 
-  -- the bytes that were got for a tile of the edge are its true bytes
+  -- the bytes of a tile of the right edge are its true bytes
   pub record IsTrueRow (may : Path → Option (List ℕ) → Type 0) (path : Path)
       (before after : List Path) (bytes : List ℕ) : Type 0 where
     pub bytes_are : bytes ≡ true_bytes digest entries path
     pub gets : GetsAll (length entries) may (path ∷ []) before after
 
-  -- the bytes that were got for several tiles of the edge are their true bytes
+  -- the bytes of several tiles of the right edge are their true bytes
   pub record AreTrueRows (may : Path → Option (List ℕ) → Type 0) (paths before after : List Path)
       (rows : List (List ℕ)) : Type 0 where
     pub rows_are : rows ≡ map (true_bytes digest entries) paths
     pub gets : GetsAll (length entries) may paths before after
 
-  -- paths were asked for, and the true bytes that were found were taken
+  -- the paths were requested, and the true bytes that were found were taken
   pub record TakesTrue (may : Path → Option (List ℕ) → Type 0) (paths before after : List Path)
       (v w : View) : Type 0 where
     pub gets : GetsAll (length entries) may paths before after
     pub taken : w ≡ with_true digest entries v gets.founds
 
-  -- a round may go well: each path is within the first entries and the widest of its place, and
-  -- none was asked for
+  -- a round can succeed: each path is within the first entries, is the widest with its level and
+  -- index, and was not requested before
   pub record MayTake (size : ℕ) (may : Path → Option (List ℕ) → Type 0) (v : View)
       (asked paths : List Path) : Type 0 where
     pub source : IsTrueSource may
@@ -81,15 +80,15 @@ module _ (digest : List ℕ → List ℕ) (entries : List (List ℕ)) where
     pub paths_are : (path : Path) → Contains paths path → IsWithin size path × IsWidest size path
     pub fresh : AreFresh asked paths
 
-  -- what was asked for was fetched: where the path is at the place of one that is within the first
-  -- entries and the widest there, the strings of the true bytes of that one are held
+  -- the requested file was fetched. For each path with the same level and index, if it is within
+  -- the first entries and the widest such path, the strings of its true bytes are held
   abbrev pub IsFetched : ℕ → View → Path → Type 0
   IsFetched size v before =
       (path : Path) → full_of before ≡ full_of path → IsWithin size path → IsWidest size path →
       HasAll v.strings (true_strings digest (take size entries) path)
 
-  -- the rounds may go well: the head and the strings of its edge are held, and what was asked for
-  -- was fetched
+  -- the rounds can succeed: the tree head and the strings of its right edge are held, and each
+  -- requested file was fetched
   pub record MayWork (size : ℕ) (root : List ℕ) (may : Path → Option (List ℕ) → Type 0) (v : View)
       (asked : List Path) : Type 0 where
     pub source : IsTrueSource may
@@ -101,8 +100,8 @@ module _ (digest : List ℕ → List ℕ) (entries : List (List ℕ)) where
     pub edge : HasAll v.strings (edge_strings digest (edge_rows digest (take size entries)))
     pub fetched : (before : Path) → Contains asked before → IsFetched size v before
 
-  -- the rounds that were worked: whatever the tree of the first entries hashes is held, and strings
-  -- of the two trees alone were gained
+  -- the rounds were worked: all strings of the tree of the first entries are held, and only strings
+  -- of the two trees were gained
   pub record HasWorked (size : ℕ) (may : Path → Option (List ℕ) → Type 0) (rounds : ℕ) (v w : View)
       (before after : List Path) : Type 0 where
     pub lists : List (List Path)
@@ -117,18 +116,18 @@ module _ (digest : List ℕ → List ℕ) (entries : List (List ℕ)) where
         Has v.strings y ⊎
         (Contains (strings digest entries) y ⊎ Contains (strings digest (take size entries)) y)
 
--- ---- answers of parts of a pull from a source that is true for some entries: they go well, unless
--- memory is refused or the source fails
+-- ---- answers of parts of a pull from a source that is true for some entries: they succeed, unless
+-- memory was refused or the source failed
 
 module _ (may : Path → Option (List ℕ) → Type 0) (before after : List Path) where
-  -- the row of a tile that was not asked for is its true bytes
+  -- the row of a tile that was not requested before is its true bytes
   abbrev pub FindsRowHonestly : Path → Result (List ℕ) PullFault → Type 0
   FindsRowHonestly path result =
       (digest : List ℕ → List ℕ) (entries : List (List ℕ)) → IsTrueSource digest entries may →
       IsTilePath (length entries) path → IsFresh before path →
       MatchResult result (λ row. IsTrueRow digest entries may path before after row) IsOutside
 
-  -- so are the rows of the edge of a size
+  -- the rows of the right edge of a size are their true bytes
   abbrev pub FindsRowsHonestly : ℕ → Result (List (List ℕ)) PullFault → Type 0
   FindsRowsHonestly size result =
       (digest : List ℕ → List ℕ) (entries : List (List ℕ)) → IsTrueSource digest entries may →
@@ -145,7 +144,7 @@ module _ (may : Path → Option (List ℕ) → Type 0) (before after : List Path
       (λ refused. (refused ≡ false) × TakesTrue digest entries may (path ∷ []) before after v w)
       IsOutside
 
-  -- so are those at several paths
+  -- the true bytes at several paths are found and taken
   abbrev pub TakesPathsHonestly : (List ℕ → List ℕ) → View → List Path → View →
       Result ℕ PullFault → Type 0
   TakesPathsHonestly digest v paths w result =
@@ -153,7 +152,7 @@ module _ (may : Path → Option (List ℕ) → Type 0) (before after : List Path
       MatchResult result
       (λ refused. (refused ≡ 0) × TakesTrue digest entries may paths before after v w) IsOutside
 
-  -- the rounds fetch all that the tree of the first entries hashes, and refuse nothing
+  -- the rounds fetch all strings of the tree of the first entries, and refuse nothing
   abbrev pub WorksHonestly : (List ℕ → List ℕ) → ℕ → List ℕ → View → View →
       Result (ℕ × ℕ) PullFault → Type 0
   WorksHonestly digest size root v w result =

@@ -1,4 +1,4 @@
--- Laws of honest rounds, and of how many rounds a pull counts.
+-- Laws of honest rounds, and of the number of rounds that a pull counts.
 use Rattle.std.specs.Prelude.{◌≡◌, ◌↔◌, ℕ, ◌^◌, ◌<◌, ◌≤◌, max, List, [], length, take}
 use Rattle.tlog_shape.specs.Edge.{IsTop}
 use Rattle.tlog_tiles.specs.declared.paths.Path.{Path}
@@ -29,8 +29,7 @@ HonestRoundIsRound =
     Gets (length entries) list replies founds →
     IsRound digest (take size entries) v.strings (with_true digest entries v founds).strings
 
--- of rounds of an honest pull there are at most as many as the greatest level that has a partial
--- tile, and one at least
+-- an honest pull has at most max(1, top) rounds, if top is the greatest level with a partial tile
 abbrev pub HonestRoundsAreFew : Type 0
 HonestRoundsAreFew =
     (digest : List ℕ → List ℕ) →
@@ -45,7 +44,7 @@ HonestRoundsAreFew =
     AreFrontRounds digest entries size v w lists replies →
     length lists ≤ max 1 top
 
--- rounds of a pull are none exactly where nothing was asked for in them, behind the rows of the edge
+-- a pull has no rounds exactly if it requests nothing after the rows of the right edge
 abbrev pub NoRoundAsksNothing : Type 0
 NoRoundAsksNothing =
     (digest : List ℕ → List ℕ) (size : ℕ) (root : List ℕ) (asked : List Path) (v w : View)

@@ -1,5 +1,5 @@
--- Pulls of one log, again and again, from a source that fails now and then: what was fetched is kept,
--- and is not fetched again.
+-- Repeated pulls of one log, from a source that may fail: fetched files are kept, and are not
+-- fetched again.
 use Rattle.std.specs.Prelude.{◌≡◌, ◌≢◌, ◌⊎◌, ℕ, ◌≤◌, List, [], ◌∷◌, ◌++◌, length, take, sum_by, AllPairs, Contains}
 use Rattle.std.specs.Prelude.{Option, Some, Result, IfErr}
 use Rattle.signed_note.specs.Keys.{Key}
@@ -20,7 +20,8 @@ use Rattle.mirror_pull.specs.declared.fault.PullFault.{PullFault}
 use Rattle.mirror_pull.specs.declared.fault.PullFault.TheVariants.{Source}
 
 module _ (digest : List ℕ → List ℕ) (entries : List (List ℕ)) where
-  -- files of the log were fetched, no two of them one: a string of each was lacked, and all are held
+  -- different files of the log were fetched: a string of each was missing before, and all its
+  -- strings are held after
   pub record FetchesFiles (v w : View) (files : List Path) : Type 0 where
     pub grows : IsSubview v w
     pub within : (path : Path) → Contains files path → IsWithin (length entries) path
@@ -31,13 +32,13 @@ module _ (digest : List ℕ → List ℕ) (entries : List (List ℕ)) where
     pub held :
         (path : Path) → Contains files path → HasAll w.strings (true_strings digest entries path)
 
-  -- these files were fetched by several pulls, one after another, and what was held stayed
+  -- several pulls, in order, fetched these files and kept what was held
   abbrev pub FetchInTurn : View → List (List Path) → View → Type 0
   FetchInTurn v [] w = IsSubview v w
   FetchInTurn v (files ∷ lists) w =
       (x : View) × (y : View) × IsSubview v x × FetchesFiles x y files × FetchInTurn y lists w
 
--- several pulls together fetch no more files than the log has
+-- several pulls together fetch at most as many files as the log has
 abbrev pub PullsFetchFilesOnce : Type 0
 PullsFetchFilesOnce =
     (digest : List ℕ → List ℕ) (entries : List (List ℕ)) (v w : View) (lists : List (List Path))
@@ -47,9 +48,9 @@ PullsFetchFilesOnce =
     Contains all path) →
     sum_by (λ files. length files) lists ≤ length all
 
--- a pull that was left by its source, which is honest for the entries: behind the edge the gets for
--- these files of the first of them were answered, all of which it keeps, and at most one more, of a
--- partial path; then one get failed
+-- a pull from a source that is honest for the entries, until the source failed. After the right
+-- edge, gets for these files of the first entries were answered, and the pull kept all of them. At
+-- most two more gets were recorded: perhaps one of a partial path, and the one that failed
 pub record KeepsFound (digest : List ℕ → List ℕ) (entries : List (List ℕ)) (note : List ℕ)
     (size : ℕ) (v w : View) (old new : Option (List Path)) : Type 0 where
   pub edge : List Reply
@@ -65,8 +66,8 @@ pub record KeepsFound (digest : List ℕ → List ℕ) (entries : List (List ℕ
   pub recorded : AddsToRecord old new
       (asked_paths (reply Checkpoint (Some note) ∷ edge ++ replies) ++ last)
 
--- a pull that ends as Source leaves the view as it was, or keeps each file that was answered, from
--- whichever entries its source is honest for, where nothing collides
+-- a pull that ends as Source leaves the view unchanged, or keeps each file that was answered. This
+-- holds for each list of entries for which the source is honest, if nothing collides
 abbrev pub KeepsHonestly : (List ℕ → List ℕ) → List Key → View → View →
     (Path → Option (List ℕ) → Type 0) → Option (List Path) → Option (List Path) →
     Result Pulled PullFault → Type 0

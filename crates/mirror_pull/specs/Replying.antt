@@ -1,6 +1,6 @@
--- What a pull asks its source for, and what it makes of the replies: given these, nothing is left
--- open (C2SP tlog-tiles, "Merkle Tree", "Log Entries" and "Partial Tiles"). What stands
--- below "parts of a pull" is cited by the contracts of private functions alone.
+-- The requests of a pull, and its use of the replies. The replies determine the pull (C2SP
+-- tlog-tiles, "Merkle Tree", "Log Entries" and "Partial Tiles"). Only contracts of private
+-- functions cite the definitions below "parts of a pull".
 use Rattle.std.specs.Prelude.{◌≡◌, ◌≢◌, ◌⊎◌, ℕ, ◌+◌, ◌-◌, ◌*◌, ◌^◌, ◌≤◌, List, [], ◌∷◌, ◌++◌, length, take, min}
 use Rattle.std.specs.Prelude.{suc, Option, Some, None, Result, Ok, Err, Bool, true, false, Contains, ⊤}
 use Rattle.std.specs.Prelude.{IfOk, MatchResult}
@@ -28,17 +28,17 @@ use Rattle.mirror_pull.specs.declared.pulling.Pulled.{Pulled}
 
 -- ---- gets
 
--- one get of a path, but none of a path that was asked for already: it counts as not found
+-- one get of a path; a path that was requested before gets no request and counts as not found
 pub data Asks (asked : List Path) (path : Path) : List Reply → Option (List ℕ) → Type 0 where
   AsksNew : (found : Option (List ℕ)) → (¬ Contains asked path) →
       Asks asked path (reply path found ∷ []) found
   AsksAgain : Contains asked path → Asks asked path [] None
 
--- the paths asked for, with those of some replies
+-- the requested paths, with those of some replies
 abbrev pub with_replies : List Path → List Reply → List Path
 with_replies asked replies = asked ++ asked_paths replies
 
--- a path is asked for and, where it is not found and only there, its full path at once
+-- a path is requested; if and only if it is not found, its full path is requested next
 pub data AsksPath (asked : List Path) (path : Path) : List Reply → Type 0 where
   PathFound : {replies : List Reply} {bytes : List ℕ} → Asks asked path replies (Some bytes) →
       AsksPath asked path replies
@@ -46,16 +46,16 @@ pub data AsksPath (asked : List Path) (path : Path) : List Reply → Type 0 wher
       Asks (with_replies asked first) (full_of path) second found →
       AsksPath asked path (first ++ second)
 
--- so are the paths of a list, one after another
+-- the paths of a list are requested so, in order
 pub data AsksList (asked : List Path) : List Path → List Reply → Type 0 where
   ListNone : AsksList asked [] []
   ListNext : {paths : List Path} {first second : List Reply} (path : Path) →
       AsksList asked paths first → AsksPath (with_replies asked first) path second →
       AsksList asked (paths ++ path ∷ []) (first ++ second)
 
--- ---- the edge
+-- ---- the right edge
 
--- the row of a path of the edge is what was found there or, where nothing was, the first hashes of
+-- the row of a path of the right edge: the bytes that were found, or otherwise the first hashes of
 -- the full tile, which has 8,192 bytes
 pub data GivesRow (asked : List Path) (path : Path) : List Reply → List ℕ → Type 0 where
   RowFound : {replies : List Reply} {row : List ℕ} → Asks asked path replies (Some row) →
@@ -64,7 +64,7 @@ pub data GivesRow (asked : List Path) (path : Path) : List Reply → List ℕ �
       Asks (with_replies asked first) (full_of path) second (Some bytes) → length bytes ≡ 8192 →
       GivesRow asked path (first ++ second) (take (32 * width_named path) bytes)
 
--- the rows of these paths, one after another
+-- the rows of these paths, in order
 pub data GivesRows (asked : List Path) : List Path → List Reply → List (List ℕ) → Type 0 where
   RowsNone : GivesRows asked [] [] []
   RowsNext : {paths : List Path} {first second : List Reply} {rows : List (List ℕ)} (path : Path)
@@ -72,7 +72,7 @@ pub data GivesRows (asked : List Path) : List Path → List Reply → List (List
       GivesRow (with_replies asked first) path second row →
       GivesRows asked (paths ++ path ∷ []) (first ++ second) (rows ++ row ∷ [])
 
--- a path of the edge has no row: nothing was found there, nor a full tile of 8,192 bytes
+-- a path of the right edge has no row: neither its file nor a full tile of 8,192 bytes was found
 pub record GivesNoRow (asked : List Path) (path : Path) (replies : List Reply) : Type 0 where
   pub first : List Reply
   pub second : List Reply
@@ -82,7 +82,7 @@ pub record GivesNoRow (asked : List Path) (path : Path) (replies : List Reply) :
   pub no_tile : (bytes : List ℕ) → found ≡ Some bytes → length bytes ≢ 8192
   pub replies_are : replies ≡ first ++ second
 
--- of these paths some first ones have their rows, and the next has none
+-- the first of these paths have rows, and the next has none
 pub record GivesNoRows (asked paths : List Path) (replies : List Reply) : Type 0 where
   pub before : List Path
   pub path : Path
@@ -97,7 +97,7 @@ pub record GivesNoRows (asked paths : List Path) (replies : List Reply) : Type 0
 
 -- ---- rounds
 
--- the paths of a list that were not asked for, in order
+-- the paths of a list that were not requested yet, in order
 pub data AreUnasked (asked : List Path) : List Path → List Path → Type 0 where
   UnaskedNone : AreUnasked asked [] []
   UnaskedOut : (path : Path) {paths left : List Path} → Contains asked path →
@@ -105,8 +105,8 @@ pub data AreUnasked (asked : List Path) : List Path → List Path → Type 0 whe
   UnaskedIn : (path : Path) {paths left : List Path} → (¬ Contains asked path) →
       AreUnasked asked paths left → AreUnasked asked (path ∷ paths) (path ∷ left)
 
--- of replies to gets of tiles and bundles, those that are valid are taken, and the others counted; a
--- path that was not found counts for nothing
+-- the replies to gets of tiles and bundles: valid ones are taken, and the others are counted. A
+-- path that was not found is not counted
 pub data TakesReplies (digest : List ℕ → List ℕ) : View → List Reply → ℕ → View → Type 0 where
   TakesEnd : (v : View) → TakesReplies digest v [] 0 v
   TakesNone : {v w : View} {replies : List Reply} {refused : ℕ} (path : Path) →
@@ -121,15 +121,15 @@ pub data TakesReplies (digest : List ℕ → List ℕ) : View → List Reply →
       TakesReplies digest v replies refused w →
       TakesReplies digest v (reply path (Some bytes) ∷ replies) (suc refused) w
 
--- what is missing of the head and was not asked for
+-- the missing paths of the tree head that were not requested yet
 pub record IsLeftToAsk (digest : List ℕ → List ℕ) (size : ℕ) (root : List ℕ) (asked : List Path)
     (v : View) (left : List Path) : Type 0 where
   pub missing : List Path
   pub lists : ListsMissing digest v size root missing
   pub unasked : AreUnasked asked missing left
 
--- one round: what is left of the head at its start, which is not empty, is asked for, and what
--- comes is taken
+-- one round: it requests the paths that are left for the tree head at its start, at least one, and
+-- takes the replies
 pub record IsPullRound (digest : List ℕ → List ℕ) (size : ℕ) (root : List ℕ) (asked : List Path)
     (v : View) (replies : List Reply) (refused : ℕ) (w : View) : Type 0 where
   pub list : List Path
@@ -138,7 +138,7 @@ pub record IsPullRound (digest : List ℕ → List ℕ) (size : ℕ) (root : Lis
   pub asks : AsksList asked list replies
   pub takes : TakesReplies digest v replies refused w
 
--- so many rounds, one after another, and how many replies were refused in all of them
+-- the given number of rounds, in order, and the number of replies that all of them refused
 pub data ArePullRounds (digest : List ℕ → List ℕ) (size : ℕ) (root : List ℕ) (asked : List Path)
     (v : View) : List Reply → ℕ → ℕ → View → Type 0 where
   RoundsNone : ArePullRounds digest size root asked v [] 0 0 v
@@ -147,10 +147,10 @@ pub data ArePullRounds (digest : List ℕ → List ℕ) (size : ℕ) (root : Lis
       IsPullRound digest size root (with_replies asked first) x second more w →
       ArePullRounds digest size root asked v (first ++ second) (suc rounds) (refused + more) w
 
--- ---- where a pull may end early
+-- ---- early ends of a pull
 
--- of the gets for these paths none was answered by bytes yet, and this one comes next, if any: that of
--- the first path or, since nothing was found there, of its full path
+-- no get for these paths was answered by bytes yet. The next get, if any, is for the first path or,
+-- if nothing was found there, for its full path
 pub data AsksNext (asked : List Path) : List Path → List Reply → Option Path → Type 0 where
   NextNone : (paths : List Path) → AsksNext asked paths [] None
   NextPath : (path : Path) (paths : List Path) → (¬ Contains asked path) →
@@ -159,7 +159,7 @@ pub data AsksNext (asked : List Path) : List Path → List Reply → Option Path
       Asks asked path replies None → (¬ Contains (with_replies asked replies) (full_of path)) →
       AsksNext asked (path ∷ paths) replies (Some (full_of path))
 
--- some first ones of these paths of the edge have their rows, and this get comes next, if any
+-- the first of these paths of the right edge have rows, and this get, if any, is next
 pub record IsInRows (asked paths : List Path) (replies : List Reply) (next : Option Path)
     : Type 0 where
   pub before : List Path
@@ -172,8 +172,8 @@ pub record IsInRows (asked paths : List Path) (replies : List Reply) (next : Opt
   pub asks : AsksNext (with_replies asked first) after second next
   pub replies_are : replies ≡ first ++ second
 
--- some first ones of the paths of a round were asked for, what came was taken, and this get comes
--- next, if any
+-- the first paths of a round were requested, their replies were taken, and this get, if any, is
+-- next
 pub record IsInRound (digest : List ℕ → List ℕ) (asked paths : List Path) (v : View)
     (replies : List Reply) (w : View) (next : Option Path) : Type 0 where
   pub before : List Path
@@ -187,7 +187,7 @@ pub record IsInRound (digest : List ℕ → List ℕ) (asked paths : List Path) 
   pub replies_are : replies ≡ first ++ second
   pub takes : TakesReplies digest v replies refused w
 
--- fewer than eight rounds are over, and behind them another one may be under way
+-- fewer than eight rounds are over, and the next one may have begun
 pub data IsInRounds (digest : List ℕ → List ℕ) (size : ℕ) (root : List ℕ) (asked : List Path)
     (v : View) : List Reply → View → Option Path → Type 0 where
   RoundsOver : {replies : List Reply} {rounds refused : ℕ} {w : View} → rounds ≤ 7 →
@@ -200,8 +200,8 @@ pub data IsInRounds (digest : List ℕ → List ℕ) (size : ℕ) (root : List �
       IsInRound digest (with_replies asked first) list x second w next →
       IsInRounds digest size root asked v (first ++ second) w next
 
--- an end without an answer, after these replies, and the path that was tried for: the get that comes
--- next failed, or memory was refused, in a get or between two; such a get is not recorded
+-- an end without an answer, after these replies, with the path that was tried. The next get failed,
+-- or memory was refused during a get or between two. A get without memory is not recorded
 pub data IsUnanswered (At : List Reply → Option Path → Type 0)
     : PullFault → List Reply → List Path → Type 0 where
   GetFailed : {replies : List Reply} {path : Path} → At replies (Some path) →
@@ -209,8 +209,8 @@ pub data IsUnanswered (At : List Reply → Option Path → Type 0)
   MemoryRefused : {replies : List Reply} {next : Option Path} → At replies next →
       IsUnanswered At OutOfMemory replies []
 
--- an end in the rounds: without an answer, or by the last reply, whose item is valid and collides
--- with what is held, or whose take was refused memory
+-- an end in the rounds: without an answer, or at the last reply. The item of that reply is valid
+-- and collides with held strings, or taking it ran out of memory
 pub data StopsTaking (digest : List ℕ → List ℕ) (At : List Reply → View → Option Path → Type 0)
     : PullFault → List Reply → List Path → View → Type 0 where
   StopsAsking : {fault : PullFault} {replies : List Reply} {tried : List Path} {w : View} →
@@ -223,8 +223,8 @@ pub data StopsTaking (digest : List ℕ → List ℕ) (At : List Reply → View 
       At replies x (Some path) → Takes digest [] x (item_at path bytes) Exhausted w →
       StopsTaking digest At OutOfMemory (replies ++ reply path (Some bytes) ∷ []) [] w
 
--- the source may have replied so, and was asked for the paths of these replies and for those that
--- were tried for
+-- the source may have given these replies, and the requests were the paths of the replies and the
+-- paths that were tried
 pub record EndsWith (may : Path → Option (List ℕ) → Type 0) (old new : Option (List Path))
     (Are : List Reply → List Path → Type 0) : Type 0 where
   pub replies : List Reply
@@ -235,8 +235,8 @@ pub record EndsWith (may : Path → Option (List ℕ) → Type 0) (old new : Opt
 
 -- ---- a pull
 
--- how far a pull came before its head was taken, and the get that comes next, if any: that of the
--- checkpoint, none behind it, or that of a row of its edge, where it opens
+-- the progress of a pull before its tree head was taken, with the next get, if any: the checkpoint,
+-- nothing after it, or a row of its right edge if it opens
 pub data IsBeforeHead (origin : List ℕ) (keys : List Key) : List Reply → Option Path → Type 0 where
   AtCheckpoint : IsBeforeHead origin keys [] (Some Checkpoint)
   BehindCheckpoint : (note : List ℕ) →
@@ -246,7 +246,7 @@ pub data IsBeforeHead (origin : List ℕ) (keys : List Key) : List Reply → Opt
       IsInRows (Checkpoint ∷ []) (edge_of checkpoint.size) edge next →
       IsBeforeHead origin keys (reply Checkpoint (Some note) ∷ edge) next
 
--- the checkpoint was found, opens, and has all rows of its edge
+-- the checkpoint was found, opens, and has all rows of its right edge
 pub record GivesHead (origin : List ℕ) (keys : List Key) (note : List ℕ) (rows : List (List ℕ))
     (replies : List Reply) : Type 0 where
   pub checkpoint : Read
@@ -255,7 +255,7 @@ pub record GivesHead (origin : List ℕ) (keys : List Key) (note : List ℕ) (ro
   pub given : GivesRows (Checkpoint ∷ []) (edge_of checkpoint.size) edge rows
   pub replies_are : replies ≡ reply Checkpoint (Some note) ∷ edge
 
--- how far a pull came once its head was taken, with the view and the get that comes next, if any
+-- the progress of a pull after its tree head was taken, with the view and the next get, if any
 pub record IsBehindHead (digest : List ℕ → List ℕ) (keys : List Key) (v : View)
     (replies : List Reply) (w : View) (next : Option Path) : Type 0 where
   pub note : List ℕ
@@ -267,8 +267,8 @@ pub record IsBehindHead (digest : List ℕ → List ℕ) (keys : List Key) (v : 
       (plus digest v (item.Head note rows)) rest w next
   pub replies_are : replies ≡ first ++ rest
 
--- how a pull ends early, by its fault: before its head, whose rows were asked for, by the take of its
--- head, or in its rounds
+-- an early end of a pull, by its fault: before its tree head, whose rows were requested, at the
+-- take of its tree head, or in its rounds
 pub data EndsEarly (digest : List ℕ → List ℕ) (keys : List Key) (v w : View)
     : PullFault → List Reply → List Path → Type 0 where
   EndsAsking : {fault : PullFault} {replies : List Reply} {tried : List Path} → w ≡ v →
@@ -288,14 +288,14 @@ pub data EndsEarly (digest : List ℕ → List ℕ) (keys : List Key) (v w : Vie
 
 module _ (digest : List ℕ → List ℕ) (keys : List Key) (v w : View)
     (may : Path → Option (List ℕ) → Type 0) (old new : Option (List Path)) where
-  -- the source was asked for these paths and no others, and may have replied so
+  -- the source got exactly these requests, and may have given these replies
   pub record Replied (replies : List Reply) : Type 0 where
     pub may_reply : MayReply may replies
     pub recorded : AddsToRecord old new (asked_paths replies)
 
-  -- a pull that went well: the checkpoint and the rows of its edge were found and taken, then came
-  -- so many rounds, after which nothing was left, or which were eight; the replies of all of them
-  -- that were refused are counted, up to the last value of a u64
+  -- a successful pull. The checkpoint and the rows of its right edge were found and taken, then
+  -- came the given number of rounds. Nothing was left after them, or there were eight. The number
+  -- of refused replies is counted, up to the last value of a u64
   pub record IsPulledBy (p : Pulled) : Type 0 where
     pub note : List ℕ
     pub edge : List Reply
@@ -312,7 +312,7 @@ module _ (digest : List ℕ → List ℕ) (keys : List Key) (v w : View)
     pub refused : p.refused ≡ min many (2 ^ 64 - 1)
     pub replied : Replied (reply Checkpoint (Some note) ∷ edge ++ replies)
 
-  -- why no edge was found: the checkpoint was found and is valid, and some row of its edge was not
+  -- the right edge was not found: the checkpoint was found and is valid, but some row was not found
   pub record HasNoEdge : Type 0 where
     pub note : List ℕ
     pub checkpoint : Read
@@ -321,13 +321,13 @@ module _ (digest : List ℕ → List ℕ) (keys : List Key) (v w : View)
     pub not_given : GivesNoRows (Checkpoint ∷ []) (edge_of checkpoint.size) edge
     pub replied : Replied (reply Checkpoint (Some note) ∷ edge)
 
-  -- the head's note was refused, and nothing was asked for behind it
+  -- the note of the tree head was refused, and no path was requested after it
   pub record HasRefusedNote (f : TakeFault) : Type 0 where
     pub note : List ℕ
     pub refused : ReadsHead note v.origin keys (Err f)
     pub replied : Replied (reply Checkpoint (Some note) ∷ [])
 
-  -- the head was refused with the rows of its edge
+  -- the tree head was refused with its edge rows
   pub record HasRefusedRows (f : TakeFault) : Type 0 where
     pub note : List ℕ
     pub checkpoint : Read
@@ -338,7 +338,7 @@ module _ (digest : List ℕ → List ℕ) (keys : List Key) (v w : View)
     pub refused : JudgesHead digest v.origin keys note rows (Err f)
     pub replied : Replied (reply Checkpoint (Some note) ∷ edge)
 
-  -- what each answer of a pull says of the replies
+  -- when a pull may return each answer, by the replies
   abbrev pub FollowsReplies : Result Pulled PullFault → Type 0
   FollowsReplies (Ok p) = IsPulledBy p
   FollowsReplies (Err NoCheckpoint) = Replied (reply Checkpoint None ∷ [])
@@ -350,7 +350,7 @@ module _ (digest : List ℕ → List ℕ) (keys : List Key) (v w : View)
 
 -- ---- parts of a pull
 
--- a part of a pull asked for some paths, by which its list grew, and the replies are such
+-- a part of a pull requested some paths, its list grew by them, and the replies have the property
 pub record Gathers (may : Path → Option (List ℕ) → Type 0) (old new : Option (List Path))
     (before after : List Path) (Are : List Reply → Type 0) : Type 0 where
   pub replies : List Reply
@@ -359,18 +359,18 @@ pub record Gathers (may : Path → Option (List ℕ) → Type 0) (old new : Opti
   pub list : after ≡ with_replies before replies
   pub recorded : AddsToRecord old new (asked_paths replies)
 
--- this get comes next, and nothing was replied behind those before
+-- this get is next, and no reply came before it
 abbrev pub ComesNext : List Path → Path → List Reply → Option Path → Type 0
 ComesNext asked path replies next =
     (¬ Contains asked path) × (replies ≡ []) × (next ≡ Some path)
 
--- a path was not found, if it was asked for, and its next get comes
+-- a path was not found, if it was requested, and its next get is next
 abbrev pub IsInPath : (List ℕ → List ℕ) → List Path → View → Path → List Reply → View →
     Option Path → Type 0
 IsInPath digest asked v path replies w next =
     AsksNext asked (path ∷ []) replies next × TakesReplies digest v replies 0 w
 
--- a fault of a head says why it was refused
+-- the fault of a tree head is the reason why it was refused
 abbrev pub RefusesHead : (List ℕ → List ℕ) → List ℕ → List Key → List ℕ → List (List ℕ) →
     PullFault → Type 0
 RefusesHead digest origin keys note rows NoCheckpoint = ⊥
@@ -380,18 +380,19 @@ RefusesHead digest origin keys note rows Source = ⊥
 RefusesHead digest origin keys note rows Collision = ⊤
 RefusesHead digest origin keys note rows OutOfMemory = ⊤
 
--- how many replies were refused, of one
+-- the number of refused replies: 1 if it was refused, and 0 otherwise
 abbrev pub one_if : Bool → ℕ
 one_if false = 0
 one_if true = 1
 
--- a path was asked for, and what was found was taken or refused
+-- a path was requested, and its file, if found, was taken or refused
 pub record IsWorkedPath (digest : List ℕ → List ℕ) (asked : List Path) (v : View) (path : Path)
     (refused : Bool) (w : View) (replies : List Reply) : Type 0 where
   pub asks : AsksPath asked path replies
   pub takes : TakesReplies digest v replies (one_if refused) w
 
--- so were the paths of a list; the count of what was refused goes up to the last value of a u64
+-- the paths of a list were requested, and their files taken or refused; the number of refusals is
+-- counted up to the last value of a u64
 pub record IsWorkedList (digest : List ℕ → List ℕ) (asked : List Path) (v : View)
     (paths : List Path) (refused : ℕ) (w : View) (replies : List Reply) : Type 0 where
   pub many : ℕ
@@ -408,26 +409,25 @@ pub record AreWorkedRounds (digest : List ℕ → List ℕ) (size : ℕ) (root :
   pub rounds_are : ArePullRounds digest size root asked v replies rounds many w
   pub ended : (rounds ≡ 8) ⊎ IsLeftToAsk digest size root (with_replies asked replies) w []
 
--- what is left is listed, of a head that is held
+-- the list has the paths that are left for a tree head that is held
 abbrev pub ListsLeft : {E : Type 0} → (List ℕ → List ℕ) → ℕ → List ℕ → List Path → View →
     Result (List Path) E → Type 0
 ListsLeft digest size root asked v result =
     IfOk result (λ left. HasHead v size root → IsLeftToAsk digest size root asked v left)
 
--- ---- answers of parts of a pull, and what was replied
+-- ---- answers of parts of a pull, by the replies
 
 module _ (may : Path → Option (List ℕ) → Type 0) (old new : Option (List Path))
     (before after : List Path) where
-  -- what was found at a path was replied, or it was asked for before; a fault says that its get
-  -- was not answered
+  -- the reply for a path, or None if it was requested before. For a fault, its get was not answered
   abbrev pub AskFollows : Path → Result (Option (List ℕ)) PullFault → Type 0
   AskFollows path result =
       MatchResult result
       (λ found. Gathers may old new before after (λ replies. Asks before path replies found))
       (λ e. EndsWith may old new (IsUnanswered (ComesNext before path) e))
 
-  -- the row of a path of the edge is of the replies, which at NoEdge give none; another fault says
-  -- that a get for it was not answered
+  -- the row of a path of the right edge follows from the replies. For NoEdge, they give no row; for
+  -- another fault, a get for it was not answered
   abbrev pub RowFollows : Path → Result (List ℕ) PullFault → Type 0
   RowFollows path result =
       MatchResult result
@@ -436,7 +436,7 @@ module _ (may : Path → Option (List ℕ) → Type 0) (old new : Option (List P
       (λ replies. GivesNoRow before path replies)) ×
       (e ≢ NoEdge → EndsWith may old new (IsUnanswered (AsksNext before (path ∷ [])) e)))
 
-  -- so are the rows of several paths
+  -- the rows of several paths follow from the replies
   abbrev pub RowsFollow : List Path → Result (List (List ℕ)) PullFault → Type 0
   RowsFollow paths result =
       MatchResult result
@@ -445,8 +445,8 @@ module _ (may : Path → Option (List ℕ) → Type 0) (old new : Option (List P
       (λ replies. GivesNoRows before paths replies)) ×
       (e ≢ NoEdge → EndsWith may old new (IsUnanswered (IsInRows before paths) e)))
 
-  -- what was replied for a path was taken or refused, which the answer tells; a fault says how that
-  -- ended early
+  -- the reply for a path was taken, or refused if the answer is true. For a fault, the path ended
+  -- early in this way
   abbrev pub PathFollows : (List ℕ → List ℕ) → View → Path → View → Result Bool PullFault → Type 0
   PathFollows digest v path w result =
       MatchResult result
@@ -455,7 +455,8 @@ module _ (may : Path → Option (List ℕ) → Type 0) (old new : Option (List P
       (λ e. EndsWith may old new
       (λ replies tried. StopsTaking digest (IsInPath digest before v path) e replies tried w))
 
-  -- so was what was replied for several paths, and the answer tells how much was refused
+  -- the replies for several paths were taken or refused, and the answer is the number of refused
+  -- ones
   abbrev pub PathsFollow : (List ℕ → List ℕ) → View → List Path → View → Result ℕ PullFault → Type 0
   PathsFollow digest v paths w result =
       MatchResult result
@@ -464,7 +465,8 @@ module _ (may : Path → Option (List ℕ) → Type 0) (old new : Option (List P
       (λ e. EndsWith may old new
       (λ replies tried. StopsTaking digest (IsInRound digest before paths v) e replies tried w))
 
-  -- so many rounds were worked for a head that is held, and so much was refused in them
+  -- the answer has the number of rounds that were worked for a held tree head, and the number of
+  -- replies refused in them
   abbrev pub RoundsFollow : (List ℕ → List ℕ) → ℕ → List ℕ → View → View →
       Result (ℕ × ℕ) PullFault → Type 0
   RoundsFollow digest size root v w result =

@@ -1,4 +1,4 @@
-//! Asking a source for paths, none twice.
+//! Requests paths from a source, each at most once.
 ghost use Rattle.std.specs.Prelude.{◌≡◌, ◌↔◌, IsTrue, IfOk, Contains, option_map, ◌++◌, ◌∷◌, []};
 ghost use Rattle.tlog_text.specs.Answers.{seen};
 ghost use Rattle.mirror_pull.specs.Asking.{AsksPaths, BlamesSource};
@@ -12,7 +12,7 @@ use crate::fault::PullFault;
 use mirror_sources::Source;
 use tlog_tiles::Path;
 
-/// The path of the full tile or bundle of the place.
+/// The path of the full tile or bundle with the same level and index.
 pub(crate) fn full_path(path: Path) -> Path
     ensures { result ≡ full_of path }
 {
@@ -27,7 +27,7 @@ pub(crate) fn full_path(path: Path) -> Path
     }
 }
 
-/// How many hashes or entries the path names.
+/// The number of hashes or entries in the file of the path.
 pub(crate) fn path_width(path: Path) -> u32
     ensures { result ≡ width_named path }
 {
@@ -38,14 +38,14 @@ pub(crate) fn path_width(path: Path) -> u32
     }
 }
 
-/// Whether the path is among those asked for.
+/// Whether the path was requested before.
 pub(crate) fn is_asked(asked: &AskedPaths, path: &Path) -> bool
     ensures { IsTrue result ↔ Contains asked.now.items path.now }
 {
     asked.contains(path)
 }
 
-/// Asks for a path. One that was asked for already counts as not found.
+/// Requests a path. A path that was requested before counts as not found.
 pub(crate) fn ask<S: Source>(
     source: &mut S,
     asked: &mut AskedPaths,

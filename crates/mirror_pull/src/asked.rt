@@ -1,4 +1,4 @@
-//! The paths that a pull has asked for.
+//! The paths that a pull has requested.
 ghost use Rattle.std.specs.Prelude.{◌≡◌, ◌↔◌, IsTrue, OnOk, OnErr, Contains, ◌++◌, ◌∷◌, []};
 
 use std::alloc::{AllocError, Global};
@@ -6,7 +6,7 @@ use std::collections::HashSet;
 use std::marker::Model;
 use tlog_tiles::Path;
 
-// The paths that were asked for, in their order, none twice. The set has the same, so that one is found at once.
+// The requested paths, in order and each once. The set has the same paths, so that a search is fast.
 #[derive(Drop)]
 pub(crate) struct AskedPaths {
     items: Vec<Path>,
@@ -25,7 +25,7 @@ impl Model for AskedPaths {
 }
 
 impl AskedPaths {
-    // None. It takes no memory.
+    // The empty list. It allocates no memory.
     pub(crate) fn new(alloc: Global) -> Self
         ensures items { result.items ≡ [] }
     {
@@ -35,14 +35,13 @@ impl AskedPaths {
         }
     }
 
-    // Whether the path was asked for.
     pub(crate) fn contains(&self, path: &Path) -> bool
         ensures { IsTrue result ↔ Contains self.now.items path.now }
     {
         self.found.contains(path)
     }
 
-    // Adds a path that was not asked for yet.
+    // Adds a path that was not requested yet.
     pub(crate) fn push(&mut self, path: Path) -> Result<(), AllocError>
         requires { ¬ Contains self.old.items path }
         ensures items { OnOk result (self.new.items ≡ self.old.items ++ path ∷ []) }

@@ -17,7 +17,7 @@ use tlog_tiles::{Path, edge_paths};
 
 const FULL_TILE: usize = 8192;
 
-/// The bytes of a partial tile: as they are found, or else the first hashes of the full tile.
+/// The bytes of a partial tile: its file or, if that is not found, the first hashes of the full tile.
 fn edge_row<S: Source>(
     source: &mut S,
     asked: &mut AskedPaths,
@@ -46,8 +46,8 @@ fn edge_row<S: Source>(
     Ok(bytes)
 }
 
-/// The edge rows of a tree of that size, lowest level first. Before the first get the source is given a hint of all of
-/// them.
+/// The edge rows of a tree of that size, lowest level first. Before the first get, the source gets a hint with all their
+/// paths.
 pub(crate) fn edge_rows<S: Source>(
     alloc: Global,
     source: &mut S,

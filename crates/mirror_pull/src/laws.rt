@@ -1,33 +1,31 @@
-//! Laws of honest rounds, of how many rounds a pull counts, of what it keeps, and of pulls again and again.
+//! Laws of honest rounds, of the number of rounds that a pull counts, of growth, and of repeated pulls.
 ghost use Rattle.mirror_pull.specs.GrowthLaws.{PullsKeepHeads};
 ghost use Rattle.mirror_pull.specs.Repeated.{PullsFetchFilesOnce};
 ghost use Rattle.mirror_pull.specs.PullLaws.{HonestRoundIsRound, HonestRoundsAreFew, NoRoundAsksNothing};
 
-/// An honest round is one that takes the front.
+/// A round of a pull from an honest source takes the front.
 pub fn front_round_law()
     ensures { HonestRoundIsRound }
 {}
 
-/// Honest rounds whose front is not empty are no more than the greatest level that has a partial tile, or
-/// one.
+/// An honest pull has at most `max(1, top)` rounds, if `top` is the greatest level with a partial tile.
 pub fn front_rounds_law()
     ensures { HonestRoundsAreFew }
 {}
 
-/// Rounds are none exactly where nothing was asked for in them, so a pull counts 0 of them exactly where it asks for
-/// nothing behind the rows of the edge.
+/// A pull counts no rounds exactly if it requests nothing after the rows of the right edge.
 pub fn no_round_law()
     ensures { NoRoundAsksNothing }
 {}
 
-/// After any pull, whatever it answers, what was complete stays complete with the same entries, and with
-/// no others while nothing collides; a fork stays one.
+/// After any pull, for every answer, complete tree heads stay complete with the same entries, and with no others as long as
+/// nothing collides. A fork stays a fork.
 pub fn pull_growth_law()
     ensures { PullsKeepHeads }
 {}
 
-/// Pulls of one log, one after another, fetch no file twice: together they fetch at most as many as the log has. So
-/// that many pulls at most are left by an honest source behind the edge with a file that they fetched.
+/// Repeated pulls of one log fetch no file twice. Together they fetch at most as many files as the log has. So at most that
+/// many pulls can fetch a file after the right edge before an honest source fails.
 pub fn fetched_once_law()
     ensures { PullsFetchFilesOnce }
 {}

@@ -1,9 +1,9 @@
-//! Gathering one log from one source into a mirror (C2SP tlog-tiles).
+//! Fetches one log from one source into a mirror (C2SP tlog-tiles).
 //!
 //! ```text
 //! let mut source = DirSource::new(&rt, alloc, "examples/log");
 //! let pulled = pull(alloc, &mut mirror, &keys, &mut source)?;
-//! if pulled.complete { /* all entries of the head of pulled.size are held */ }
+//! if pulled.complete { /* all entries of the tree head with pulled.size are held */ }
 //! ```
 #![tactic(auto)]
 

@@ -1,4 +1,4 @@
-//! Pulling a log from one source.
+//! Pulls a log from one source.
 ghost use Rattle.std.specs.Prelude.{[], List, map, IfErr};
 ghost use Rattle.mirror_model.specs.declared.items.Item.TheVariants.{Head};
 ghost use Rattle.mirror_pull.specs.Asking.{AddsSome, BlamesSource};
@@ -23,22 +23,22 @@ use tlog_hash::{Hash, TreeHash};
 use tlog_mirror::Mirror;
 use tlog_tiles::Path;
 
-/// What a pull came to.
+/// The result of a pull.
 #[derive(Debug, Drop, PartialEq, Eq, Clone, Copy)]
 pub struct Pulled {
-    /// The size of the head that was pulled.
+    /// The size of the pulled tree head.
     pub size: u64,
-    /// Its root.
+    /// Its root hash.
     pub root: Hash,
-    /// How many rounds asked for something.
+    /// The number of rounds that requested a path.
     pub rounds: u32,
-    /// How many replies were refused for what they are.
+    /// The number of replies that were refused because they are not valid.
     pub refused: u64,
-    /// Whether the head is complete.
+    /// Whether the tree head is complete.
     pub complete: bool,
 }
 
-/// Takes a head that was opened, with those rows, and notes what is held of each head.
+/// Takes a tree head that was opened, with those rows, and then remembers which parts of each tree head are held.
 fn take_rows<H: TreeHash>(
     alloc: Global,
     mirror: &mut Mirror<H>,
@@ -58,12 +58,12 @@ fn take_rows<H: TreeHash>(
     Ok(())
 }
 
-/// Gathers what a source has of its newest head: the checkpoint, the rows of its edge, and then, in at most 8 rounds,
-/// what is missing of it (C2SP tlog-tiles, "Checkpoints", "Merkle Tree", "Log Entries" and "Partial Tiles").
+/// Fetches the newest tree head of a source: the checkpoint, the rows of its right edge, and then its missing files in at
+/// most 8 rounds (C2SP tlog-tiles, "Checkpoints", "Merkle Tree", "Log Entries" and "Partial Tiles").
 ///
-/// A round asks for each missing path that this pull has not asked for, and takes what comes. No path is asked for
-/// twice. Where a partial path is not found the full one is asked for at once; of a full tile the first hashes are
-/// taken. A reply that is no row or bundle of its width is passed over, and counts in `refused`.
+/// A round requests each missing path that this pull has not requested, and takes the replies. No path is requested twice.
+/// If a partial path is not found, its full path is requested next. For an edge row, the pull takes the first hashes of a
+/// full tile. A reply that is not a row or bundle of its width is skipped and counts in `refused`.
 ///
 /// ```
 /// let pulled = pull(alloc, &mut mirror, &keys, &mut source)?;
@@ -74,10 +74,10 @@ fn take_rows<H: TreeHash>(
 ///
 /// # Errors
 ///
-/// The mirror is as it was after these: `NoCheckpoint`, where the checkpoint is not found; `NoEdge`, where a row of the
-/// edge is not found, nor a full tile of 8,192 bytes; `Head`, with the first refusal of `take_head` that applies. After
-/// the others the items taken so far stand: `Source`, where the last get failed; `Collision`, where the last item is
-/// valid and collides with what is held, and is not taken; `OutOfMemory`, where memory was refused.
+/// The mirror is unchanged after `NoCheckpoint`, `NoEdge` and `Head`. `NoCheckpoint`: the checkpoint was not found.
+/// `NoEdge`: neither a row of the right edge nor a full tile of 8,192 bytes was found. `Head`: the first refusal of
+/// `take_head` that applies. After the other faults, the mirror keeps the items that it took. `Source`: the last get failed.
+/// `Collision`: the last item is valid but collides with held strings, and was not taken. `OutOfMemory`: memory was refused.
 pub fn pull<H: TreeHash, S: Source>(
     alloc: Global,
     mirror: &mut Mirror<H>,

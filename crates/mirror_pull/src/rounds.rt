@@ -18,10 +18,10 @@ use tlog_hash::{Hash, TreeHash};
 use tlog_mirror::Mirror;
 use tlog_tiles::Path;
 
-// A hint has at most so many paths, so that a round takes time in proportion to its paths.
+// The greatest number of paths in a hint, so that the time of a round is proportional to its paths.
 const MOST_HINTED: usize = 64;
 
-/// What a fault of a tile or a bundle means to a pull.
+/// The answer of a pull to the fault of a tile or bundle.
 fn refusal_of(fault: TakeFault) -> Result<bool, PullFault>
     ensures { result ≡ refused_of_fault fault }
 {
@@ -32,7 +32,7 @@ fn refusal_of(fault: TakeFault) -> Result<bool, PullFault>
     }
 }
 
-/// Whether a tile or a bundle was refused for what it is.
+/// Whether the tile or bundle was refused because it is not valid.
 fn refusal(taken: Result<(), TakeFault>) -> Result<bool, PullFault>
     ensures { result ≡ refused_of taken }
 {
@@ -42,7 +42,7 @@ fn refusal(taken: Result<(), TakeFault>) -> Result<bool, PullFault>
     }
 }
 
-/// Takes what was found at a path; true where it was refused for what it is.
+/// Takes the bytes at a path; true if they were refused because they are not valid.
 fn take_found<H: TreeHash>(
     alloc: Global,
     mirror: &mut Mirror<H>,
@@ -59,8 +59,8 @@ fn take_found<H: TreeHash>(
     }
 }
 
-/// Asks for a path and takes what is found; true where it was refused for what it is. For a partial
-/// path that is not found the full one is asked for at once.
+/// Requests a path and takes its bytes; true if they were refused because they are not valid. If a partial path is not
+/// found, its full path is requested next.
 fn take_path<H: TreeHash, S: Source>(
     alloc: Global,
     mirror: &mut Mirror<H>,
@@ -91,7 +91,7 @@ fn take_path<H: TreeHash, S: Source>(
     }
 }
 
-// The paths from that place on, as many as a hint has.
+// The paths from that position on, at most as many as a hint may have.
 fn next_paths(paths: &[Path], at: usize) -> &[Path] {
     let Some(rest) = paths.get(at..) else {
         return &[];
@@ -99,7 +99,7 @@ fn next_paths(paths: &[Path], at: usize) -> &[Path] {
     &rest[..rest.len().min(MOST_HINTED)]
 }
 
-/// DecidesFork the source which paths come next, and does `take_path` for that one.
+/// Gives the source a hint of the next paths, and does `take_path` for the first.
 fn take_next<H: TreeHash, S: Source>(
     alloc: Global,
     mirror: &mut Mirror<H>,
@@ -125,8 +125,8 @@ fn take_next<H: TreeHash, S: Source>(
     take_path(alloc, mirror, source, asked, path)
 }
 
-/// One round: each path of the list is asked for, and what is found is taken. How many replies were
-/// refused for what they are.
+/// One round: requests each path of the list and takes the bytes that are found. The result is the number of replies that
+/// were refused because they are not valid.
 fn work_round<H: TreeHash, S: Source>(
     alloc: Global,
     mirror: &mut Mirror<H>,
@@ -159,15 +159,15 @@ fn work_round<H: TreeHash, S: Source>(
     Ok(refused)
 }
 
-/// Notes what is held of each head, so that no later walk goes into that again. Where memory is refused a later walk
-/// does.
+/// Remembers which parts of each tree head are held, so that no later walk visits them again. If memory is refused, a later
+/// walk visits them.
 pub(crate) fn note_held<H: TreeHash>(alloc: Global, mirror: &mut Mirror<H>)
     ensures { mirror.new.view ≡ mirror.old.view }
 {
     let _ = mirror.note_heads(alloc);
 }
 
-/// Does `work_round`, and then notes what is held.
+/// Does `work_round`, and then remembers the held parts.
 fn work_noted<H: TreeHash, S: Source>(
     alloc: Global,
     mirror: &mut Mirror<H>,
@@ -193,7 +193,7 @@ fn work_noted<H: TreeHash, S: Source>(
     worked
 }
 
-/// The paths that are missing of a head and were not asked for yet.
+/// The missing paths of a tree head that were not requested yet.
 fn paths_to_ask<H: TreeHash>(
     alloc: Global,
     mirror: &Mirror<H>,
@@ -219,7 +219,7 @@ fn paths_to_ask<H: TreeHash>(
     Ok(paths)
 }
 
-/// At most 8 rounds. How many asked for something, and how many replies were refused.
+/// At most 8 rounds. The result is the number of rounds that requested a path, and the number of refused replies.
 pub(crate) fn work<H: TreeHash, S: Source>(
     alloc: Global,
     mirror: &mut Mirror<H>,

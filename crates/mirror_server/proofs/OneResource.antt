@@ -1,4 +1,4 @@
--- A target names one resource.
+-- A target names at most one resource.
 use Rattle.std.proofs.Common.{◌≡◌, ℕ, ◌==◌, Bool, false, List, [], ◌∷◌, ◌++◌, get_or, Ok, refl, sym, ap, subst, ◌∙◌}
 use Rattle.std.proofs.Common.{if◌then◌else◌, codes, arith}
 use Rattle.std.specs.Str.{bytes_eq}
@@ -32,7 +32,7 @@ digits_lack_slash (d ∷ ds) h =
 pub number_lacks_slash : (text : List ℕ) (n : ℕ) → IsNumber text n → HasNoSlash text
 number_lacks_slash text n is = digits_lack_slash text is.is_decimal.numeral.1
 
--- the two texts behind a prefix are known, where no slash stands in the first
+-- the two texts after a prefix are unique, if the first contains no slash
 pub one_cut : (front target a b c d : List ℕ) → HasTwo front target a b → HasTwo front target c d → HasNoSlash a →
     HasNoSlash c → (a ≡ c) × (b ≡ d)
 one_cut front target a b c d p q x y =
@@ -79,7 +79,7 @@ one_file target a b p q =
 
 -- ---- kinds
 
--- by two of its bytes a target tells what kind it names
+-- two bytes of a target determine the kind of its resource
 abbrev mark_in : List ℕ → ℕ
 mark_in target = if get_or target 1 0 == 109 then get_or target 8 0 else 0
 
@@ -155,18 +155,18 @@ one_resource target a b p q = same_kind target a b (sym (mark_is target a p) ∙
 
 -- ---- hexadecimal
 
--- what decodes to a hash
+-- digits of a hash decode to that hash
 pub decoded : (digits hash : List ℕ) → IsHexHash digits hash → decode_sized digits 32 ≡ Ok hash
 decoded digits hash is = ap (λ (t : List ℕ). decode_sized t 32) is.is_hex
     ∙ decode_sized-encode_lower hash 32 is.is_hash.are_32 is.is_hash.are_bytes
 
--- ---- what names nothing
+-- ---- targets without a resource
 
--- texts that a test tells apart
+-- a test showed that the texts differ
 pub unequal : (a b : List ℕ) (r : Bool) → r ≡ bytes_eq a b → r ≡ false → a ≡ b → ⊥
 unequal a b r is other same = let yes = (bytes_eq-Decides a b).1 same in absurd (cc (is, other, yes))
 
--- no resource is named where none of each kind is
+-- the target names no resource, if it names none of each kind
 pub names_none :
     (target : List ℕ) → (Names target Status → ⊥) → (Names target Forks → ⊥) →
     ((n : ℕ) (root : List ℕ) → Names target (Missing n root) → ⊥) →

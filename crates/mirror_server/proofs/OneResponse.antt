@@ -1,4 +1,4 @@
--- The bytes that a client gives have one reply.
+-- The bytes from a client have only one reply.
 use Rattle.std.proofs.Common.{◌≡◌, ℕ, List, [], ◌∷◌, length, take, Result, Ok, refl, sym, ap, subst, ◌∙◌, arith}
 use Rattle.std.proofs.lemmas.List.{length-append}
 use Rattle.httparse.proofs.GrammarLemmas.{request_unique}

@@ -1,4 +1,4 @@
--- From what was asked for to what is answered.
+-- From the request to its reply.
 use Rattle.std.proofs.Common.{◌≡◌, ℕ, List, [], ◌∷◌, Option, Some, None, codes, refl, sym, subst, ap, ◌∙◌}
 use Rattle.std.specs.Prelude.{IfSome, IsUtf8}
 use Rattle.httparse.specs.Spans.{span_bytes}
@@ -15,9 +15,9 @@ use Rattle.mirror_server.specs.declared.request.Request.TheVariants.{Nothing, Un
 use Rattle.mirror_server.specs.declared.resource.Resource.{Resource}
 use Rattle.mirror_server.proofs.OneResource.{one_resource}
 
--- ---- what is asked for
+-- ---- the request
 
--- a request by GET is for what its target is for
+-- a GET request is for what its target names
 pub for_get : (method target : List ℕ) (request : Request) → method ≡ codes "GET" → IsForTarget target request →
     IsForHead method target request
 for_get method target Nothing get is = absurd is
@@ -62,7 +62,7 @@ module _ (buf : List ℕ) (seen : Received) where
   asks_for (Some all) method target m t request s h mm same is =
       of_head all method target m t request (subst (λ (x : Received). SeesIn all buf x) s h) mm same is
 
--- ---- what is answered
+-- ---- the reply
 
 module _ (IsBodyOf : Resource → List ℕ → Type 0) where
   -- a target that names no resource is not found
@@ -77,7 +77,7 @@ module _ (IsBodyOf : Resource → List ℕ → Type 0) where
       none is.body (subst (λ (r : Resource). IsBodyOf r is.body)
       (one_resource target is.resource resource is.names names) is.is_body)
 
-  -- the reply to what was asked for is the response
+  -- the reply to the request is the response
   pub responds : (bytes : List ℕ) (request : Request) (body : Option (List ℕ)) → IsRequestOf bytes request →
       IsBodyFor IsBodyOf request body → ResponseBy IsBodyOf bytes (reply_with request body)
   responds bytes Nothing body is has = subst (λ (b : List ℕ). ResponseBy IsBodyOf b []) (sym is) silent
@@ -96,7 +96,7 @@ module _ (IsBodyOf : Resource → List ℕ → Type 0) where
         reply_is = refl;
       }))
 
-  -- the same of bytes that may not be known
+  -- the same for bytes that may be unknown
   pub responds_to : (known : Option (List ℕ)) (request : Request) (body : Option (List ℕ)) (reply : List ℕ) →
       IfSome known (λ bytes. IsRequestOf bytes request) → IsBodyFor IsBodyOf request body →
       reply ≡ reply_with request body → IfSome known (λ bytes. ResponseBy IsBodyOf bytes reply)
@@ -104,7 +104,7 @@ module _ (IsBodyOf : Resource → List ℕ → Type 0) where
   responds_to (Some bytes) request body reply is has e =
       subst (λ (r : List ℕ). ResponseBy IsBodyOf bytes r) (sym e) (responds bytes request body is has)
 
--- a reply that was written
+-- the reply was written
 pub given_reply : (Replies : List ℕ → List ℕ → Type 0) (Writes : List ℕ → Type 0) (known : Option (List ℕ))
     (reply written : List ℕ) → IfSome known (λ bytes. Replies bytes reply) → written ≡ reply → Writes written →
     IfSome known (λ bytes. (one : List ℕ) × Replies bytes one × Writes one)

@@ -1,4 +1,4 @@
--- What a reader gave, and what all its bytes are.
+-- The bytes that a reader gave, and all its bytes.
 use Rattle.std.proofs.Common.{◌≡◌, ℕ, ◌+◌, ◌-◌, ◌<◌, ◌≤◌, List, [], ◌∷◌, ◌++◌, length, take, Option, Some, None, refl}
 use Rattle.std.proofs.Common.{sym, ap, subst, ◌∙◌, append_assoc, arith}
 use Rattle.std.specs.Prelude.{IfSome}
@@ -16,9 +16,9 @@ use Rattle.mirror_server.specs.Looks.{HasRequestAt, ReadsMore, ReadsEnd, ReadsNo
 use Rattle.mirror_server.specs.declared.limits.TheConstants.{MAX_FIELDS, MAX_HEAD_LEN}
 use Rattle.mirror_server.specs.declared.head.Received.TheVariants.{Nothing, NoHead, Head}
 
--- ---- the bytes of a head and those behind them
+-- ---- the bytes of a head and the bytes after them
 
--- the first bytes go on after those that were read
+-- the first bytes continue after those that were read
 front_of : (xs ys : List ℕ) → length xs ≤ MAX_HEAD_LEN →
     take MAX_HEAD_LEN (xs ++ ys) ≡ xs ++ take (MAX_HEAD_LEN - length xs) ys
 front_of xs ys le =
@@ -35,7 +35,7 @@ bad_head xs ys le over h has =
     (subst (λ (b : List ℕ). ReadsRequest b h has.rest) (front_of xs ys le) has.reads) in
     absurd (omega (arith, far, has.few))
 
--- ---- what is seen
+-- ---- the received head
 
 pub sees_nothing : (known cur : Option (List ℕ)) (buf : List ℕ) → Consumes known cur [] → IsAtEnd cur →
     IfSome known (λ all. SeesIn all buf Nothing)
@@ -99,7 +99,7 @@ sees_head (Some all) (Some ys) xs method target le c l =
       l.target_is,
     )
 
--- bytes that were read, among which there is no head, when a read failed
+-- a read failed, and the bytes before it contain no head
 pub fails_before : (known cur : Option (List ℕ)) (xs : List ℕ) → Consumes known cur xs →
     length xs < MAX_HEAD_LEN → (0 < length xs → HasNoRequest xs) → FailsBeforeHead known cur
 fails_before known cur xs c lt none =
@@ -111,7 +111,7 @@ fails_before known cur xs c lt none =
           (subst (λ (b : List ℕ). ReadsRequest b h has.rest) (take_all MAX_HEAD_LEN xs (omega (arith, lt))) has.reads);
     }
 
--- ---- one read more
+-- ---- one more read
 
 module _ (a b c : Option (List ℕ)) (old new : List ℕ) where
   pub taken_more : Consumes a b old → ReadsMore b c old new → Consumes a c new

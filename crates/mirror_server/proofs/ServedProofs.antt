@@ -1,4 +1,4 @@
--- Proofs of what is served, and where there is none.
+-- Proofs of the served entries, and sizes without a proof.
 use Rattle.std.proofs.Common.{◌≡◌, ◌≤◌, ℕ, List, subst, sym, ◌∙◌, arith}
 use Rattle.mirror_model.specs.View.{View}
 use Rattle.node_store.specs.Strings.{Strings}
@@ -7,7 +7,7 @@ use Rattle.mirror_model.specs.Served.{IsCompleteNote, IsServedList, Served}
 use Rattle.mirror_model.proofs.OneLists.{at_most_both}
 use Rattle.tlog_mirror.specs.Tops.{IsListOf, IsServedTop, Top}
 
--- what is found once stands for each list that is served
+-- the list of a served checkpoint is each list that is served
 pub listed_by_top : (digest : List ℕ → List ℕ) (v : View) (top : Top) → IsServedTop digest v top →
     (entries : List (List ℕ)) → IsServedList digest v entries → IsListOf digest top entries
 listed_by_top digest v top is entries q =

@@ -1,4 +1,4 @@
--- What the calls that answer a client do. The contracts of private functions alone cite
+-- The effects of the calls that answer a client. Only contracts of private functions cite
 -- `head_of_reply` and `empty_text`.
 use Rattle.std.specs.Prelude.{◌≡◌, ◌≢◌, ℕ, ◌<◌, List, [], ◌∷◌, ◌++◌, length, Option, Some, None, ⊤}
 use Rattle.std.specs.Prelude.{Result, Ok, Err, IsUtf8, codes}
@@ -20,7 +20,7 @@ use Rattle.mirror_server.specs.declared.fault.HttpFault.{HttpFault}
 use Rattle.mirror_server.specs.declared.fault.HttpFault.TheVariants.{ReadFault, WriteFault}
 use Rattle.mirror_server.specs.declared.fault.HttpFault.TheVariants.{OutOfMemory}
 
--- the head of a reply of that status, with a body of that kind and length
+-- the head of a reply with that status, and with a body of that media type and length
 abbrev pub head_of_reply : ℕ → List ℕ → ℕ → List ℕ
 head_of_reply status kind len =
     codes "HTTP/1.1 "
@@ -29,21 +29,21 @@ head_of_reply status kind len =
     ++ (kind
     ++ (codes "\r\nContent-Length: " ++ (decimal len ++ codes "\r\nConnection: close\r\n\r\n")))))
 
--- a reply of that status and these field lines, without a body
+-- a reply with that status and these field lines, without a body
 abbrev pub empty_text : ℕ → List ℕ → List ℕ
 empty_text status fields =
     codes "HTTP/1.1 "
     ++ (status_text status
     ++ (codes "\r\n" ++ (fields ++ codes "Content-Length: 0\r\nConnection: close\r\n\r\n")))
 
--- the bytes that a client gave before a read failed are fewer than 8,192, and hold no head
+-- the bytes that a client gave before a read failed are fewer than 8,192, and contain no head
 pub record FailsBeforeHead (old new : Option (List ℕ)) : Type 0 where
   pub taken : List ℕ
   pub consumes : Consumes old new taken
   pub within : length taken < MAX_HEAD_LEN
   pub lacks : 0 < length taken → LacksRequest taken
 
--- the bytes ask for that: they begin with the head of a request, with no such head, or there are none
+-- the bytes are that request: they begin with its head, or with no readable head, or they are empty
 abbrev pub IsRequestOf : List ℕ → Request → Type 0
 IsRequestOf bytes Nothing = bytes ≡ []
 IsRequestOf bytes Unreadable =
@@ -56,7 +56,7 @@ IsRequestOf bytes Unknown =
 IsRequestOf bytes (Get resource) =
     (h : RequestHead) × HasRequest bytes h × (h.method ≡ codes "GET") × Names h.target resource
 
--- a request of that target by GET is for that
+-- a GET request with that target is that request
 abbrev pub IsForTarget : List ℕ → Request → Type 0
 IsForTarget target Nothing = ⊥
 IsForTarget target Unreadable = ⊥
@@ -64,7 +64,7 @@ IsForTarget target OtherMethod = ⊥
 IsForTarget target Unknown = IsUtf8 target → (resource : Resource) → ¬ Names target resource
 IsForTarget target (Get resource) = Names target resource
 
--- a request of that method and target is for that
+-- a request with that method and target is that request
 abbrev pub IsForHead : List ℕ → List ℕ → Request → Type 0
 IsForHead method target Nothing = ⊥
 IsForHead method target Unreadable = ⊥
@@ -73,7 +73,7 @@ IsForHead method target Unknown =
     (method ≡ codes "GET") × (IsUtf8 target → (resource : Resource) → ¬ Names target resource)
 IsForHead method target (Get resource) = (method ≡ codes "GET") × Names target resource
 
--- the bytes of what is asked for: those of a resource, or none where it has none
+-- the body for a request: the bytes of its resource, or None if there are none
 abbrev pub IsBodyFor : (Resource → List ℕ → Type 0) → Request → Option (List ℕ) → Type 0
 IsBodyFor IsBodyOf Nothing body = ⊤
 IsBodyFor IsBodyOf Unreadable body = ⊤
@@ -82,7 +82,7 @@ IsBodyFor IsBodyOf Unknown body = ⊤
 IsBodyFor IsBodyOf (Get resource) (Some body) = IsBodyOf resource body
 IsBodyFor IsBodyOf (Get resource) None = (body : List ℕ) → ¬ IsBodyOf resource body
 
--- the reply to what is asked for, where those are the bytes of the resource
+-- the reply to a request, if its resource has that body
 abbrev pub reply_with : Request → Option (List ℕ) → List ℕ
 reply_with Nothing body = []
 reply_with Unreadable body = bad_request
@@ -92,7 +92,7 @@ reply_with (Get resource) (Some body) = found (media_type resource) body
 reply_with (Get resource) None = not_found
 
 module _ (digest : List ℕ → List ℕ) (v : View) where
-  -- what each answer of a server says of all the bytes that its client has to give, and of what was
+  -- when a server may return each answer, by all bytes that its client can give and the bytes
   -- written: the whole reply, a prefix of it, or nothing
   abbrev pub AnswersClient : {X : Type 0} → List ℕ → Option (List ℕ) → Option (List ℕ) →
       Result X HttpFault → Type 0

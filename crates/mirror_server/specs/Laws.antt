@@ -1,4 +1,4 @@
--- What the definitions say, as laws.
+-- Laws of the definitions.
 use Rattle.std.specs.Prelude.{◌≡◌, ℕ, List}
 use Rattle.mirror_model.specs.Complete.{IsLawful}
 use Rattle.mirror_model.specs.Strings.{IsDigest}
@@ -8,31 +8,31 @@ use Rattle.mirror_server.specs.Response.{Response}
 use Rattle.mirror_server.specs.declared.limits.TheConstants.{MAX_HEAD_LEN, MAX_FIELDS}
 use Rattle.mirror_server.specs.declared.resource.Resource.{Resource}
 
--- a target names one resource at most
+-- a target names at most one resource
 abbrev pub TargetsNameOne : Type 0
 TargetsNameOne = (target : List ℕ) (a b : Resource) → Names target a → Names target b → a ≡ b
 
--- a lawful view has one reply at most to the bytes that a client gives
+-- a lawful view has at most one reply to the bytes of a client
 abbrev pub ResponseIsOne : Type 0
 ResponseIsOne =
     (digest : List ℕ → List ℕ) → IsDigest digest → (v : View) → IsLawful digest v →
     (bytes first second : List ℕ) →
     Response digest v bytes first → Response digest v bytes second → first ≡ second
 
--- any view has one reply at least to the bytes that a client gives: that there is none is absurd
+-- any view has at least one reply to the bytes of a client: that there is none is contradictory
 abbrev pub ResponseIsThere : Type 0
 ResponseIsThere =
     (digest : List ℕ → List ℕ) (v : View) (bytes : List ℕ) →
     ¬ ((reply : List ℕ) → ¬ Response digest v bytes reply)
 
--- views that are equal have equal replies to equal bytes
+-- equal views have equal replies to equal bytes
 abbrev pub EqualViewsReplyAlike : Type 0
 EqualViewsReplyAlike =
     (digest : List ℕ → List ℕ) → IsDigest digest → (v w : View) → IsLawful digest v → v ≡ w →
     (bytes others first second : List ℕ) → bytes ≡ others → Response digest v bytes first →
     Response digest w others second → first ≡ second
 
--- how many bytes and how many fields the head of a request has at most
+-- the limits for the head of a request: its length in bytes, and the number of its fields
 pub record HasServerLimits : Type 0 where
   pub head : MAX_HEAD_LEN ≡ 8192
   pub fields : MAX_FIELDS ≡ 64

@@ -1,7 +1,7 @@
--- What may be asked for, and how the target of a request names it (RFC 9110, section 3.1; RFC 9112,
--- section 3.2.1; C2SP tlog-tiles, "Parameters"). Targets are compared byte for byte: nothing is
--- decoded. What stands below `/mirror/` is own. `FindsTwo` is cited by the contract of a private
--- function alone.
+-- The resources of a mirror, and the targets of requests that name them (RFC 9110, section 3.1; RFC
+-- 9112, section 3.2.1; C2SP tlog-tiles, "Parameters"). Targets are compared byte for byte, without
+-- decoding. Targets below `/mirror/` are an own format. Only the contract of a private function
+-- cites `FindsTwo`.
 use Rattle.std.specs.Prelude.{◌≡◌, ℕ, ◌≤◌, List, ◌++◌, codes, Option, MatchOption}
 use Rattle.hex.specs.Hex.{encode_lower}
 use Rattle.tlog_shape.specs.declared.TheConstants.{MAX_SIZE}
@@ -14,28 +14,28 @@ use Rattle.mirror_server.specs.declared.resource.Resource.{Resource}
 use Rattle.mirror_server.specs.declared.resource.Resource.TheVariants.{File, Status, Forks, Missing}
 use Rattle.mirror_server.specs.declared.resource.Resource.TheVariants.{Proof}
 
--- the text is a number: decimal, without leading zeros, and at most 9223372036854775807
+-- the text is a number: decimal, without leading zeros, at most 9223372036854775807
 pub record IsNumber (text : List ℕ) (n : ℕ) : Type 0 where
   pub is_decimal : IsDecimal text n
   pub fits : n ≤ MAX_SIZE
 
--- the text is 32 bytes as 64 hexadecimal digits, in lower case
+-- the text is 32 bytes as 64 hexadecimal digits in lower case
 pub record IsHexHash (text hash : List ℕ) : Type 0 where
   pub is_hash : Is32Bytes hash
   pub is_hex : text ≡ encode_lower hash
 
--- the target is that beginning, and two texts with a slash between them
+-- the target is that prefix, and two texts with a slash between them
 abbrev pub HasTwo : List ℕ → List ℕ → List ℕ → List ℕ → Type 0
 HasTwo front target first second = target ≡ front ++ (first ++ (codes "/" ++ second))
 
--- where the target has two such texts, and the first has no slash, they are found
+-- if the target has two such texts, and the first contains no slash, the result has them
 abbrev pub FindsTwo : {X : Type 0} → (X → List ℕ) → (X → List ℕ) → List ℕ → List ℕ → Option X →
     Type 0
 FindsTwo first_of second_of front target result =
     (first second : List ℕ) → HasNoSlash first → HasTwo front target first second →
     MatchOption result ⊥ (λ found. (first_of found ≡ first) × (second_of found ≡ second))
 
--- the target is that beginning, a number, a slash and another number
+-- the target is that prefix, a number, a slash and another number
 pub record NamesNumbers (front target : List ℕ) (m n : ℕ) : Type 0 where
   pub first : List ℕ
   pub second : List ℕ
@@ -43,7 +43,7 @@ pub record NamesNumbers (front target : List ℕ) (m n : ℕ) : Type 0 where
   pub first_is : IsNumber first m
   pub second_is : IsNumber second n
 
--- the target is that beginning, a size, a slash and a root
+-- the target is that prefix, a size, a slash and a root
 pub record NamesHead (front target : List ℕ) (size : ℕ) (root : List ℕ) : Type 0 where
   pub first : List ℕ
   pub second : List ℕ

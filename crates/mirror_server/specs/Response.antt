@@ -1,5 +1,5 @@
--- What is answered to the bytes that a client gives: the reply to their first request, as a relation
--- between what is served, all these bytes, and the reply; and what a mirror answers (RFC 9112, sections 2 to 6; RFC 9110,
+-- The reply to the first request of a client: a relation between the served files, all bytes of the
+-- client, and the reply. It also has the reply of a mirror (RFC 9112, sections 2 to 6; RFC 9110,
 -- sections 9.3.1, 10.2.1 and 15; C2SP tlog-tiles).
 use Rattle.std.specs.Prelude.{◌≡◌, ◌≢◌, ℕ, ◌≤◌, List, [], ◌∷◌, ◌++◌, length, take, codes, Ok}
 use Rattle.std.specs.Fmt.{decimal}
@@ -20,13 +20,13 @@ use Rattle.mirror_server.specs.declared.resource.Resource.TheVariants.{Proof}
 
 -- ---- the request
 
--- the bytes begin with that head, which has at most 64 fields and lies within their first 8,192
+-- the bytes begin with that head, which has at most 64 fields and ends within the first 8,192 bytes
 pub record HasRequest (bytes : List ℕ) (h : RequestHead) : Type 0 where
   pub rest : List ℕ
   pub reads : ReadsRequest (take MAX_HEAD_LEN bytes) h rest
   pub few : length h.fields ≤ MAX_FIELDS
 
--- the bytes begin with no head that a server reads
+-- the bytes do not begin with a head that a server accepts
 abbrev pub LacksRequest : List ℕ → Type 0
 LacksRequest bytes = (h : RequestHead) → ¬ HasRequest bytes h
 
@@ -36,7 +36,7 @@ LacksRequest bytes = (h : RequestHead) → ¬ HasRequest bytes h
 abbrev pub bad_request : List ℕ
 bad_request = codes "HTTP/1.1 400 Bad Request\r\nContent-Length: 0\r\nConnection: close\r\n\r\n"
 
--- the reply to a target that names nothing that is served
+-- the reply to a target without a served resource
 abbrev pub not_found : List ℕ
 not_found = codes "HTTP/1.1 404 Not Found\r\nContent-Length: 0\r\nConnection: close\r\n\r\n"
 
@@ -46,7 +46,7 @@ not_allowed =
     codes "HTTP/1.1 405 Method Not Allowed\r\nAllow: GET\r\n"
     ++ codes "Content-Length: 0\r\nConnection: close\r\n\r\n"
 
--- the reply where what is asked for cannot be had, by the server's own fault
+-- the reply if the server itself cannot get the resource
 abbrev pub server_error : List ℕ
 server_error =
     codes "HTTP/1.1 500 Internal Server Error\r\nContent-Length: 0\r\nConnection: close\r\n\r\n"
@@ -59,8 +59,8 @@ plain_text = codes "text/plain; charset=utf-8"
 abbrev pub octets : List ℕ
 octets = codes "application/octet-stream"
 
--- the media type of a resource: a checkpoint and what a mirror tells of itself are text, tiles and
--- bundles are bytes
+-- the media type of a resource: text for a checkpoint and the reports of a mirror, and bytes for
+-- tiles and bundles
 abbrev pub media_type : Resource → List ℕ
 media_type (File path.Checkpoint) = plain_text
 media_type (File (path.Tile level index width)) = octets
@@ -70,7 +70,7 @@ media_type Forks = plain_text
 media_type (Missing size root) = plain_text
 media_type (Proof ask) = plain_text
 
--- the head of a reply that has a body, of that media type and length
+-- the head of a reply with a body of that media type and length
 abbrev pub found_head : List ℕ → ℕ → List ℕ
 found_head kind len =
     codes "HTTP/1.1 200 OK\r\nContent-Type: "
@@ -82,7 +82,7 @@ abbrev pub found : List ℕ → List ℕ → List ℕ
 found kind body = found_head kind (length body) ++ body
 
 module _ (IsBodyOf : Resource → List ℕ → Type 0) where
-  -- the target names a resource that has bytes, and the reply has these
+  -- the target names a resource that has bytes, and the reply has those bytes
   pub record IsFoundBy (target reply : List ℕ) : Type 0 where
     pub resource : Resource
     pub names : Names target resource
@@ -90,8 +90,8 @@ module _ (IsBodyOf : Resource → List ℕ → Type 0) where
     pub is_body : IsBodyOf resource body
     pub reply_is : reply ≡ found (media_type resource) body
 
--- the reply to a request: to another method than GET, to a target that names nothing that is
--- served, and to one that does
+-- the reply to a request: with another method than GET, for a target without a served resource, or
+-- for a served resource
 pub data IsReplyBy (IsBodyOf : Resource → List ℕ → Type 0) (h : RequestHead) : List ℕ → Type 0 where
   other_method : h.method ≢ codes "GET" → IsReplyBy IsBodyOf h not_allowed
   not_there : h.method ≡ codes "GET" → ((reply : List ℕ) → ¬ IsFoundBy IsBodyOf h.target reply) →
@@ -99,8 +99,8 @@ pub data IsReplyBy (IsBodyOf : Resource → List ℕ → Type 0) (h : RequestHea
   is_there : {reply : List ℕ} → h.method ≡ codes "GET" → IsFoundBy IsBodyOf h.target reply →
       IsReplyBy IsBodyOf h reply
 
--- what is replied to all the bytes that a client gives: nothing where these are none, else the
--- reply to the first request among them
+-- the reply to all bytes of a client: nothing if there are none, and otherwise the reply to the
+-- first request
 pub data ResponseBy (IsBodyOf : Resource → List ℕ → Type 0) : List ℕ → List ℕ → Type 0 where
   silent : ResponseBy IsBodyOf [] []
   refused : {first : ℕ} {bytes : List ℕ} → LacksRequest (first ∷ bytes) →
@@ -109,7 +109,7 @@ pub data ResponseBy (IsBodyOf : Resource → List ℕ → Type 0) : List ℕ →
       IsReplyBy IsBodyOf h reply → ResponseBy IsBodyOf bytes reply
 
 module _ (digest : List ℕ → List ℕ) (v : View) where
-  -- the text is that of a proof of the entries that are served
+  -- the text is that of a proof of the served entries
   pub record IsServedProofText (ask : Ask) (text : List ℕ) : Type 0 where
     pub entries : List (List ℕ)
     pub served : IsServedList digest v entries
@@ -117,7 +117,7 @@ module _ (digest : List ℕ → List ℕ) (v : View) where
     pub made : asked_proof digest entries ask ≡ Ok proof
     pub text_is : IsProofText text proof
 
-  -- the bytes are those of a resource; where it has none, the view does not serve it
+  -- the bytes are those of the resource; a resource without bytes is not served by the view
   abbrev pub IsBody : Resource → List ℕ → Type 0
   IsBody (File path) body = Replies digest v path body
   IsBody Status body = IsStatusText digest v body
@@ -129,10 +129,10 @@ module _ (digest : List ℕ → List ℕ) (v : View) where
   abbrev pub IsFound : List ℕ → List ℕ → Type 0
   IsFound target reply = IsFoundBy IsBody target reply
 
-  -- the reply to a request of what the view serves
+  -- the reply to a request for a resource of the view
   abbrev pub IsReplyTo : RequestHead → List ℕ → Type 0
   IsReplyTo h reply = IsReplyBy IsBody h reply
 
-  -- what a mirror of that view replies to all the bytes that a client gives
+  -- the reply of a mirror with that view to all bytes of a client
   abbrev pub Response : List ℕ → List ℕ → Type 0
   Response bytes reply = ResponseBy IsBody bytes reply

@@ -1,4 +1,4 @@
-//! The bytes of what is asked for.
+//! The bytes of a requested resource.
 ghost use Rattle.std.specs.Prelude.{◌≡◌, ◌≢◌, ℕ, List, IfNone, IfOk, IfSome, OnOk};
 ghost use Rattle.mirror_server.specs.Response.{IsBody, IsServedProofText, media_type};
 
@@ -9,7 +9,7 @@ use tlog_mirror::Mirror;
 use tlog_proof::{Ask, ProofFault, prove, write_text};
 use tlog_tiles::Path;
 
-// The text of a proof of the entries that are served.
+// The text of a proof of the served entries.
 fn proof_bytes<H: TreeHash>(
     alloc: Global,
     mirror: &Mirror<H>,
@@ -32,7 +32,7 @@ fn proof_bytes<H: TreeHash>(
     }
 }
 
-// Whether the proof was refused, and did not merely want memory.
+// Whether the proof was refused for a reason other than memory.
 fn check_memory(fault: ProofFault) -> Result<(), AllocError>
     ensures { OnOk result (fault ≢ ProofFault.OutOfMemory) }
 {
@@ -42,7 +42,7 @@ fn check_memory(fault: ProofFault) -> Result<(), AllocError>
     }
 }
 
-/// The bytes of a resource, and None where the mirror does not serve it.
+/// The bytes of a resource, or None if the mirror does not serve it.
 pub fn body_of<H: TreeHash>(
     alloc: Global,
     mirror: &Mirror<H>,
@@ -67,7 +67,7 @@ pub fn body_of<H: TreeHash>(
     }
 }
 
-/// The kind of a resource's bytes.
+/// The media type of a resource.
 pub fn kind_of(resource: &Resource) -> &'static str
     ensures { result.now ≡ media_type resource.now }
 {

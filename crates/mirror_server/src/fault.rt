@@ -1,11 +1,11 @@
-//! Why a client was not answered.
+//! Why a client got no reply.
 ghost use Rattle.std.specs.Prelude.{◌≡◌};
 ghost use Rattle.mirror_server.specs.declared.fault.HttpFault.TheVariants.{OutOfMemory};
 
 use std::alloc::AllocError;
 use thiserror::Error;
 
-/// Why a client was not answered.
+/// Why a client got no reply.
 #[derive(Debug, Drop, PartialEq, Eq, Clone, Copy, Error)]
 pub enum HttpFault {
     /// A read failed. Nothing was written.

@@ -1,4 +1,4 @@
-//! The head of a request, read no further than it goes.
+//! Reads the head of a request, and no more.
 ghost use Rattle.std.specs.Prelude.{◌≡◌, ◌-◌, ◌<◌, IfErr, IfOk, IfSome, vec_len};
 ghost use Rattle.std.specs.Io.KnownBytes.{Keeps};
 ghost use Rattle.byte_streams.specs.Streams.{TakesAtMost};
@@ -12,43 +12,43 @@ use httparse::spans::{EMPTY_HEADER_SPAN, Span, parse_request};
 use std::alloc::Global;
 use std::io::{ErrorKind, Read};
 
-/// How many bytes one read asks for at most.
+/// The greatest number of bytes that one read requests.
 const CHUNK: usize = 1_024;
 
-/// What the bytes so far are.
+/// The state of the bytes up to here.
 #[derive(Clone, Copy)]
 pub enum HeadState {
-    /// A whole head stands at the start, with its method and its target at these places.
+    /// They begin with a whole head, with its method and its target at these positions.
     Whole(Span, Span),
-    /// No whole head yet.
+    /// They are the start of a head.
     Open,
-    /// No head of so few fields, whatever follows.
+    /// They do not begin with a head with few enough fields, whatever follows.
     Bad,
 }
 
-/// What one read gave.
+/// The result of one read.
 #[derive(Clone, Copy)]
 pub enum ReadStep {
     /// Some bytes.
     More,
-    /// None, since it was interrupted.
+    /// No bytes, since the read was interrupted.
     Interrupted,
-    /// None, since there are no more.
+    /// No bytes, since there are no more.
     End,
 }
 
-/// What came from a client.
+/// The bytes from a client.
 #[derive(Clone, Copy)]
 pub enum Received {
     /// No byte.
     Nothing,
-    /// Some bytes, and no head.
+    /// Some bytes, but no head.
     NoHead,
-    /// A head, with its method and its target at these places.
+    /// A head, with its method and its target at these positions.
     Head(Span, Span),
 }
 
-// What the bytes are.
+// The state of the bytes.
 fn look_at(bytes: &[u8]) -> HeadState
     ensures { LooksLike bytes.now result }
 {
@@ -60,7 +60,7 @@ fn look_at(bytes: &[u8]) -> HeadState
     }
 }
 
-// Adds what one read gives, to so many bytes as a head may have.
+// Appends the bytes of one read, up to the greatest length of a head.
 fn read_more<R: Read>(reader: &mut R, received: &mut Vec<u8>) -> Result<ReadStep, HttpFault>
     requires { vec_len received.old < MAX_HEAD_LEN }
     ensures turn { IfOk result (ReadsOn (R.remaining reader.old) (R.remaining reader.new)
@@ -88,8 +88,8 @@ fn read_more<R: Read>(reader: &mut R, received: &mut Vec<u8>) -> Result<ReadStep
     }
 }
 
-/// Reads to the end of a head, or until none can come any more, and gives what was read. The reader is
-/// not read again once a whole head is there.
+/// Reads to the end of a head, or until no head is possible, and returns the bytes. The reader is not read again after a
+/// whole head.
 pub fn read_head<R: Read>(alloc: Global, reader: &mut R) -> Result<(Received, Vec<u8>), HttpFault>
     ensures within { IfOk result (λ r. LiesWithin (vec_len r.1) r.0) }
     ensures seen { IfOk result (λ r.

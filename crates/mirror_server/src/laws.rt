@@ -1,22 +1,21 @@
-//! What the definitions say, as laws.
+//! Laws of the definitions.
 //!
-//! A law is the contract of a function with an empty body: the proof is all that there is of it.
+//! A law is a function with an empty body: only its contract counts.
 ghost use Rattle.mirror_server.specs.Laws.{EqualViewsReplyAlike, HasServerLimits, ResponseIsOne, ResponseIsThere, TargetsNameOne};
 
-/// A target names one resource at most.
+/// A target names at most one resource.
 pub fn one_resource_law()
     ensures { TargetsNameOne }
 {}
 
-/// A lawful view has one reply to the bytes that a client gives: one at most, and one at least. So equal
-/// views have equal replies to equal bytes.
+/// A lawful view has exactly one reply to the bytes of a client. So equal views have equal replies to equal bytes.
 pub fn one_response_law()
     ensures one { ResponseIsOne }
     ensures there { ResponseIsThere }
     ensures alike { EqualViewsReplyAlike }
 {}
 
-/// The head of a request lies within 8,192 bytes, and has at most 64 fields.
+/// The head of a request has at most 8,192 bytes and 64 fields.
 pub fn limits_law()
     ensures { HasServerLimits }
 {}

@@ -1,4 +1,4 @@
-//! A mirror served over HTTP (RFC 9112): one request is read, and one reply is written.
+//! Serves a mirror over HTTP (RFC 9112): reads one request, and writes one reply.
 //!
 //! ```text
 //! for stream in listener.incoming() {

@@ -1,7 +1,7 @@
-//! How long the head of a message may be.
+//! The greatest length of the head of a message.
 
-/// A head lies within this many bytes, from the first on.
+/// The greatest length of a head, in bytes.
 pub const MAX_HEAD_LEN: usize = 8_192;
 
-/// The most fields that a head has.
+/// The greatest number of fields of a head.
 pub const MAX_FIELDS: usize = 64;

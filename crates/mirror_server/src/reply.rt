@@ -10,7 +10,7 @@ use crate::resource::Resource;
 use http::StatusCode;
 use std::alloc::{AllocError, Global};
 
-// The head of a reply of that status, with a body of that kind and length.
+// The head of a reply with that status, and with a body of that media type and length.
 fn head_text(
     alloc: Global,
     status: StatusCode,
@@ -24,7 +24,6 @@ fn head_text(
     )
 }
 
-// A reply with that body.
 fn found_reply(alloc: Global, kind: &str, body: &[u8]) -> Result<Vec<u8>, AllocError>
     ensures { IfOk result (λ reply. reply.items ≡ found kind.now body.now) }
 {
@@ -34,7 +33,7 @@ fn found_reply(alloc: Global, kind: &str, body: &[u8]) -> Result<Vec<u8>, AllocE
     Ok(reply)
 }
 
-// A reply of that status and these field lines, without a body.
+// A reply with that status and these field lines, without a body.
 fn empty_reply(alloc: Global, status: StatusCode, fields: &str) -> Result<Vec<u8>, AllocError>
     ensures { IfOk result (λ reply. reply.items ≡ empty_text status fields.now) }
 {
@@ -44,28 +43,28 @@ fn empty_reply(alloc: Global, status: StatusCode, fields: &str) -> Result<Vec<u8
     Ok(text.into_bytes())
 }
 
-// The reply to what holds no request.
+// The reply to bytes without a request.
 fn bad_request_reply(alloc: Global) -> Result<Vec<u8>, AllocError>
     ensures { IfOk result (λ reply. reply.items ≡ bad_request) }
 {
     Ok(empty_reply(alloc, StatusCode::BAD_REQUEST, "")?)
 }
 
-// The reply to a request for what is not served.
+// The reply to a request for a resource that is not served.
 fn not_found_reply(alloc: Global) -> Result<Vec<u8>, AllocError>
     ensures { IfOk result (λ reply. reply.items ≡ not_found) }
 {
     Ok(empty_reply(alloc, StatusCode::NOT_FOUND, "")?)
 }
 
-// The reply to a request that asks for something else than a file as it is.
+// The reply to a request with a method other than GET.
 fn not_allowed_reply(alloc: Global) -> Result<Vec<u8>, AllocError>
     ensures { IfOk result (λ reply. reply.items ≡ not_allowed) }
 {
     Ok(empty_reply(alloc, StatusCode::METHOD_NOT_ALLOWED, "Allow: GET\r\n")?)
 }
 
-/// The reply where what is asked for cannot be had, by the server's own fault (RFC 9110, section 15.6.1).
+/// The reply if the server itself cannot get the resource (RFC 9110, section 15.6.1).
 ///
 /// # Errors
 ///
@@ -76,7 +75,7 @@ pub fn server_error_reply(alloc: Global) -> Result<Vec<u8>, AllocError>
     Ok(empty_reply(alloc, StatusCode::INTERNAL_SERVER_ERROR, "")?)
 }
 
-// The reply to a request for a resource, which has those bytes, or is not served.
+// The reply to a request for a resource, by its bytes, or None if it is not served.
 fn resource_reply(
     alloc: Global,
     resource: &Resource,
@@ -91,7 +90,7 @@ fn resource_reply(
     }
 }
 
-/// The reply to what a client asks for. Where that is a resource its bytes are given, and None where it is not served.
+/// The reply to a request. For a resource, `body` has its bytes, or is None if it is not served.
 ///
 /// ```text
 /// reply_to(alloc, &Request::OtherMethod, &None)?   // HTTP/1.1 405 Method Not Allowed ..

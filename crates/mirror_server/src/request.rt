@@ -1,4 +1,4 @@
-//! What a client asks for.
+//! Requests of clients.
 ghost use Rattle.std.specs.Prelude.{◌≡◌, ◌↔◌, IfErr, IfOk, IfSome, IsTrue, codes};
 ghost use Rattle.byte_streams.specs.Streams.{TakesAtMost};
 ghost use Rattle.mirror_server.specs.Answered.{FailsBeforeHead, IsForHead, IsForTarget, IsRequestOf};
@@ -10,23 +10,23 @@ use crate::resource::{Resource, resource_of};
 use std::alloc::Global;
 use std::io::Read;
 
-/// What a client asks for, by the bytes that it gives.
-/// `GET /checkpoint HTTP/1.1`, with the empty line behind it, is `Get(Resource::File(Path::Checkpoint))`.
+/// The request of a client, by its bytes. The bytes `GET /checkpoint HTTP/1.1` and an empty line are
+/// `Get(Resource::File(Path::Checkpoint))`.
 #[derive(Clone, Copy)]
 pub enum Request {
-    /// There is no byte.
+    /// There are no bytes.
     Nothing,
-    /// The bytes begin with no head of a request.
+    /// The bytes do not begin with the head of a request.
     Unreadable,
     /// A method other than `GET`.
     OtherMethod,
-    /// `GET` of a target that names no resource.
+    /// `GET` of a target without a resource.
     Unknown,
     /// `GET` of a resource.
     Get(Resource),
 }
 
-// What a request of that target by GET is for.
+// The GET request with that target.
 fn request_for(target: &[u8]) -> Request
     ensures { IsForTarget target.now result }
 {
@@ -39,14 +39,14 @@ fn request_for(target: &[u8]) -> Request
     }
 }
 
-// Whether a file as it is is asked for (RFC 9110, section 9.3.1).
+// Whether the method is GET (RFC 9110, section 9.3.1).
 fn is_get(method: &[u8]) -> bool
     ensures { IsTrue result ↔ (method.now ≡ codes "GET") }
 {
     method == b"GET".as_slice()
 }
 
-// What a request of that method and target is for.
+// The request with that method and target.
 fn request_of(method: &[u8], target: &[u8]) -> Request
     ensures { IsForHead method.now target.now result }
 {
@@ -57,8 +57,7 @@ fn request_of(method: &[u8], target: &[u8]) -> Request
     }
 }
 
-/// Reads what a client asks for. Of all the bytes that the reader has to give it takes 8,192 at most, and it makes no further
-/// read once a whole head is there.
+/// Reads the request of a client. It takes at most 8,192 bytes from the reader, and does not read again after a whole head.
 ///
 /// ```text
 /// read_request(alloc, &mut stream)?   // Request::Get(Resource::Status) of GET /mirror/status
@@ -66,7 +65,7 @@ fn request_of(method: &[u8], target: &[u8]) -> Request
 ///
 /// # Errors
 ///
-/// `ReadFault` where a read failed before a whole head was there, and `OutOfMemory` where memory was refused.
+/// `ReadFault` if a read failed before a whole head, and `OutOfMemory` if memory was refused.
 pub fn read_request<R: Read>(alloc: Global, reader: &mut R) -> Result<Request, HttpFault>
     ensures asked { IfOk result (λ request. IfSome (R.remaining reader.old)
         (λ bytes. IsRequestOf bytes request)) }

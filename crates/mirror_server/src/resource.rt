@@ -1,4 +1,4 @@
-//! What may be asked for.
+//! The resources of a mirror.
 ghost use Rattle.std.specs.Prelude.{◌≡◌, ◌↔◌, ℕ, List, IfNone, IfSome, IsTrue, codes};
 ghost use Rattle.hex.specs.Hex.{encode_lower};
 ghost use Rattle.tlog_text.specs.Hash.{Is32Bytes};
@@ -12,23 +12,24 @@ use tlog_shape::MAX_SIZE;
 use tlog_text::read_number;
 use tlog_tiles::Path;
 
-/// What a client may ask a mirror for.
+/// A resource that a client may request from a mirror.
 #[derive(Debug, PartialEq, Eq, Clone, Copy)]
 pub enum Resource {
     /// `/` and a path: a file of the log.
     File(Path),
-    /// `/mirror/status`: the heads that are held, and what is served.
+    /// `/mirror/status`: the tree heads that are held, and the served checkpoint.
     Status,
-    /// `/mirror/forks`: the heads that no one log can both have.
+    /// `/mirror/forks`: the pairs of tree heads that no single log can have.
     Forks,
-    /// `/mirror/missing/SIZE/ROOT`, the root in lower case hexadecimal: what is missing of a head.
+    /// `/mirror/missing/SIZE/ROOT`, with the root in lower case hexadecimal: the missing paths of a
+    /// tree head.
     Missing { size: u64, root: Hash },
-    /// `/mirror/inclusion/SIZE/INDEX` or `/mirror/consistency/FIRST/SECOND`: a proof of the entries
-    /// that are served.
+    /// `/mirror/inclusion/SIZE/INDEX` or `/mirror/consistency/FIRST/SECOND`: a proof of the served
+    /// entries.
     Proof(Ask),
 }
 
-// The two texts behind the prefix. The first has no slash.
+// The two texts after the prefix. The first contains no slash.
 fn two_behind<'a>(target: &'a str, front: &str) -> Option<(&'a str, &'a str)>
     ensures found { IfSome result (λ x. HasTwo front.now target.now x.0.now x.1.now) }
     ensures complete { FindsTwo (λ x. x.0.now) (λ x. x.1.now) front.now target.now result }
@@ -36,7 +37,7 @@ fn two_behind<'a>(target: &'a str, front: &str) -> Option<(&'a str, &'a str)>
     target.strip_prefix(front)?.split_once('/')
 }
 
-// The number that the text is.
+// The number that the text spells.
 fn number_of(text: &str) -> Option<u64>
     ensures found { IfSome result (λ n. IsNumber text.now n) }
     ensures none { IfNone result ((n : ℕ) → ¬ IsNumber text.now n) }
@@ -47,7 +48,7 @@ fn number_of(text: &str) -> Option<u64>
     }
 }
 
-// The two numbers behind the prefix.
+// The two numbers after the prefix.
 fn numbers_of(target: &str, front: &str) -> Option<(u64, u64)>
     ensures found { IfSome result (λ x. NamesNumbers front.now target.now x.0 x.1) }
     ensures none { IfNone result ((m n : ℕ) → ¬ NamesNumbers front.now target.now m n) }
@@ -64,7 +65,7 @@ fn numbers_of(target: &str, front: &str) -> Option<(u64, u64)>
     Some((m, n))
 }
 
-// Whether the digits are the hash, in lower case.
+// Whether the digits are those of the hash, in lower case.
 fn is_spelled(hash: &Hash, digits: &str) -> bool
     ensures is_hash { Is32Bytes hash.now }
     ensures spelled { IsTrue result ↔ (digits.now ≡ encode_lower hash.now) }
@@ -74,7 +75,8 @@ fn is_spelled(hash: &Hash, digits: &str) -> bool
         && spelled.as_slice() == digits.as_bytes()
 }
 
-// The hash that the digits are. They may be read in either case, and are in lower case.
+// The hash that the digits spell in lower case. The decoder accepts upper case too, so the digits
+// are compared with those of the hash.
 fn hash_of(digits: &str) -> Option<Hash>
     ensures found { IfSome result (λ hash. IsHexHash digits.now hash) }
     ensures none { IfNone result ((hash : List ℕ) → ¬ IsHexHash digits.now hash) }
@@ -91,7 +93,7 @@ fn hash_of(digits: &str) -> Option<Hash>
     }
 }
 
-// The size and the root that are asked what is missing of them.
+// The size and the root of a target for missing paths.
 fn point_in(target: &str) -> Option<(u64, Hash)>
     ensures found { IfSome result (λ x. NamesHead (codes "/mirror/missing/") target.now x.0 x.1) }
     ensures none { IfNone result ((n : ℕ) (root : List ℕ)
@@ -109,7 +111,7 @@ fn point_in(target: &str) -> Option<(u64, Hash)>
     Some((size, root))
 }
 
-// The file that is asked for.
+// The file that the target names.
 fn file_of(target: &str) -> Option<Path>
     ensures found { IfSome result (λ path. NamesFile target.now path) }
     ensures none { IfNone result ((path : Path) → ¬ NamesFile target.now path) }
@@ -123,7 +125,7 @@ fn file_of(target: &str) -> Option<Path>
     }
 }
 
-/// What the target of a request names. It takes no memory.
+/// The resource that the target of a request names. The call allocates no memory.
 pub fn resource_of(target: &str) -> Option<Resource>
     ensures found { IfSome result (λ resource. Names target.now resource) }
     ensures none { IfNone result ((resource : Resource) → ¬ Names target.now resource) }

@@ -1,4 +1,4 @@
-//! The reply to one request.
+//! Answers one request.
 ghost use Rattle.std.specs.Prelude.{◌≡◌, ◌≢◌, IfErr, IfOk, IfSome};
 ghost use Rattle.std.specs.Option.{option_map};
 ghost use Rattle.std.specs.Io.KnownBytes.{Keeps};
@@ -17,7 +17,7 @@ use std::io::{Read, Write};
 use tlog_hash::TreeHash;
 use tlog_mirror::Mirror;
 
-// The bytes of what is asked for, where the mirror serves it.
+// The bytes of the requested resource, if the mirror serves it.
 fn requested_body<H: TreeHash>(
     alloc: Global,
     mirror: &Mirror<H>,
@@ -49,23 +49,21 @@ fn response<H: TreeHash, R: Read>(
     Ok(reply_to(alloc, &request, &body)?)
 }
 
-/// Answers the first request that the reader gives, from what the mirror serves, and writes the reply
-/// (RFC 9112). A client is answered from one connection once, and what follows the request is not read
+/// Answers the first request of the reader with a resource of the mirror, and writes the reply (RFC 9112). Each connection
+/// gets one reply, and bytes after the request are not interpreted.
 /// for its meaning.
-///
-/// Of all the bytes that the reader has to give it takes 8,192 at most, and makes no further read once
-/// those that were read hold a whole head: a client may keep its side open. Where they can become no
-/// head any more it stops as well.
+/// It takes at most 8,192 bytes from the reader, and does not read again after a whole head, since a client may keep its
+/// side open. It also stops when no head is possible any more.
 ///
 /// # Errors
 ///
-/// `ReadFault` where a read failed before a whole head was there, and `OutOfMemory` where memory was
-/// refused: nothing was written. `WriteFault` where a write failed or took no byte: a prefix of the reply was written.
+/// `ReadFault` if a read failed before a whole head, and `OutOfMemory` if memory was refused. In both cases nothing was
+/// written. `WriteFault` if a write failed or took no byte; a prefix of the reply was then written.
 ///
 /// # Examples
 ///
-/// `GET /checkpoint HTTP/1.1`, with the empty line behind it, is answered by the served note, and by 404
-/// where none is complete. No byte at all is answered by none.
+/// The reply to `GET /checkpoint HTTP/1.1` and an empty line is the served note, or 404 if no tree head is complete. If the
+/// client sends no bytes, there is no reply.
 pub fn answer<H: TreeHash, R: Read, W: Write>(
     alloc: Global,
     mirror: &Mirror<H>,

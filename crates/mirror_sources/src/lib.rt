@@ -1,7 +1,7 @@
 //! Sources of the files of a transparency log (C2SP tlog-tiles).
 //!
-//! A `Source` returns the files of a log by their paths. Its contracts say which answers may come,
-//! which paths were requested and how often a get failed. They also define an honest source.
+//! A `Source` returns the files of a log by their paths. Its contracts say which answers may come, which paths were
+//! requested and how often a get failed. They also define an honest source.
 //!
 //! ```text
 //! let mut source: ListSource<Sha256Tree> = ListSource::new(alloc, "ex", entries, key)?;

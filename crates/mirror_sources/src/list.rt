@@ -14,12 +14,11 @@ use tlog_files::LogFiles;
 use tlog_hash::TreeHash;
 use tlog_tiles::Path;
 
-/// A log of a list of entries, held in memory. This source is honest, never fails, and records
-/// which paths were requested.
+/// A log of a list of entries, held in memory. This source is honest, never fails, and records which paths were requested.
 ///
-/// Its answer for a path within the list is the file that a log of these entries serves (C2SP
-/// tlog-tiles). Its checkpoint is a note of the whole list, signed by its key. The answer for any
-/// other path is None. `new` hashes each entry once, and `get` copies bytes from memory.
+/// Its answer for a path within the list is the file that a log of these entries serves (C2SP tlog-tiles). Its checkpoint is
+/// a note of the whole list, signed by its key. The answer for any other path is None. `new` hashes each entry once, and
+/// `get` copies bytes from memory.
 ///
 /// ```text
 /// let key = HmacKey::new(alloc, "ex", 1, &[0])?;
@@ -45,8 +44,7 @@ impl<H: TreeHash> Model for ListSource<H> {
 impl<H: TreeHash> ListSource<H> {
     /// A source over those entries; the key signs its checkpoint.
     ///
-    /// The origin has 1 to 65,535 bytes and no character below U+0020. Each entry has at most
-    /// 65,535 bytes.
+    /// The origin has 1 to 65,535 bytes and no character below U+0020. Each entry has at most 65,535 bytes.
     ///
     /// # Errors
     ///
@@ -83,8 +81,7 @@ impl<H: TreeHash> ListSource<H> {
         &self.asked
     }
 
-    /// The bytes that `get` copies for a path, borrowed. The call allocates no memory and does not
-    /// record the path.
+    /// The bytes that `get` copies for a path, borrowed. The call allocates no memory and does not record the path.
     ///
     /// ```text
     /// source.file_at(Path::Checkpoint)  // Some of the checkpoint note
@@ -104,7 +101,6 @@ impl<H: TreeHash> ListSource<H> {
         }
     }
 
-    /// A copy of the bytes at the path.
     fn copy_at(&self, path: Path) -> Result<Option<Vec<u8>>, AllocError>
         ensures { IfOk result (λ bytes. IsListAnswer H.digest self.now.entries self.now.note path
             (option_map (λ v. v.items) bytes)) }
@@ -137,7 +133,6 @@ impl<H: TreeHash> Source for ListSource<H> {
     }
 }
 
-// The entries, borrowed.
 fn lent_entries(alloc: Global, entries: &[Vec<u8>]) -> Result<Vec<&[u8]>, AllocError>
     ensures { IfOk result (λ lent. map (λ e. e.now) lent.items ≡ map (λ e. e.items) entries.now) }
 {

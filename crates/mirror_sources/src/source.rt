@@ -6,8 +6,8 @@ use std::alloc::{AllocError, AllocFailed};
 use thiserror::Error;
 use tlog_tiles::Path;
 
-/// Why a source gave no answer. An example of `Failed` is a server that cannot be reached; a server
-/// without the file gave an answer.
+/// Why a source gave no answer. An example of `Failed` is a server that cannot be reached; a server without the file gave an
+/// answer.
 #[derive(Debug, Drop, PartialEq, Eq, Clone, Copy, Error)]
 pub enum SourceFault {
     /// The source failed.
@@ -34,8 +34,8 @@ impl<T: Drop> From<AllocFailed<T>> for SourceFault {
     }
 }
 
-/// Returns the files of a log by their paths. `ListSource` makes them from a list of entries; other
-/// sources read a folder or ask a server.
+/// Returns the files of a log by their paths. `ListSource` makes them from a list of entries; other sources read a folder or
+/// ask a server.
 pub trait Source {
     ghost use Rattle.std.specs.Prelude.{◌≡◌, ℕ, List, Option, None, ⊤, IfOk, option_map};
     ghost use Rattle.tlog_tiles.specs.declared.paths.Path.{Path};
@@ -48,8 +48,7 @@ pub trait Source {
     /// The paths that were requested, oldest first, if the source records them.
     ghost asked: { Self → Option (List Path) } = { λ _. None };
 
-    /// The files that were put into the source, oldest first, if they are known. A get or a hint
-    /// does not change them.
+    /// The files that were put into the source, oldest first, if they are known. A get or a hint does not change them.
     ghost files: { Self → Option (List File) } = { λ _. None };
 
     /// The number of gets that failed.
@@ -70,9 +69,8 @@ pub trait Source {
 
     /// A hint: these paths will be requested next, the first of them soonest.
     ///
-    /// A source may fetch them ahead; by default it does nothing. A hint is not a get: it counts no
-    /// failure, and allows no answer that could not come before. If memory is refused, the hint is
-    /// ignored.
+    /// A source may fetch them ahead; by default it does nothing. A hint is not a get: it counts no failure, and allows no
+    /// answer that could not come before. If memory is refused, the hint is ignored.
     fn expect(&mut self, _paths: &[Path])
         ensures later { StaysWithin (may_answer self.old) (may_answer self.new) }
         ensures kept { files self.new ≡ files self.old }

@@ -1,4 +1,4 @@
-//! A fork that two lists show though they share a digest. Forks of logs without collides stand in `tests/forks.runs`.
+//! A fork of two lists with the same digest. `tests/forks.runs` has forks of logs without collisions.
 use crate::given::{take_letters, take_log};
 use std::alloc::{AllocError, Global};
 use std::process::Abort;
@@ -6,7 +6,7 @@ use std::test::Fail;
 use tlog_hash::{SumTree, TreeHash};
 use tlog_mirror::{Fork, Mirror};
 
-// The heads of two logs, and their entries, a byte each.
+// The tree heads of two logs, and their entries of one byte each.
 const LOGS: [(&str, &[u8]); 2] = [
     (
         "3\nPgAAAAAAAAAAAAAAAAAAAAAAAAAAAAAAAAAAAAAAAAA=",
@@ -21,7 +21,7 @@ const LOGS: [(&str, &[u8]); 2] = [
 const FORK: &str =
     "fork 3 PgAAAAAAAAAAAAAAAAAAAAAAAAAAAAAAAAAAAAAAAAA= 4 owAAAAAAAAAAAAAAAAAAAAAAAAAAAAAAAAAAAAAAAAA=\n";
 
-// The first three entries of the second log have the first log's root.
+// The first three entries of the second log have the root of the first log.
 #[test]
 fn fork_under_collisions(rt: HostRuntime) -> Result<(), Fail> {
     let mut mirror = Mirror::<SumTree>::new(rt.alloc(), "ex")?;
@@ -30,7 +30,7 @@ fn fork_under_collisions(rt: HostRuntime) -> Result<(), Fail> {
     answer
 }
 
-// A mirror that takes both logs tells the fork.
+// A mirror that takes both logs reports the fork.
 fn takes_and_tells<H: TreeHash>(
     rt: &impl Abort,
     alloc: Global,
@@ -43,7 +43,7 @@ fn takes_and_tells<H: TreeHash>(
     tells_fork(rt, alloc, mirror)
 }
 
-// The mirror has two complete heads, and tells that fork.
+// The mirror has two complete tree heads, and reports that fork.
 fn tells_fork<H: TreeHash>(rt: &impl Abort, alloc: Global, mirror: &Mirror<H>) -> Result<(), Fail> {
     assert!(rt; forks_at_last(alloc, mirror)?.len() == 1);
     assert!(rt; mirror.forks_text(alloc)?.as_str() == FORK);
@@ -61,7 +61,7 @@ fn writes_fork<H: TreeHash>(alloc: Global, mirror: &Mirror<H>) -> Result<bool, F
     Ok(forked && written.as_slice() == FORK.as_bytes())
 }
 
-// The forks. Where memory is refused, as by `rt try --test --fail-alloc N`, they are told once there is some.
+// The forks. If memory is refused, as by `rt try --test --fail-alloc N`, a second call returns them.
 fn forks_at_last<H: TreeHash>(alloc: Global, mirror: &Mirror<H>) -> Result<Vec<Fork>, AllocError> {
     match mirror.forks(alloc) {
         Ok(forks) => Ok(forks),

@@ -1,4 +1,4 @@
-//! What the tests give to mirrors, whatever their digest: the key, heads over their rows, and bundles.
+//! Items for mirrors in tests, for any digest: the key, tree heads with their rows, and bundles.
 
 ghost use Rattle.std.specs.Prelude.{codes, ◌∷◌, []};
 ghost use Rattle.std.specs.Str.{bytes_eq};
@@ -9,7 +9,7 @@ use std::test::Fail;
 use tlog_hash::TreeHash;
 use tlog_mirror::{Mirror, TakeFault};
 
-// A key that accepts the signature 05 over every text.
+// A key that accepts the signature 05 for every text.
 #[derive(Drop)]
 struct Five;
 
@@ -29,14 +29,14 @@ impl Verifier for Five {
     }
 }
 
-// That key alone. As other helpers it ensures nothing, so that its callers are cheap to check.
+// The list of that key. Like other helpers it ensures nothing, so that its callers are cheap to check.
 pub(crate) fn keys(alloc: Global) -> Result<Vec<Box<dyn Verifier>>, AllocError> {
     let mut keys: Vec<Box<dyn Verifier>> = Vec::new(alloc);
     keys.push(Box::new(alloc, Five)?)?;
     Ok(keys)
 }
 
-// What a mirror answers to that note and these rows, under the key of these tests.
+// The answer of a mirror to that note and these rows, under the key of these tests.
 pub(crate) fn answer_to_head<H: TreeHash>(
     alloc: Global,
     mirror: &mut Mirror<H>,
@@ -47,7 +47,7 @@ pub(crate) fn answer_to_head<H: TreeHash>(
     Ok(mirror.take_head(alloc, &keys, note, edge))
 }
 
-// Takes the head of that size and root, over these rows of its edge.
+// Takes the tree head with that size and root, with these rows of its right edge.
 pub(crate) fn take_head<H: TreeHash>(
     alloc: Global,
     mirror: &mut Mirror<H>,
@@ -58,7 +58,6 @@ pub(crate) fn take_head<H: TreeHash>(
     take_note(alloc, mirror, note.as_bytes(), edge)
 }
 
-// Takes that note over these rows.
 pub(crate) fn take_note<H: TreeHash>(
     alloc: Global,
     mirror: &mut Mirror<H>,
@@ -69,7 +68,7 @@ pub(crate) fn take_note<H: TreeHash>(
     Ok(())
 }
 
-// Takes the head of that size and root of a log of entries of one byte each.
+// Takes the tree head with that size and root, for a log of entries of one byte each.
 pub(crate) fn take_log<H: TreeHash>(
     alloc: Global,
     mirror: &mut Mirror<H>,
@@ -101,14 +100,14 @@ pub(crate) fn take_letters<H: TreeHash>(
     Ok(())
 }
 
-// The note of the head of the log of the entries of no bytes, `00` and `10`.
+// The note of the log of three entries: the empty one, `00` and `10`.
 pub(crate) const HEAD_OF_3: &str =
     "ex\n3\nrra8/idLcKFPsGel5VeCZNsPqbUa9eC6FZFY8yngbnc=\n\n\u{2014} good AQIDBAU=\n";
 
-// Their bundle.
+// The bundle of these entries.
 pub(crate) const BUNDLE_OF_3: &[u8] = b"\x00\x00\x00\x01\x00\x00\x01\x10";
 
-// Their tile: the leaf hashes.
+// The tile of these entries: the leaf hashes.
 pub(crate) fn tile_of_3<H: TreeHash>(alloc: Global) -> Result<Vec<u8>, AllocError> {
     let mut row = Vec::new(alloc);
     for entry in [b"".as_slice(), b"\x00".as_slice(), b"\x10".as_slice()] {
@@ -117,7 +116,7 @@ pub(crate) fn tile_of_3<H: TreeHash>(alloc: Global) -> Result<Vec<u8>, AllocErro
     Ok(row)
 }
 
-// How many heads a mirror lists.
+// The number of tree heads that a mirror lists.
 pub(crate) fn count_of_heads<H: TreeHash>(
     alloc: Global,
     mirror: &Mirror<H>,
@@ -125,8 +124,8 @@ pub(crate) fn count_of_heads<H: TreeHash>(
     Ok(mirror.heads(alloc)?.len())
 }
 
-// What was made, where all was done to it. Else it is dropped: here and by `drop`, since a drop in place has a step for each
-// field of a mirror or a source, and is dear to check.
+// The value, if everything was done to it; otherwise it is dropped. It is dropped here and by `drop`, since a drop in place
+// has a step for each field of a mirror or a source, and is expensive to check.
 pub(crate) fn kept<T: Drop>(made: T, answer: Result<(), Fail>) -> Result<T, Fail> {
     match answer {
         Ok(()) => Ok(made),

@@ -1,4 +1,4 @@
-//! Items whose strings share a digest, under the digest that sums.
+//! Items with colliding strings, under the digest that sums bytes.
 use crate::given::answer_to_head;
 use std::alloc::{AllocError, Global};
 use std::process::Abort;
@@ -26,7 +26,7 @@ fn refuses_leaves<H: TreeHash>(
     Ok(())
 }
 
-// The node of the first two entries collides with the third.
+// The node of the first two entries collides with the third entry.
 #[test]
 fn colliding_join(rt: HostRuntime) -> Result<(), Fail> {
     let mut mirror = Mirror::<SumTree>::new(rt.alloc(), "ex")?;
@@ -42,7 +42,7 @@ fn colliding_join(rt: HostRuntime) -> Result<(), Fail> {
     Ok(())
 }
 
-// A bundle of one to three entries that collide is refused, and so many strings are held.
+// A bundle of one to three entries that collide is refused, and the mirror holds the given number of strings.
 fn refuses<H: TreeHash>(
     rt: &impl Abort,
     alloc: Global,
@@ -57,15 +57,15 @@ fn refuses<H: TreeHash>(
     assert!(rt; mirror.strings().len() == held);
 }
 
-// The roots of the rows of 01, 02, 02 and 01, and of 02 and 01, behind the sizes.
+// The roots of the rows 01, 02, 02, 01 and of 02, 01, after the sizes.
 const HEAD_OF_FOUR: &str =
     "ex\n4\nCQAAAAAAAAAAAAAAAAAAAAAAAAAAAAAAAAAAAAAAAAA=\n\n\u{2014} good AQIDBAU=\n";
 
 const HEAD_OF_TWO: &str =
     "ex\n2\nBAAAAAAAAAAAAAAAAAAAAAAAAAAAAAAAAAAAAAAAAAA=\n\n\u{2014} good AQIDBAU=\n";
 
-// Tiles and heads over rows of which two joins collide, and rows of which one collides with what is held: each is Collision, and
-// not OutOfMemory.
+// Tiles and tree heads with rows in which two joins collide, and rows in which one join collides with a held string. Each
+// answer is Collision, not OutOfMemory.
 #[test]
 fn colliding_tiles_and_heads(rt: HostRuntime) -> Result<(), Fail> {
     let mut mirror = Mirror::<SumTree>::new(rt.alloc(), "ex")?;
@@ -85,7 +85,7 @@ fn refuses_rows<H: TreeHash>(
     refuses_row(rt, alloc, mirror, &[2, 1], HEAD_OF_TWO, 1)
 }
 
-// The row of the hashes that begin with these bytes, and have zeros behind.
+// The row of the hashes that begin with these bytes and end in zeros.
 fn row_of(alloc: Global, bytes: &[u8]) -> Result<Vec<u8>, AllocError> {
     let mut row = Vec::new(alloc);
     for byte in bytes {
@@ -95,7 +95,8 @@ fn row_of(alloc: Global, bytes: &[u8]) -> Result<Vec<u8>, AllocError> {
     Ok(row)
 }
 
-// The tile of a row of one to four hashes, and the head of that note over it, are refused, and so many strings are held.
+// The tile of a row of one to four hashes, and the tree head with that note and row, are refused. The mirror then holds the
+// given number of strings.
 fn refuses_row<H: TreeHash>(
     rt: &impl Abort,
     alloc: Global,
@@ -115,7 +116,7 @@ fn refuses_row<H: TreeHash>(
     Ok(())
 }
 
-// A tile of each width, and a bundle of each width, is taken.
+// A mirror takes a tile and a bundle of each width.
 #[test]
 fn each_width(rt: HostRuntime) -> Result<(), Fail> {
     let row = vec![in rt.alloc(); 0; 8_192]?;
@@ -123,8 +124,8 @@ fn each_width(rt: HostRuntime) -> Result<(), Fail> {
     takes_each_width::<SumTree>(&rt, rt.alloc(), &row, &entries)
 }
 
-// A new mirror takes a tile and a bundle of each width: the first bytes of a row of 256 hashes, and of a bundle of 256 entries
-// of no bytes. It then holds a string for each width: that of the entry, and the join of each list of two entries or more.
+// A new mirror takes a tile and a bundle of each width: the first bytes of a row of 256 hashes, and of a bundle of 256 empty
+// entries. It then holds a string for each width: that of the entry, and the join of each list of two entries or more.
 fn takes_each_width<H: TreeHash>(
     rt: &impl Abort,
     alloc: Global,

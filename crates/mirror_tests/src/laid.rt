@@ -1,4 +1,4 @@
-//! A log that is laid out in memory, once more where memory was refused.
+//! A log that is laid out in memory, with a second call if memory was refused.
 use crate::given::tile_of_3;
 use crate::served::{mirror_of_3, serves_3};
 use std::alloc::Global;
@@ -16,7 +16,7 @@ fn lays_out_again_after_want_of_memory(rt: HostRuntime) -> Result<(), Fail> {
     answer
 }
 
-// Lays out the log of the three entries, whose leaf hashes are that row. It is served all the while.
+// Lays out the log of the three entries, whose leaf hashes are that row. The mirror serves it all the time.
 fn lays_out_at_last<H: TreeHash>(
     rt: &impl Abort,
     alloc: Global,

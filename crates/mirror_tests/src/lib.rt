@@ -1,8 +1,8 @@
-//! Tests of the mirror and of pulls, in a crate of their own, since a crate's tests are checked together with the crate
-//! again.
+//! Tests of the mirror and of pulls. They are in a crate of their own, since the tests of a crate are checked together with
+//! the crate again.
 //!
-//! It holds tests of `tlog_mirror` and `mirror_pull`, and two of `mirror_state`: what the program cannot show of them. What it
-//! can stands in the transcripts of `tests/`.
+//! It has tests of `tlog_mirror` and `mirror_pull`, and two of `mirror_state`, for behavior that the program cannot show.
+//! The transcripts of `tests/` show the rest.
 #![tactic(auto)]
 
 #[cfg(test)]

@@ -1,4 +1,4 @@
-//! How often a reader is read where a state is loaded, and a state whose strings share a digest.
+//! The number of reads when a state is loaded, and a state with colliding strings.
 use mirror_state::{LoadFault, load};
 use std::alloc::Global;
 use std::io;
@@ -8,7 +8,8 @@ use std::test::Fail;
 use tlog_hash::{Sha256Tree, SumTree, TreeHash};
 use tlog_mirror::{Mirror, NewFault};
 
-// Gives `most` bytes a read, so many times, and then ends. It counts its reads, and gives the bytes that it finds in the buffer.
+// Gives `most` bytes for each read, for `left` reads, and then ends. It counts its reads, and gives the bytes that are in
+// the buffer already.
 #[derive(Drop)]
 struct Counted {
     most: usize,
@@ -27,15 +28,15 @@ impl Read for Counted {
     }
 }
 
-// What a reader gives a read, how often, how often it is read, and why it is refused.
+// The bytes that a reader gives for each read, the number of these reads, the number of all reads, and the fault.
 const READS: [(usize, u64, u64, LoadFault); 3] = [
     (65_536, 1_100, 1_101, LoadFault::StateMagic),
     (1, 16_777_215, 16_777_216, LoadFault::StateMagic),
     (1, 16_777_216, 16_777_216, LoadFault::ReadFault),
 ];
 
-// A reader that ends at its 16,777,216th read, and one of over 65 MB, is read to its end: what it gave is no state. One that has
-// not ended then is read no more often, and is a ReadFault.
+// A reader that ends at its 16,777,216th read, and one with over 65 MB, is read to its end, and its bytes are not a state. A
+// reader that has not ended by then is not read again: ReadFault.
 #[test]
 fn reads_of_a_load(rt: HostRuntime) -> Result<(), NewFault> {
     for &(most, left, reads, fault) in &READS {
@@ -57,7 +58,7 @@ TLMIRR02\x00\x02ex\x00\x00\x00\x00\x00\x00\x00\x00\x00\x00\x00\x00\x00\x00\x00\x
 \x00\x00\x00\x00\x00\x00\x00\x02\x00\x02\x01\x02\x00\x02\x02\x01\
 \x8cW/\x16y(\x90W\xb6\xfc\xa75\x85\xba\xc7\x12\x81\xc0\xb7\x9b\x8066k\xb6\xc0,W\xf7\xa7\xc6P";
 
-// It is loaded, and where its strings share a digest it is a Collision, and not OutOfMemory.
+// The state is loaded. If its strings share a digest, the fault is Collision, not OutOfMemory.
 #[test]
 fn colliding_state(rt: HostRuntime) -> Result<(), Fail> {
     let mut text = ONE_SUM;
@@ -69,13 +70,13 @@ fn colliding_state(rt: HostRuntime) -> Result<(), Fail> {
     Ok(())
 }
 
-// Why what the reader gives is refused, as a state of that origin.
+// The fault of a state with that origin from the reader.
 fn fault_of<H: TreeHash, R: Read>(
     alloc: Global,
     origin: &str,
     reader: &mut R,
 ) -> Result<Option<LoadFault>, NewFault> {
-    // A mirror can be made of the origin: so it may be loaded.
+    // A mirror can have that origin, as `load` requires.
     let made = Mirror::<H>::new(alloc, origin)?;
     drop(made);
     Ok(load::<H, R>(alloc, origin, &[], reader).err())

@@ -1,6 +1,6 @@
-//! Requests for memory that are refused. Each test is run once for each of its requests, with that one refused, as by
-//! `rt try --test --fail-alloc N`: where a take, a merge or a play is refused, a part of it may stand and no more, and
-//! the same once more completes it.
+//! Tests with refused requests for memory. Each test runs once for each of its requests, with that one refused, as by
+//! `rt try --test --fail-alloc N`. After a refused take, merge or play, only a part of it may be held, and a second call
+//! completes it.
 use crate::given::{BUNDLE_OF_3, HEAD_OF_3, answer_to_head, kept, keys, tile_of_3};
 use crate::plays::{answers_under, are_done, are_merged, three_events, two_mirrors};
 use signed_note::Verifier;
@@ -29,7 +29,7 @@ fn takes_at_last<H: TreeHash>(rt: &impl Abort, alloc: Global, row: &[u8]) -> Res
     Ok(())
 }
 
-// A new mirror that took the head of them.
+// A new mirror that took the tree head of these entries.
 fn head_at_last<H: TreeHash>(
     rt: &impl Abort,
     alloc: Global,
@@ -56,7 +56,7 @@ fn take_tile_at_last<H: TreeHash>(
     assert!(rt; mirror.strings().len() == 2);
 }
 
-// Takes their bundle over that, which has three strings more.
+// Takes their bundle after that, which has three more strings.
 fn take_bundle_at_last<H: TreeHash>(rt: &impl Abort, alloc: Global, mirror: &mut Mirror<H>) {
     let mut answer = mirror.take_bundle(alloc, 3, BUNDLE_OF_3);
     if answer == Err(TakeFault::OutOfMemory) {
@@ -67,7 +67,7 @@ fn take_bundle_at_last<H: TreeHash>(rt: &impl Abort, alloc: Global, mirror: &mut
     assert!(rt; mirror.strings().len() == 5);
 }
 
-// Takes their head over nothing: two joins, and the note last.
+// Takes their tree head into an empty mirror: two joins, and the note last.
 fn take_head_at_last<H: TreeHash>(
     rt: &impl Abort,
     alloc: Global,
@@ -96,7 +96,7 @@ fn merges_again_after_want_of_memory(rt: HostRuntime) -> Result<(), Fail> {
     answer
 }
 
-// A new mirror is merged with that one, which is complete at the three entries.
+// A new mirror is merged with the other one, which is complete for the three entries.
 fn merges_at_last<H: TreeHash>(
     rt: &impl Abort,
     alloc: Global,
@@ -108,7 +108,7 @@ fn merges_at_last<H: TreeHash>(
     answer
 }
 
-// A mirror that is empty is merged with one of five strings and a note, which comes last. Both are complete then.
+// An empty mirror is merged with one that has five strings and a note, which comes last. Both are complete afterwards.
 fn become_whole<H: TreeHash>(
     rt: &impl Abort,
     alloc: Global,
@@ -126,7 +126,7 @@ fn become_whole<H: TreeHash>(
     is_whole(rt, other)
 }
 
-// A mirror is complete at the three entries.
+// The mirror is complete for the three entries.
 fn is_whole<H: TreeHash>(rt: &impl Abort, mirror: &Mirror<H>) -> Result<(), Fail> {
     let root = read_hash("rra8/idLcKFPsGel5VeCZNsPqbUa9eC6FZFY8yngbnc=").ok_or("no hash")?;
     assert!(rt; mirror.is_complete(3, &root));
@@ -138,7 +138,7 @@ fn plays_again_after_want_of_memory(rt: HostRuntime) -> Result<(), Fail> {
     plays_at_last::<Sha256Tree>(&rt, rt.alloc())
 }
 
-// The three events happen to two mirrors, by which mirror 0 is complete and mirror 1 holds no head.
+// The three events happen to two mirrors. Mirror 0 is then complete, and mirror 1 holds no tree head.
 fn plays_at_last<H: TreeHash>(rt: &impl Abort, alloc: Global) -> Result<(), Fail> {
     let keys = keys(alloc)?;
     let events = three_events::<H>(alloc)?;
@@ -148,7 +148,7 @@ fn plays_at_last<H: TreeHash>(rt: &impl Abort, alloc: Global) -> Result<(), Fail
     Ok(())
 }
 
-// Plays the three events. A play that is refused as a whole leaves all as it was, an event that is refused answers so.
+// Plays the three events. A play that is refused as a whole changes nothing; a refused event has that answer.
 fn play_at_last<H: TreeHash>(
     rt: &impl Abort,
     alloc: Global,
@@ -170,21 +170,21 @@ fn play_at_last<H: TreeHash>(
     Ok(())
 }
 
-// Whether all events were done. Else one of them was refused memory.
+// Whether all events were done. Otherwise one of them ran out of memory.
 fn are_judged(rt: &impl Abort, answers: &[Result<(), TakeFault>]) -> bool {
     let done = are_done(answers, 3);
     assert!(rt; done || are_done_but_one(answers));
     done
 }
 
-// The mirrors hold neither a string nor a note.
+// The mirrors hold no string and no note.
 fn hold_nothing<H: TreeHash>(rt: &impl Abort, world: &[Mirror<H>]) {
     for mirror in world {
         assert!(rt; mirror.strings().len() == 0 && mirror.note_at(0).is_none());
     }
 }
 
-// Whether three events were answered, one of them by `OutOfMemory` and the others by Ok.
+// Whether there are three answers, one of them `OutOfMemory` and the others Ok.
 fn are_done_but_one(answers: &[Result<(), TakeFault>]) -> bool {
     let mut refused = 0usize;
     for answer in answers {

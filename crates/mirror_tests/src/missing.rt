@@ -1,4 +1,4 @@
-//! What is missing of a head, written to a writer that fails at each byte.
+//! The missing paths of a tree head, for a writer that fails at each byte.
 use crate::given::take_head;
 use byte_streams::StreamFault;
 use std::alloc::Global;
@@ -10,7 +10,8 @@ use tlog_hash::{Hash, Sha256Tree, TreeHash};
 use tlog_mirror::Mirror;
 use tlog_text::read_hash;
 
-// A head of 2^40 + 600 entries. Each hash of its edge is 32 bytes of 7: 88 of entries, two of 256 and one of 2^40.
+// A tree head of 2^40 + 600 entries. Each hash of its right edge is 32 bytes of 7: 88 hashes of entries, two of 256 entries
+// and one of 2^40.
 const HEAD: &str = "1099511628376\ntS8R8vpkxtXDTPKVFEYtD4XNDiAWycmU+Av61Llu9Yg=";
 
 const LIST: &str = "tile/4/000\ntile/entries/x004/x294/x967/296\ntile/entries/x004/x294/x967/297\n\
@@ -46,7 +47,7 @@ fn a_prefix_is_written_where_the_writer_fails(rt: HostRuntime) -> Result<(), Fai
     answer
 }
 
-// A mirror that takes the head writes what is missing of it, as far as the writer goes.
+// A mirror that takes the tree head writes its missing paths until the writer fails.
 fn takes_and_writes<H: TreeHash>(
     rt: &impl Abort,
     alloc: Global,
@@ -62,7 +63,7 @@ fn takes_and_writes<H: TreeHash>(
     Ok(())
 }
 
-// The list is written to a writer that takes at most `most` bytes: whole, or its beginning.
+// The list is written to a writer that takes at most `most` bytes: the whole list or its beginning.
 fn writes_at_most<H: TreeHash>(
     rt: &impl Abort,
     alloc: Global,
@@ -88,7 +89,7 @@ fn writes_at_most<H: TreeHash>(
     Ok(())
 }
 
-// Of a head that is not held nothing is written.
+// For a tree head that is not held, nothing is written.
 fn writes_nothing<H: TreeHash>(alloc: Global, mirror: &Mirror<H>) -> Result<bool, Fail> {
     let mut written = Vec::new(alloc);
     let answer = mirror.write_missing(alloc, 600, &[7; 32], &mut written)?;

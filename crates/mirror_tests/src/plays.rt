@@ -7,16 +7,16 @@ use std::test::Fail;
 use tlog_hash::{Hash, Sha256Tree, TreeHash};
 use tlog_mirror::{Bytes, Event, Item, Mirror, Rows, TakeFault, fits, play, play_again};
 
-// The head of a log of one entry, which is its number.
+// The note of a log of one entry, which is its number.
 const HEAD_OF_1: &str =
     "ex\n1\ncJ6AyISHokEeHuTfufIqhhSS0gxHZRUMDHlKvXD4FHw=\n\n\u{2014} good AQIDBAU=\n";
 
-// Its root.
+// The root of this log.
 fn root_of_1<H: TreeHash>() -> Hash {
     H::leaf(&[0, 0])
 }
 
-// Its head, over its edge.
+// The tree head of this log, with its right edge.
 fn head_of_1<H: TreeHash>(alloc: Global) -> Result<Item, AllocError> {
     let mut rows = Vec::new(alloc);
     rows.push(Vec::from_slice(alloc, root_of_1::<H>().as_slice())?)?;
@@ -26,7 +26,7 @@ fn head_of_1<H: TreeHash>(alloc: Global) -> Result<Item, AllocError> {
     })
 }
 
-// Its bundle.
+// The bundle of this log.
 fn bundle_of_1(alloc: Global) -> Result<Item, AllocError> {
     Ok(Item::Bundle {
         width: 1,
@@ -34,7 +34,7 @@ fn bundle_of_1(alloc: Global) -> Result<Item, AllocError> {
     })
 }
 
-// An item is taken by a mirror.
+// Adds an event: the mirror takes the item.
 fn push_take(
     events: &mut Vec<Event>,
     target: usize,
@@ -45,7 +45,7 @@ fn push_take(
     Ok(())
 }
 
-// Its head is taken by mirror 0, and its bundle by mirror 1, which is merged into 0 then.
+// Mirror 0 takes the tree head, mirror 1 takes the bundle, and mirror 1 is merged into mirror 0.
 pub(crate) fn three_events<H: TreeHash>(alloc: Global) -> Result<Vec<Event>, AllocError> {
     let mut events = Vec::new(alloc);
     push_take(&mut events, 0, head_of_1::<H>(alloc))?;
@@ -57,7 +57,7 @@ pub(crate) fn three_events<H: TreeHash>(alloc: Global) -> Result<Vec<Event>, All
     Ok(events)
 }
 
-// Two mirrors that hold nothing.
+// Two empty mirrors.
 pub(crate) fn two_mirrors<H: TreeHash>(alloc: Global) -> Result<Vec<Mirror<H>>, Fail> {
     let mut world = Vec::new(alloc);
     for _ in 0..2u32 {
@@ -66,7 +66,7 @@ pub(crate) fn two_mirrors<H: TreeHash>(alloc: Global) -> Result<Vec<Mirror<H>>, 
     Ok(world)
 }
 
-// Whether mirror 0 is complete and mirror 1 holds no head.
+// Whether mirror 0 is complete and mirror 1 holds no tree head.
 pub(crate) fn are_merged<H: TreeHash>(world: &[Mirror<H>]) -> bool {
     match (world.first(), world.get(1)) {
         (Some(first), Some(second)) => {
@@ -76,7 +76,7 @@ pub(crate) fn are_merged<H: TreeHash>(world: &[Mirror<H>]) -> bool {
     }
 }
 
-// Whether so many events were answered by Ok.
+// Whether there are `count` answers, all Ok.
 pub(crate) fn are_done(answers: &[Result<(), TakeFault>], count: usize) -> bool {
     for answer in answers {
         if answer.is_err() {
@@ -86,7 +86,7 @@ pub(crate) fn are_done(answers: &[Result<(), TakeFault>], count: usize) -> bool 
     answers.len() == count
 }
 
-// The three events happen to two mirrors, each tried as often as that, or once by `play`.
+// The three events happen to two mirrors. Each event is tried up to that number of times, or once by `play`.
 fn plays_three<H: TreeHash>(rt: &impl Abort, alloc: Global, tries: u32) -> Result<(), Fail> {
     let events = three_events::<H>(alloc)?;
     let world = played::<H>(rt, alloc, &events, 3, tries)?;
@@ -94,7 +94,7 @@ fn plays_three<H: TreeHash>(rt: &impl Abort, alloc: Global, tries: u32) -> Resul
     Ok(())
 }
 
-// Two mirrors to which so many events happened under the key of these tests, all answered by Ok.
+// Two mirrors after the given number of events under the key of these tests, all answered by Ok.
 fn played<H: TreeHash>(
     rt: &impl Abort,
     alloc: Global,
@@ -109,7 +109,7 @@ fn played<H: TreeHash>(
     Ok(world)
 }
 
-// What the events are answered that happen under those keys. Events that do not fit have no answers.
+// The answers to the events under those keys. Events that do not fit have no answers.
 pub(crate) fn answers_under<H: TreeHash>(
     alloc: Global,
     world: &mut [Mirror<H>],
@@ -131,7 +131,7 @@ fn play_two(rt: HostRuntime) -> Result<(), Fail> {
     plays_three::<Sha256Tree>(&rt, rt.alloc(), 0)
 }
 
-// Where a single request for memory is refused during the events, all comes to the same.
+// If a single request for memory is refused during the events, the result is the same.
 #[test]
 fn play_again_once(rt: HostRuntime) -> Result<(), Fail> {
     plays_three::<Sha256Tree>(&rt, rt.alloc(), 2)

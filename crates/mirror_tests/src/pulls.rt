@@ -1,7 +1,6 @@
-//! Pulls from sources that fail, and how often others are asked. What is pulled from a folder stands in
-//! `tests/pulls.runs`.
+//! Pulls from sources that fail, and the number of their requests. `tests/pulls.runs` has pulls from folders.
 //!
-//! C(n) is the log of the numbers from 0 on, n of them, each in two bytes, big-endian.
+//! C(n) is the log of the numbers 0 to n - 1, each in two bytes, big-endian.
 mod lying;
 
 ghost use Rattle.std.specs.Prelude.{map, IfOk};
@@ -18,7 +17,7 @@ use std::test::Fail;
 use tlog_hash::{Sha256Tree, TreeHash};
 use tlog_mirror::Mirror;
 
-// The numbers from that one on, so many of them.
+// The numbers from `from` on, `count` of them.
 fn numbers(alloc: Global, from: u16, count: u16) -> Result<Vec<Vec<u8>>, AllocError>
     ensures { IfOk result (λ entries. AreShort (map (λ e. e.items) entries.items)) }
 {
@@ -30,12 +29,12 @@ fn numbers(alloc: Global, from: u16, count: u16) -> Result<Vec<Vec<u8>>, AllocEr
     Ok(entries)
 }
 
-// The key `ex`, id 1, secret 00, of these logs.
+// The key of these logs: `ex`, id 1, secret 00.
 fn key(alloc: Global) -> Result<HmacKey, KeyFault> {
     HmacKey::new(alloc, "ex", 1, &[0])
 }
 
-// A source over the numbers from that one on, so many of them.
+// A source over the numbers from `from` on, `count` of them.
 pub(crate) fn list<H: TreeHash>(
     alloc: Global,
     from: u16,
@@ -45,7 +44,7 @@ pub(crate) fn list<H: TreeHash>(
     Ok(ListSource::new(alloc, "ex", entries, key(alloc)?)?)
 }
 
-// How a pull ends, under the key of these logs. It ensures nothing, so that its callers are cheap to check.
+// The result of a pull, under the key of these logs. It ensures nothing, so that its callers are cheap to check.
 fn end_of_pull<H: TreeHash, S: Source>(
     alloc: Global,
     mirror: &mut Mirror<H>,
@@ -67,7 +66,7 @@ fn failing_source(rt: HostRuntime) -> Result<(), Fail> {
     Ok(())
 }
 
-// A new mirror's pull of C(257) from that source fails, after so many gets, and then one does not.
+// The first pull of C(257) by a new mirror fails after the given number of gets, and the second succeeds.
 fn fails_first<H: TreeHash>(
     rt: &impl Abort,
     alloc: Global,
@@ -80,7 +79,7 @@ fn fails_first<H: TreeHash>(
     answer
 }
 
-// The mirror's pull from that source fails, after so many gets, and then one does not.
+// The first pull of the mirror fails after the given number of gets, and the second succeeds.
 fn fails_once<H: TreeHash>(
     rt: &impl Abort,
     alloc: Global,
@@ -101,7 +100,7 @@ fn fails_once<H: TreeHash>(
     Ok(())
 }
 
-// A lie, the other list, how often it is asked, and whether the head is complete then.
+// A lie, the other list, the number of gets, and whether the tree head is then complete.
 const GETS: [(Lie, u16, u16, usize, Result<bool, PullFault>); 5] = [
     (Lie::Nothing, 0, 0, 5, Ok(true)),
     (Lie::FalseBundle, 1000, 256, 5, Ok(false)),
@@ -110,8 +109,8 @@ const GETS: [(Lie, u16, u16, usize, Result<bool, PullFault>); 5] = [
     (Lie::NoFiles, 0, 0, 3, Err(PullFault::NoEdge)),
 ];
 
-// How often a new mirror's pull of C(257) asks, and how it ends: of the rows pull-257, at a source that would fail then, false-bundle
-// and partials-gone, and where nothing is given, or the checkpoint alone.
+// The number of gets of a new mirror's pull of C(257), and its result. The rows are pull-257, for a source that would fail
+// after these gets, then false-bundle and partials-gone. Two more sources give nothing, or only the checkpoint.
 #[test]
 fn gets_of_a_pull(rt: HostRuntime) -> Result<(), Fail> {
     for &(lie, from, count, gets, end) in &GETS {
@@ -123,7 +122,8 @@ fn gets_of_a_pull(rt: HostRuntime) -> Result<(), Fail> {
     Ok(())
 }
 
-// A new mirror's pull from that source asks so often, and ends so: with a head that is complete or not, or by a fault.
+// The pull of a new mirror from that source has that number of gets and that result: a tree head that is complete or not, or
+// a fault.
 fn asks<H: TreeHash>(
     rt: &impl Abort,
     alloc: Global,
@@ -146,7 +146,7 @@ fn asks<H: TreeHash>(
     Ok(())
 }
 
-// How a new mirror's pull from that source ends.
+// The result of the pull of a new mirror from that source.
 fn end_of_first_pull<H: TreeHash>(
     alloc: Global,
     source: &mut Liar<H>,
@@ -157,7 +157,7 @@ fn end_of_first_pull<H: TreeHash>(
     answer
 }
 
-// A pull of 300 entries, and a second one where the first was refused memory, as by `rt try --test --fail-alloc N`.
+// A pull of 300 entries, and a second one if the first ran out of memory, as by `rt try --test --fail-alloc N`.
 #[test]
 fn pull_again_after_want_of_memory(rt: HostRuntime) -> Result<(), Fail> {
     let mut source = list::<Sha256Tree>(rt.alloc(), 0, 300)?;
@@ -166,7 +166,6 @@ fn pull_again_after_want_of_memory(rt: HostRuntime) -> Result<(), Fail> {
     answer
 }
 
-// A new mirror's pull.
 fn pulls_first<H: TreeHash, S: Source>(
     rt: &impl Abort,
     alloc: Global,

@@ -1,4 +1,4 @@
-//! What a mirror serves of a part of its entries.
+//! The files that a mirror serves for a part of its entries.
 use crate::given::{BUNDLE_OF_3, HEAD_OF_3, kept, take_note, tile_of_3};
 use std::alloc::{AllocError, Global};
 use std::process::Abort;
@@ -15,21 +15,21 @@ fn small_trees(rt: HostRuntime) -> Result<(), Fail> {
     answer
 }
 
-// A mirror that took the head of the three entries, whose leaf hashes are that row, and then their bundle.
+// A mirror that took the tree head of the three entries, whose leaf hashes are that row, and then their bundle.
 pub(crate) fn mirror_of_3<H: TreeHash>(alloc: Global, row: &[u8]) -> Result<Mirror<H>, Fail> {
     let mut mirror = Mirror::<H>::new(alloc, "ex")?;
     let answer = take_3(alloc, &mut mirror, row);
     kept(mirror, answer)
 }
 
-// Takes that head, and then the bundle.
+// Takes that tree head, and then the bundle.
 fn take_3<H: TreeHash>(alloc: Global, mirror: &mut Mirror<H>, row: &[u8]) -> Result<(), Fail> {
     take_note(alloc, mirror, HEAD_OF_3.as_bytes(), &[row])?;
     mirror.take_bundle(alloc, 3, BUNDLE_OF_3)?;
     Ok(())
 }
 
-// Served are the row of the three entries, and a bundle of two of them, but none of four.
+// The mirror serves the row of the three entries, and a bundle of two of them, but no bundle of four.
 pub(crate) fn serves_3<H: TreeHash>(
     rt: &impl Abort,
     alloc: Global,
@@ -43,7 +43,7 @@ pub(crate) fn serves_3<H: TreeHash>(
     Ok(())
 }
 
-// Served is that bundle of so many entries, or none.
+// The mirror serves that bundle of `width` entries, or no such bundle.
 fn serves_bundle<H: TreeHash>(
     rt: &impl Abort,
     alloc: Global,

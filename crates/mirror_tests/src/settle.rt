@@ -1,4 +1,4 @@
-//! How much is remembered of complete heads. Roots were computed by a program of another language.
+//! The number of marks that a mirror remembers of complete tree heads. A program in another language computed the roots.
 use crate::given::take_head;
 use std::alloc::{AllocError, Global};
 use std::process::Abort;
@@ -6,8 +6,8 @@ use std::test::Fail;
 use tlog_hash::{Hash, Sha256Tree, TreeHash};
 use tlog_mirror::Mirror;
 
-// Settles a mirror, which then remembers so many. Where memory is refused, as by `rt try --test --fail-alloc N`, no
-// less is remembered, and the same call settles it once there is some.
+// Settles a mirror, which then remembers the given number of marks. If memory is refused, as by
+// `rt try --test --fail-alloc N`, no marks are lost, and a second call settles the mirror.
 fn settles<H: TreeHash>(
     rt: &impl Abort,
     alloc: Global,
@@ -28,7 +28,7 @@ fn settle<H: TreeHash>(alloc: Global, mirror: &mut Mirror<H>) -> Result<(), Allo
     mirror.settle(alloc)
 }
 
-// And settle-empty, at the same mirror before it takes anything.
+// Also the row settle-empty, for the same mirror before it takes anything.
 #[test]
 fn settle_e3(rt: HostRuntime) -> Result<(), Fail> {
     let mut mirror = Mirror::<Sha256Tree>::new(rt.alloc(), "ex")?;
@@ -37,7 +37,7 @@ fn settle_e3(rt: HostRuntime) -> Result<(), Fail> {
     answer
 }
 
-// Settles a mirror that holds nothing, then one of the head of three numbers, and one that has these too, once and again.
+// Settles an empty mirror, then one with the tree head of three numbers, and one that also has the numbers, twice.
 fn settles_e3<H: TreeHash>(
     rt: &impl Abort,
     alloc: Global,
@@ -58,7 +58,7 @@ fn settles_e3<H: TreeHash>(
     Ok(())
 }
 
-// Takes the head of the numbers 0 to 2, each in two bytes.
+// Takes the tree head of the numbers 0 to 2, each in two bytes.
 fn take_number_head<H: TreeHash>(alloc: Global, mirror: &mut Mirror<H>) -> Result<(), Fail> {
     let mut row = Vec::new(alloc);
     for number in 0..3u16 {
@@ -68,12 +68,12 @@ fn take_number_head<H: TreeHash>(alloc: Global, mirror: &mut Mirror<H>) -> Resul
     take_head(alloc, mirror, head, &[row.as_slice()])
 }
 
-// The head of 65,536 entries of no bytes, and that of the first 257 of them.
+// The tree head of 65,536 empty entries, and that of the first 257 of them.
 const FIRST_HEAD: &str = "65536\n2DOJrJogf7fb3Ekvu1a5SC8ZFwaZ4iS+ZGlMyIWjoqI=";
 
 const SECOND_HEAD: &str = "257\nJFw1mL/gcns20/IeaJ7u6DxGhgx36kbwtSs7P57BU6Y=";
 
-// And settle-65536, of the first head. Of the second head only the whole list is new.
+// Also the row settle-65536, for the first tree head. The second tree head adds only its whole list.
 #[test]
 fn settle_two(rt: HostRuntime) -> Result<(), Fail> {
     let mut mirror = Mirror::<Sha256Tree>::new(rt.alloc(), "ex")?;
@@ -82,7 +82,7 @@ fn settle_two(rt: HostRuntime) -> Result<(), Fail> {
     answer
 }
 
-// Settles a mirror of a long log, of which it has the head and the bundles, and then of two heads of it.
+// Settles a mirror of a long log with its tree head and bundles, and then with two tree heads of it.
 fn settles_two<H: TreeHash>(
     rt: &impl Abort,
     alloc: Global,
@@ -103,7 +103,7 @@ fn settles_two<H: TreeHash>(
     settles(rt, alloc, mirror, 18)
 }
 
-// The tree hash of 2 to that power of entries of no bytes.
+// The tree hash of 2 to the power of `times` empty entries.
 fn doubled<H: TreeHash>(times: u32) -> Hash {
     let mut hash = H::leaf(b"");
     for _ in 0..times {
@@ -112,7 +112,7 @@ fn doubled<H: TreeHash>(times: u32) -> Hash {
     hash
 }
 
-// Takes the full tile of each level from 1 to below that one, over entries of no bytes, and a bundle of 256 of them.
+// Takes the full tile of each level from 1 to below `top`, for empty entries, and a bundle of 256 of them.
 fn take_equal<H: TreeHash>(alloc: Global, mirror: &mut Mirror<H>, top: u32) -> Result<(), Fail> {
     for level in 1..top {
         let row = equal_row::<H>(alloc, level, 256)?;
@@ -123,7 +123,7 @@ fn take_equal<H: TreeHash>(alloc: Global, mirror: &mut Mirror<H>, top: u32) -> R
     Ok(())
 }
 
-// So many hashes of that level, each of entries of no bytes.
+// `width` hashes of that level, for empty entries.
 fn equal_row<H: TreeHash>(alloc: Global, level: u32, width: u32) -> Result<Vec<u8>, AllocError> {
     let hash = doubled::<H>(level.saturating_mul(8));
     let mut row = Vec::new(alloc);

@@ -1,4 +1,4 @@
-//! How often a note is verified.
+//! The number of times that a note is verified.
 ghost use Rattle.std.specs.Prelude.{codes, true};
 
 use crate::pulls::list;
@@ -13,7 +13,7 @@ use std::test::Fail;
 use tlog_hash::{Sha256Tree, TreeHash};
 use tlog_mirror::Mirror;
 
-// The key of the logs of `pulls`, which accepts each signature, and counts how often it is asked.
+// The key of the logs of `pulls`. It accepts each signature, and counts its calls.
 #[derive(Drop)]
 struct Counted {
     asked: Rc<Cell<u64>>,
@@ -36,7 +36,7 @@ impl Verifier for Counted {
     }
 }
 
-// Its head of one entry of no bytes, the edge of which has no strings.
+// The tree head of one empty entry, whose right edge has no strings.
 const HEAD_OF_1: &str =
     "ex\n1\nbjQLnP+zepicpUTmu3gKLHiQHT+zNzh2hRGjBhevoB0=\n\n\u{2014} ex AAAAAQU=\n";
 
@@ -56,7 +56,6 @@ fn a_note_is_verified_once(rt: HostRuntime) -> Result<(), Fail> {
     Ok(())
 }
 
-// Takes the head.
 fn takes<H: TreeHash>(alloc: Global, keys: &[Box<dyn Verifier>]) -> Result<(), Fail> {
     let mut mirror = Mirror::<H>::new(alloc, "ex")?;
     let row = H::leaf(b"");
@@ -66,7 +65,7 @@ fn takes<H: TreeHash>(alloc: Global, keys: &[Box<dyn Verifier>]) -> Result<(), F
     Ok(())
 }
 
-// Pulls a log of three entries: its state.
+// Pulls a log of three entries, and returns its state.
 fn pulls<H: TreeHash>(alloc: Global, keys: &[Box<dyn Verifier>]) -> Result<Vec<u8>, Fail> {
     let mut mirror = Mirror::<H>::new(alloc, "ex")?;
     let state = pulled(alloc, &mut mirror, keys);
@@ -74,7 +73,7 @@ fn pulls<H: TreeHash>(alloc: Global, keys: &[Box<dyn Verifier>]) -> Result<Vec<u
     state
 }
 
-// Pulls that log into the mirror: the mirror's state.
+// Pulls that log into the mirror, and returns the mirror's state.
 fn pulled<H: TreeHash>(
     alloc: Global,
     mirror: &mut Mirror<H>,
@@ -89,7 +88,6 @@ fn pulled<H: TreeHash>(
     Ok(state)
 }
 
-// Loads it.
 fn loads<H: TreeHash>(alloc: Global, keys: &[Box<dyn Verifier>], state: &[u8]) -> Result<(), Fail> {
     let mirror = Mirror::<H>::new(alloc, "ex")?;
     drop(mirror);

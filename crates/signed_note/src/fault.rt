@@ -1,7 +1,6 @@
 //! Why a note, a key or a key file was refused.
 //!
-//! A call returns the first fault that applies, in the order below. `OutOfMemory` may come before
-//! any of them.
+//! A call returns the first fault that applies, in the order below. `OutOfMemory` may come before any of them.
 
 use std::alloc::{AllocError, AllocFailed};
 use thiserror::Error;
@@ -21,8 +20,7 @@ pub enum NoteFault {
     /// The signature part has more than 100 lines. A last line without its newline counts.
     #[error("TooManySignatures")]
     TooManySignatures,
-    /// A line of the signature part has no newline, or is not an em dash, the name of a key and
-    /// base64.
+    /// A line of the signature part has no newline, or is not an em dash, the name of a key and base64.
     #[error("BadSignatureLine")]
     BadSignatureLine,
     /// Memory was refused.

@@ -11,8 +11,7 @@ use std::alloc::{AllocError, Global};
 use std::cmp::Ordering;
 use std::marker::Model;
 
-// Pinned texts of one name and id, while lines are gathered. The digests have the order of the
-// lines.
+// Pinned texts of one name and id, while lines are gathered. The digests have the order of the lines.
 #[derive(Drop)]
 struct PinLines {
     name: String,
@@ -58,8 +57,7 @@ fn order(a: &KeyLine, b: &KeyLine) -> Ordering
     }
 }
 
-// The index of the pins with the same name and id. Lines are gathered in order, so only the last
-// pins can have them.
+// The index of the pins with the same name and id. Lines are gathered in order, so only the last pins can have them.
 fn find_gathered(gathered: &[PinLines], texts: &PinnedTexts) -> Option<usize>
     ensures within { IfSome result (λ at. at < length gathered.now) }
     ensures found { IfSome result (HoldsAt (λ k. (k.name ≡ texts.now.name) × (k.id ≡ texts.now.id))
@@ -86,8 +84,7 @@ fn gather(gathered: &mut Vec<PinLines>, texts: PinnedTexts) -> Result<(), AllocE
     Ok(())
 }
 
-// The shared keys of the lines, and their pins by name and id. Sorting brings lines with one name
-// and id together.
+// The shared keys of the lines, and their pins by name and id. Sorting brings lines with one name and id together.
 fn gather_all(
     alloc: Global,
     lines: Vec<KeyLine>,
@@ -116,13 +113,12 @@ fn add_pins(keys: &mut Vec<KeyLine>, pins: PinLines) -> Result<(), AllocError>
     Ok(())
 }
 
-/// The keys of the lines of a key file, with all pinned texts of one name and id in one `Pin`. So a
-/// text is hashed only once for any number of pins. A note opens under these keys exactly if it
-/// opens under the keys of the lines. The shared keys come first.
+/// The keys of the lines of a key file, with all pinned texts of one name and id in one `Pin`. So a text is hashed only once
+/// for any number of pins. A note opens under these keys exactly if it opens under the keys of the lines. The shared keys
+/// come first.
 ///
 /// ```text
-/// join_pins(alloc, read_keys(alloc, &bytes)?)?   // one key for a thousand lines
-/// `pin log 00000001 ..`
+/// join_pins(alloc, read_keys(alloc, &bytes)?)?   // one key for a thousand lines `pin log 00000001 ..`
 /// ```
 ///
 /// # Errors

@@ -65,15 +65,14 @@ fn key_of(alloc: Global, number: usize, line: &[u8]) -> Result<KeyLine, KeyFileF
 
 /// Reads a key file: the keys of its lines, in order.
 ///
-/// Each line is `hmac NAME ID SECRET` or `pin NAME ID DIGEST`, with single spaces and a newline at
-/// its end. `HmacKey::new` must accept NAME. ID has 8 hexadecimal digits, DIGEST 64, and SECRET an
-/// even number from 2 to 128, in upper or lower case. An empty file has no keys.
+/// Each line is `hmac NAME ID SECRET` or `pin NAME ID DIGEST`, with single spaces and a newline at its end. `HmacKey::new`
+/// must accept NAME. ID has 8 hexadecimal digits, DIGEST 64, and SECRET an even number from 2 to 128, in upper or lower
+/// case. An empty file has no keys.
 ///
 /// # Errors
 ///
-/// `BadKeyLine` with the number, counted from 1, of the first line that gives no key. Examples are
-/// an empty line, a last line without its newline, and a line that is not UTF-8. `OutOfMemory` if
-/// memory was refused.
+/// `BadKeyLine` with the number, counted from 1, of the first line that gives no key. Examples are an empty line, a last
+/// line without its newline, and a line that is not UTF-8. `OutOfMemory` if memory was refused.
 pub fn read_keys(alloc: Global, bytes: &[u8]) -> Result<Vec<KeyLine>, KeyFileFault>
     ensures { ReadsKeys bytes.now (seen (λ v. v.items) result) }
 {

@@ -8,20 +8,20 @@ pub fn notes_law()
     ensures { NoteHasOneReading }
 {}
 
-/// `Note::read` has one answer for bytes, apart from `OutOfMemory`. So it returns `Ok` exactly if
-/// the bytes are a note, and a refusal exactly if it is the first that applies.
+/// `Note::read` has one answer for bytes, apart from `OutOfMemory`. So it returns `Ok` exactly if the bytes are a note, and
+/// a refusal exactly if it is the first that applies.
 pub fn one_answer_law()
     ensures { OneNoteAnswer }
 {}
 
-/// `read_keys` has one answer for bytes, apart from `OutOfMemory`. The bytes are a key file with
-/// only one list of keys, or one line is the first bad one.
+/// `read_keys` has one answer for bytes, apart from `OutOfMemory`. The bytes are a key file with only one list of keys, or
+/// one line is the first bad one.
 pub fn one_key_answer_law()
     ensures { OneKeyAnswer }
 {}
 
-/// A note has at most 1,000,000 bytes and 100 signature lines. A text to sign has at most 900,000
-/// bytes, the name of a key of this crate 255, and a shared secret 64.
+/// A note has at most 1,000,000 bytes and 100 signature lines. A text to sign has at most 900,000 bytes, the name of a key
+/// of this crate 255, and a shared secret 64.
 pub fn limits_law()
     ensures { HasNoteLimits }
 {}

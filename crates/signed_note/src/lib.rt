@@ -1,9 +1,8 @@
 //! Signed notes and the keys that check them (C2SP signed-note).
 //!
-//! A note is a text, a blank line, and the signature lines of one or more keys. `Note::read` reads
-//! a note, `open_note` checks whether a known key signed it, and `sign` makes one. A `Verifier`
-//! checks signatures. This crate has two kinds, `HmacKey` and `PinnedTexts`; `read_keys` reads them
-//! from a key file. A caller may add other kinds.
+//! A note is a text, a blank line, and the signature lines of one or more keys. `Note::read` reads a note, `open_note`
+//! checks whether a known key signed it, and `sign` makes one. A `Verifier` checks signatures. This crate has two kinds,
+//! `HmacKey` and `PinnedTexts`; `read_keys` reads them from a key file. A caller may add other kinds.
 //!
 //! This opens a note:
 //!

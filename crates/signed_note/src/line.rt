@@ -14,8 +14,7 @@ use byteorder::{BigEndian, ByteOrder};
 use std::alloc::{AllocError, Global};
 use std::marker::Model;
 
-/// One line of the signature part of a note: the name and id of a key, and its signature (C2SP
-/// signed-note, "Format").
+/// One line of the signature part of a note: the name and id of a key, and its signature (C2SP signed-note, "Format").
 #[derive(Debug, Drop)]
 pub struct SignatureLine {
     name: String,
@@ -93,8 +92,8 @@ fn decoded_of(alloc: Global, text: &str) -> Result<Vec<u8>, NoteFault>
 ///
 /// # Errors
 ///
-/// `BadSignatureLine` if the line is not an em dash, the name of a key and base64 of at least five
-/// bytes, with single spaces between them. `OutOfMemory` if memory was refused.
+/// `BadSignatureLine` if the line is not an em dash, the name of a key and base64 of at least five bytes, with single spaces
+/// between them. `OutOfMemory` if memory was refused.
 pub fn read_line(alloc: Global, line: &str) -> Result<SignatureLine, NoteFault>
     ensures { ReadsLine line.now result }
 {

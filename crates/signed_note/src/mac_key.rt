@@ -15,13 +15,12 @@ use std::alloc::Global;
 use std::fmt;
 use std::marker::Model;
 
-/// A key with a shared secret of 1 to 64 bytes. Its signature is the HMAC-SHA-256 of the text (RFC
-/// 2104).
+/// A key with a shared secret of 1 to 64 bytes. Its signature is the HMAC-SHA-256 of the text (RFC 2104).
 ///
 /// # Examples
 ///
-/// `HmacKey::new(alloc, "ex", 1, b"Jefe")?` prints as `HmacKey { name: ex, id: 1, .. }`. It accepts
-/// its `mac` of a text as the signature over that text.
+/// `HmacKey::new(alloc, "ex", 1, b"Jefe")?` prints as `HmacKey { name: ex, id: 1, .. }`. It accepts its `mac` of a text as
+/// the signature over that text.
 #[derive(Drop)]
 pub struct HmacKey {
     name: String,
@@ -46,9 +45,8 @@ impl HmacKey {
     ///
     /// # Errors
     ///
-    /// In this order: `BadName` if the name is empty, has over 255 bytes, or has Unicode white
-    /// space, a plus or a character below U+0020; `BadSecret` if the secret is empty or has over 64
-    /// bytes; `OutOfMemory`.
+    /// In this order: `BadName` if the name is empty, has over 255 bytes, or has Unicode white space, a plus or a character
+    /// below U+0020; `BadSecret` if the secret is empty or has over 64 bytes; `OutOfMemory`.
     pub fn new(alloc: Global, name: &str, id: u32, secret: &[u8]) -> Result<HmacKey, KeyFault>
         ensures { MakesSecret name.now id secret.now result }
     {
@@ -73,8 +71,7 @@ impl HmacKey {
         &self.name
     }
 
-    /// The HMAC-SHA-256 of the message under the secret (RFC 2104, section 2). The call allocates
-    /// no memory.
+    /// The HMAC-SHA-256 of the message under the secret (RFC 2104, section 2). The call allocates no memory.
     pub fn mac(&self, message: &[u8]) -> [u8; 32]
         ensures { result ≡ hmac self.now.secret message.now }
     {

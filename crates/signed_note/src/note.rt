@@ -20,9 +20,8 @@ use std::marker::Model;
 ///
 /// # Examples
 ///
-/// A note is the line `a`, an empty line, and a line of an em dash, `x` and `AQIDBAU=`. Its text is
-/// `a\n`. Its only signature line has the name `x`, the id 16909060 and the signature of one byte
-/// 5.
+/// A note is the line `a`, an empty line, and a line of an em dash, `x` and `AQIDBAU=`. Its text is `a\n`. Its only
+/// signature line has the name `x`, the id 16909060 and the signature of one byte 5.
 #[derive(Debug, Drop)]
 pub struct Note {
     whole: String,
@@ -45,10 +44,9 @@ impl Model for Note {
 impl Note {
     /// Reads a note.
     ///
-    /// The text is UTF-8 and ends in a newline. The last blank line separates it from the signature
-    /// part. Each line of that part is an em dash, a space, the name of the key, a space, base64
-    /// and a newline. The base64 is standard, padded and canonical. It encodes the key id in four
-    /// bytes, big-endian, and a signature that is not empty.
+    /// The text is UTF-8 and ends in a newline. The last blank line separates it from the signature part. Each line of that
+    /// part is an em dash, a space, the name of the key, a space, base64 and a newline. The base64 is standard, padded and
+    /// canonical. It encodes the key id in four bytes, big-endian, and a signature that is not empty.
     ///
     /// # Errors
     ///

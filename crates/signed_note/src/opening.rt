@@ -43,10 +43,9 @@ fn opens(text: &str, lines: &[SignatureLine], keys: &[Box<dyn Verifier>]) -> boo
     false
 }
 
-/// Whether the note is trusted (C2SP signed-note, "Signatures"). The result is `Ok` exactly if some
-/// line and some key have the same name and id, and the key accepts the line's signature over the
-/// text. Lines of unknown keys are ignored, and so are lines that their key does not accept. The
-/// keys may be of different kinds. The call allocates no memory.
+/// Whether the note is trusted (C2SP signed-note, "Signatures"). The result is `Ok` exactly if some line and some key have
+/// the same name and id, and the key accepts the line's signature over the text. Lines of unknown keys are ignored, and so
+/// are lines that their key does not accept. The keys may be of different kinds. The call allocates no memory.
 ///
 /// # Errors
 ///

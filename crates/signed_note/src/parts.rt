@@ -26,8 +26,7 @@ fn blank_line(bytes: &[u8]) -> Option<usize>
     None
 }
 
-/// The text of a note, with its last newline, and the signature part: the parts before and after
-/// the last blank line.
+/// The text of a note, with its last newline, and the signature part: the parts before and after the last blank line.
 pub fn parts_of(whole: &str) -> Option<(&str, &str)>
     ensures found { IfSome result (λ x. IsNoteSplit whole.now x.0.now x.1.now) }
     ensures none { IfNone result ((text signed : List ℕ) → ¬ IsNoteSplit whole.now text signed) }
@@ -53,8 +52,7 @@ pub fn count_lines(signed: &[u8]) -> usize
 ///
 /// # Errors
 ///
-/// `BadSignatureLine` if the part is not signature lines, each with its newline. `OutOfMemory` if
-/// memory was refused.
+/// `BadSignatureLine` if the part is not signature lines, each with its newline. `OutOfMemory` if memory was refused.
 pub fn read_lines(alloc: Global, signed: &str) -> Result<Vec<SignatureLine>, NoteFault>
     ensures { ReadsSignatureLines signed.now (seen (λ v. v.items) result) }
 {

@@ -17,14 +17,13 @@ use sha2::{Digest, Sha256};
 use std::alloc::Global;
 use std::marker::Model;
 
-/// The SHA-256 digests of texts that the operator verified elsewhere. A pinned text is accepted
-/// under any signature. So a note opens even if this crate cannot check the signatures of its key,
-/// such as Ed25519.
+/// The SHA-256 digests of texts that the operator verified elsewhere. A pinned text is accepted under any signature. So a
+/// note opens even if this crate cannot check the signatures of its key, such as Ed25519.
 ///
 /// # Examples
 ///
-/// If `digests` has the SHA-256 of a text, `PinnedTexts::new(alloc, "ex", 1, digests)?` accepts
-/// that text under any signature.
+/// If `digests` has the SHA-256 of a text, `PinnedTexts::new(alloc, "ex", 1, digests)?` accepts that text under any
+/// signature.
 ///
 /// The digests are sorted. A text is hashed once, for any number of pins.
 #[derive(Debug, Drop)]
@@ -72,8 +71,8 @@ impl PinnedTexts {
     ///
     /// # Errors
     ///
-    /// `BadName` if the name is empty, has over 255 bytes, or has Unicode white space, a plus or a
-    /// character below U+0020. `OutOfMemory` if memory was refused. `BadSecret` is never returned.
+    /// `BadName` if the name is empty, has over 255 bytes, or has Unicode white space, a plus or a character below U+0020.
+    /// `OutOfMemory` if memory was refused. `BadSecret` is never returned.
     pub fn new(
         alloc: Global,
         name: &str,

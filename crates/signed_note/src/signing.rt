@@ -39,11 +39,10 @@ fn note_of(alloc: Global, text: &str, name: &str, encoded: &str) -> Result<Strin
     format!(in alloc; "{text}\n\u{2014} {name} {encoded}\n")
 }
 
-/// Signs a text. The note has the text and one signature line: the name of the key, its id and its
-/// MAC of the text. The note opens under the key.
+/// Signs a text. The note has the text and one signature line: the name of the key, its id and its MAC of the text. The note
+/// opens under the key.
 ///
-/// The text must have at most 900,000 bytes, end in a newline and have no character below U+0020
-/// other than newline.
+/// The text must have at most 900,000 bytes, end in a newline and have no character below U+0020 other than newline.
 ///
 /// # Errors
 ///

@@ -1,4 +1,4 @@
--- Entries one after the other, of which some are left.
+-- Entries in order, while some are left.
 use Rattle.std.proofs.Common.{◌≡◌, ℕ, zero, suc, false, nat_eq, ◌^◌, ◌<◌, List, [], ◌∷◌, ◌++◌, length, take}
 use Rattle.std.proofs.Common.{Option, Some, None, Result, refl, sym, ap, subst, ◌∙◌, arith}
 use Rattle.std.specs.Prelude.{IfSome}
@@ -8,7 +8,7 @@ use Rattle.tlog_tiles.proofs.BundleLemmas.{HasBundle-first, HasBundle-rest}
 use Rattle.tlog_build.specs.Entries.{AreEntries, ReadsEntries}
 use Rattle.tlog_build.specs.declared.entries.EntriesFault.{EntriesFault}
 
--- no entries are no bytes
+-- bytes that are left are not an empty list of entries
 none_left : (bytes front : List ℕ) (es : List (List ℕ)) → nat_eq (length bytes) 0 ≡ false → bytes ≡ front ++ [] →
     IsBundle 0 front es → ⊥
 none_left bytes front [] some parts b =
@@ -16,20 +16,20 @@ none_left bytes front [] some parts b =
     cc
 none_left bytes front (e ∷ es) some parts b = let bad : suc (length es) ≡ 0 = b.count in absurd (omega arith)
 
--- where bytes are left there is an entry at the start
+-- if bytes are left, they begin with an entry
 pub first_left : (j : ℕ) (bytes : List ℕ) → nat_eq (length bytes) 0 ≡ false → HasBundle j bytes [] →
     (e : List ℕ) × (after : List ℕ) × (length e < 2 ^ 16) × (bytes ≡ entry_text e ++ after)
 first_left zero bytes some h = absurd (none_left bytes h.front h.entries some h.parts h.is_bundle)
 first_left (suc k) bytes some h = HasBundle-first k bytes [] h
 
--- behind an entry stand the others
+-- the other entries follow the first one
 pub others_left : (j : ℕ) (bytes e after : List ℕ) → nat_eq (length bytes) 0 ≡ false → length e < 2 ^ 16 → bytes ≡
     entry_text e ++ after → HasBundle j bytes [] → (k : ℕ) × HasBundle k after []
 others_left zero bytes e after some fits parts h = absurd (none_left bytes h.front h.entries some h.parts h.is_bundle)
 others_left (suc k) bytes e after some fits parts h =
     (k, HasBundle-rest k e after [] fits (subst (λ b. HasBundle (suc k) b []) parts h))
 
--- entries are a bundle of their number
+-- entries are a bundle of the same number of entries
 pub bundle_of : (bytes : List ℕ) (es : List (List ℕ)) → AreEntries bytes es → HasBundle (length es) bytes []
 bundle_of bytes es a = record {
   front = bytes;
@@ -38,7 +38,7 @@ bundle_of bytes es a = record {
   is_bundle = record { count = refl; fits = a.fits; text = a.text };
 }
 
--- bytes of which a part was read that is not full were read whole
+-- bytes that were read up to a limit, and are fewer than the limit, are the whole input
 pub whole_read : (known : Option (List ℕ)) (most : ℕ) (bytes : List ℕ) (r : Result (List (List ℕ)) EntriesFault) →
     IfSome known (λ input. bytes ≡ take most input) → length bytes < most → ReadsEntries bytes r
     → IfSome known (λ input. ReadsEntries input r)

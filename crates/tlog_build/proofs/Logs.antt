@@ -1,4 +1,4 @@
--- The files of a log of entries, and what putting them comes to.
+-- The files of a log of entries, and the results of putting them.
 use Rattle.std.proofs.Common.{◌≡◌, ℕ, List, length, Contains, ap, subst, sym, refl, arith, inl, inr, Option, Some, None, Ok, Err}
 use Rattle.std.proofs.lemmas.List.{take_all}
 use Rattle.signed_note.specs.Keys.{Key}
@@ -20,12 +20,12 @@ use Rattle.mirror_export.specs.declared.fault.ExportFault.TheVariants as export
 use Rattle.tlog_build.specs.Building.{IsLogNote, AreLogFiles, BuildsLog, PutsFiles}
 use Rattle.tlog_build.specs.Faults.{of_export, of_pull}
 
--- what was told stays told
+-- an unchanged record keeps its calls
 kept : (recorded : Option (List Put)) → KeepsRecord recorded recorded
 kept None = tt
 kept (Some puts) = refl
 
--- a note that is a head under the keys is refused for want of memory alone
+-- a note that is an open tree head is refused only if memory is refused
 pub note_refused : (note held origin : List ℕ) (keys : List Key) (f : TakeFault) → note ≡ held →
     ReadsHead note origin keys (Err f) → (size : ℕ) (root : List ℕ) → IsOpenHead held origin keys size root →
     of_take f ≡ pull.OutOfMemory
@@ -35,21 +35,21 @@ note_refused note held origin keys f is reads size root opens =
 
 module _ (digest : List ℕ → List ℕ) (origin : List ℕ) (key : Key) (entries listed : List (List ℕ)) (note : List ℕ)
     (listed_are : listed ≡ entries) (honest : IsHonestAnywhere digest listed origin key note) where
-  -- the source's note is the log's
+  -- the note of the source is that of the log
   log_note : IsLogNote digest origin key entries note
   log_note =
       subst (λ xs. IsLogNote digest origin key xs note) listed_are
       (λ others has. subst (λ xs. IsOpenHead note origin others (length listed) (mth digest xs))
       (take_all (length listed) listed (omega arith)) (honest others has).is_head)
 
-  -- it opens for a mirror that holds nothing
+  -- it opens for an empty mirror
   pub log_opens : (keys : List Key) (v : View) → v ≡ nothing origin → Contains keys key →
       IsOpenHead note v.origin keys (length entries) (mth digest entries)
   log_opens keys v empty has =
       subst (λ o. IsOpenHead note o keys (length entries) (mth digest entries))
       (sym (ap (λ (w : View). w.origin) empty)) (log_note keys has)
 
-  -- and its files are the log's
+  -- the files of the source are those of the log
   log_files : AreLogFiles digest origin key entries (files_at digest note listed (paths_of (length listed)))
   log_files = record {
     note = note;
@@ -58,7 +58,7 @@ module _ (digest : List ℕ → List ℕ) (origin : List ℕ) (key : Key) (entri
   }
 
   module _ (old new : Option (List Put)) where
-    -- all was put
+    -- all files were put
     pub log_put : (T U : Type 0) (x : T) (y : U) → PutsFiles digest note listed {T = T} old new (Ok x) →
         BuildsLog digest origin key entries {T = U} old new (Ok y)
     log_put T U x y p = (files_at digest note listed (paths_of (length listed)), log_files, p.0, p.1)
@@ -72,6 +72,6 @@ module _ (digest : List ℕ → List ℕ) (origin : List ℕ) (key : Key) (entri
     log_ended T U export.OutOfMemory h =
         inr (files_at digest note listed (paths_of (length listed)), log_files, h)
 
-    -- nothing was put for want of memory
+    -- memory was refused, and nothing was put
     pub log_refused : (U : Type 0) (f : PullFault) → f ≡ pull.OutOfMemory → BuildsLog digest origin key entries {T = U} old old (Err (of_pull f))
     log_refused U f e = subst (λ x. BuildsLog digest origin key entries {T = U} old old (Err (of_pull x))) (sym e) (inl (kept old))

@@ -1,5 +1,5 @@
--- A log built of entries (C2SP tlog-tiles). `ChecksOrigin` and `PutsFiles` are cited by the
--- contracts of private functions alone.
+-- Logs that are built from entries (C2SP tlog-tiles). Only contracts of private functions cite
+-- `ChecksOrigin` and `PutsFiles`.
 use Rattle.std.specs.Prelude.{◌≡◌, ◌⊎◌, ℕ, List, length, Contains, Option, Result, Ok, Err, ⊤}
 use Rattle.signed_note.specs.Keys.{Key}
 use Rattle.tlog_hash.specs.Tree.{mth}
@@ -16,7 +16,7 @@ use Rattle.tlog_build.specs.declared.fault.BuildFault.{BuildFault}
 use Rattle.tlog_build.specs.declared.fault.BuildFault.TheVariants.{BadOrigin, Export}
 use Rattle.tlog_build.specs.declared.fault.BuildFault.TheVariants.{OutOfMemory}
 
--- what each answer of judging an origin says: a mirror may be of it, or not
+-- when the check of an origin may return each answer: a mirror may have it or not
 abbrev pub ChecksOrigin : {T : Type 0} → List ℕ → Result T BuildFault → Type 0
 ChecksOrigin origin (Ok x) = IsOrigin origin
 ChecksOrigin origin (Err BadOrigin) = ¬ IsOrigin origin
@@ -24,7 +24,7 @@ ChecksOrigin origin (Err OutOfMemory) = ⊤
 ChecksOrigin origin (Err fault) = ⊥
 
 module _ (digest : List ℕ → List ℕ) (note : List ℕ) (entries : List (List ℕ)) where
-  -- what putting all files of the log of the entries under that note says, by its answer
+  -- the files put for the log of the entries under that note, by the answer of the call
   abbrev pub PutsFiles : {T : Type 0} → Option (List Put) → Option (List Put) →
       Result T ExportFault → Type 0
   PutsFiles old new (Ok x) =
@@ -39,17 +39,19 @@ module _ (digest : List ℕ → List ℕ) (note : List ℕ) (entries : List (Lis
 
 module _ (digest : List ℕ → List ℕ) where
   module _ (origin : List ℕ) (key : Key) (entries : List (List ℕ)) where
-    -- the note is a checkpoint of all the entries, which opens under any keys that have the key
+    -- the note is a checkpoint of all the entries, and opens under any list of keys that has the
+    -- key
     abbrev pub IsLogNote : List ℕ → Type 0
     IsLogNote note = OpensAnywhere note origin key (length entries) (mth digest entries)
 
-    -- the files of the log of the entries under such a note
+    -- the files are those of the log of the entries, with such a note
     pub record AreLogFiles (files : List Put) : Type 0 where
       pub note : List ℕ
       pub is_note : IsLogNote note
       pub files_are : files ≡ files_at digest note entries (paths_of (length entries))
 
-    -- what building the log puts onto a shelf: at Ok all its files, onto one that had no checkpoint
+    -- the files that building the log puts onto a shelf; for Ok all its files, onto a shelf that
+    -- had no checkpoint
     abbrev pub BuildsLog : {T : Type 0} → Option (List Put) → Option (List Put) →
         Result T BuildFault → Type 0
     BuildsLog old new (Ok x) =
@@ -63,7 +65,7 @@ module _ (digest : List ℕ → List ℕ) where
         KeepsRecord old new ⊎ ((files : List Put) × AreLogFiles files × AddsPrefix old new files)
     BuildsLog old new (Err fault) = ⊥
 
-    -- so is said where the log's key is among these keys
+    -- this holds if the key of the log is among these keys
     abbrev pub BuildsLogUnder : {T : Type 0} → List Key → Option (List Put) → Option (List Put) →
         Result T BuildFault → Type 0
     BuildsLogUnder keys old new result =

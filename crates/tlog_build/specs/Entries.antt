@@ -1,17 +1,16 @@
--- Entries that stand one after the other, each after its length of two bytes, and what a reader of
--- them answers.
+-- Entries in order, each after its length of two bytes, and the answers of a reader of entries.
 use Rattle.std.specs.Prelude.{◌≡◌, ℕ, ◌<◌, ◌^◌, List, length, Result, Ok, Err, All, ⊤}
 use Rattle.tlog_tiles.specs.Bundle.{bundle_text}
 use Rattle.tlog_build.specs.declared.entries.EntriesFault.{EntriesFault}
 use Rattle.tlog_build.specs.declared.entries.EntriesFault.TheVariants.{BundleShort, ReadFault}
 use Rattle.tlog_build.specs.declared.entries.EntriesFault.TheVariants.{OutOfMemory}
 
--- the bytes are these entries, however many, each after its length in two bytes, big-endian
+-- the bytes are these entries, of any number; each follows its length in two bytes, big-endian
 pub record AreEntries (bytes : List ℕ) (entries : List (List ℕ)) : Type 0 where
   pub fits : All (λ e. length e < 2 ^ 16) entries
   pub text : bytes ≡ bundle_text entries
 
--- what each answer of a reader of entries says of the bytes
+-- when a reader of entries may return each answer
 abbrev pub ReadsEntries : List ℕ → Result (List (List ℕ)) EntriesFault → Type 0
 ReadsEntries bytes (Ok entries) = AreEntries bytes entries
 ReadsEntries bytes (Err BundleShort) = (entries : List (List ℕ)) → ¬ AreEntries bytes entries

@@ -1,4 +1,4 @@
--- Which fault of a build a fault of one of its calls is: OutOfMemory has one variant.
+-- The fault of a build for each fault of its calls. OutOfMemory has only one variant.
 use Rattle.byte_streams.specs.declared.fault.StreamFault.{StreamFault}
 use Rattle.byte_streams.specs.declared.fault.StreamFault.TheVariants as stream
 use Rattle.tlog_mirror.specs.declared.fault.NewFault.{NewFault}
@@ -13,23 +13,23 @@ use Rattle.tlog_build.specs.declared.fault.BuildFault.{BuildFault}
 use Rattle.tlog_build.specs.declared.fault.BuildFault.TheVariants.{BadOrigin, Pull, Export}
 use Rattle.tlog_build.specs.declared.fault.BuildFault.TheVariants.{OutOfMemory}
 
--- the fault of a build at a mirror that could not be made
+-- the fault of a build whose mirror could not be made
 abbrev pub of_new : NewFault → BuildFault
 of_new new.BadOrigin = BadOrigin
 of_new new.OutOfMemory = OutOfMemory
 
--- the fault of a build at a pull that failed
+-- the fault of a build whose pull failed
 abbrev pub of_pull : PullFault → BuildFault
 of_pull pull.OutOfMemory = OutOfMemory
 of_pull fault = Pull fault
 
--- the fault of a build at an export that failed
+-- the fault of a build whose export failed
 abbrev pub of_export : ExportFault → BuildFault
 of_export export.OutOfMemory = OutOfMemory
 of_export fault = Export fault
 
--- the fault of the reader of entries at input that could not be read; nothing is written there, so
--- a failed write counts as a failed read
+-- the fault of the reader of entries whose input could not be read; nothing is written, so a failed
+-- write counts as a failed read
 abbrev pub entries_of_stream : StreamFault → EntriesFault
 entries_of_stream stream.ReadFault = entries.ReadFault
 entries_of_stream stream.WriteFault = entries.ReadFault

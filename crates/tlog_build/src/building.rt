@@ -1,4 +1,4 @@
-//! A log built of entries.
+//! Builds a log from entries.
 ghost use Rattle.std.specs.Prelude.{◌≡◌, ℕ, List, IfErr, IfOk, map};
 ghost use Rattle.mirror_sources.specs.Recorded.{Rose};
 ghost use Rattle.mirror_model.specs.Origin.{IsOrigin};
@@ -21,9 +21,9 @@ use tlog_hash::TreeHash;
 use tlog_mirror::Mirror;
 use tlog_tiles::Path;
 
-/// Builds a log of entries, and puts it onto a shelf: every tile and bundle of theirs, and last a checkpoint that the key
-/// signed (C2SP tlog-tiles). The keys are those that the checkpoint is opened with, the signing key among them; each entry
-/// has at most 65,535 bytes.
+/// Builds a log from entries and puts it onto a shelf: all its tiles and bundles, and last a checkpoint that the key signed
+/// (C2SP tlog-tiles). The checkpoint must open under `keys`, so the signing key must be among them. Each entry has at most
+/// 65,535 bytes.
 ///
 /// ```text
 /// let mut shelf = MemShelf::new(alloc);
@@ -33,10 +33,10 @@ use tlog_tiles::Path;
 ///
 /// # Errors
 ///
-/// The first that applies: `BadOrigin`, as of `Mirror::new`; `Pull`, which comes only where the signing key is not among
-/// the keys; `Export`, with `ShelfInUse` where a checkpoint is on the shelf, and `ShelfFault` where the shelf failed. What was
-/// put before stays. `OutOfMemory` where memory was refused, before any of them or after. Whether two of the entries' strings
-/// collide is not looked at.
+/// The first that applies. `BadOrigin`: as for `Mirror::new`. `Pull`: only if the signing key is not among the keys.
+/// `Export`: `ShelfInUse` if the shelf has a checkpoint, and `ShelfFault` if the shelf failed; files that were put before
+/// stay. `OutOfMemory`: memory was refused, before any of them or after. The call does not check whether two strings of the
+/// entries collide.
 pub fn build_log<H: TreeHash, S: Shelf>(
     alloc: Global,
     origin: &str,
@@ -57,8 +57,7 @@ pub fn build_log<H: TreeHash, S: Shelf>(
     put_log(alloc, origin, keys, signer, entries, &mirror, shelf)
 }
 
-// Puts the whole log of the entries onto the shelf, if its checkpoint opens for a mirror that holds nothing. Each entry is
-// hashed once.
+// Puts the whole log of the entries onto the shelf, if its checkpoint opens for an empty mirror. Each entry is hashed once.
 fn put_log<H: TreeHash, S: Shelf>(
     alloc: Global,
     origin: &str,
@@ -85,7 +84,7 @@ fn put_log<H: TreeHash, S: Shelf>(
     Ok(())
 }
 
-// Whether the log's checkpoint opens under the keys, as the mirror asks it.
+// Whether the checkpoint of the log opens under the keys, by the check of the mirror.
 fn check_note<H: TreeHash>(
     alloc: Global,
     keys: &[Box<dyn Verifier>],
@@ -103,7 +102,7 @@ fn check_note<H: TreeHash>(
     Ok(())
 }
 
-// A mirror that holds nothing.
+// An empty mirror.
 fn empty<H: TreeHash>(alloc: Global, origin: &str) -> Result<Mirror<H>, BuildFault>
     ensures judged { ChecksOrigin origin.now result }
     ensures view { IfOk result (λ mirror. mirror.view ≡ nothing origin.now) }

@@ -1,4 +1,4 @@
-//! The entries that `build` makes a log of, from a stream.
+//! Reads the entries of a new log from a stream.
 ghost use Rattle.std.specs.Prelude.{◌≡◌, ◌<◌, ◌^◌, length, All, IfOk, IfSome, map};
 ghost use Rattle.byte_streams.specs.Streams.{TakesAtMost};
 ghost use Rattle.tlog_text.specs.Answers.{seen};
@@ -12,14 +12,13 @@ use std::io::Read;
 use thiserror::Error;
 use tlog_tiles::split_entry;
 
-/// How many bytes are taken at most: as many as memory can name.
+/// The greatest number of bytes that are read: the largest that fits into memory.
 pub const MAX_READ_LEN: usize = usize::MAX;
 
-/// How many reads are made at most, each of at most 65,536 bytes.
+/// The greatest number of reads, each of at most 65,536 bytes.
 pub const MOST_READS: u64 = 16_777_216;
 
-/// Why no entries were read.
-/// `00 02 61` ends within an entry of two bytes.
+/// Why no entries were read. For example, `00 02 61` ends within an entry of two bytes.
 #[derive(Debug, Drop, PartialEq, Eq, Clone, Copy, Error)]
 pub enum EntriesFault {
     /// The input ends within an entry, or within its length.
@@ -60,7 +59,7 @@ impl<T: Drop> From<AllocFailed<T>> for EntriesFault {
     }
 }
 
-// The entries that the bytes are.
+// The entries of the bytes.
 fn entries_of(alloc: Global, bytes: &[u8]) -> Result<Vec<Vec<u8>>, EntriesFault>
     ensures reads { ReadsEntries bytes.now (seen (λ v. map (λ e. e.items) v.items) result) }
     ensures short { IfOk result (λ v. All (λ e. length e < 2 ^ 16) (map (λ e. e.items) v.items)) }
@@ -77,14 +76,13 @@ fn entries_of(alloc: Global, bytes: &[u8]) -> Result<Vec<Vec<u8>>, EntriesFault>
     Ok(entries)
 }
 
-/// The entries that all the bytes of the reader are, to its end: each stands after its length, two
-/// bytes big-endian, as in a bundle (C2SP tlog-tiles, "Log Entries"). There may be any number of them.
+/// The entries that all bytes of the reader make, to its end. Each entry follows its length, two bytes big-endian, as in a
+/// bundle (C2SP tlog-tiles, "Log Entries"). There may be any number of entries.
 ///
 /// # Errors
 ///
-/// `ReadFault` comes where a read fails, whatever was read before, and where the reader has not ended
-/// after 16,777,216 reads of at most 65,536 bytes. `BundleShort` comes exactly where the bytes are no
-/// such entries: they end within one. Either may be hidden by `OutOfMemory`.
+/// `ReadFault` if a read fails, whatever was read before, and if the reader has not ended after 16,777,216 reads of at most
+/// 65,536 bytes. `BundleShort` exactly if the bytes end within an entry. `OutOfMemory` may be returned instead of either.
 pub fn read_entries<R: Read>(alloc: Global, reader: &mut R) -> Result<Vec<Vec<u8>>, EntriesFault>
     ensures answer { IfSome (R.remaining reader.old)
         (λ input. ReadsEntries input (seen (λ v. map (λ e. e.items) v.items) result)) }

@@ -1,4 +1,4 @@
-//! Why a log is not built.
+//! Why a log was not built.
 ghost use Rattle.std.specs.Prelude.{◌≡◌};
 ghost use Rattle.tlog_build.specs.declared.fault.BuildFault.TheVariants.{OutOfMemory};
 ghost use Rattle.tlog_build.specs.Faults.{of_export, of_new, of_pull};
@@ -9,17 +9,17 @@ use std::alloc::AllocError;
 use thiserror::Error;
 use tlog_mirror::NewFault;
 
-/// Why a log is not built. It prints the name of the innermost variant.
-/// A shelf that has a checkpoint already, for example, prints `ShelfInUse`.
+/// Why a log was not built. It prints the name of the innermost variant. For example, it prints `ShelfInUse` if the shelf
+/// has a checkpoint already.
 #[derive(Debug, Drop, PartialEq, Eq, Clone, Copy, Error)]
 pub enum BuildFault {
-    /// No mirror may be of that origin: it is empty, has more than 65,535 bytes, or has a character below U+0020.
+    /// No mirror may have that origin: it is empty, has more than 65,535 bytes, or has a character below U+0020.
     #[error("BadOrigin")]
     BadOrigin,
-    /// The pull of the log's own entries ended early. `OutOfMemory` never comes here.
+    /// The pull of the log's own entries ended early. The inner fault is never `OutOfMemory`.
     #[error(transparent)]
     Pull(PullFault),
-    /// The log is not put onto its shelf. `OutOfMemory` never comes here.
+    /// The log was not put onto its shelf. The inner fault is never `OutOfMemory`.
     #[error(transparent)]
     Export(ExportFault),
     /// Memory was refused.

@@ -1,4 +1,4 @@
-//! A log built of entries: the entries are read, a key signs its checkpoint, and all its files are put onto a shelf.
+//! Builds a log from entries: reads the entries, signs a checkpoint with a key, and puts all files onto a shelf.
 //!
 //! ```text
 //! let entries = read_entries(alloc, &mut input)?;

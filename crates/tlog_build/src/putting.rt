@@ -1,4 +1,4 @@
-//! The files of a log of a list of entries, put onto a shelf.
+//! Puts the files of a log of a list of entries onto a shelf.
 ghost use Rattle.std.specs.Prelude.{◌≡◌, [], ◌∷◌, length};
 ghost use Rattle.mirror_export.specs.Exports.{AddsFiles, CountsExport};
 ghost use Rattle.mirror_export.specs.FileLaws.{IsFileOf};
@@ -13,7 +13,6 @@ use std::alloc::Global;
 use tlog_hash::TreeHash;
 use tlog_tiles::Path;
 
-// Puts the file at a path of the log.
 fn put_path<H: TreeHash, S: Shelf>(
     source: &ListSource<H>,
     shelf: &mut S,
@@ -30,7 +29,7 @@ fn put_path<H: TreeHash, S: Shelf>(
     shelf.put(&path, bytes)
 }
 
-// Puts all files of the log, in their order.
+// Puts all files of the log, in order.
 fn put_paths<H: TreeHash, S: Shelf>(
     source: &ListSource<H>,
     shelf: &mut S,
@@ -48,7 +47,7 @@ fn put_paths<H: TreeHash, S: Shelf>(
     Ok(())
 }
 
-// Puts all files of the log, which has `size` entries, onto a shelf that has no checkpoint.
+// Puts all files of the log, which has `size` entries, onto a shelf without a checkpoint.
 pub(crate) fn put_files<H: TreeHash, S: Shelf>(
     alloc: Global,
     source: &ListSource<H>,

@@ -1,11 +1,11 @@
-//! The key that a log is signed with.
+//! The key that signs a log.
 ghost use Rattle.std.specs.Prelude.{◌≡◌};
 ghost use Rattle.tlog_build.specs.Signing.{first_secret};
 
 use signed_note::{HmacKey, KeyLine};
 
-/// The first key of a shared secret among those of a key file, which a log is signed with. `None` where there is none:
-/// pinned texts sign nothing.
+/// The first key with a shared secret in a key file, which signs a log. `None` if there is no such key, since pinned texts
+/// sign nothing.
 ///
 /// ```text
 /// let Some(key) = signing_key(read_keys(alloc, &bytes)?) else { .. };

@@ -8,20 +8,20 @@ pub fn tree_hash_law()
     ensures { MthIsTreeHash }
 {}
 
-/// `fold_of` meets the equations of the tree hash for rows of hashes, and it is the only such
-/// function for rows that are not empty.
+/// `fold_of` meets the equations of the tree hash for rows of hashes, and it is the only such function for rows that are not
+/// empty.
 pub fn fold_law()
     ensures { FoldMeetsEquations }
 {}
 
-/// The tree hash of two or more entries hashes the strings of both parts, and the string that joins
-/// the hashes of the two parts.
+/// The tree hash of two or more entries hashes the strings of both parts, and the string that joins the hashes of the two
+/// parts.
 pub fn strings_law()
     ensures { StringsFollowSplit }
 {}
 
-/// The tree of a list is the tree of its blocks, each replaced by its own tree, if each block has
-/// the same power of two of items. So the row of a tile can replace the entries below it.
+/// The tree of a list is the tree of its blocks, each replaced by its own tree, if each block has the same power of two of
+/// items. So the row of a tile can replace the entries below it.
 pub fn blocks_law()
     ensures { TreeGoesByBlocks }
 {}

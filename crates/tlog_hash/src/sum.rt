@@ -5,9 +5,8 @@ ghost use Rattle.tlog_hash.specs.Sum.{length-sum_digest};
 
 use crate::{Hash, TreeHash};
 
-/// Tree hashes by a sum: the first byte of a digest is the sum of the string's bytes modulo 256,
-/// and all others are zero. It is a lawful `TreeHash` with collisions that are easy to find. Tests
-/// use it to show how a mirror handles them.
+/// Tree hashes by a sum: the first byte of a digest is the sum of the string's bytes modulo 256, and all others are zero. It
+/// is a lawful `TreeHash` with collisions that are easy to find. Tests use it to show how a mirror handles them.
 pub struct SumTree;
 
 impl TreeHash for SumTree {

@@ -1,8 +1,7 @@
 //! Checks of proofs, by the loops of RFC 9162 over the bits of sizes and indices.
 //!
-//! The checks allocate no memory, and no number overflows 64 bits, for any argument. In the loops,
-//! `node` and `end` are fn and sn of the standard: the numbers of the current node and of the last
-//! node, in their level of the tree.
+//! The checks allocate no memory, and no number overflows 64 bits, for any argument. In the loops, `node` and `end` are fn
+//! and sn of the standard: the numbers of the current node and of the last node, in their level of the tree.
 ghost use Rattle.std.specs.Prelude.{◌≡◌, ◌↔◌, ◌<◌, ◌≤◌, ◌+◌, ◌%◌, [], IsTrue, true};
 ghost use Rattle.tlog_proof.specs.Inclusion.{IsInclusion};
 ghost use Rattle.tlog_proof.specs.Consistency.{cons, IsConsistency};
@@ -10,11 +9,11 @@ ghost use Rattle.tlog_proof.specs.Steps.{KeepsIncl, KeepsBoth, HasBlocks, LeadsT
 
 use tlog_hash::{Hash, TreeHash};
 
-/// Whether the path shows that the entry with that leaf hash has that index, in the tree of that
-/// size and root (RFC 9162, section 2.1.3.2).
+/// Whether the path shows that the entry with that leaf hash has that index, in the tree of that size and root (RFC 9162,
+/// section 2.1.3.2).
 ///
-/// The result is false if the index is not below the size, or if the path has too many or too few
-/// hashes. True does not prove the size: another size can lead to the same root by the same path.
+/// The result is false if the index is not below the size, or if the path has too many or too few hashes. True does not
+/// prove the size: another size can lead to the same root by the same path.
 pub fn check_inclusion<H: TreeHash>(
     leaf: &Hash,
     index: u64,
@@ -48,11 +47,10 @@ pub fn check_inclusion<H: TreeHash>(
     end == 0 && hash == *root
 }
 
-/// Whether the path shows that the tree of the first size and root is a prefix of the tree of the
-/// second (RFC 9162, section 2.1.4.2).
-/// For equal sizes, the path must be empty and the roots equal (own rule: the standard leaves this
-/// case out). The result is false if the first size is 0 or greater than the second. True does not
-/// prove the sizes.
+/// Whether the path shows that the tree of the first size and root is a prefix of the tree of the second (RFC 9162, section
+/// 2.1.4.2).
+/// For equal sizes, the path must be empty and the roots equal (own rule: the standard leaves this case out). The result is
+/// false if the first size is 0 or greater than the second. True does not prove the sizes.
 /// where the first size is 0 or greater than the second. A yes does not fix the sizes.
 pub fn check_consistency<H: TreeHash>(
     first: u64,
@@ -150,8 +148,8 @@ fn leads_to<H: TreeHash>(
     false
 }
 
-// Goes up from a node without a sibling, to an ancestor with a sibling on its left. The numbers are
-// those of the node and of the last node of its level.
+// Goes up from a node without a sibling, to an ancestor with a sibling on its left. The numbers are those of the node and of
+// the last node of its level.
 fn to_partner(index: u64, last: u64) -> (u64, u64)
     requires some { 0 < index }
     requires within { index ≤ last }

@@ -1,14 +1,13 @@
 //! Inclusion and consistency proofs of a transparency log (RFC 6962, sections 2.1.1 and 2.1.2; RFC
 //! 9162, sections 2.1.3 and 2.1.4).
 //!
-//! An inclusion proof shows that an entry has its index in a tree of some size and root. A
-//! consistency proof shows that a tree is a prefix of a larger one. Both are lists of hashes of
-//! parts of the tree. Such a list is called a path here, and the hash nearest to the root is last.
+//! An inclusion proof shows that an entry has its index in a tree of some size and root. A consistency proof shows that a
+//! tree is a prefix of a larger one. Both are lists of hashes of parts of the tree. Such a list is called a path here, and
+//! the hash nearest to the root is last.
 //!
-//! `inclusion` and `consistency` make a path from the hashes of ranges of a list, which come from
-//! any `Ranges`. `prove` makes a whole proof. `check_inclusion` and `check_consistency` check a
-//! path, and `holds` checks a whole proof. `write_text` and `read_text` write a proof as text and
-//! read it back.
+//! `inclusion` and `consistency` make a path from the hashes of ranges of a list, which come from any `Ranges`. `prove`
+//! makes a whole proof. `check_inclusion` and `check_consistency` check a path, and `holds` checks a whole proof.
+//! `write_text` and `read_text` write a proof as text and read it back.
 //!
 //! ```text
 //! let proof = prove(alloc, &ranges, Ask::Inclusion { size: 3, index: 2 })?;

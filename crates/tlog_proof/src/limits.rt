@@ -3,6 +3,5 @@
 /// The greatest number of hashes in the path of a proof's text.
 pub(crate) const MAX_PATH: usize = 64;
 
-/// The greatest length of a proof's text, in bytes; a reader may stop there. The longest text has
-/// 3,365 bytes.
+/// The greatest length of a proof's text, in bytes; a reader may stop there. The longest text has 3,365 bytes.
 pub const MAX_TEXT_LEN: usize = 8192;

@@ -14,8 +14,7 @@ use tlog_hash::Hash;
 use tlog_shape::split;
 
 /// Why no proof was made, in the order in which the faults are found. For three entries,
-/// `Ask::Inclusion { size: 4, index: 0 }` is `NoSuchSize`, and `{ size: 3, index: 3 }` is
-/// `NoSuchIndex`.
+/// `Ask::Inclusion { size: 4, index: 0 }` is `NoSuchSize`, and `{ size: 3, index: 3 }` is `NoSuchIndex`.
 #[derive(Debug, Drop, PartialEq, Eq, Clone, Copy, Error)]
 pub enum ProofFault {
     /// The list has fewer entries than the requested size, or second size.
@@ -43,13 +42,12 @@ impl<T: Drop> From<AllocFailed<T>> for ProofFault {
     }
 }
 
-/// The path that shows the entry with that index in the tree of the first `size` entries: PATH of
-/// RFC 6962, section 2.1.1.
+/// The path that shows the entry with that index in the tree of the first `size` entries: PATH of RFC 6962, section 2.1.1.
 ///
 /// # Errors
 ///
-/// The first that applies: `NoSuchSize` if the list has fewer entries, `NoSuchIndex` if the index
-/// is not below the size. `OutOfMemory` may come at any step.
+/// The first that applies: `NoSuchSize` if the list has fewer entries, `NoSuchIndex` if the index is not below the size.
+/// `OutOfMemory` may come at any step.
 pub fn inclusion<R: Ranges>(
     alloc: Global,
     ranges: &R,
@@ -71,13 +69,13 @@ pub fn inclusion<R: Ranges>(
     Ok(path)
 }
 
-/// The path that shows that the tree of the first `first` entries is a prefix of the tree of the
-/// first `second`. It is PROOF of RFC 6962, section 2.1.2, or the empty path for equal sizes.
+/// The path that shows that the tree of the first `first` entries is a prefix of the tree of the first `second`. It is PROOF
+/// of RFC 6962, section 2.1.2, or the empty path for equal sizes.
 ///
 /// # Errors
 ///
-/// The first that applies: `NoSuchSize` if the list has fewer than `second` entries, `FirstIsZero`
-/// if `first` is 0, `Backwards` if `first` is the greater. `OutOfMemory` may come at any step.
+/// The first that applies: `NoSuchSize` if the list has fewer than `second` entries, `FirstIsZero` if `first` is 0,
+/// `Backwards` if `first` is the greater. `OutOfMemory` may come at any step.
 pub fn consistency<R: Ranges>(
     alloc: Global,
     ranges: &R,
@@ -142,8 +140,8 @@ fn add_path<R: Ranges>(
     Ok(())
 }
 
-// Appends the path from the first entries of a range to the whole range. `held` says that the
-// checker knows the root of the first entries.
+// Appends the path from the first entries of a range to the whole range. `held` says that the checker knows the root of the
+// first entries.
 fn add_subproof<R: Ranges>(
     ranges: &R,
     start: u64,

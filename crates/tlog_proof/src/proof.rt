@@ -21,8 +21,7 @@ pub enum Ask {
     Consistency { first: u64, second: u64 },
 }
 
-/// A proof with everything that a check needs. `examples/inclusion-2-of-3.proof` has the text of
-/// one.
+/// A proof with everything that a check needs. `examples/inclusion-2-of-3.proof` has the text of one.
 ///
 /// A caller who relies on the check must also compare the roots with those of a checkpoint.
 #[derive(Debug, Drop, PartialEq, Eq)]
@@ -45,8 +44,7 @@ pub enum Proof {
     },
 }
 
-/// Makes the requested proof. If the list has at most 9223372036854775807 entries, the proof can be
-/// written as text.
+/// Makes the requested proof. If the list has at most 9223372036854775807 entries, the proof can be written as text.
 ///
 /// # Errors
 ///
@@ -86,8 +84,8 @@ pub fn prove<R: Ranges>(alloc: Global, ranges: &R, ask: Ask) -> Result<Proof, Pr
     }
 }
 
-/// Whether the proof is right for its own sizes and roots, by `check_inclusion` or
-/// `check_consistency`. The call allocates no memory.
+/// Whether the proof is right for its own sizes and roots, by `check_inclusion` or `check_consistency`. The call allocates
+/// no memory.
 pub fn holds<H: TreeHash>(proof: &Proof) -> bool
     ensures { IsTrue result ↔ Holds H.digest proof.now }
 {

@@ -19,8 +19,8 @@ use tlog_text::{read_hash, read_number};
 ///
 /// # Errors
 ///
-/// `BadProofText` for any other text. Examples are a leading zero, base64 that is not canonical,
-/// and a last line without a newline. `OutOfMemory` may come at any step.
+/// `BadProofText` for any other text. Examples are a leading zero, base64 that is not canonical, and a last line without a
+/// newline. `OutOfMemory` may come at any step.
 pub fn read_text(alloc: Global, text: &str) -> Result<Proof, TextFault>
     ensures { ReadsProof text.now result }
 {

@@ -5,7 +5,7 @@ use tlog_hash::Hash;
 use tlog_proof::{ProofFault, Ranges, consistency, inclusion};
 use tlog_shape::MAX_SIZE;
 
-// The calls that make paths: the tests need no clause of them.
+// The calls that make paths. The tests need no clause of them.
 fn included<R: Ranges>(
     alloc: Global,
     ranges: &R,
@@ -24,12 +24,12 @@ fn grown<R: Ranges>(
     consistency(alloc, ranges, first, second)
 }
 
-// How many hashes the path has that is made.
+// The number of hashes of the path.
 fn len_of(path: Result<Vec<Hash>, ProofFault>) -> Result<usize, ProofFault> {
     Ok(path?.len())
 }
 
-// A list of the greatest size, of which each range has one hash.
+// A list of the greatest size, with the same hash for each range.
 #[derive(Drop)]
 struct Same;
 
@@ -47,7 +47,7 @@ impl Ranges for Same {
     }
 }
 
-// Proofs in trees of over 2^62 entries are made with ample memory.
+// Proofs in trees of over 2^62 entries, with enough memory.
 #[test]
 fn large_lists(rt: HostRuntime) {
     assert!(rt; len_of(included(rt.alloc(), &Same, MAX_SIZE, 0)) == Ok(63));

@@ -15,7 +15,7 @@ fn fold_and_pairs_of_leaf_hashes(rt: HostRuntime) -> Result<(), Fail> {
     Ok(())
 }
 
-// A row of over 256 hashes is not `OutOfMemory`.
+// A row of over 256 hashes does not give `OutOfMemory`.
 #[test]
 fn pairs_of_a_long_row(rt: HostRuntime) -> Result<(), Fail> {
     let row = [[7u8; 32]; 257];

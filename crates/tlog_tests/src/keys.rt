@@ -3,7 +3,7 @@
 use signed_note::{HmacKey, KeyFault, Note, NoteFault};
 use std::alloc::Global;
 
-// What the bytes are read as: the tests need no clause of it, nor of the key below.
+// The result of reading the bytes. The tests need no clause of it, or of the key below.
 pub(crate) fn note_of(alloc: Global, bytes: &[u8]) -> Result<Note, NoteFault> {
     Note::read(alloc, bytes)
 }

@@ -1,8 +1,7 @@
-//! The worked values of the lower crates, in a crate of their own, since a crate's tests are checked together with the
-//! crate again.
+//! Worked values of the lower crates. They are in a crate of their own, since the tests of a crate are checked together with
+//! the crate again.
 //!
-//! It holds tests and nothing else, through public calls: of shapes, tree hashes, paths, notes, the store of hashed strings and
-//! proofs.
+//! It has only tests, through public calls: of shapes, tree hashes, paths, notes, the store of hashed strings and proofs.
 #![tactic(auto)]
 
 #[cfg(test)]

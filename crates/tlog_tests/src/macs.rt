@@ -1,4 +1,4 @@
-//! HMAC-SHA-256 by the vectors of RFC 4231, and which keys are made (`signed_note`).
+//! HMAC-SHA-256 by the vectors of RFC 4231, and the keys that are accepted (`signed_note`).
 
 use crate::keys::key_of;
 use signed_note::KeyFault;
@@ -10,13 +10,13 @@ const COUNTED: [u8; 25] = [
     1, 2, 3, 4, 5, 6, 7, 8, 9, 10, 11, 12, 13, 14, 15, 16, 17, 18, 19, 20, 21, 22, 23, 24, 25,
 ];
 
-// The mac of a message under a secret, in hexadecimal.
+// The MAC of a message under a secret, in hexadecimal.
 fn mac_of(alloc: Global, secret: &[u8], message: &[u8]) -> Result<String, Fail> {
     let key = key_of(alloc, "ex", 1, secret)?;
     Ok(hex::encode(alloc, key.mac(message))?)
 }
 
-// Secrets, messages and their macs.
+// Secrets, messages and their MACs.
 const MACS: [(&[u8], &[u8], &str); 4] = [
     (
         b"Jefe",
@@ -50,7 +50,7 @@ fn hmac_vector(rt: HostRuntime) -> Result<(), Fail> {
     Ok(())
 }
 
-// Names, secrets, and why no key is made of them, if none is.
+// Names and secrets, and the fault if they are refused.
 const KEYS: [(&str, &[u8], Option<KeyFault>); 15] = [
     ("ex", b"", Some(KeyFault::BadSecret)),
     ("ex", &[0; 65], Some(KeyFault::BadSecret)),

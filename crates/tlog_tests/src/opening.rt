@@ -1,4 +1,4 @@
-//! Which notes open (`signed_note`).
+//! Notes that open or not (`signed_note`).
 
 ghost use Rattle.std.specs.Prelude.{codes, ◌∷◌, []};
 ghost use Rattle.std.specs.Str.{bytes_eq};
@@ -9,7 +9,7 @@ use std::alloc::Global;
 use std::process::Abort;
 use std::test::Fail;
 
-// A key of the caller's own, which accepts the signature 05.
+// A kind of key of the caller, which accepts the signature 05.
 #[derive(Drop)]
 struct Five;
 
@@ -29,7 +29,7 @@ impl Verifier for Five {
     }
 }
 
-// Why the note of that text and these signature lines does not open under the keys, if so.
+// The fault if the note with that text and these signature lines does not open under the keys.
 fn fault_of(
     rt: &impl Abort,
     alloc: Global,
@@ -43,8 +43,8 @@ fn fault_of(
     Ok(open_note(&read, keys).err())
 }
 
-// The text, an empty line and these signature lines: which of them open under a pin of no text, the key of RFC 4231's
-// second vector, and the key above. The last is that key's own line, which was made elsewhere.
+// The text, an empty line and these signature lines, and whether they open. The keys are a pin of no text, the key of the
+// second vector of RFC 4231, and the key above. The last line is one of the second key, which was made elsewhere.
 const OPENS: [(&str, bool); 7] = [
     ("\u{2014} far /////wA=\n\u{2014} good AQIDBAU=\n", true),
     (

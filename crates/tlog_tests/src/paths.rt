@@ -1,10 +1,10 @@
-//! The paths of a log's files and the edge of its tree (`tlog_tiles`), by the public standards and by worked values.
+//! The paths of a log's files and the right edge of its tree (`tlog_tiles`), by the public standards and by worked values.
 
 use std::alloc::{AllocError, Global};
 use std::test::Fail;
 use tlog_tiles::{Path, PathFault, edge_paths, print};
 
-// What a text is read as, and a path printed as: the tests need no clause of it.
+// The results of reading a text and of printing a path. The tests need no clause of them.
 fn parsed(text: &str) -> Result<Path, PathFault> {
     Path::parse(text)
 }
@@ -80,7 +80,7 @@ const SPELLED: [(Path, &str); 9] = [
     ),
 ];
 
-// Each path is printed as that text, which is read as that path.
+// Each path prints as its text, and the text is read as the path.
 #[test]
 fn index_spelling(rt: HostRuntime) -> Result<(), Fail> {
     for &(path, text) in &SPELLED {
@@ -90,7 +90,7 @@ fn index_spelling(rt: HostRuntime) -> Result<(), Fail> {
     Ok(())
 }
 
-// Texts of no path, and why.
+// Texts that are not a path, and the fault.
 const REFUSALS: [(&str, PathFault); 12] = [
     ("tile/0/x036/x028/x797/x018/x963/968", PathFault::BadIndex),
     (
@@ -127,7 +127,7 @@ tile/6/127.p/255
 tile/7/000.p/127
 ";
 
-// The edge of a tree of that size, one path a line.
+// The right edge of a tree of that size, with one path on each line.
 fn edge_text(alloc: Global, size: u64) -> Result<String, AllocError> {
     let mut text = String::new(alloc);
     for path in &edge_paths(alloc, size)? {
@@ -137,7 +137,7 @@ fn edge_text(alloc: Global, size: u64) -> Result<String, AllocError> {
     Ok(text)
 }
 
-// Sizes of trees and their edges, edge-70000 and edge-gaps among them.
+// Sizes of trees and their right edges, including the rows edge-70000 and edge-gaps.
 const EDGES: [(u64, &str); 6] = [
     (70000, "tile/0/273.p/112\ntile/1/001.p/17\ntile/2/000.p/1\n"),
     (131077, "tile/0/512.p/5\ntile/2/000.p/2\n"),

@@ -7,11 +7,11 @@ use std::alloc::{AllocError, Global};
 use std::test::Fail;
 use tlog_proof::{Proof, TextFault, read_text, write_text};
 
-// A proof without its path, of the greatest numbers.
+// A proof without its path, with the greatest numbers.
 const LONG: &str =
     "consistency\nfirst 9223372036854775806\nroot bjQLnP+zepicpUTmu3gKLHiQHT+zNzh2hRGjBhevoB0=\nsecond 9223372036854775807\nroot rra8/idLcKFPsGel5VeCZNsPqbUa9eC6FZFY8yngbnc=\n";
 
-// The calls on proofs: the tests need no more clauses of them.
+// The calls on proofs. The tests need no more clauses of them.
 fn proof_of(alloc: Global, text: &str) -> Result<Proof, TextFault>
     ensures { IfOk result IsWritableProof }
 {
@@ -24,7 +24,7 @@ fn text_of(alloc: Global, proof: &Proof) -> Result<String, AllocError>
     write_text(alloc, proof)
 }
 
-// A text of 64 hashes is written as it was read.
+// A text with 64 hashes is written as it was read.
 #[test]
 fn longest_texts(rt: HostRuntime) -> Result<(), Fail> {
     let mut text = String::from_str(rt.alloc(), LONG)?;

@@ -1,4 +1,4 @@
-//! Numbers of trees and tiles (`tlog_shape`), worked out by hand.
+//! The numbers of trees and tiles (`tlog_shape`), worked out by hand.
 
 use tlog_shape::{MAX_SIZE, edge_index, edge_width, split, top_level};
 
@@ -18,7 +18,7 @@ fn split_values(rt: HostRuntime) {
     }
 }
 
-// Where nodes start, their sizes, and the tiles that have them.
+// The starts and sizes of nodes, and the tiles that have them.
 const TILES: [(u64, u64, (u32, u64)); 8] = [
     (0, 2, (0, 0)),
     (256, 256, (0, 1)),

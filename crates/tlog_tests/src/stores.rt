@@ -1,4 +1,4 @@
-//! The store of hashed strings (`node_store`), where memory is refused.
+//! The store of hashed strings (`node_store`), if memory is refused.
 
 use crate::given::{LEAF_OF_10, hash};
 use node_store::{AddFault, Store, Tagged};
@@ -6,7 +6,7 @@ use std::alloc::Global;
 use std::process::Abort;
 use tlog_hash::{Sha256Tree, TreeHash};
 
-// The calls of a store: the tests need no clause of them.
+// The calls of a store. The tests need no clause of them.
 fn empty<H: TreeHash>(alloc: Global) -> Store<H> {
     Store::new(alloc)
 }
@@ -23,8 +23,8 @@ fn holds<H: TreeHash>(store: &Store<H>, string: Tagged) -> bool {
     store.holds(string)
 }
 
-// Adds a string that is new. Where a growth is refused, as by `rt try --test --fail-alloc N`, nothing
-// has changed, and the same call adds the string once there is memory.
+// Adds a string that is new. If the store cannot grow, as by `rt try --test --fail-alloc N`, nothing has changed, and a
+// second call adds the string.
 fn add_at_last<H: TreeHash>(rt: &impl Abort, store: &mut Store<H>, string: Tagged) {
     let before = store.len();
     let mut added = add(store, string);

@@ -17,13 +17,13 @@ fn drop_last(bytes: &[u8; 33]) -> [u8; 32]
     hash
 }
 
-/// The 32 bytes that the text spells in standard base64, canonical and with padding. The result is
-/// None for any other text. The call allocates no memory.
+/// The 32 bytes that the text spells in standard base64, canonical and with padding. The result is None for any other text.
+/// The call allocates no memory.
 ///
 /// # Examples
 ///
-/// `read_hash("AAAAAAAAAAAAAAAAAAAAAAAAAAAAAAAAAAAAAAAAAAA=")` is 32 zeros. Without its last
-/// symbol, or with another symbol before it, the text spells no hash.
+/// `read_hash("AAAAAAAAAAAAAAAAAAAAAAAAAAAAAAAAAAAAAAAAAAA=")` is 32 zeros. Without its last symbol, or with another symbol
+/// before it, the text spells no hash.
 pub fn read_hash(text: &str) -> Option<[u8; 32]>
     ensures some { IfSome result (λ hash. IsHashText text.now hash) }
     ensures none { IfNone result ((hash : List ℕ) → ¬ IsHashText text.now hash) }

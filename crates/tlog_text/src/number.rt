@@ -9,8 +9,7 @@ ghost use Rattle.tlog_text.specs.Number.{IsDecimal, ReadsNumber};
 use std::alloc::AllocError;
 use thiserror::Error;
 
-/// Why a text was refused as a number. If 255 is the greatest number, `01` is not a number and
-/// `300` is too large.
+/// Why a text was refused as a number. If 255 is the greatest number, `01` is not a number and `300` is too large.
 #[derive(Debug, Drop, PartialEq, Eq, Clone, Copy, Error)]
 pub enum NumberFault {
     /// The text is not decimal digits, or has a leading zero before another digit.
@@ -21,7 +20,6 @@ pub enum NumberFault {
     TooLarge,
 }
 
-// Whether the text has only ASCII digits.
 fn are_digits(text: &str) -> bool
     ensures { result ≡ list_all is_ascii_digit text.now }
 {
@@ -43,13 +41,13 @@ fn is_decimal(text: &str) -> bool
     are_digits(text)
 }
 
-/// The number that the text spells: ASCII decimal digits without leading zeros, at most `greatest`.
-/// The text may have any number of digits.
+/// The number that the text spells: ASCII decimal digits without leading zeros, at most `greatest`. The text may have any
+/// number of digits.
 ///
 /// # Errors
 ///
-/// `NotANumber` if the text is not such digits; a sign or an empty text is refused too. `TooLarge`
-/// if the number is over `greatest`.
+/// `NotANumber` if the text is not such digits; a sign or an empty text is refused too. `TooLarge` if the number is over
+/// `greatest`.
 ///
 /// # Examples
 ///

@@ -7,12 +7,11 @@ ghost use Rattle.tlog_tiles.specs.declared.bundle.BundleFault.TheVariants.{OutOf
 use std::alloc::{AllocError, AllocFailed, Global};
 use thiserror::Error;
 
-/// Why bytes were refused as a bundle of a given width. For width 1 the bytes `00 02 61` are too
-/// short, and `00 01 61 00` are too long.
+/// Why bytes were refused as a bundle of a given width. For width 1 the bytes `00 02 61` are too short, and `00 01 61 00`
+/// are too long.
 #[derive(Debug, Drop, PartialEq, Eq, Clone, Copy, Error)]
 pub enum BundleFault {
-    /// The bytes do not begin with a bundle of that width: they end within an entry, or before the
-    /// last entry.
+    /// The bytes do not begin with a bundle of that width: they end within an entry, or before the last entry.
     #[error("BundleShort")]
     BundleShort,
     /// The bytes begin with a bundle of that width, and more bytes follow it.
@@ -39,13 +38,11 @@ impl<T: Drop> From<AllocFailed<T>> for BundleFault {
     }
 }
 
-/// The greatest length of a bundle in bytes: 256 entries of 65,535 bytes, each after its two bytes
-/// of length.
+/// The greatest length of a bundle in bytes: 256 entries of 65,535 bytes, each after its two bytes of length.
 pub const MAX_BUNDLE_LEN: usize = 16_777_472;
 
-/// The first entry of the bytes, and the bytes after it (C2SP tlog-tiles, "Log Entries"). The entry
-/// follows its length, two bytes big-endian. The result is `None` exactly if the bytes do not begin
-/// with an entry. The call allocates no memory.
+/// The first entry of the bytes, and the bytes after it (C2SP tlog-tiles, "Log Entries"). The entry follows its length, two
+/// bytes big-endian. The result is `None` exactly if the bytes do not begin with an entry. The call allocates no memory.
 ///
 /// ```text
 /// split_entry(&[0, 1, 97, 9])   // Some((&[97], &[9]))
@@ -68,14 +65,13 @@ pub fn split_entry(bytes: &[u8]) -> Option<(&[u8], &[u8])>
     Some(after.split_at(len))
 }
 
-/// The entries of a bundle of `width` entries (C2SP tlog-tiles, "Log Entries"). Each entry follows
-/// its length, two bytes big-endian, and nothing follows the last entry. The entries are borrowed
-/// from the bytes.
+/// The entries of a bundle of `width` entries (C2SP tlog-tiles, "Log Entries"). Each entry follows its length, two bytes
+/// big-endian, and nothing follows the last entry. The entries are borrowed from the bytes.
 ///
 /// # Errors
 ///
-/// `BundleShort` exactly if the bytes do not begin with such a bundle. `BundleLong` exactly if they
-/// do, and more bytes follow. `OutOfMemory` may be returned instead of either.
+/// `BundleShort` exactly if the bytes do not begin with such a bundle. `BundleLong` exactly if they do, and more bytes
+/// follow. `OutOfMemory` may be returned instead of either.
 pub fn read_bundle(alloc: Global, width: u32, bytes: &[u8]) -> Result<Vec<&[u8]>, BundleFault>
     requires { width ≤ 256 }
     ensures { ReadsBundle width bytes.now (seen (λ v. map (λ e. e.now) v.items) result) }

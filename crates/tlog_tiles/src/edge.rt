@@ -6,9 +6,8 @@ use crate::paths::Path;
 use std::alloc::{AllocError, Global};
 use tlog_shape::{edge_index, edge_width};
 
-/// The paths of the partial tiles of a tree of `size` entries, lowest level first. These tiles are
-/// the right edge of the tree: the root hash is computed from their rows. A level of full tiles
-/// only adds no path, so an empty tree gives no path.
+/// The paths of the partial tiles of a tree of `size` entries, lowest level first. These tiles are the right edge of the
+/// tree: the root hash is computed from their rows. A level of full tiles only adds no path, so an empty tree gives no path.
 ///
 /// # Errors
 ///

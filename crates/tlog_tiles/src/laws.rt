@@ -3,8 +3,8 @@
 //! A law is a function with an empty body: only its contract counts.
 ghost use Rattle.tlog_tiles.specs.Laws.{BundlesAreShort, EdgeIsPartialTiles, EdgeLevelsRise, LevelsFoldToTreeHash, OneBundleAnswer, OnePathAnswer, OneRowAnswer, PathsAreSpelled, TrueBytesAreRead};
 
-/// Reading bytes as a bundle of a width has one answer, apart from `OutOfMemory`. The bytes
-/// determine the entries, and the three outcomes exclude one another.
+/// Reading bytes as a bundle of a width has one answer, apart from `OutOfMemory`. The bytes determine the entries, and the
+/// three outcomes exclude one another.
 pub fn one_bundle_law()
     ensures { OneBundleAnswer }
 {}
@@ -19,20 +19,18 @@ pub fn one_row_law()
     ensures { OneRowAnswer }
 {}
 
-/// Reading a text as a path has one answer: the text determines the path, and the outcomes exclude
-/// one another.
+/// Reading a text as a path has one answer: the text determines the path, and the outcomes exclude one another.
 pub fn one_path_law()
     ensures { OnePathAnswer }
 {}
 
-/// A text spells a path exactly if the path is lawful and the text is the printed path. So a path
-/// that was read is printed as it was, and the text of a lawful path is read back.
+/// A text spells a path exactly if the path is lawful and the text is the printed path. So a path that was read is printed
+/// as it was, and the text of a lawful path is read back.
 pub fn spelling_law()
     ensures { PathsAreSpelled }
 {}
 
-/// The right edge of a tree has its partial tiles: those within the tree that are the widest at
-/// their index.
+/// The right edge of a tree has its partial tiles: those within the tree that are the widest at their index.
 pub fn edge_law()
     ensures { EdgeIsPartialTiles }
 {}

@@ -15,27 +15,24 @@ pub(crate) const MAX_INDEX: u64 = 36028797018963967;
 
 /// The path of a file of a log.
 ///
-/// A lawful path has a level of at most 7, an index of at most 2^55 - 1 and a width of 1 to 256.
-/// The width is 256 for a full tile or bundle. `Path::parse` and `FromStr` read only lawful paths;
-/// `Path::text` and `Display` print any path.
+/// A lawful path has a level of at most 7, an index of at most 2^55 - 1 and a width of 1 to 256. The width is 256 for a full
+/// tile or bundle. `Path::parse` and `FromStr` read only lawful paths; `Path::text` and `Display` print any path.
 ///
-/// Paths are ordered as they are declared: the checkpoint, then tiles by level, index and width,
-/// then bundles by index and width. This order is for sets of paths. A mirror lists missing paths
-/// in another order.
+/// Paths are ordered as they are declared: the checkpoint, then tiles by level, index and width, then bundles by index and
+/// width. This order is for sets of paths. A mirror lists missing paths in another order.
 ///
 /// # Examples
 ///
-/// `Path::parse("tile/0/x001/x234/067.p/5")` is
-/// `Path::Tile { level: 0, index: 1234067, width: 5 }`, which prints as the same text.
+/// `Path::parse("tile/0/x001/x234/067.p/5")` is `Path::Tile { level: 0, index: 1234067, width: 5 }`, which prints as the
+/// same text.
 #[derive(Debug, PartialEq, Eq, PartialOrd, Ord, Hash, Clone, Copy)]
 pub enum Path {
     /// `checkpoint`: the newest checkpoint of the log.
     Checkpoint,
-    /// `tile/LEVEL/INDEX`, or `tile/LEVEL/INDEX.p/WIDTH` for fewer than 256 hashes: `width` hashes
-    /// of a level, from the hash with the number `256 * index` on.
+    /// `tile/LEVEL/INDEX`, or `tile/LEVEL/INDEX.p/WIDTH` for fewer than 256 hashes: `width` hashes of a level, from the hash
+    /// with the number `256 * index` on.
     Tile { level: u32, index: u64, width: u32 },
-    /// `tile/entries/INDEX` or `tile/entries/INDEX.p/WIDTH`: `width` entries, from the entry
-    /// `256 * index` on.
+    /// `tile/entries/INDEX` or `tile/entries/INDEX.p/WIDTH`: `width` entries, from the entry `256 * index` on.
     Entries { index: u64, width: u32 },
 }
 
@@ -49,8 +46,8 @@ pub enum PathFault {
     /// The second segment is neither `entries` nor one digit from 0 to 7.
     #[error("BadLevel")]
     BadLevel,
-    /// The index is greater than 2^55 - 1 or not in groups of three digits. Each group except the
-    /// last begins with an x, and the first of several is not `x000`.
+    /// The index is greater than 2^55 - 1 or not in groups of three digits. Each group except the last begins with an x, and
+    /// the first of several is not `x000`.
     #[error("BadIndex")]
     BadIndex,
     /// The width is not 1 to 255 in decimal, without leading zeros.
@@ -65,8 +62,7 @@ impl Path {
     ///
     /// # Errors
     ///
-    /// The first that applies of `Unknown`, `BadLevel`, `BadIndex` and `BadWidth`, each exactly as
-    /// `PathFault` describes it.
+    /// The first that applies of `Unknown`, `BadLevel`, `BadIndex` and `BadWidth`, each exactly as `PathFault` describes it.
     pub fn parse(text: &str) -> Result<Path, PathFault>
         ensures { ReadsPath text.now result }
     {

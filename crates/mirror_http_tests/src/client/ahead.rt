@@ -1,4 +1,4 @@
-//! Requests that are sent ahead, to a server in memory.
+//! Requests that a client sends ahead, to a server in memory.
 use crate::client::bundle_server::{BundleDial, BundleServer, bundle, bundles_from};
 use mirror_http::{HttpSource, Site};
 use mirror_sources::{Source, SourceFault};
@@ -7,7 +7,7 @@ use std::process::Abort;
 use std::rc::Rc;
 use std::test::Fail;
 
-// A source over that server, which sends so many requests ahead.
+// A source over that server, which sends up to `ahead` requests ahead.
 fn source_to(
     alloc: Global,
     server: &Rc<BundleServer>,
@@ -18,14 +18,14 @@ fn source_to(
     Ok(HttpSource::new(alloc, site, BundleDial { server }, ahead))
 }
 
-// The source gives the bundle of that number.
+// The source gives the bundle with that number.
 fn assert_got<S: Source>(rt: &impl Abort, source: &mut S, number: u8) -> Result<(), SourceFault> {
     let body = source.get(&bundle(number))?;
     assert!(rt; body.as_deref() == Some([b'0'.wrapping_add(number)].as_slice()));
     Ok(())
 }
 
-// So many requests came for the bundles, from the first one on.
+// The server got the given numbers of requests for the bundles, from the first one on.
 fn assert_asked(rt: &impl Abort, server: &BundleServer, want: &[u64]) {
     for (number, count) in want.iter().enumerate() {
         assert!(rt; server.asked(number) == *count, "{number}");
@@ -48,7 +48,7 @@ fn hints_are_sent_at_once(rt: HostRuntime) -> Result<(), Fail> {
     Ok(())
 }
 
-// What is not asked for stays out until a hint leaves it out.
+// A request that was sent ahead stays open until a hint leaves it out.
 #[test]
 fn a_hint_replaces_the_one_before(rt: HostRuntime) -> Result<(), Fail> {
     let server = BundleServer::new(rt.alloc())?;
@@ -67,8 +67,8 @@ fn a_hint_replaces_the_one_before(rt: HostRuntime) -> Result<(), Fail> {
     Ok(())
 }
 
-// Where memory is refused, as by `rt try --test --fail-alloc N`, there is no hint, and a get that is refused it is no failure of
-// the source: the next get is right.
+// If memory is refused, as by `rt try --test --fail-alloc N`, the hint is ignored. A get that runs out of memory is not a
+// failure of the source, and the next get is right.
 #[test]
 fn hints_after_want_of_memory(rt: HostRuntime) -> Result<(), Fail> {
     let server = BundleServer::new(rt.alloc())?;

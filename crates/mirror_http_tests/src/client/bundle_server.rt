@@ -50,7 +50,7 @@ const ALL: [Path; 10] = [
     },
 ];
 
-// The bundle of that number.
+// The bundle with that number.
 pub(crate) fn bundle(number: u8) -> Path {
     let index = number as u64;
     Path::Entries { index, width: 256 }
@@ -64,12 +64,12 @@ pub(crate) fn bundles_from(from: u8) -> &'static [Path] {
     }
 }
 
-// What was asked of a server.
+// The requests to a server.
 #[derive(Drop)]
 pub(crate) struct BundleServer {
-    // how many requests came for each bundle
+    // the number of requests for each bundle
     asked: Vec<Cell<u64>>,
-    // how many connections are open
+    // the number of open connections
     open: Cell<u64>,
 }
 
@@ -81,7 +81,7 @@ fn ten(alloc: Global) -> Result<Vec<Cell<u64>>, AllocError> {
     Ok(cells)
 }
 
-// One more.
+// Adds 1.
 fn raise(cell: &Cell<u64>) {
     cell.set(cell.get().saturating_add(1));
 }
@@ -95,7 +95,6 @@ impl BundleServer {
         Ok(Rc::new(alloc, server)?)
     }
 
-    // How many requests came for that bundle.
     pub(crate) fn asked(&self, number: usize) -> u64 {
         match self.asked.get(number) {
             Some(cell) => cell.get(),
@@ -103,12 +102,10 @@ impl BundleServer {
         }
     }
 
-    // How many connections are open.
     pub(crate) fn open(&self) -> u64 {
         self.open.get()
     }
 
-    // Takes the request for that bundle.
     fn take(&self, number: usize) {
         if let Some(cell) = self.asked.get(number) {
             raise(cell);
@@ -116,7 +113,7 @@ impl BundleServer {
     }
 }
 
-// A connection: it answers the request that is written, by the digit of the bundle.
+// A connection. The digit of the bundle in the written request determines its reply.
 pub(crate) struct Connection {
     server: Rc<BundleServer>,
     reply: [u8; 20],

@@ -1,4 +1,4 @@
-//! Connections that give one reply, whatever they are asked.
+//! Connections that give one reply to any request.
 use mirror_http::{Dial, HttpSource, Site};
 use std::alloc::Global;
 use std::io;
@@ -6,7 +6,7 @@ use std::io::{ErrorKind, Read, Write};
 use std::rc::Rc;
 use std::test::Fail;
 
-// Gives the reply from that place on, and takes all bytes, or none.
+// Gives the reply from that position on, and takes all bytes or none.
 #[derive(Drop)]
 pub(crate) struct Canned {
     reply: Rc<Vec<u8>>,
@@ -58,7 +58,7 @@ impl Dial for CannedDial {
     }
 }
 
-// A source over such connections, to which bytes can be written or not.
+// A source over such connections, which take bytes or not.
 pub(crate) fn source_over(
     alloc: Global,
     reply: &str,

@@ -1,12 +1,12 @@
-//! Replies that are read, and those that are not, with values worked out by hand.
+//! Replies that are accepted or refused, with values worked out by hand.
 use mirror_http::{ReplyFault, read_reply};
 
-// What the bytes are read as. It ensures nothing, so that its caller is cheap to check.
+// The result of reading the bytes. It ensures nothing, so that its caller is cheap to check.
 fn read(bytes: &[u8]) -> Result<Option<&[u8]>, ReplyFault> {
     read_reply(bytes)
 }
 
-// Replies, and what they are read as.
+// Replies, and the results of reading them.
 const REPLIES: [(&str, Result<Option<&[u8]>, ReplyFault>); 7] = [
     (
         "HTTP/1.1 200 OK\r\nContent-Length: 3\r\n\r\nab",

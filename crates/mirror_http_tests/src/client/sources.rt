@@ -5,8 +5,8 @@ use std::process::Abort;
 use std::test::Fail;
 use tlog_tiles::Path;
 
-// Where a request for memory is refused, as by `rt try --test --fail-alloc N`, that is no failure of the
-// source, and the next get is right.
+// If a request for memory is refused, as by `rt try --test --fail-alloc N`, this is not a failure of the source, and the
+// next get is right.
 #[test]
 fn get_again_after_want_of_memory(rt: HostRuntime) -> Result<(), Fail> {
     let reply = "HTTP/1.1 200 OK\r\nContent-Length: 3\r\n\r\nabc";
@@ -30,7 +30,7 @@ fn assert_abc_at_last<S: Source>(rt: &impl Abort, source: &mut S) -> Result<(), 
     Ok(())
 }
 
-// A request that cannot be sent is a failure, and no file that is not there, though a reply could be read.
+// A request that cannot be sent is a failure, not a missing file, even if a reply can be read.
 #[test]
 fn a_request_that_is_not_sent_is_counted(rt: HostRuntime) -> Result<(), Fail> {
     let mut source = source_over(rt.alloc(), "HTTP/1.1 404 Not Found\r\n\r\n", false)?;

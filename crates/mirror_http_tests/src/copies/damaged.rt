@@ -1,4 +1,4 @@
-//! Copies of which a file is missing or false.
+//! Copies with a missing or false file.
 ghost use Rattle.std.specs.Prelude.{◌≡◌};
 
 use crate::copies::{SERVER_ERROR, copy_of, reply_of_copy};
@@ -10,7 +10,6 @@ use std::test::Fail;
 use tlog_hash::Sha256Tree;
 use tlog_tiles::Path;
 
-// Puts these bytes at the path.
 fn put_at(shelf: &mut MemShelf, path: &Path, bytes: &[u8]) -> Result<(), Fail> {
     match shelf.put(path, bytes) {
         Ok(()) => Ok(()),
@@ -29,7 +28,7 @@ fn without(alloc: Global, shelf: &MemShelf, path: &Path) -> Result<MemShelf, Fai
     Ok(rest)
 }
 
-// The path that a text is.
+// The path that the text spells.
 fn path_of(text: &str) -> Result<Path, Fail> {
     match Path::parse(text) {
         Ok(path) => Ok(path),
@@ -52,7 +51,7 @@ fn is_damaged(
     Ok(())
 }
 
-// Files of C(300), and for each a target that wants it.
+// Files of C(300), and for each a target that needs it.
 const WANTED: [(&str, &str); 7] = [
     ("tile/0/000", "/tile/0/000"),
     ("tile/0/000", "/mirror/inclusion/300/0"),
@@ -63,7 +62,7 @@ const WANTED: [(&str, &str); 7] = [
     ("tile/entries/001.p/44", "/tile/entries/001.p/44"),
 ];
 
-// Each file that is wanted and gone is a 500. What the shelf lacks is named, but where a narrower file is asked for.
+// If a needed file is missing, the reply is 500. The fault names the missing file, except for requests for a narrower file.
 #[test]
 fn missing_files_are_server_errors(rt: HostRuntime) -> Result<(), Fail> {
     let alloc = rt.alloc();
@@ -81,7 +80,7 @@ fn missing_files_are_server_errors(rt: HostRuntime) -> Result<(), Fail> {
     Ok(())
 }
 
-// A false row is given as it stands, and is in no proof.
+// A false row is served unchanged, but is in no proof.
 #[test]
 fn false_rows_are_in_no_proof(rt: HostRuntime) -> Result<(), Fail> {
     let alloc = rt.alloc();
@@ -97,7 +96,7 @@ fn false_rows_are_in_no_proof(rt: HostRuntime) -> Result<(), Fail> {
     Ok(())
 }
 
-// A checkpoint that is none of the origin is a 500, whatever is asked for.
+// If the checkpoint has another origin, the reply is 500 for every target.
 #[test]
 fn false_checkpoints_are_server_errors(rt: HostRuntime) -> Result<(), Fail> {
     let alloc = rt.alloc();
@@ -107,7 +106,7 @@ fn false_checkpoints_are_server_errors(rt: HostRuntime) -> Result<(), Fail> {
     is_damaged(&rt, alloc, &mut shelf, "/tile/0/000.p/3", &Path::Checkpoint)
 }
 
-// The checkpoint is read at each request: a copy that grows needs no new call to tell of it.
+// Each request reads the checkpoint. So when a copy grows, no call is needed for the new size.
 #[test]
 fn each_request_reads_the_checkpoint(rt: HostRuntime) -> Result<(), Fail> {
     let alloc = rt.alloc();

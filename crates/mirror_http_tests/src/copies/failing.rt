@@ -7,7 +7,7 @@ use std::test::Fail;
 use tlog_hash::Sha256Tree;
 use tlog_tiles::Path;
 
-// Each read of it fails.
+// A shelf whose reads all fail.
 #[derive(Drop)]
 struct FailingShelf {
     failures: u64,
@@ -52,7 +52,8 @@ impl ReadableShelf for FailingShelf {
     }
 }
 
-// A read that fails is a 500, and is told; what wants no file is answered.
+// After a failed read, the reply is 500 and the fault is returned. A request that needs no file is
+// answered.
 #[test]
 fn failing_shelves_are_server_errors(rt: HostRuntime) -> Result<(), Fail> {
     let alloc = rt.alloc();

@@ -1,6 +1,6 @@
 //! Mirrors of small logs.
 //!
-//! C(n) is the log of the numbers from 0 on, n of them, each in two bytes, big-endian.
+//! C(n) is the log of the numbers 0 to n - 1, each in two bytes, big-endian.
 ghost use Rattle.std.specs.Prelude.{map, IfOk};
 ghost use Rattle.mirror_model.specs.TrueLaws.{AreShort};
 
@@ -24,12 +24,12 @@ fn numbers(alloc: Global, n: u16) -> Result<Vec<Vec<u8>>, AllocError>
     Ok(entries)
 }
 
-// The key `ex`, id 1, secret 00, of these logs.
+// The key of these logs: `ex`, id 1, secret 00.
 fn key(alloc: Global) -> Result<HmacKey, KeyFault> {
     HmacKey::new(alloc, "ex", 1, &[0])
 }
 
-// How a pull ends, under the key of these logs. It ensures nothing, so that its callers are cheap to check.
+// The result of a pull, under the key of these logs. It ensures nothing, so that its callers are cheap to check.
 fn end_of_pull<H: TreeHash, S: Source>(
     alloc: Global,
     mirror: &mut Mirror<H>,
@@ -55,7 +55,7 @@ fn fill<H: TreeHash>(alloc: Global, mirror: &mut Mirror<H>, n: u16) -> Result<()
     Ok(())
 }
 
-// A mirror that is complete at C(n).
+// A mirror that is complete for C(n).
 pub(crate) fn mirror_of<H: TreeHash>(alloc: Global, n: u16) -> Result<Mirror<H>, Fail> {
     let mut mirror = Mirror::<H>::new(alloc, "ex")?;
     let answer = fill(alloc, &mut mirror, n);

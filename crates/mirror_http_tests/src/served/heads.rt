@@ -1,4 +1,4 @@
-//! Heads of requests that are cut.
+//! Heads of requests that are cut off.
 use crate::served::{BAD_REQUEST, answered, mirror_of_3};
 use std::alloc::Global;
 use std::process::Abort;
@@ -14,7 +14,7 @@ fn head_cuts(rt: HostRuntime) -> Result<(), Fail> {
     Ok(())
 }
 
-// Each front of a request is a bad one.
+// Each proper prefix of a request is a bad request.
 fn gets_of_cuts<H: TreeHash>(rt: &impl Abort, alloc: Global, mirror: &Mirror<H>) {
     let request = b"GET /checkpoint HTTP/1.1\r\nHost: x\r\n\r\n".as_slice();
     for len in 1..request.len() {

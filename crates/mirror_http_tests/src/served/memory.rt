@@ -1,5 +1,5 @@
-//! Requests for memory that are refused, as by `rt try --test --fail-alloc N`: where an answer was refused
-//! one, nothing was written, and the next answer is right.
+//! Tests with refused requests for memory, as by `rt try --test --fail-alloc N`. If an answer ran out of memory, nothing was
+//! written, and the next answer is right.
 use crate::served::{answered, mirror_of_3};
 use mirror_http::HttpFault;
 use std::alloc::Global;
@@ -8,7 +8,7 @@ use std::test::Fail;
 use tlog_hash::{Sha256Tree, TreeHash};
 use tlog_mirror::Mirror;
 
-// How much of the space is left behind the reply, which is made again where memory was refused, when nothing was written.
+// The space that is left after the reply. If memory was refused, nothing was written, and the reply is made again.
 fn left_at_last<H: TreeHash>(
     rt: &impl Abort,
     alloc: Global,
@@ -25,8 +25,8 @@ fn left_at_last<H: TreeHash>(
     space.len()
 }
 
-// Answers into so much space, and again where memory was refused. Either reply goes into space that is there: a
-// vector that is refused memory is a writer that fails.
+// Answers into a buffer with that space, and again if memory was refused. Each reply goes into existing space, since a
+// vector that cannot grow is a writer that fails.
 fn answers_again<H: TreeHash>(
     rt: &impl Abort,
     alloc: Global,

@@ -1,4 +1,4 @@
-//! Readers and writers that give or take a few bytes a call, that are interrupted, and that fail.
+//! Readers and writers that give or take a few bytes for each call, are interrupted, and fail.
 use crate::served::{BUNDLE_REPLY, BUNDLE_REQUEST, answered, mirror_of_3};
 use mirror_http::HttpFault;
 use std::alloc::Global;
@@ -9,8 +9,7 @@ use std::test::Fail;
 use tlog_hash::{Sha256Tree, TreeHash};
 use tlog_mirror::Mirror;
 
-// Gives its bytes, at most so many a read, each read after an interruption if there are any left; then it
-// ends, or fails.
+// Gives its bytes, at most `most` for each read, and each read after an interruption if any are left. Then it ends or fails.
 #[derive(Drop)]
 struct Pieces<'a> {
     rest: &'a [u8],
@@ -35,7 +34,7 @@ impl Read for Pieces<'_> {
     }
 }
 
-// Takes so many bytes, a byte a call, and fails from then on.
+// Takes `most` bytes, one for each call, and then fails.
 #[derive(Drop)]
 struct Narrow {
     taken: Vec<u8>,
@@ -58,7 +57,7 @@ impl Write for Narrow {
     }
 }
 
-// The request for the bundle, in such pieces, is answered by the bundle.
+// The request for the bundle, in such pieces, gets the bundle.
 fn answers_bundle<H: TreeHash>(
     rt: &impl Abort,
     alloc: Global,
@@ -127,7 +126,7 @@ fn failing_writer(rt: HostRuntime) -> Result<(), Fail> {
     Ok(())
 }
 
-// A writer that takes so many bytes of the reply has just these.
+// A writer that takes the given number of bytes of the reply has exactly these.
 fn writes_front<H: TreeHash>(rt: &impl Abort, alloc: Global, mirror: &Mirror<H>, front: &[u8]) {
     let mut writer = Narrow {
         taken: Vec::new(alloc),

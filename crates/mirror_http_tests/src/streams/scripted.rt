@@ -1,11 +1,11 @@
-//! Streams that do what a list of turns says, one turn a call.
+//! Streams that follow a list of turns, one turn for each call.
 use std::io;
 use std::io::{ErrorKind, Read, Write};
 
-/// What one call does.
+/// The effect of one call.
 #[derive(Clone, Copy)]
 pub enum Turn {
-    /// The call gives or takes so many bytes, or as many as there are.
+    /// The call gives or takes up to that number of bytes.
     Pass(usize),
     /// The call is interrupted.
     Interrupted,
@@ -13,7 +13,7 @@ pub enum Turn {
     Failed,
 }
 
-/// Gives its bytes by these turns, and is at its end after them.
+/// Gives its bytes by these turns, and ends after them.
 #[derive(Drop)]
 pub struct ScriptedReader<'a> {
     pub rest: &'a [u8],
@@ -39,7 +39,7 @@ impl Read for ScriptedReader<'_> {
     }
 }
 
-/// Gives one byte a call without end, and remembers the most that it was asked for.
+/// Gives one byte for each call without end, and records the largest request.
 #[derive(Drop)]
 pub struct EndlessReader {
     pub calls: u64,

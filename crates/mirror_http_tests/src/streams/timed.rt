@@ -1,4 +1,4 @@
-//! Streams with a deadline, in memory, under a clock of their own. What comes over loopback stands in scripts/raw-runs.
+//! Streams with a deadline, in memory, with a clock of their own. `scripts/raw-runs` tests streams over loopback.
 use byte_streams::{BoundsWaits, TimedStream};
 use std::cell::Cell;
 use std::io;
@@ -7,7 +7,7 @@ use std::process::Abort;
 use std::test::Fail;
 use std::time::{Clock, Duration};
 
-// A clock by which each look at it takes two seconds.
+// A clock that advances two seconds at each look.
 #[derive(Drop)]
 struct Ticking<'a> {
     seconds: &'a Cell<u64>,
@@ -25,7 +25,7 @@ impl Clock for Ticking<'_> {
     }
 }
 
-// Gives a byte a call without end, takes a byte a call, and remembers the last time to wait.
+// Gives or takes one byte for each call without end, and records the last time to wait.
 #[derive(Drop)]
 struct Patient<'a> {
     wait: &'a Cell<Duration>,
@@ -65,7 +65,7 @@ impl BoundsWaits for Patient<'_> {
     }
 }
 
-// Whether the call was left no time.
+// Whether the call had no time left.
 fn timed_out<T: Drop>(answer: io::Result<T>) -> bool {
     match answer {
         Err(e) => e.kind() == ErrorKind::TimedOut,
@@ -78,11 +78,11 @@ fn calls_up_to_a_deadline(rt: HostRuntime) -> Result<(), Fail> {
     let seconds = Cell::new(100);
     let wait = Cell::new(Duration::ZERO);
     let clock = Ticking { seconds: &seconds };
-    // It is made at 100 seconds and ends at 107; the first call is made at 102.
+    // The stream is made at 100 seconds and ends at 107; the first call is at 102.
     let mut stream = TimedStream::new(Patient { wait: &wait }, clock, Duration::from_secs(7))?;
     calls_in_time(&rt, &mut stream, &wait)?;
     calls_too_late(&rt, &mut stream, &wait);
-    // Seven seconds more, of which the clock takes two for each look.
+    // Seven more seconds; each look at the clock takes two.
     stream.restart(Duration::from_secs(7))?;
     calls_in_time(&rt, &mut stream, &wait)?;
     calls_too_late(&rt, &mut stream, &wait);

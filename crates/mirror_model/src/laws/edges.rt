@@ -7,8 +7,8 @@ pub fn edge_rows_law()
     ensures { EdgeRowsAreWide }
 {}
 
-/// The true edge rows of a list of entries lead to its tree hash. So checking edge rows against the
-/// root of a checkpoint, without any state, checks them against the root of the log.
+/// The true edge rows of a list of entries lead to its tree hash. So checking edge rows against the root of a checkpoint,
+/// without any state, checks them against the root of the log.
 pub fn edge_root_law()
     ensures { EdgeRootIsRoot }
 {}
@@ -18,9 +18,8 @@ pub fn edge_strings_law()
     ensures { EdgeStringsAreOfTree }
 {}
 
-/// As long as the held strings do not collide, a size and a root have at most one list of edge rows
-/// with held strings. So edge rows of a complete tree head of a lawful view are the true rows of
-/// its entries, if their strings are held.
+/// As long as the held strings do not collide, a size and a root have at most one list of edge rows with held strings. So
+/// edge rows of a complete tree head of a lawful view are the true rows of its entries, if their strings are held.
 pub fn lawful_edge_law()
     ensures one { EdgeIsOne }
     ensures of_entries { LawfulEdgeIsTrue }

@@ -3,8 +3,7 @@ ghost use Rattle.mirror_model.specs.Examples.{EdgesOfSizes, PartsOfThree, RootsO
 ghost use Rattle.mirror_model.specs.PlayExamples.{RetriesSpanPlays, RetryInNextPlayCounts, TwoCallsAreOneRun};
 ghost use Rattle.mirror_model.specs.ViewExamples.{EmptyCountsForNothing, OneEntryIsServed};
 
-/// The tree of three entries, the right edges of some sizes, and the roots of some edges, under a
-/// digest that is a sum.
+/// The tree of three entries, the right edges of some sizes, and the roots of some edges, under a digest that is a sum.
 pub fn trees_example()
     ensures three { TreeOfThree }
     ensures edges { EdgesOfSizes }
@@ -12,8 +11,8 @@ pub fn trees_example()
     ensures parts { PartsOfThree }
 {}
 
-/// Neither of two lists of entries is a prefix of the other, but the tree hash of the first equals
-/// that of the beginning of the second.
+/// Neither of two lists of entries is a prefix of the other, but the tree hash of the first equals that of the beginning of
+/// the second.
 pub fn fork_example()
     ensures { HashesDoNotTellForks }
 {}
@@ -23,8 +22,8 @@ pub fn way_example()
     ensures { MergesLeadInOrder }
 {}
 
-/// Fronts if nothing is held. The front of three entries is their bundle. The front of 300 entries
-/// has a tile that is not full in their tree, so the right edge has to be taken first.
+/// Fronts if nothing is held. The front of three entries is their bundle. The front of 300 entries has a tile that is not
+/// full in their tree, so the right edge has to be taken first.
 pub fn front_example()
     ensures three { IsFrontOfThree }
     ensures outside { HasTileOutside }
@@ -40,9 +39,8 @@ pub fn served_example()
     ensures { OneEntryIsServed }
 {}
 
-/// If a take at the end of a play runs out of memory, the first take of the next play repeats it,
-/// and the headline applies to both plays. It is not repeated if nothing follows or another event
-/// comes first.
+/// If a take at the end of a play runs out of memory, the first take of the next play repeats it, and the headline applies
+/// to both plays. It is not repeated if nothing follows or another event comes first.
 pub fn retry_example()
     ensures spans { RetriesSpanPlays }
     ensures counts { RetryInNextPlayCounts }

@@ -4,20 +4,18 @@ ghost use Rattle.mirror_model.specs.Headline.{MirrorsAgree, NoPlayClashes, NoPla
 
 /// The headline, over any number of mirrors of one origin, in one play or in several.
 ///
-/// Two mirrors hold equal views, if the same valid items, and the same strings and notes of opening
-/// views, reached both. Each view is then the union of everything that reached it. There are two
-/// premises. First, no two different strings of the opening views and of the valid items share a
-/// digest, or no event was answered by a collision. Second, the same event directly follows an
-/// event that ran out of memory, in the same play or as the first of the next. The laws below do
-/// not need the second premise.
+/// Two mirrors hold equal views, if the same valid items, and the same strings and notes of opening views, reached both.
+/// Each view is then the union of everything that reached it. There are two premises. First, no two different strings of the
+/// opening views and of the valid items share a digest, or no event was answered by a collision. Second, the same event
+/// directly follows an event that ran out of memory, in the same play or as the first of the next. The laws below do not
+/// need the second premise.
 ///
-/// As long as no two different strings of the opening views and of the valid items share a digest,
-/// no event is answered by a collision.
+/// As long as no two different strings of the opening views and of the valid items share a digest, no event is answered by a
+/// collision.
 ///
-/// From lawful views, for all strings, three laws hold. The served checkpoint has the length and
-/// the tree hash of exactly the served entries. Two different complete checkpoints are a fork
-/// exactly if neither list of entries is a prefix of the other. A complete checkpoint has no other
-/// entries later.
+/// From lawful views, for all strings, three laws hold. The served checkpoint has the length and the tree hash of exactly
+/// the served entries. Two different complete checkpoints are a fork exactly if neither list of entries is a prefix of the
+/// other. A complete checkpoint has no other entries later.
 ///
 /// From any views, a complete checkpoint stays complete, and a fork stays a fork.
 pub fn headline_law()
@@ -30,9 +28,9 @@ pub fn headline_law()
     ensures entries { PlaysKeepEntries }
 {}
 
-/// Plays in order are one run, and a run is one play. So the headline holds for takes and merges
-/// that are called one by one. In all plays, each event that ran out of memory is repeated, if each
-/// play repeats its own, or if no event ran out of memory.
+/// Plays in order are one run, and a run is one play. So the headline holds for takes and merges that are called one by one.
+/// In all plays, each event that ran out of memory is repeated, if each play repeats its own, or if no event ran out of
+/// memory.
 pub fn plays_law()
     ensures one_run { PlaysAreOneRun }
     ensures one_play { RunIsOnePlay }
@@ -41,8 +39,8 @@ pub fn plays_law()
     ensures none { NoPlayToRetry }
 {}
 
-/// A play of some mirrors is a play of all: it leaves the others unchanged. So consecutive plays
-/// may be of different mirrors.
+/// A play of some mirrors is a play of all: it leaves the others unchanged. So consecutive plays may be of different
+/// mirrors.
 pub fn part_law()
     ensures played { PartIsPlayed }
     ensures retried { PartIsRetried }

@@ -6,22 +6,21 @@ use std::test::Fail;
 use tlog_hash::TreeHash;
 use tlog_tiles::Path;
 
-// What is false of a source.
+// The lie of a source.
 #[derive(Drop, Clone, Copy)]
 pub(crate) enum Lie {
-    // Nothing.
     Nothing,
-    // The first bundle is of another list.
+    // The first bundle comes from another list.
     FalseBundle,
-    // The files are of another list, and the partial ones of level 0 are gone.
+    // The files come from another list, and the partial files of level 0 are deleted.
     PartialsGone,
-    // The checkpoint alone is given.
+    // The source has only the checkpoint.
     NoFiles,
-    // Nothing is given.
+    // The source has nothing.
     Silence,
 }
 
-// A source over a list, with a lie, that fails after so many gets. It records the paths that it was asked for, the oldest first.
+// A source over a list, with a lie, that fails after the given number of gets. It records the requested paths, oldest first.
 #[derive(Drop)]
 pub(crate) struct Liar<H: TreeHash> {
     pub log: ListSource<H>,
@@ -32,7 +31,7 @@ pub(crate) struct Liar<H: TreeHash> {
     pub failures: u64,
 }
 
-// A source over C(257) that lies by another list, of so many numbers from that one on, and fails after so many gets.
+// A source over C(257) with a lie about another list, of `count` numbers from `from` on. It fails after `gets` gets.
 pub(crate) fn lying_log<H: TreeHash>(
     alloc: Global,
     lie: Lie,
@@ -57,7 +56,7 @@ pub(crate) fn lying_log<H: TreeHash>(
     }
 }
 
-// What is told of a path.
+// The answer for a path.
 fn lying_answer<S: Source>(
     log: &mut S,
     other: &mut S,

@@ -8,8 +8,8 @@ use std::alloc::{AllocError, Global};
 use std::fmt;
 
 impl Path {
-    /// The text of the path. The text of a lawful path is the one that `Path::parse` reads. Any
-    /// other path is printed by the same rule, but is not read back.
+    /// The text of the path. The text of a lawful path is the one that `Path::parse` reads. Any other path is printed by the
+    /// same rule, but is not read back.
     ///
     /// # Errors
     ///

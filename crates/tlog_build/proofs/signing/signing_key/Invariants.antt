@@ -2,7 +2,7 @@ use Rattle.std.proofs.Common.{◌≡◌}
 use Rattle.tlog_build.specs.Signing.{first_secret}
 use Rattle.tlog_build.proofs.signing.signing_key.Given as goal
 
--- the first key of a shared secret is the first of the lines that are left
+-- the first key with a shared secret is the first one in the lines that are left
 abbrev pub invariant-loop-line : goal.invariant-loop-line
 invariant-loop-line l =
     (goal.iterator-loop-line).can_next l.line-iterator ×
