@@ -45,7 +45,8 @@ FullBundleServesPartial =
     Contains (true_strings digest entries (Entries index 256)) y
     ⊎ Contains (edge_strings digest (edge_rows digest (take size entries))) y
 
--- a path is in no front if all strings of its true bytes are held, so it is not requested again
+-- if the strings of the right edge are held, a path is in no front when all strings of its true
+-- bytes are held; so it is not requested again
 abbrev pub AnsweredIsNotAgain : Type 0
 AnsweredIsNotAgain =
     (digest : List ℕ → List ℕ) (held : Strings) (entries : List (List ℕ)) →

@@ -34,16 +34,16 @@ abbrev pub answers_in : List Play → List Answer
 answers_in [] = []
 answers_in (play ∷ plays) = play.answers ++ answers_in plays
 
--- no event of the plays had that answer
+-- no event of the plays was answered in that way
 abbrev pub NoneAnswered : Answer → List Play → Type 0
 NoneAnswered answer plays =
     (play : Play) → Contains plays play → ¬ Contains play.answers answer
 
--- no event of the plays had a collision as its answer
+-- no event of the plays was answered by a collision
 abbrev pub NoneClashed : List Play → Type 0
 NoneClashed plays = NoneAnswered Clashed plays
 
--- plays of any number of mirrors; each begins with the views after the one before
+-- plays of any number of mirrors; each begins with the views at the end of the one before
 abbrev pub Plays : (List ℕ → List ℕ) → List Key → List View → List Play → List View → Type 0
 Plays digest keys old [] new = new ≡ old
 Plays digest keys old (play ∷ plays) new =
@@ -232,7 +232,8 @@ PlaysGrow =
     slice_get final mirror ≡ Some after →
     HasGrown digest before after
 
--- after any plays from lawful views, for all answers, a complete tree head has no other entries
+-- after any plays from lawful views, for all answers, a tree head that was complete before has no
+-- other entries
 abbrev pub PlaysKeepEntries : Type 0
 PlaysKeepEntries =
     (digest : List ℕ → List ℕ) →

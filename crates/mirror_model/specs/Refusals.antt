@@ -1,6 +1,7 @@
 -- The answers to taking an item: the first refusal that applies to it, in the order of the faults.
--- They do not depend on the state of the mirror: a collision depends on the held strings, and means
--- that the item is valid. The item determines the answer, unless it is OutOfMemory.
+-- The definitions do not name the state of the mirror. A collision depends on the held strings;
+-- here it means only that the item is valid. The item determines the answer, unless it is
+-- OutOfMemory.
 use Rattle.std.specs.Prelude.{◌≡◌, ◌≢◌, ℕ, ◌*◌, List, length, map, Result, Ok, Err, ⊤}
 use Rattle.signed_note.specs.Keys.{Key}
 use Rattle.signed_note.specs.Notes.{SignatureParts, IsNote, Opens}
@@ -117,8 +118,8 @@ module _ (digest : List ℕ → List ℕ) where
     pub lengths_are : HasEdgeLengths checkpoint.size rows
     pub differs : edge_root digest (map row_of rows) ≢ checkpoint.root
 
-  -- when taking a tree head may return each answer; it is a note, and the edge rows of its size,
-  -- lowest level first
+  -- when taking a tree head may return each answer; a tree head is a note with the edge rows of its
+  -- size, lowest level first
   abbrev pub JudgesHead :
       List ℕ → List Key → List ℕ → List (List ℕ) → Result (Unit {0}) TakeFault → Type 0
   JudgesHead origin keys bytes rows (Ok done) = IsGoodHead digest origin keys bytes rows

@@ -1,5 +1,6 @@
--- The texts of a mirror's reports (own format): lines that each end in a newline. Numbers are
--- decimal without leading zeros. Roots are standard base64 with padding (RFC 4648, section 4).
+-- The texts of a mirror's reports (a format of this project): lines that each end in a newline.
+-- Numbers are decimal without leading zeros. Roots are standard base64 with padding (RFC 4648,
+-- section 4).
 use Rattle.std.specs.Prelude.{◌≡◌, ℕ, List, [], ◌∷◌, ◌++◌, Bool, true, false, Option, Some, None}
 use Rattle.std.specs.Prelude.{codes}
 use Rattle.std.specs.Fmt.{decimal}

@@ -32,7 +32,7 @@ tells_prefix contents now old new recorded =
     (sym (recorded.early early)) (appends_nothing (contents old.writer) (printed_line old)))
     (due_or_not old.due now)
 
--- a progress that reports has a time for its next line
+-- a `Progress` that reports has a time for its next line
 pub not_silent : (due : Option ℕ) (b : Bool) → b ≡ is_some due → b ≡ true → due ≡ None → ⊥
 not_silent None b p q r = false≢true (sym p ∙ q)
 not_silent (Some due) b p q r = cc

@@ -5,9 +5,9 @@ use Rattle.mirror_progress.specs.declared.counts.Counts.{Counts}
 use Rattle.mirror_progress.specs.declared.task.Task.{Task}
 use Rattle.mirror_progress.specs.Text.{progress_text, line_of}
 
--- the model of a progress: the writer, the command, the number of all files if it is known, and the
--- counts of the work done. Its last part is the time from which the next line may be written, in
--- nanoseconds of the clock; None if nothing is reported
+-- the model of a `Progress`: the writer, the command, the number of all files if it is known, and
+-- the counts of the work done. Its last part is the time from which the next line may be written,
+-- in nanoseconds of the clock; None if nothing is reported
 pub record ProgressView (W : Type 0) : Type 0 where
   pub writer : W
   pub task : Task

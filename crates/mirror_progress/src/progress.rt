@@ -106,7 +106,7 @@ fn log_size(alloc: Global, note: &[u8]) -> Option<u64> {
 }
 
 impl<C: Clock + Drop, W: Write + Drop> Progress<C, W> {
-    /// A progress that reports nothing yet. The call allocates no memory.
+    /// A `Progress` that reports nothing yet. The call allocates no memory.
     pub fn new(alloc: Global, clock: C, writer: W) -> Self
         ensures writer { result.writer ≡ writer }
         ensures silent { result.due ≡ None }

@@ -46,7 +46,7 @@ pub data AsksPath (asked : List Path) (path : Path) : List Reply → Type 0 wher
       Asks (with_replies asked first) (full_of path) second found →
       AsksPath asked path (first ++ second)
 
--- the paths of a list are requested so, in order
+-- the paths of a list are requested in this way, in order
 pub data AsksList (asked : List Path) : List Path → List Reply → Type 0 where
   ListNone : AsksList asked [] []
   ListNext : {paths : List Path} {first second : List Reply} (path : Path) →
@@ -201,7 +201,7 @@ pub data IsInRounds (digest : List ℕ → List ℕ) (size : ℕ) (root : List �
       IsInRounds digest size root asked v (first ++ second) w next
 
 -- an end without an answer, after these replies, with the path that was tried. The next get failed,
--- or memory was refused during a get or between two. A get without memory is not recorded
+-- or memory was refused during a get or between two. A get that ran out of memory is not recorded
 pub data IsUnanswered (At : List Reply → Option Path → Type 0)
     : PullFault → List Reply → List Path → Type 0 where
   GetFailed : {replies : List Reply} {path : Path} → At replies (Some path) →

@@ -1,7 +1,7 @@
 -- The resources of a mirror, and the targets of requests that name them (RFC 9110, section 3.1; RFC
 -- 9112, section 3.2.1; C2SP tlog-tiles, "Parameters"). Targets are compared byte for byte, without
--- decoding. Targets below `/mirror/` are an own format. Only the contract of a private function
--- cites `FindsTwo`.
+-- decoding. Targets below `/mirror/` are defined by this project. Only the contract of a private
+-- function cites `FindsTwo`.
 use Rattle.std.specs.Prelude.{◌≡◌, ℕ, ◌≤◌, List, ◌++◌, codes, Option, MatchOption}
 use Rattle.hex.specs.Hex.{encode_lower}
 use Rattle.tlog_shape.specs.declared.TheConstants.{MAX_SIZE}

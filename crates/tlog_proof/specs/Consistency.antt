@@ -69,9 +69,8 @@ module _ (digest : List ℕ → List ℕ) where
   unfoldable pub cons : ℕ → ℕ → Bool → List ℕ → List (List ℕ) → Option (List ℕ × List ℕ)
   cons first second flag root path = cons_in (shape second) first flag root (reverse path)
 
-  -- the consistency proof is right: the tree of the second size and root begins with the entries of
-  -- the first tree. For equal sizes the path is empty and the roots are equal. For an empty first
-  -- tree there is no proof
+  -- the consistency proof is right: for a smaller first size, the path leads to both roots; for
+  -- equal sizes, the path is empty and the roots are equal. An empty first tree has no proof
   abbrev pub IsConsistency : ℕ → List ℕ → ℕ → List ℕ → List (List ℕ) → Type 0
   IsConsistency first first_root second second_root path =
       (0 < first)

@@ -1,6 +1,7 @@
--- The text of a proof (own format): a title, then lines of a name, a space and a value. Each line
--- ends in a newline. Numbers are decimal without leading zeros. Hashes are standard base64 with
--- padding (RFC 4648, section 4). Only contracts of private functions cite `LacksNewline`.
+-- The text of a proof (a format of this project): a title, then lines of a name, a space and a
+-- value. Each line ends in a newline. Numbers are decimal without leading zeros. Hashes are
+-- standard base64 with padding (RFC 4648, section 4). Only contracts of private functions cite
+-- `LacksNewline`.
 use Rattle.std.specs.Prelude.{◌≡◌, ◌≢◌, ℕ, ◌≤◌, ◌<◌, List, [], ◌∷◌, ◌++◌, length, slice_index}
 use Rattle.std.specs.Prelude.{codes, Result, Ok, Err, ⊤}
 use Rattle.std.specs.Fmt.{decimal}
