@@ -62,7 +62,7 @@ retried_in_each digest keys old new (play ∷ plays) p each =
     (run_lengths digest keys old p.0 play.events play.answers p.1) (each play (0, omega arith, refl))
     (retried_in_each digest keys p.0 new plays p.2 (λ q c. each q (suc c.0, omega (arith, c.1), c.2)))
 
--- an answer of one of the plays is an answer of all of them
+-- an answer of one of the plays is among the answers of all plays
 in_answers : (answer : Answer) (plays : List Play) (play : Play) → Contains plays play → Contains play.answers answer →
     Contains (answers_in plays) answer
 in_answers answer [] play c d = absurd (omega (arith, c.1))
