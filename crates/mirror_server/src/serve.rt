@@ -51,7 +51,7 @@ fn response<H: TreeHash, R: Read>(
 
 /// Answers the first request of the reader with a resource of the mirror, and writes the reply (RFC 9112). Each connection
 /// gets one reply, and bytes after the request are not interpreted.
-/// for its meaning.
+///
 /// It takes at most 8,192 bytes from the reader, and does not read again after a whole head, since a client may keep its
 /// side open. It also stops when no head is possible any more.
 ///

@@ -49,9 +49,9 @@ pub fn check_inclusion<H: TreeHash>(
 
 /// Whether the path shows that the tree of the first size and root is a prefix of the tree of the second (RFC 9162, section
 /// 2.1.4.2).
+///
 /// For equal sizes, the path must be empty and the roots equal (a rule of this project: the standard leaves this case out).
 /// The result is false if the first size is 0 or greater than the second. True does not prove the sizes.
-/// where the first size is 0 or greater than the second. A yes does not fix the sizes.
 pub fn check_consistency<H: TreeHash>(
     first: u64,
     first_root: &Hash,
