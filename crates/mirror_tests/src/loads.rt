@@ -58,7 +58,8 @@ TLMIRR02\x00\x02ex\x00\x00\x00\x00\x00\x00\x00\x00\x00\x00\x00\x00\x00\x00\x00\x
 \x00\x00\x00\x00\x00\x00\x00\x02\x00\x02\x01\x02\x00\x02\x02\x01\
 \x8cW/\x16y(\x90W\xb6\xfc\xa75\x85\xba\xc7\x12\x81\xc0\xb7\x9b\x8066k\xb6\xc0,W\xf7\xa7\xc6P";
 
-// The state is loaded. If its strings share a digest, the fault is Collision, not OutOfMemory.
+// With SHA-256 the state is loaded. Under the digest that sums bytes, its strings share a digest, and the fault is
+// Collision, not OutOfMemory.
 #[test]
 fn colliding_state(rt: HostRuntime) -> Result<(), Fail> {
     let mut text = ONE_SUM;

@@ -1,4 +1,4 @@
-//! Laws of RFC 6962 for the tree, as the contracts cite it.
+//! Laws of RFC 6962 for the definitions of the tree that the contracts cite.
 //!
 //! A law is a function with an empty body: only its contract counts.
 ghost use Rattle.tlog_hash.specs.Laws.{MthIsTreeHash, FoldMeetsEquations, StringsFollowSplit, TreeGoesByBlocks, NodesAreStrings};

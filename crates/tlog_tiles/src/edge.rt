@@ -7,7 +7,8 @@ use std::alloc::{AllocError, Global};
 use tlog_shape::{edge_index, edge_width};
 
 /// The paths of the partial tiles of a tree of `size` entries, lowest level first. These tiles are the right edge of the
-/// tree: the root hash is computed from their rows. A level of full tiles only adds no path, so an empty tree gives no path.
+/// tree: the root hash is computed from their rows. A level with only full tiles adds no path, and an empty tree has no
+/// path.
 ///
 /// # Errors
 ///

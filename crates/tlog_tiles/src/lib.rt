@@ -2,7 +2,8 @@
 //!
 //! The static files of a log are tiles of hashes, entry bundles and a checkpoint. `read_row` and `write_row` read and write
 //! the bytes of a tile, which this crate calls a row of hashes. `read_bundle` and `write_bundle` do so for a bundle. `Path`
-//! and `print` are the paths of these files. `edge_paths` lists the partial tiles at the right edge of a tree.
+//! is the path of such a file, and `print` returns its text. `edge_paths` lists the partial tiles at the right edge of a
+//! tree.
 //!
 //! This reads a bundle that a log serves at a path:
 //!
