@@ -12,16 +12,22 @@ use thiserror::Error;
 /// Why a pull ends early.
 #[derive(Debug, Drop, PartialEq, Eq, Clone, Copy, Error)]
 pub enum PullFault {
+    /// The source has no checkpoint. The mirror is unchanged.
     #[error("NoCheckpoint")]
     NoCheckpoint,
+    /// Neither a row of the right edge nor a full tile of 8,192 bytes was found. The mirror is unchanged.
     #[error("NoEdge")]
     NoEdge,
+    /// The tree head was refused. The inner fault is never `Collision` or `OutOfMemory`. The mirror is unchanged.
     #[error(transparent)]
     Head(TakeFault),
+    /// The last get failed. The mirror keeps the items that it took.
     #[error("Source")]
     Source,
+    /// The last item is valid but collides with held strings, and was not taken. The mirror keeps the earlier items.
     #[error("Collision")]
     Collision,
+    /// Memory was refused. The mirror keeps the items that it took.
     #[error("OutOfMemory")]
     OutOfMemory,
 }
