@@ -1,14 +1,15 @@
 //! Trees that are built in a store, in one pass from the leaves up: each string is hashed once, and what
 //! its hashing gives is the hash of the node above it.
-ghost use Rattle.std.specs.Prelude.{◌≡◌, ◌<◌, length, map, IfOk, OnOk};
+ghost use Rattle.std.specs.Prelude.{◌≡◌, ◌<◌, length, map, IfOk, OnOk, OnErr};
 ghost use Rattle.std.specs.FinSet as set;
-ghost use Rattle.node_store.specs.Strings.{NoClash};
+ghost use Rattle.node_store.specs.Strings.{IsWithout, NoClash, Strings};
 ghost use Rattle.tlog_hash.specs.Tree.{fold_of, joins, mth, strings};
 ghost use Rattle.mirror_model.specs.Edge.{root_from, strings_from};
 ghost use Rattle.mirror_model.specs.Strings.{HasClash};
 ghost use Rattle.mirror_trees.specs.Building.{HasGained};
 
 use node_store::{AddFault, Store, Tagged};
+use std::alloc::Global;
 use tlog_hash::{Hash, TreeHash};
 use tlog_shape::split;
 
@@ -45,14 +46,17 @@ pub fn add_row<H: TreeHash>(store: &mut Store<H>, row: &[Hash]) -> Result<Hash, 
 /// Adds the strings that the tree hash of a list of entries hashes, and gives that hash (RFC 6962, section 2.1). The
 /// hash of no entries is that of no bytes, and is not added.
 ///
-/// Each string is hashed once, and of each the store is asked once.
+/// Each string is hashed once, and of each the store is asked once. Each entry is copied once, into the store.
 ///
 /// # Errors
 ///
 /// `Collision` comes only where the strings of the store and of the tree collide. Where they collide the answer is it or
-/// `OutOfMemory`, which comes where memory was refused. After either the store has what it had, and besides that strings
-/// of the tree at most.
-pub fn add_entries<H: TreeHash>(store: &mut Store<H>, entries: &[&[u8]]) -> Result<Hash, AddFault>
+/// `OutOfMemory`, which comes where memory was refused. After either the store is as it was.
+pub fn add_entries<H: TreeHash>(
+    alloc: Global,
+    store: &mut Store<H>,
+    entries: &[&[u8]],
+) -> Result<Hash, AddFault>
     requires { NoClash H.digest store.old }
     ensures hash { IfOk result (λ hash. hash ≡ mth H.digest (map (λ e. e.now) entries.now)) }
     ensures ok { OnOk result (store.new
@@ -60,18 +64,46 @@ pub fn add_entries<H: TreeHash>(store: &mut Store<H>, entries: &[&[u8]]) -> Resu
     ensures collision { result ≡ Err AddFault.Collision
         → HasClash H.digest (set.union store.old
         (set.from_list (strings H.digest (map (λ e. e.now) entries.now)))) }
-    ensures gained { HasGained store.old (strings H.digest (map (λ e. e.now) entries.now))
-        store.new }
+    ensures err { OnErr result (store.new ≡ store.old) }
+    ensures no_clash { NoClash H.digest store.new }
+{
+    let Ok(mut added) = Vec::with_capacity(alloc, 2 * entries.len()) else {
+        return Err(AddFault::OutOfMemory);
+    };
+    match add_part(store, entries, &mut added) {
+        Ok(hash) => Ok(hash),
+        Err(fault) => {
+            store.take_out(&added);
+            Err(fault)
+        }
+    }
+}
+
+// Adds the strings of the tree of these entries, and gives its hash. The digests of those that are new are noted.
+fn add_part<H: TreeHash>(
+    store: &mut Store<H>,
+    entries: &[&[u8]],
+    added: &mut Vec<Hash>,
+) -> Result<Hash, AddFault>
+    requires { NoClash H.digest store.old }
+    ensures hash { IfOk result (λ hash. hash ≡ mth H.digest (map (λ e. e.now) entries.now)) }
+    ensures ok { OnOk result (store.new
+        ≡ set.union store.old (set.from_list (strings H.digest (map (λ e. e.now) entries.now)))) }
+    ensures collision { result ≡ Err AddFault.Collision
+        → HasClash H.digest (set.union store.old
+        (set.from_list (strings H.digest (map (λ e. e.now) entries.now)))) }
+    ensures noted { (before : Strings) → IsWithout H.digest store.old added.old.items before
+        → IsWithout H.digest store.new added.new.items before }
     ensures no_clash { NoClash H.digest store.new }
 {
     match entries {
         [] => Ok(H::empty()),
-        [entry] => store.insert(Tagged::Leaf(entry)),
+        [entry] => store.insert_noted(Tagged::Leaf(entry), added),
         _ => {
             let k = split(entries.len() as u64) as usize;
-            let left = add_entries(store, &entries[..k])?;
-            let right = add_entries(store, &entries[k..])?;
-            store.insert(Tagged::Pair(&left, &right))
+            let left = add_part(store, &entries[..k], added)?;
+            let right = add_part(store, &entries[k..], added)?;
+            store.insert_noted(Tagged::Pair(&left, &right), added)
         }
     }
 }

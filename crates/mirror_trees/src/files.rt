@@ -16,7 +16,7 @@ use tlog_tiles::write_row;
 /// hashed: each hash and each entry is read from the store.
 ///
 /// ```text
-/// let root = add_entries(&mut store, &[b"a", b"b", b"c"])?;
+/// let root = add_entries(alloc, &mut store, &[b"a", b"b", b"c"])?;
 /// files_of(alloc, &store, 3, &root)?   // Some of the files of these three entries
 /// ```
 ///

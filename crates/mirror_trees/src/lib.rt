@@ -8,7 +8,7 @@
 //!
 //! ```text
 //! let mut store: Store<Sha256Tree> = Store::new(alloc);
-//! let root = add_entries(&mut store, &[b"a", b"b", b"c"])?;
+//! let root = add_entries(alloc, &mut store, &[b"a", b"b", b"c"])?;
 //! is_built(&store, &HeldTrees::new(alloc), 3, &root)  // true
 //! entries_at(alloc, &store, 3, &root, 0, 3)?      // Some of the three entries
 //! ```

@@ -1,3 +1,4 @@
 pub mod Sets
 pub mod Pools
 pub mod Partway
+pub mod Rests

@@ -1,8 +1,8 @@
 //! The store.
-ghost use Rattle.std.specs.Prelude.{◌≡◌, ◌≢◌, ◌↔◌, ℕ, List, ◌∷◌, ◌++◌, length, IsTrue, IfSome, IfNone, IfOk, OnOk, OnErr, IsOk};
+ghost use Rattle.std.specs.Prelude.{◌≡◌, ◌≢◌, ◌↔◌, ℕ, List, [], ◌∷◌, ◌++◌, length, IsTrue, IfSome, IfNone, IfOk, OnOk, OnErr, IsOk};
 ghost use Rattle.std.specs.FinSet as set;
 ghost use Rattle.std.specs.Map.{values_of};
-ghost use Rattle.node_store.specs.Strings.{Strings, string_of, Has, IsHeldAt, Clashes, ClashesWith, NoClash, AllTagged};
+ghost use Rattle.node_store.specs.Strings.{Strings, string_of, Has, IsHeldAt, IsWithout, Clashes, ClashesWith, NoClash, AllTagged};
 ghost use Rattle.node_store.specs.Slots.{AllKeyed};
 ghost use Rattle.tlog_hash.specs.Tree.{joined};
 
@@ -131,6 +131,89 @@ impl<H: TreeHash> Store<H> {
             Ok(()) => Ok(digest),
             Err(fault) => Err(fault),
         }
+    }
+
+    /// Adds a string as `insert` does. A string that is new has its digest noted at the end of `added`, so that `take_out`
+    /// of all that is noted there gives back the set from before.
+    ///
+    /// ```text
+    /// let mut added = Vec::new(alloc);
+    /// store.insert_noted(Tagged::Leaf(b"a"), &mut added)?;
+    /// store.take_out(&added); // as it was
+    /// ```
+    ///
+    /// # Errors
+    ///
+    /// Those of `add`, which leave the set as it was.
+    pub fn insert_noted(&mut self, string: Tagged, added: &mut Vec<Hash>) -> Result<Hash, AddFault>
+        ensures digest { IfOk result (λ hash. hash ≡ H.digest (string_of string.entry)) }
+        ensures ok { OnOk result (self.new ≡ set.insert self.old (string_of string.entry)) }
+        ensures err { OnErr result (self.new ≡ self.old) }
+        ensures collision { (result ≡ Err AddFault.Collision)
+            ↔ Clashes H.digest self.old (string_of string.entry) }
+        ensures noted { (before : Strings) → IsWithout H.digest self.old added.old.items before
+            → IsWithout H.digest self.new added.new.items before }
+        ensures no_clash { NoClash H.digest self.new }
+        ensures tagged { AllTagged self.new }
+    {
+        let digest = digest_of::<H>(string);
+        match self.add_noted(&digest, string, added) {
+            Ok(()) => Ok(digest),
+            Err(fault) => Err(fault),
+        }
+    }
+
+    // Adds a string that has that digest, which is noted where the string is new.
+    fn add_noted(
+        &mut self,
+        digest: &Hash,
+        string: Tagged,
+        added: &mut Vec<Hash>,
+    ) -> Result<(), AddFault>
+        requires { digest.now ≡ H.digest (string_of string) }
+        ensures ok { OnOk result (self.new ≡ set.insert self.old (string_of string.entry)) }
+        ensures err { OnErr result (self.new ≡ self.old) }
+        ensures collision { (result ≡ Err AddFault.Collision)
+            ↔ Clashes H.digest self.old (string_of string.entry) }
+        ensures noted { (before : Strings) → IsWithout H.digest self.old added.old.items before
+            → IsWithout H.digest self.new added.new.items before }
+        ensures no_clash { NoClash H.digest self.new }
+        ensures tagged { AllTagged self.new }
+    {
+        match self.find(digest) {
+            Some(held) => {
+                if !is_same(held, string) {
+                    return Err(AddFault::Collision);
+                }
+                Ok(())
+            }
+            None => {
+                let Ok(()) = added.push(*digest) else {
+                    return Err(AddFault::OutOfMemory);
+                };
+                self.add_new(digest, string)
+            }
+        }
+    }
+
+    /// Takes out the strings of these digests, those that are held. It takes no memory.
+    pub fn take_out(&mut self, digests: &[Hash])
+        ensures rest { IsWithout H.digest self.old digests.now self.new }
+        ensures no_clash { NoClash H.digest self.new }
+        ensures tagged { AllTagged self.new }
+    {
+        // What it ensures holds also where there is no digest.
+        let _own = self.keyed();
+        for digest in digests {
+            self.take_one(digest);
+        }
+    }
+
+    // Takes out the string of that digest, if it is held. The pool keeps the bytes of an entry.
+    fn take_one(&mut self, digest: &Hash)
+        ensures { IsWithout H.digest self.old (digest.now ∷ []) self.new }
+    {
+        let _ = self.held.remove(&DigestKey::new(digest));
     }
 
     // Adds a string that has that digest.

@@ -1,9 +1,9 @@
 -- What adding the strings of an item to a mirror's makes of its state, and which answer that is.
 use Rattle.std.proofs.Common.{◌≡◌, ℕ, ◌*◌, ◌≤◌, List, [], ◌∷◌, length, sym, refl, ap, subst, ◌∙◌}
 use Rattle.std.proofs.Common.{inl, inr, Ok, Err}
-use Rattle.std.specs.Prelude.{Result}
+use Rattle.std.specs.Prelude.{OnErr, OnOk, Result}
 use Rattle.std.specs.FinSet as set
-use Rattle.tlog_hash.specs.Tree.{joins, strings}
+use Rattle.tlog_hash.specs.Tree.{joins}
 use Rattle.tlog_tiles.specs.Row.{IsRow}
 use Rattle.tlog_tiles.specs.Bundle.{IsBundle}
 use Rattle.tlog_tiles.proofs.RowLemmas.{length-row_text}
@@ -13,7 +13,7 @@ use Rattle.node_store.specs.declared.store.AddFault.TheVariants.{Collision, OutO
 use Rattle.mirror_model.specs.Answered.{answer_of}
 use Rattle.mirror_model.specs.Refusals.{JudgesTile, JudgesBundle}
 use Rattle.mirror_model.specs.declared.fault.TakeFault.{TakeFault}
-use Rattle.node_store.specs.Strings.{Strings, Has, NoClash, ClashesWith, AllTagged}
+use Rattle.node_store.specs.Strings.{Strings, Has, NoClash, ClashesWith, AllTagged, IsTagged, OfEntry, OfPair}
 use Rattle.mirror_model.specs.Strings.{HasClash}
 use Rattle.mirror_model.specs.View.{View, IsSubview}
 use Rattle.mirror_model.specs.Item.{IsWidth, IsGoodTile, IsGoodBundle, IsGood, strings_of, notes_of, plus, row_of}
@@ -22,14 +22,14 @@ use Rattle.mirror_model.specs.declared.items.Item.{Item}
 use Rattle.mirror_model.specs.Steps.{Answer, Done, Refused, Clashed, Exhausted, Answers, Takes}
 use Rattle.mirror_model.specs.Marks.{Points, State}
 use Rattle.tlog_mirror.specs.Kept.{state_of, IsKeptWell}
-use Rattle.tlog_mirror.specs.Adding.{with_strings, added, taken_of}
+use Rattle.tlog_mirror.specs.Adding.{with_strings, tree_strings, added, taken_of}
 use Rattle.mirror_model.specs.Strings.{IsDigest}
 use Rattle.tlog_mirror.specs.declared.kept.HeldNote.{HeldNote}
 use Rattle.node_store.proofs.Sets.{decide}
-use Rattle.mirror_model.proofs.StringSets.{has_right, has_cases, has_empty, same_strings, listed_from_has}
+use Rattle.mirror_model.proofs.StringSets.{has_left, has_right, has_cases, has_empty, same_strings, listed_from_has}
 use Rattle.mirror_model.proofs.Views.{edge_stays, marks_stay}
 use Rattle.mirror_model.proofs.ItemBytes.{row_is_one, bundle_is_one}
-use Rattle.mirror_model.proofs.ItemStrings.{item_strings, is_short}
+use Rattle.mirror_model.proofs.ItemStrings.{IsItemString, item_strings, is_short}
 use Rattle.mirror_model.proofs.StringSets.{clash_within, union_clash}
 use Rattle.mirror_trees.proofs.Settles.{settled_stays}
 use Rattle.mirror_trees.proofs.BuiltTrees.{added_none}
@@ -102,6 +102,38 @@ module _ (digest : List ℕ → List ℕ) (origin : List ℕ) (kept : List HeldN
     said = ok.said;
   }
 
+  joined_grows : now ≡ set.union strings more → (s : List ℕ) → Has strings s → Has now s
+  joined_grows is s h = subst (λ v. Has v s) (sym is) (has_left strings more s h)
+
+  -- all of them were added
+  joined_well :
+      IsDigest digest → now ≡ set.union strings more → NoClash digest now → AllTagged more →
+      ((entry : List ℕ) → Has more (0 ∷ entry) → length entry ≤ 65535) →
+      IsKeptWell digest origin kept now remembered
+  joined_well hash is clean tagged short =
+      let within : (s : List ℕ) → Has now s → Has (set.union strings more) s =
+      λ s h. subst (λ v. Has v s) is h in
+      stays_well hash (joined_grows is) within clean
+      (λ s h. elim (has_cases strings more s (within s h)) [
+        | inl a ↦ ok.sound.lawful.are_strings s a
+        | inr b ↦ tagged s b
+      ]) short
+
+  -- all of them were added, or none
+  pub tried_grows : {X : Type 0} (r : Result X AddFault) → OnOk r (now ≡ set.union strings more) →
+      OnErr r (now ≡ strings) → (s : List ℕ) → Has strings s → Has now s
+  tried_grows (Ok x) is same = joined_grows is
+  tried_grows (Err e) is same = λ s h. subst (λ v. Has v s) (sym same) h
+
+  pub tried_well :
+      {X : Type 0} (r : Result X AddFault) → OnOk r (now ≡ set.union strings more) → OnErr r (now ≡ strings) →
+      IsDigest digest → NoClash digest now → AllTagged more →
+      ((entry : List ℕ) → Has more (0 ∷ entry) → length entry ≤ 65535) →
+      IsKeptWell digest origin kept now remembered
+  tried_well (Ok x) is same hash clean tagged short = joined_well hash is clean tagged short
+  tried_well (Err e) is same hash clean tagged short =
+      subst (λ (v : Strings). IsKeptWell digest origin kept v remembered) (sym same) ok
+
   module _ (old : State) (old_is : state_of origin kept strings remembered ≡ old) where
     abbrev Adds : Answer → Type 0
     Adds answer = Answers digest old.view (Unit {0}) (with_strings old.view more) answer after
@@ -119,6 +151,14 @@ module _ (digest : List ℕ → List ℕ) (origin : List ℕ) (kept : List HeldN
     adds_clashed is c =
         at_old Clashed
         (tt, union_clash digest strings more c, λ i. record { origin = origin; notes = before.notes; strings = is i })
+
+    -- none of them was added
+    pub adds_none : (fault : AddFault) → now ≡ strings →
+        (fault ≡ Collision → HasClash digest (set.union strings more)) → Adds (added (Err fault))
+    adds_none Collision is c =
+        at_old Clashed (tt, c refl, λ i. record { origin = origin; notes = before.notes; strings = is i })
+    adds_none OutOfMemory is c =
+        at_old Exhausted (inl (λ i. record { origin = origin; notes = before.notes; strings = is i }))
 
     pub adds_exhausted :
         NoClash digest more → (ClashesWith digest strings more → ⊥) → ((s : List ℕ) → Has strings s → Has now s) →
@@ -159,6 +199,10 @@ gathered none strings xs ys empty is same =
     (λ q h. has_right set.empty (set.from_list xs) q h)
     ∙ ap set.from_list same
 
+tagged_string : (s : List ℕ) → IsItemString s → IsTagged s
+tagged_string s (inl l) = subst IsTagged (sym l.is) (OfEntry l.entry)
+tagged_string s (inr p) = subst IsTagged (sym p.is) (OfPair p.left p.right p.left_len p.right_len)
+
 module _ (digest : List ℕ → List ℕ) (item : Item) where
   pub gathered_short : IsDigest digest → (origin : List ℕ) (keys : List Key) → IsGood digest origin keys item →
       (strings : Strings) → strings ≡ set.from_list (strings_of digest item) → (entry : List ℕ) →
@@ -167,6 +211,13 @@ module _ (digest : List ℕ → List ℕ) (item : Item) where
       is_short entry
       (item_strings digest hash origin keys item good (0 ∷ entry)
       (listed_from_has (strings_of digest item) (0 ∷ entry) (subst (λ v. Has v (0 ∷ entry)) is h)))
+
+  pub gathered_tagged : IsDigest digest → (origin : List ℕ) (keys : List Key) → IsGood digest origin keys item →
+      (strings : Strings) → strings ≡ set.from_list (strings_of digest item) → AllTagged strings
+  gathered_tagged hash origin keys good strings is s h =
+      tagged_string s
+      (item_strings digest hash origin keys item good s
+      (listed_from_has (strings_of digest item) s (subst (λ v. Has v s) is h)))
 
   module _ (keys : List Key) (old : View) (good : IsGood digest old.origin keys item) where
     pub takes_added :
@@ -231,5 +282,5 @@ bundle_judged width bytes good answer result is = subst (JudgesBundle width byte
     at (Err OutOfMemory) = tt
 
 pub bundle_strings_are : (digest : List ℕ → List ℕ) (width : ℕ) (bytes : List ℕ) (entries : List (List ℕ)) →
-    IsBundle width bytes entries → strings digest entries ≡ strings digest (entries_of width bytes)
-bundle_strings_are digest width bytes entries b = ap (strings digest) (bundle_is_one width bytes entries b)
+    IsBundle width bytes entries → tree_strings digest entries ≡ tree_strings digest (entries_of width bytes)
+bundle_strings_are digest width bytes entries b = ap (tree_strings digest) (bundle_is_one width bytes entries b)

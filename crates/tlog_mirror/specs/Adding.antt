@@ -2,6 +2,7 @@
 -- these words, but for `with_note`.
 use Rattle.std.specs.Prelude.{ℕ, List, [], ◌∷◌, Result, Ok, Err}
 use Rattle.std.specs.FinSet as set
+use Rattle.tlog_hash.specs.Tree as tree
 use Rattle.node_store.specs.Strings.{Strings}
 use Rattle.node_store.specs.declared.store.AddFault.{AddFault}
 use Rattle.node_store.specs.declared.store.AddFault.TheVariants as adding
@@ -14,6 +15,10 @@ use Rattle.mirror_model.specs.declared.fault.TakeFault.TheVariants as taking
 abbrev pub with_strings : View → Strings → View
 with_strings v strings =
     record { origin = v.origin; notes = v.notes; strings = set.union v.strings strings }
+
+-- the strings that the tree hash of the entries hashes, as a set
+abbrev pub tree_strings : (List ℕ → List ℕ) → List (List ℕ) → Strings
+tree_strings digest entries = set.from_list (tree.strings digest entries)
 
 -- the view with that note too
 abbrev pub with_note : View → List ℕ → View

@@ -1,12 +1,12 @@
 //! The takes of tiles and bundles.
-ghost use Rattle.std.specs.Prelude.{◌≡◌, ◌≤◌, ℕ, List, ◌∷◌, length};
+ghost use Rattle.std.specs.Prelude.{◌≡◌, ◌≤◌, ℕ, List, ◌∷◌, length, map};
 ghost use Rattle.mirror_model.specs.Answered.{answer_of};
 ghost use Rattle.mirror_model.specs.Refusals.{JudgesTile, JudgesBundle};
 ghost use Rattle.mirror_model.specs.Steps.{Answers, Takes};
 ghost use Rattle.mirror_model.specs.declared.items.Item.TheVariants.{Tile, Bundle};
-ghost use Rattle.node_store.specs.Strings.{Has, NoClash};
+ghost use Rattle.node_store.specs.Strings.{AllTagged, Has, NoClash};
 ghost use Rattle.signed_note.specs.Keys.{Key};
-ghost use Rattle.tlog_mirror.specs.Adding.{added, taken_of, with_strings};
+ghost use Rattle.tlog_mirror.specs.Adding.{added, taken_of, tree_strings, with_strings};
 
 use crate::mirror::Mirror;
 use mirror_model::TakeFault;
@@ -75,13 +75,23 @@ impl<H: TreeHash> Mirror<H> {
             Err(BundleFault::BundleLong) => return Err(TakeFault::BundleLong),
             Err(BundleFault::OutOfMemory) => return Err(TakeFault::OutOfMemory),
         };
-        let Ok(mut strings) = Store::with_capacity(alloc, 2 * width as usize) else {
-            return Err(TakeFault::OutOfMemory);
-        };
-        match add_entries::<H>(&mut strings, entries.as_slice()) {
-            Ok(_) => take_answer(self.add_strings(&strings)),
-            Err(AddFault::Collision) => Err(TakeFault::Collision),
-            Err(AddFault::OutOfMemory) => Err(TakeFault::OutOfMemory),
+        take_answer(self.add_tree(alloc, entries.as_slice()))
+    }
+
+    // Adds the strings of the tree of these entries, or none of them.
+    fn add_tree(&mut self, alloc: Global, entries: &[&[u8]]) -> Result<(), AddFault>
+        requires tagged { AllTagged (tree_strings H.digest (map (λ e. e.now) entries.now)) }
+        requires short { (entry : List ℕ)
+            → Has (tree_strings H.digest (map (λ e. e.now) entries.now)) (0 ∷ entry)
+            → length entry ≤ 65535 }
+        ensures adds { Answers H.digest self.old.view (Unit {0}) (with_strings self.old.view
+            (tree_strings H.digest (map (λ e. e.now) entries.now))) (added result) self.new.view }
+        ensures remembered { self.new.remembered ≡ self.old.remembered }
+    {
+        self.laid = None;
+        match add_entries(alloc, &mut self.strings, entries) {
+            Ok(_) => Ok(()),
+            Err(fault) => Err(fault),
         }
     }
 

@@ -8,8 +8,7 @@ use Rattle.tlog_hash.proofs.Trees.{mth-none, mth-one, strings-none, strings-one}
 use Rattle.mirror_trees.proofs.BuiltTrees.{bytes_of, rest_after, entries_parts, entries_last, entries_mth, entries_none}
 use Rattle.mirror_trees.proofs.BuiltTrees.{entries_one, added_none, added_one, clash_inserted, added_last, clash_left}
 use Rattle.mirror_trees.proofs.BuiltTrees.{clash_right, clash_last}
-use Rattle.mirror_trees.proofs.Gained.{gained_none, gained_single, gained_left, gained_right, gained_last}
-use Rattle.mirror_trees.proofs.building.+add_entries.Goals as goal
+use Rattle.mirror_trees.proofs.building.+add_part.Goals as goal
 
 pub returns-in-empty-clause-hash : goal.returns-in-empty-clause-hash
 returns-in-empty-clause-hash g t c =
@@ -28,16 +27,16 @@ pub returns-in-len1-clause-hash : goal.returns-in-len1-clause-hash
 returns-in-len1-clause-hash g t c =
     let d = g.H.TreeHash.digest in
     let one = entries_one c.args.entries.now _ c.in-len1.len_at_least c.in-len1.len_below in
-    subst (λ x. IfOk c.insert.result (λ hash. hash ≡ x)) (sym (ap (mth d) one ∙ mth-one d _)) c.insert.ensures.digest
+    subst (λ x. IfOk c.insert_noted.result (λ hash. hash ≡ x)) (sym (ap (mth d) one ∙ mth-one d _)) c.insert_noted.ensures.digest
 
 pub returns-in-len1-clause-ok : goal.returns-in-len1-clause-ok
 returns-in-len1-clause-ok g t c =
     let d = g.H.TreeHash.digest in
     let one = entries_one c.args.entries.now _ c.in-len1.len_at_least c.in-len1.len_below in
-    subst (λ x. OnOk c.insert.result (c.insert.new.self ≡ x))
+    subst (λ x. OnOk c.insert_noted.result (c.insert_noted.new.self ≡ x))
     (added_one c.args.store.now _ ∙
     ap (λ xs. set.union c.args.store.now (set.from_list xs))
-    (sym (ap (strings d) one ∙ strings-one d _))) c.insert.ensures.ok
+    (sym (ap (strings d) one ∙ strings-one d _))) c.insert_noted.ensures.ok
 
 pub returns-in-len1-clause-collision : goal.returns-in-len1-clause-collision
 returns-in-len1-clause-collision g t c = λ is.
@@ -46,7 +45,7 @@ returns-in-len1-clause-collision g t c = λ is.
     subst (HasClash d)
     (added_one c.args.store.now _ ∙
     ap (λ xs. set.union c.args.store.now (set.from_list xs)) (sym (ap (strings d) one ∙ strings-one d _)))
-    (clash_inserted d c.args.store.now _ (c.insert.ensures.collision.0 is))
+    (clash_inserted d c.args.store.now _ (c.insert_noted.ensures.collision.0 is))
 
 pub returns-in_err-left-in_default-clause-collision : goal.returns-in_err-left-in_default-clause-collision
 returns-in_err-left-in_default-clause-collision g t c = λ is.
@@ -65,7 +64,7 @@ returns-in_err-right-in_default-clause-collision g t c = λ is.
     let k = c.split-k.result in
     clash_right d c.args.store.now (strings d (bytes_of (take k es))) (strings d (bytes_of (rest_after d es k)))
     (strings d (bytes_of es)) (entries_last d es k) (entries_parts d es k (omega arith) c.split-k.ensures.value)
-    c.add_entries.new.store c.in_ok-left-in_default.ensures.ok
+    c.add_part.new.store c.in_ok-left-in_default.ensures.ok
     (let p = err_from_is_err_and
     c.from_residual-in_err-right-in_default.result c.from_residual-in_err-right-in_default.ensures.1 in
     c.in_err-right-in_default.ensures.collision (cc (p.1, p.2, is)))
@@ -78,7 +77,7 @@ returns-in_ok-right-in_default-clause-hash g t c =
     let both : d (1 ∷ c.in_ok-left-in_default.left ++ c.in_ok-right-in_default.right) ≡ mth d (bytes_of es) =
     (λ i. d (1 ∷ c.in_ok-left-in_default.ensures.hash i ++ c.in_ok-right-in_default.ensures.hash i)) ∙
     entries_mth d es k (omega arith) c.split-k.ensures.value in
-    subst (λ x. IfOk c.insert-in_default.result (λ hash. hash ≡ x)) both c.insert-in_default.ensures.digest
+    subst (λ x. IfOk c.insert_noted-in_default.result (λ hash. hash ≡ x)) both c.insert_noted-in_default.ensures.digest
 
 pub returns-in_ok-right-in_default-clause-ok : goal.returns-in_ok-right-in_default-clause-ok
 returns-in_ok-right-in_default-clause-ok g t c =
@@ -91,10 +90,10 @@ returns-in_ok-right-in_default-clause-ok g t c =
     added_last d c.args.store.now (strings d (bytes_of (take k es))) (strings d (bytes_of (rest_after d es k)))
     (strings d (bytes_of es)) (entries_last d es k)
     (entries_parts d es k
-    (omega arith) c.split-k.ensures.value) c.add_entries.new.store c.add_entries-in_default.new.store
+    (omega arith) c.split-k.ensures.value) c.add_part.new.store c.add_part-in_default.new.store
     c.in_ok-left-in_default.ensures.ok c.in_ok-right-in_default.ensures.ok in
-    subst (λ x. OnOk c.insert-in_default.result (c.insert-in_default.new.self ≡ x))
-    (ap (set.insert c.add_entries-in_default.new.store) last ∙ all) c.insert-in_default.ensures.ok
+    subst (λ x. OnOk c.insert_noted-in_default.result (c.insert_noted-in_default.new.self ≡ x))
+    (ap (set.insert c.add_part-in_default.new.store) last ∙ all) c.insert_noted-in_default.ensures.ok
 
 pub returns-in_ok-right-in_default-clause-collision : goal.returns-in_ok-right-in_default-clause-collision
 returns-in_ok-right-in_default-clause-collision g t c = λ is.
@@ -105,49 +104,11 @@ returns-in_ok-right-in_default-clause-collision g t c = λ is.
     λ i. 1 ∷ c.in_ok-left-in_default.ensures.hash i ++ c.in_ok-right-in_default.ensures.hash i in
     clash_last d c.args.store.now (strings d (bytes_of (take k es))) (strings d (bytes_of (rest_after d es k)))
     (strings d (bytes_of es)) (entries_last d es k) (entries_parts d es k (omega arith) c.split-k.ensures.value)
-    c.add_entries.new.store c.add_entries-in_default.new.store c.in_ok-left-in_default.ensures.ok
+    c.add_part.new.store c.add_part-in_default.new.store c.in_ok-left-in_default.ensures.ok
     c.in_ok-right-in_default.ensures.ok
-    (subst (Clashes d c.add_entries-in_default.new.store) last (c.insert-in_default.ensures.collision.0 is))
+    (subst (Clashes d c.add_part-in_default.new.store) last (c.insert_noted-in_default.ensures.collision.0 is))
 
-pub returns-in-empty-clause-gained : goal.returns-in-empty-clause-gained
-returns-in-empty-clause-gained g t c =
-    gained_none c.args.store.now (strings g.H.TreeHash.digest (bytes_of c.args.entries.now))
-
-pub returns-in-len1-clause-gained : goal.returns-in-len1-clause-gained
-returns-in-len1-clause-gained g t c =
-    let d = g.H.TreeHash.digest in
-    let one = entries_one c.args.entries.now _ c.in-len1.len_at_least c.in-len1.len_below in
-    gained_single c.insert.result c.args.store.now c.insert.new.self _ (strings d (bytes_of c.args.entries.now))
-    (ap (strings d) one ∙ strings-one d _) c.insert.ensures.ok c.insert.ensures.err
-
-pub returns-in_err-left-in_default-clause-gained : goal.returns-in_err-left-in_default-clause-gained
-returns-in_err-left-in_default-clause-gained g t c =
-    let d = g.H.TreeHash.digest in
-    let es = c.args.entries.now in
-    let k = c.split-k.result in
-    gained_left (strings d (bytes_of (take k es))) (strings d (bytes_of (rest_after d es k)))
-    (strings d (bytes_of es)) (entries_last d es k) (entries_parts d es k (omega arith) c.split-k.ensures.value)
-    c.args.store.now c.add_entries.new.store c.add_entries.ensures.gained
-
-pub returns-in_err-right-in_default-clause-gained : goal.returns-in_err-right-in_default-clause-gained
-returns-in_err-right-in_default-clause-gained g t c =
-    let d = g.H.TreeHash.digest in
-    let es = c.args.entries.now in
-    let k = c.split-k.result in
-    gained_right (strings d (bytes_of (take k es))) (strings d (bytes_of (rest_after d es k)))
-    (strings d (bytes_of es)) (entries_last d es k) (entries_parts d es k (omega arith) c.split-k.ensures.value)
-    c.args.store.now c.add_entries.new.store c.add_entries-in_default.new.store c.add_entries.ensures.gained
-    c.add_entries-in_default.ensures.gained
-
-pub returns-in_ok-right-in_default-clause-gained : goal.returns-in_ok-right-in_default-clause-gained
-returns-in_ok-right-in_default-clause-gained g t c =
-    let d = g.H.TreeHash.digest in
-    let es = c.args.entries.now in
-    let k = c.split-k.result in
-    let last : 1 ∷ c.in_ok-left-in_default.left ++ c.in_ok-right-in_default.right ≡ entries_last d es k =
-    λ i. 1 ∷ c.in_ok-left-in_default.ensures.hash i ++ c.in_ok-right-in_default.ensures.hash i in
-    gained_last (strings d (bytes_of (take k es))) (strings d (bytes_of (rest_after d es k)))
-    (strings d (bytes_of es)) (entries_last d es k) (entries_parts d es k (omega arith) c.split-k.ensures.value)
-    c.insert-in_default.result c.args.store.now c.add_entries.new.store c.add_entries-in_default.new.store
-    c.insert-in_default.new.self _ last c.add_entries.ensures.gained c.add_entries-in_default.ensures.gained
-    c.insert-in_default.ensures.ok c.insert-in_default.ensures.err
+pub returns-in_ok-right-in_default-clause-noted : goal.returns-in_ok-right-in_default-clause-noted
+returns-in_ok-right-in_default-clause-noted g t c = λ before p.
+    c.insert_noted-in_default.ensures.noted before
+    (c.add_part-in_default.ensures.noted before (c.add_part.ensures.noted before p))
