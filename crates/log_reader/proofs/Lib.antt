@@ -9,6 +9,7 @@ pub mod Truths
 pub mod OpenedNotes
 pub mod Prefixes
 pub mod TrueReads
+pub mod FullTiles
 pub mod TruePrefixes
 pub mod TrueBundles
 pub mod NodeNumbers

@@ -4,10 +4,10 @@ use Rattle.tlog_hash.specs.Rows.{part}
 use Rattle.tlog_hash.specs.Tree.{mth}
 use Rattle.tlog_proof.specs.Consistency.{subproof_of}
 use Rattle.tlog_proof.proofs.Parts.{none_added, subproof_of-all, subproof_of-left, subproof_of-right, then_push}
-use Rattle.log_reader.specs.Holding.{IsReaderOf, IsSourceOf}
+use Rattle.log_reader.specs.Holding.{IsReaderOf, HasFullTiles}
 use Rattle.log_reader.specs.Nodes.{IsNodeRange}
 use Rattle.log_reader.proofs.NodeNumbers.{left_node, right_node}
-use Rattle.log_reader.proofs.TrueReads.{reads_more, source_later}
+use Rattle.log_reader.proofs.TrueReads.{reads_more, tiles_later}
 use Rattle.log_reader.proofs.consistency.+add_subproof.Goals as goal
 use Rattle.log_reader.proofs.consistency.+add_subproof.Goals.{then-first-k+in_ok-add_subproof, else-first-k+in_ok-add_subproof-2}
 
@@ -92,9 +92,9 @@ returns-clause-honest g t c = λ entries r s.
       | then-first-k+in_ok-add_subproof w ↦
           let step = w.in_ok-add_subproof.ensures in
           let below = step.honest entries r s in
-          let later = source_later d entries (may c.args.source.now) (may w.add_subproof.new.source) step.later s in
+          let later = tiles_later d entries (may c.args.source.now) (may w.add_subproof.new.source) step.later s in
           let went = c.add_node-2.ensures.honest entries (subst (IsReaderOf d entries) (sym w.reader-is) below.reader_is)
-          (subst (λ x. IsSourceOf d entries (may x)) (sym w.source-is) later) in
+          (subst (λ x. HasFullTiles d entries (may x)) (sym w.source-is) later) in
           record {
             reader_is = went.reader_is;
             answer = reads_more c.add_node-2.result (λ _. new ≡ mid ++ mth d (part beside.0 beside.1 entries) ∷ [])
@@ -107,9 +107,9 @@ returns-clause-honest g t c = λ entries r s.
       | else-first-k+in_ok-add_subproof-2 w ↦
           let step = w.in_ok-add_subproof-2.ensures in
           let below = step.honest entries r s in
-          let later = source_later d entries (may c.args.source.now) (may w.add_subproof-else-first-k.new.source) step.later s in
+          let later = tiles_later d entries (may c.args.source.now) (may w.add_subproof-else-first-k.new.source) step.later s in
           let went = c.add_node-2.ensures.honest entries (subst (IsReaderOf d entries) (sym w.reader-is) below.reader_is)
-          (subst (λ x. IsSourceOf d entries (may x)) (sym w.source-is) later) in
+          (subst (λ x. HasFullTiles d entries (may x)) (sym w.source-is) later) in
           record {
             reader_is = went.reader_is;
             answer = reads_more c.add_node-2.result (λ _. new ≡ mid ++ mth d (part beside.0 beside.1 entries) ∷ [])

@@ -6,7 +6,7 @@ use Rattle.tlog_proof.specs.Consistency.{proof_of, subproof_of}
 use Rattle.log_reader.specs.Nodes.{IsNodeRange}
 use Rattle.log_reader.proofs.Asked.{consistency_holds, consistency_is}
 use Rattle.log_reader.proofs.NodeNumbers.{whole_node}
-use Rattle.log_reader.proofs.TrueReads.{source_later}
+use Rattle.log_reader.proofs.TrueReads.{tiles_later}
 use Rattle.log_reader.proofs.reader.LogReader.consistency.Goals as goal
 
 pub add_subproof-requires-clause-node : goal.add_subproof-requires-clause-node
@@ -26,7 +26,7 @@ returns-in_err-add_subproof-clause-honest g c = λ entries r s.
     let digest = g.H.TreeHash.digest in
     let at = c.in_ok-prefix.ensures.honest entries r s in
     let went = c.in_err-add_subproof.ensures.honest entries at.reader_is
-    (source_later digest entries _ _ c.in_ok-prefix.ensures.later s) in
+    (tiles_later digest entries _ _ c.in_ok-prefix.ensures.later s) in
     let fault = went.answer in
     record { reader_is = went.reader_is; answer = search (rules, fault) }
 
@@ -37,7 +37,7 @@ returns-then-holds-clause-honest g c = λ entries r s.
     let first = c.args.first in
     let at = c.in_ok-prefix.ensures.honest entries r s in
     let went = c.in_ok-add_subproof.ensures.honest entries at.reader_is
-    (source_later digest entries _ _ c.in_ok-prefix.ensures.later s) in
+    (tiles_later digest entries _ _ c.in_ok-prefix.ensures.later s) in
     let second_is : n ≡ length entries = c.size-second.ensures ∙ at.reader_is.size_is in
     let upto : first ≤ n =
     omega (arith, c.requires.within, second_is, r.size_is) in
@@ -59,7 +59,7 @@ returns-else-holds-clause-honest g c = λ entries r s.
     let first = c.args.first in
     let at = c.in_ok-prefix.ensures.honest entries r s in
     let went = c.in_ok-add_subproof.ensures.honest entries at.reader_is
-    (source_later digest entries _ _ c.in_ok-prefix.ensures.later s) in
+    (tiles_later digest entries _ _ c.in_ok-prefix.ensures.later s) in
     let second_is : n ≡ length entries = c.size-second.ensures ∙ at.reader_is.size_is in
     let upto : first ≤ n =
     omega (arith, c.requires.within, second_is, r.size_is) in
