@@ -98,10 +98,10 @@ fn end_hash<H: TreeHash>(
     }
 }
 
-// The hash of a node of the tree: of as many entries as `len`, from `start` on. Where they are not a power of two, they are the
-// last ones.
+/// The hash of a node of the tree: of as many entries as `len`, from `start` on. Where they are not a power of two, they are the
+/// last ones.
 #[tactic(auto, using(crate::proofs::Kept::kept_once))]
-fn node_hash<H: TreeHash, S: Source>(
+pub(crate) fn node_hash<H: TreeHash, S: Source>(
     alloc: Global,
     reader: &mut LogReader<H>,
     source: &mut S,
