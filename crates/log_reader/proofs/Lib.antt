@@ -6,7 +6,6 @@ pub mod RowLists
 pub mod Climbing
 pub mod OneRow
 pub mod Truths
-pub mod OpenedNotes
 pub mod Prefixes
 pub mod TrueReads
 pub mod FullTiles
