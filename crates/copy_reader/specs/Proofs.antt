@@ -30,6 +30,13 @@ module _ (digest : List ℕ → List ℕ) (ask : Ask) (entries : List (List ℕ)
     pub made : IsMadeOf proof
     pub text_is : IsProofText text proof
 
+-- the proof is the one that was asked for, in the tree of that root
+abbrev pub IsInTree : List ℕ → Ask → Proof → Type 0
+IsInTree root (AskInclusion n i) (Inclusion n' i' r leaf path) = (n' ≡ n) × (i' ≡ i) × (r ≡ root)
+IsInTree root (AskInclusion n i) (Consistency m r n' r' path) = ⊥
+IsInTree root (AskConsistency m n) (Inclusion n' i r leaf path) = ⊥
+IsInTree root (AskConsistency m n) (Consistency m' r n' r' path) = (m' ≡ m) × (n' ≡ n) × (r' ≡ root)
+
 module _ (digest : List ℕ → List ℕ) (size : ℕ) (root : List ℕ) where
   -- the proof is the one that was asked for: of these sizes and this index, in the tree of the root of as many entries
   abbrev pub IsAsked : Ask → Proof → Type 0

@@ -4,7 +4,7 @@ ghost use Rattle.tlog_shape.specs.declared.TheConstants.{MAX_SIZE};
 ghost use Rattle.tlog_proof.specs.Text.{IsProofText, IsWritableProof};
 ghost use Rattle.mirror_sources.specs.Recorded.{KeepsRecord};
 ghost use Rattle.copy_reader.specs.Faults.{CountsRead};
-ghost use Rattle.copy_reader.specs.Proofs.{IsProofOf, IsTrueText, IsWithin, size_asked};
+ghost use Rattle.copy_reader.specs.Proofs.{IsProofOf, IsTrueText, IsWithin};
 ghost use Rattle.copy_reader.specs.WholeCopies.{IsShelfFailure, ReadsCopyOf};
 
 use crate::fault::CopyFault;
@@ -73,7 +73,7 @@ pub fn read_proof_text<H: TreeHash, D: ReadableShelf>(
         ask (string_bytes text)) }
     ensures same { KeepsRecord (D.puts shelf.old) (D.puts shelf.new) }
     ensures counted { CountsRead (D.failed shelf.old) (D.failed shelf.new) result }
-    ensures honest { size_asked ask ≡ reader.old.edge.size → reader.old.edge.size ≤ MAX_SIZE
+    ensures honest { reader.old.edge.size ≤ MAX_SIZE
         → ReadsCopyOf IsShelfFailure H.digest reader.old reader.new (D.puts shelf.old) result
         (λ entries text. IsTrueText H.digest ask entries (string_bytes text)) }
 {

@@ -4,7 +4,7 @@ ghost use Rattle.tlog_hash.specs.Tree.{mth};
 ghost use Rattle.mirror_sources.specs.Source.{StaysWithin};
 ghost use Rattle.mirror_sources.specs.Recorded.{KeepsRecord};
 ghost use Rattle.log_reader.specs.Faults.{CountsFailure};
-ghost use Rattle.log_reader.specs.Holding.{ReadsOf};
+ghost use Rattle.log_reader.specs.Holding.{ReadsTilesOf};
 ghost use Rattle.copy_reader.specs.Faults.{CountsRead};
 ghost use Rattle.copy_reader.specs.Shown.{IsRootOf};
 ghost use Rattle.copy_reader.specs.WholeCopies.{IsShelfFailure, ReadsCopyOf};
@@ -32,7 +32,7 @@ fn root_of<H: TreeHash, S: Source>(
     ensures later { StaysWithin (S.may_answer files.old) (S.may_answer files.new) }
     ensures kept { KeepsRecord (S.files files.old) (S.files files.new) }
     ensures counted { CountsFailure (S.failed files.old) (S.failed files.new) result }
-    ensures honest { ReadsOf H.digest reader.old reader.new (S.may_answer files.old) result
+    ensures honest { ReadsTilesOf H.digest reader.old reader.new (S.may_answer files.old) result
         (λ entries root. root ≡ mth H.digest (take size entries)) }
 {
     let root = reader.root();

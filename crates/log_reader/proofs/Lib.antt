@@ -6,12 +6,13 @@ pub mod RowLists
 pub mod Climbing
 pub mod OneRow
 pub mod Truths
-pub mod OpenedNotes
 pub mod Prefixes
 pub mod TrueReads
+pub mod FullTiles
 pub mod TruePrefixes
 pub mod TrueBundles
 pub mod NodeNumbers
 pub mod NodeHashes
 pub mod Asked
 pub mod ShownBundles
+pub mod FirstHashes

@@ -48,7 +48,7 @@ module _ {A : Type 0} (b : ℕ) where
       ap (λ k. part start len (take k es)) whole
       ∙ (ap (take len) (drop-take start m es) ∙ take-take len m (drop start es) (omega arith))
 
-  ranges_within : (first count n : ℕ) (es : List A) → (first + count) * b ≤ n →
+  pub ranges_within : (first count n : ℕ) (es : List A) → (first + count) * b ≤ n →
       ranges b first count (take n es) ≡ ranges b first count es
   ranges_within first zero n es fits = refl
   ranges_within first (suc count) n es fits =

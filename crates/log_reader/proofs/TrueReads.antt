@@ -22,7 +22,7 @@ use Rattle.mirror_model.proofs.RowLaws.{get_or-ranges}
 use Rattle.mirror_model.proofs.TrueItems.{tile_end}
 use Rattle.mirror_sources.specs.Source.{StaysWithin}
 use Rattle.log_reader.specs.EdgeRows.{Edge, RowIsTrue}
-use Rattle.log_reader.specs.Holding.{GivesWay, GoesOn, IsBelow, IsEdgeRowOf, IsHeldAnswer, IsReaderOf, IsSourceOf, IsTileHash, IsTreeFile, IsTrueWay, ReadsTrue, row_width, true_row}
+use Rattle.log_reader.specs.Holding.{GivesWay, GoesOn, HasFullTiles, IsBelow, IsEdgeRowOf, IsHeldAnswer, IsReaderOf, IsSourceOf, IsTileHash, IsTreeFile, IsTrueWay, ReadsTrue, row_width, true_row}
 use Rattle.log_reader.specs.declared.fault.ReadFault.{ReadFault}
 use Rattle.log_reader.specs.Verified.{Verifies}
 use Rattle.log_reader.specs.declared.verify.FullFile.TheVariants as full
@@ -47,6 +47,13 @@ module _ (digest : List ℕ → List ℕ) (entries : List (List ℕ)) (old new :
   source_later s = record {
     short = s.short;
     files = λ path file answer may. held_later path answer (s.files path file answer (stays.stays path answer may));
+  }
+
+  -- so does one that has the full tiles
+  pub tiles_later : HasFullTiles digest entries old → HasFullTiles digest entries new
+  tiles_later s = record {
+    tiles = λ level index low fits answer may.
+        s.tiles level index low fits answer (stays.stays (Tile level index 256) answer may);
   }
 
 -- a read that is true is true in other words
@@ -117,15 +124,16 @@ module _ (digest : List ℕ → List ℕ) (hash : IsDigest digest) (entries : Li
 
   -- ---- full tiles
 
-  module _ (may : Path → Option (List ℕ) → Type 0) (s : IsSourceOf digest entries may) (level index : ℕ) (h : List ℕ)
+  module _ (may : Path → Option (List ℕ) → Type 0) (s : HasFullTiles digest entries may) (level index : ℕ) (h : List ℕ)
       (t : IsTileHash digest entries level index h) where
     pub tile_given : (bytes : List ℕ) → may (Tile level index 256) (Some bytes) → bytes ≡ tile_bytes digest entries level index 256
-    tile_given bytes m = s.files (Tile level index 256) (full_tile n level index t.low t.fits) (Some bytes) m
+    tile_given bytes m =
+        let same : Some bytes ≡ Some (tile_bytes digest entries level index 256) =
+        s.tiles level index t.low t.fits (Some bytes) m in cc
 
     pub tile_there : may (Tile level index 256) None → ⊥
     tile_there m =
-        let way = s.files (Tile level index 256) (full_tile n level index t.low t.fits) None m in
-        absurd (omega (arith, way.partial))
+        let same : None ≡ Some (tile_bytes digest entries level index 256) = s.tiles level index t.low t.fits None m in absurd cc
 
   -- the true row of a full tile folds to its hash
   pub full_folds : (level index : ℕ) (h : List ℕ) → IsTileHash digest entries level index h →

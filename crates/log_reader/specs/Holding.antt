@@ -1,6 +1,6 @@
 -- A source that holds the files of a log, and a reader of that log: what is read is true, and no file is refused (C2SP
 -- tlog-tiles, "Merkle Tree", "Log Entries" and "Partial Tiles").
-use Rattle.std.specs.Prelude.{◌≡◌, ℕ, ◌+◌, ◌-◌, ◌*◌, ◌/◌, ◌^◌, ◌<◌, ◌≤◌, min, List, [], ◌∷◌, ◌++◌, length}
+use Rattle.std.specs.Prelude.{◌≡◌, ℕ, ◌+◌, ◌-◌, ◌*◌, ◌/◌, ◌^◌, ◌<◌, ◌≤◌, min, List, [], ◌∷◌, ◌++◌, length, take}
 use Rattle.std.specs.Prelude.{Option, Some, None, Result, Ok, Err, ⊤}
 use Rattle.tlog_shape.specs.Edge.{IsPartialTile, IsTile, edge_index_of, width_of}
 use Rattle.tlog_hash.specs.Rows.{level_row, part}
@@ -64,6 +64,12 @@ module _ (digest : List ℕ → List ℕ) (entries : List (List ℕ)) where
     pub files : (path : Path) → IsTreeFile (length entries) path → (answer : Option (List ℕ)) →
         may path answer → IsHeldAnswer may path answer
 
+  -- a source of which these answers may come has the full tiles of a log of these entries
+  pub record HasFullTiles (may : Path → Option (List ℕ) → Type 0) : Type 0 where
+    pub tiles : (level index : ℕ) → level ≤ 7 → (index + 1) * 256 ^ (level + 1) ≤ length entries →
+        (answer : Option (List ℕ)) → may (Tile level index 256) answer →
+        answer ≡ Some (true_bytes digest entries (Tile level index 256))
+
   -- the hash is that of a full tile: the tree hash of the entries below it
   pub record IsTileHash (level index : ℕ) (hash : List ℕ) : Type 0 where
     pub low : level ≤ 7
@@ -112,6 +118,13 @@ ReadsOf digest old new may result claim =
     (entries : List (List ℕ)) → IsReaderOf digest entries old → IsSourceOf digest entries may →
     IsTrueRead digest entries new result (claim entries)
 
+-- of each list of entries whose log the reader reads and whose full tiles the source has, the read is true
+abbrev pub ReadsTilesOf : {T : Type 0} → (List ℕ → List ℕ) → (old new : Reader) →
+    (Path → Option (List ℕ) → Type 0) → Result T ReadFault → (List (List ℕ) → T → Type 0) → Type 0
+ReadsTilesOf digest old new may result claim =
+    (entries : List (List ℕ)) → IsReaderOf digest entries old → HasFullTiles digest entries may →
+    IsTrueRead digest entries new result (claim entries)
+
 -- of each list of entries of that size and root whose files the source holds, the read is true
 abbrev pub ReadsLog : {T : Type 0} → (List ℕ → List ℕ) → ℕ → List ℕ → (Path → Option (List ℕ) → Type 0) →
     Result T ReadFault → (List (List ℕ) → T → Type 0) → Type 0
@@ -130,3 +143,9 @@ pub record IsBelow (reader : Reader) (level index : ℕ) : Type 0 where
   pub level_is : reader.level ≡ level + 1
   pub index_is : reader.index ≡ index / 256
   pub full : index < edge_index_of reader.edge.size level
+
+-- a source that holds the files of a log has the full tiles of its first entries
+abbrev pub HasFirstTiles : (List ℕ → List ℕ) → (Path → Option (List ℕ) → Type 0) → Type 0
+HasFirstTiles digest may =
+    (entries : List (List ℕ)) → IsSourceOf digest entries may → (size : ℕ) → size ≤ length entries →
+    HasFullTiles digest (take size entries) may

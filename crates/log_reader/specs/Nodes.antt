@@ -1,7 +1,8 @@
 -- The nodes of a tree whose hashes a proof has (RFC 6962, section 2.1). Contracts of private functions alone cite these.
-use Rattle.std.specs.Prelude.{◌≡◌, ◌⊎◌, ℕ, ◌+◌, ◌%◌, ◌<◌, ◌≤◌, List, [], ◌∷◌, ◌++◌, length, drop, Option, Some, None}
+use Rattle.std.specs.Prelude.{◌≡◌, ◌⊎◌, ℕ, ◌+◌, ◌%◌, ◌<◌, ◌≤◌, List, [], ◌∷◌, ◌++◌, length, take, drop, Bool, Option, Some, None}
 use Rattle.tlog_shape.specs.Split.{IsPowerOfTwo}
 use Rattle.tlog_hash.specs.Tree.{fold_of, mth}
+use Rattle.tlog_proof.specs.Consistency.{subproof_of}
 
 -- the entries of a node of a tree of n entries, as many as len from start on: they begin at a multiple of a power of two that is
 -- no less than len, and are a power of two, or the last of the tree
@@ -25,3 +26,9 @@ module _ (digest : List ℕ → List ℕ) where
   abbrev pub IsHashFrom : List (List ℕ) → ℕ → Option (List ℕ) → Type 0
   IsHashFrom entries start None = start ≡ length entries
   IsHashFrom entries start (Some hash) = (start < length entries) × (hash ≡ mth digest (drop start entries))
+
+  -- the path from the first entries of a node to all of it was added, and the hash is that of these first entries
+  pub record IsSubproofAdded (node : List (List ℕ)) (first : ℕ) (held : Bool) (old new : List (List ℕ)) (hash : List ℕ)
+      : Type 0 where
+    pub path_is : new ≡ old ++ subproof_of digest first node held
+    pub hash_is : hash ≡ mth digest (take first node)

@@ -1,18 +1,18 @@
 //! Consistency proofs of a log, made of verified rows.
-ghost use Rattle.std.specs.Prelude.{◌≡◌, ◌+◌, ◌++◌, ◌^◌, ◌<◌, ◌≤◌, IfOk, Ok, length};
+ghost use Rattle.std.specs.Prelude.{◌≡◌, ◌+◌, ◌++◌, ◌∷◌, ◌^◌, ◌<◌, ◌≤◌, [], IfOk, Ok, if◌then◌else◌, length};
 ghost use Rattle.tlog_hash.specs.Rows.{part};
-ghost use Rattle.tlog_proof.specs.Consistency.{subproof_of};
+ghost use Rattle.tlog_hash.specs.Tree.{mth};
 ghost use Rattle.tlog_proof.specs.Made.{Holds, asked_proof};
 ghost use Rattle.tlog_proof.specs.declared.proof.Ask.TheVariants.{Consistency};
 ghost use Rattle.mirror_sources.specs.Source.{StaysWithin};
 ghost use Rattle.mirror_sources.specs.Recorded.{KeepsRecord};
 ghost use Rattle.log_reader.specs.Faults.{CountsFailure};
-ghost use Rattle.log_reader.specs.Holding.{ReadsOf};
-ghost use Rattle.log_reader.specs.Nodes.{IsNodeRange};
+ghost use Rattle.log_reader.specs.Holding.{ReadsTilesOf};
+ghost use Rattle.log_reader.specs.Nodes.{IsNodeRange, IsSubproofAdded};
 ghost use Rattle.log_reader.specs.Proving.{IsConsistencyTo};
 
 use crate::fault::ReadFault;
-use crate::node_hash::add_node;
+use crate::node_hash::{add_node, node_hash};
 use crate::reader::LogReader;
 use mirror_sources::Source;
 use std::alloc::Global;
@@ -20,8 +20,35 @@ use tlog_hash::{Hash, TreeHash};
 use tlog_proof::{HashPath, Proof, holds};
 use tlog_shape::split;
 
+// Adds the hash of a node to a path, unless the checker has it, and answers it.
+#[tactic(auto, using(crate::proofs::Kept::kept_once))]
+fn add_whole<H: TreeHash, S: Source>(
+    alloc: Global,
+    reader: &mut LogReader<H>,
+    source: &mut S,
+    node: (u64, u64),
+    held: bool,
+    path: &mut Vec<Hash>,
+) -> Result<Hash, ReadFault>
+    requires { IsNodeRange reader.old.edge.size node.0 node.1 }
+    ensures edge { reader.new.edge ≡ reader.old.edge }
+    ensures root { reader.new.root ≡ reader.old.root }
+    ensures later { StaysWithin (S.may_answer source.old) (S.may_answer source.new) }
+    ensures kept { KeepsRecord (S.files source.old) (S.files source.new) }
+    ensures counted { CountsFailure (S.failed source.old) (S.failed source.new) result }
+    ensures honest { ReadsTilesOf H.digest reader.old reader.new (S.may_answer source.old) result
+        (λ entries hash. (hash ≡ mth H.digest (part node.0 node.1 entries))
+        × (path.new.items ≡ path.old.items ++ (if held then [] else hash ∷ []))) }
+{
+    let hash = node_hash::<H, S>(alloc, reader, source, node.0, node.1)?;
+    if !held {
+        path.push(hash)?;
+    }
+    Ok(hash)
+}
+
 // Adds the path from the first entries of a node to all of it: SUBPROOF of RFC 6962, section 2.1.2. Where all of it is the first
-// tree, `held` says that the checker knows its root.
+// tree, `held` says that the checker knows its root. Answers the hash of these first entries, which the nodes of the path lead to.
 #[tactic(auto, using(crate::proofs::Kept::kept_twice, crate::proofs::Kept::kept_once))]
 fn add_subproof<H: TreeHash, S: Source>(
     alloc: Global,
@@ -31,7 +58,7 @@ fn add_subproof<H: TreeHash, S: Source>(
     first: u64,
     held: bool,
     path: &mut Vec<Hash>,
-) -> Result<(), ReadFault>
+) -> Result<Hash, ReadFault>
     requires some { 0 < first }
     requires within { first ≤ node.1 }
     requires node { IsNodeRange reader.old.edge.size node.0 node.1 }
@@ -41,27 +68,24 @@ fn add_subproof<H: TreeHash, S: Source>(
     ensures later { StaysWithin (S.may_answer source.old) (S.may_answer source.new) }
     ensures kept { KeepsRecord (S.files source.old) (S.files source.new) }
     ensures counted { CountsFailure (S.failed source.old) (S.failed source.new) result }
-    ensures honest { ReadsOf H.digest reader.old reader.new (S.may_answer source.old) result
-        (λ entries _. path.new.items
-        ≡ path.old.items ++ subproof_of H.digest first (part node.0 node.1 entries) held) }
+    ensures honest { ReadsTilesOf H.digest reader.old reader.new (S.may_answer source.old) result
+        (λ entries hash. IsSubproofAdded H.digest (part node.0 node.1 entries) first held
+        path.old.items path.new.items hash) }
 {
     let (start, len) = node;
     if first == len {
-        if !held {
-            add_node::<H, S>(alloc, reader, source, node, path)?;
-        }
-        return Ok(());
+        return add_whole::<H, S>(alloc, reader, source, node, held, path);
     }
     let k = split(len);
-    let beside = if first <= k {
-        add_subproof::<H, S>(alloc, reader, source, (start, k), first, held, path)?;
-        (start + k, len - k)
-    } else {
-        let right = (start + k, len - k);
-        add_subproof::<H, S>(alloc, reader, source, right, first - k, false, path)?;
-        (start, k)
-    };
-    add_node::<H, S>(alloc, reader, source, beside, path)
+    if first <= k {
+        let hash = add_subproof::<H, S>(alloc, reader, source, (start, k), first, held, path)?;
+        add_node::<H, S>(alloc, reader, source, (start + k, len - k), path)?;
+        return Ok(hash);
+    }
+    let right = (start + k, len - k);
+    let end = add_subproof::<H, S>(alloc, reader, source, right, first - k, false, path)?;
+    let left = add_whole::<H, S>(alloc, reader, source, (start, k), false, path)?;
+    Ok(H::node(&left, &end))
 }
 
 impl<H: TreeHash> LogReader<H> {
@@ -75,8 +99,8 @@ impl<H: TreeHash> LogReader<H> {
     ///
     /// # Errors
     ///
-    /// Those of `row`; and `Collision`: the rows lead to the root, and the proof made of them does not hold. Of a source that holds
-    /// the log's files it never comes.
+    /// Those of `row`; and `Collision`: the rows lead to the root, and the proof made of them does not hold. Of a source that has
+    /// the log's full tiles it never comes.
     #[tactic(auto, using(crate::proofs::Kept::kept_twice))]
     pub fn consistency<S: Source>(
         &mut self,
@@ -93,14 +117,14 @@ impl<H: TreeHash> LogReader<H> {
         ensures later { StaysWithin (S.may_answer source.old) (S.may_answer source.new) }
         ensures kept { KeepsRecord (S.files source.old) (S.files source.new) }
         ensures counted { CountsFailure (S.failed source.old) (S.failed source.new) result }
-        ensures honest { ReadsOf H.digest self.old self.new (S.may_answer source.old) result
+        ensures honest { ReadsTilesOf H.digest self.old self.new (S.may_answer source.old) result
             (λ entries proof. asked_proof H.digest entries (Consistency first (length entries))
             ≡ Ok proof) }
     {
-        let first_root = self.prefix(alloc, source, first)?.root();
         let second = self.size();
         let mut path = Vec::new(alloc);
-        add_subproof::<H, S>(alloc, self, source, (0, second), first, true, &mut path)?;
+        let all = (0, second);
+        let first_root = add_subproof::<H, S>(alloc, self, source, all, first, true, &mut path)?;
         let proof = Proof::Consistency {
             first,
             first_root,

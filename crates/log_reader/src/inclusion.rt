@@ -8,7 +8,7 @@ ghost use Rattle.tlog_proof.specs.declared.proof.Ask.TheVariants.{Inclusion};
 ghost use Rattle.mirror_sources.specs.Source.{StaysWithin};
 ghost use Rattle.mirror_sources.specs.Recorded.{KeepsRecord};
 ghost use Rattle.log_reader.specs.Faults.{CountsFailure};
-ghost use Rattle.log_reader.specs.Holding.{ReadsOf};
+ghost use Rattle.log_reader.specs.Holding.{ReadsTilesOf};
 ghost use Rattle.log_reader.specs.Nodes.{IsNodeRange};
 ghost use Rattle.log_reader.specs.Proving.{IsInclusionIn};
 ghost use Rattle.log_reader.specs.Ways.{IsShownLeaf};
@@ -41,7 +41,7 @@ fn add_path<H: TreeHash, S: Source>(
     ensures later { StaysWithin (S.may_answer source.old) (S.may_answer source.new) }
     ensures kept { KeepsRecord (S.files source.old) (S.files source.new) }
     ensures counted { CountsFailure (S.failed source.old) (S.failed source.new) result }
-    ensures honest { ReadsOf H.digest reader.old reader.new (S.may_answer source.old) result
+    ensures honest { ReadsTilesOf H.digest reader.old reader.new (S.may_answer source.old) result
         (λ entries _. path.new.items
         ≡ path.old.items ++ path_of H.digest index (part node.0 node.1 entries)) }
 {
@@ -84,7 +84,7 @@ impl<H: TreeHash> LogReader<H> {
         ensures later { StaysWithin (S.may_answer source.old) (S.may_answer source.new) }
         ensures kept { KeepsRecord (S.files source.old) (S.files source.new) }
         ensures counted { CountsFailure (S.failed source.old) (S.failed source.new) result }
-        ensures honest { ReadsOf H.digest self.old self.new (S.may_answer source.old) result
+        ensures honest { ReadsTilesOf H.digest self.old self.new (S.may_answer source.old) result
             (λ entries hash. hash ≡ leaf_hash H.digest (get_or entries index [])) }
     {
         let row = self.row(alloc, source, 0, index / 256)?;
@@ -108,8 +108,8 @@ impl<H: TreeHash> LogReader<H> {
     ///
     /// # Errors
     ///
-    /// Those of `row`; and `Collision`: the rows lead to the root, and the proof made of them does not hold. Of a source that holds
-    /// the log's files it never comes.
+    /// Those of `row`; and `Collision`: the rows lead to the root, and the proof made of them does not hold. Of a source that has
+    /// the log's full tiles it never comes.
     #[tactic(auto, using(crate::proofs::Kept::kept_twice))]
     pub fn inclusion<S: Source>(
         &mut self,
@@ -125,7 +125,7 @@ impl<H: TreeHash> LogReader<H> {
         ensures later { StaysWithin (S.may_answer source.old) (S.may_answer source.new) }
         ensures kept { KeepsRecord (S.files source.old) (S.files source.new) }
         ensures counted { CountsFailure (S.failed source.old) (S.failed source.new) result }
-        ensures honest { ReadsOf H.digest self.old self.new (S.may_answer source.old) result
+        ensures honest { ReadsTilesOf H.digest self.old self.new (S.may_answer source.old) result
             (λ entries proof. asked_proof H.digest entries (Inclusion (length entries) index)
             ≡ Ok proof) }
     {

@@ -1,5 +1,9 @@
 //! Laws of the definitions that the contracts cite.
+ghost use Rattle.log_reader.specs.Holding.{HasFirstTiles};
 ghost use Rattle.log_reader.specs.Truth.{ShownBundlesAreTrue, ShownPrefixesAreTrue, ShownRowsAreTrue};
+
+use mirror_sources::Source;
+use tlog_hash::TreeHash;
 
 /// A row that is shown is the true one of each list of entries of the tree's size and root, where no two different strings of the
 /// list's tree, of the edge and of the way share a digest.
@@ -17,4 +21,10 @@ pub fn shown_prefixes_law()
 /// of the list's tree, of the edge, of the way up from the bundle and of the tree of the bundle's own entries share a digest.
 pub fn shown_bundles_law()
     ensures { ShownBundlesAreTrue }
+{}
+
+/// A source that holds the files of a log has the full tiles of its first entries. So the reader that `prefix` makes gets true rows and
+/// proofs of that source.
+pub fn first_tiles_law<H: TreeHash, S: Source>(_source: &S)
+    ensures { HasFirstTiles H.digest (S.may_answer _source.now) }
 {}

@@ -33,7 +33,7 @@ pub use edge_row::{edge_path, row_given};
 pub use edge_rows::EdgeRows;
 pub use fault::ReadFault;
 pub use head::head_of;
-pub use laws::{shown_bundles_law, shown_prefixes_law, shown_rows_law};
+pub use laws::{first_tiles_law, shown_bundles_law, shown_prefixes_law, shown_rows_law};
 pub use opened_head::open_head;
 pub use reader::LogReader;
 pub use verify::{FullFile, leaves_of, verified};

@@ -8,7 +8,7 @@ ghost use Rattle.mirror_sources.specs.Source.{StaysWithin};
 ghost use Rattle.mirror_sources.specs.Recorded.{KeepsRecord};
 ghost use Rattle.log_reader.specs.EdgeRows.{RowIsTrue};
 ghost use Rattle.log_reader.specs.Faults.{CountsFailure};
-ghost use Rattle.log_reader.specs.Holding.{ReadsOf};
+ghost use Rattle.log_reader.specs.Holding.{ReadsTilesOf};
 ghost use Rattle.log_reader.specs.Nodes.{IsHashFrom, IsNodeRange, hash_on_top};
 
 use crate::edge_root::with_row;
@@ -50,7 +50,7 @@ fn perfect_hash<H: TreeHash, S: Source>(
     ensures later { StaysWithin (S.may_answer source.old) (S.may_answer source.new) }
     ensures kept { KeepsRecord (S.files source.old) (S.files source.new) }
     ensures counted { CountsFailure (S.failed source.old) (S.failed source.new) result }
-    ensures honest { ReadsOf H.digest reader.old reader.new (S.may_answer source.old) result
+    ensures honest { ReadsTilesOf H.digest reader.old reader.new (S.may_answer source.old) result
         (λ entries hash. hash ≡ mth H.digest (part start len entries)) }
 {
     let level = top_level(len);
@@ -98,10 +98,10 @@ fn end_hash<H: TreeHash>(
     }
 }
 
-// The hash of a node of the tree: of as many entries as `len`, from `start` on. Where they are not a power of two, they are the
-// last ones.
+/// The hash of a node of the tree: of as many entries as `len`, from `start` on. Where they are not a power of two, they are the
+/// last ones.
 #[tactic(auto, using(crate::proofs::Kept::kept_once))]
-fn node_hash<H: TreeHash, S: Source>(
+pub(crate) fn node_hash<H: TreeHash, S: Source>(
     alloc: Global,
     reader: &mut LogReader<H>,
     source: &mut S,
@@ -114,7 +114,7 @@ fn node_hash<H: TreeHash, S: Source>(
     ensures later { StaysWithin (S.may_answer source.old) (S.may_answer source.new) }
     ensures kept { KeepsRecord (S.files source.old) (S.files source.new) }
     ensures counted { CountsFailure (S.failed source.old) (S.failed source.new) result }
-    ensures honest { ReadsOf H.digest reader.old reader.new (S.may_answer source.old) result
+    ensures honest { ReadsTilesOf H.digest reader.old reader.new (S.may_answer source.old) result
         (λ entries hash. hash ≡ mth H.digest (part start len entries)) }
 {
     if is_perfect(len) {
@@ -142,7 +142,7 @@ pub(crate) fn add_node<H: TreeHash, S: Source>(
     ensures later { StaysWithin (S.may_answer source.old) (S.may_answer source.new) }
     ensures kept { KeepsRecord (S.files source.old) (S.files source.new) }
     ensures counted { CountsFailure (S.failed source.old) (S.failed source.new) result }
-    ensures honest { ReadsOf H.digest reader.old reader.new (S.may_answer source.old) result
+    ensures honest { ReadsTilesOf H.digest reader.old reader.new (S.may_answer source.old) result
         (λ entries _. path.new.items
         ≡ path.old.items ++ mth H.digest (part node.0 node.1 entries) ∷ []) }
 {

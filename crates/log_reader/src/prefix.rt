@@ -5,7 +5,7 @@ ghost use Rattle.mirror_sources.specs.Source.{StaysWithin};
 ghost use Rattle.mirror_sources.specs.Recorded.{KeepsRecord};
 ghost use Rattle.log_reader.specs.Faults.{CountsFailure};
 ghost use Rattle.log_reader.specs.EdgeRows.{RowIsTrue};
-ghost use Rattle.log_reader.specs.Holding.{IsEdgeRowOf, IsReaderOf, ReadsOf};
+ghost use Rattle.log_reader.specs.Holding.{IsEdgeRowOf, IsReaderOf, ReadsTilesOf};
 ghost use Rattle.log_reader.specs.Ways.{HasEdgeHashes, IsShownEdge, IsShownPart, IsShownStart};
 
 use crate::edge_root::edge_hash;
@@ -48,7 +48,7 @@ fn first_row<H: TreeHash, S: Source>(
     ensures later { StaysWithin (S.may_answer source.old) (S.may_answer source.new) }
     ensures kept { KeepsRecord (S.files source.old) (S.files source.new) }
     ensures counted { CountsFailure (S.failed source.old) (S.failed source.new) result }
-    ensures honest { ReadsOf H.digest reader.old reader.new (S.may_answer source.old) result
+    ensures honest { ReadsTilesOf H.digest reader.old reader.new (S.may_answer source.old) result
         (λ entries row. IsEdgeRowOf H.digest size level (take size entries) row.items) }
 {
     let width = edge_width(size, level);
@@ -77,7 +77,7 @@ fn first_row_if_any<H: TreeHash, S: Source>(
     ensures later { StaysWithin (S.may_answer source.old) (S.may_answer source.new) }
     ensures kept { KeepsRecord (S.files source.old) (S.files source.new) }
     ensures counted { CountsFailure (S.failed source.old) (S.failed source.new) result }
-    ensures honest { ReadsOf H.digest reader.old reader.new (S.may_answer source.old) result
+    ensures honest { ReadsTilesOf H.digest reader.old reader.new (S.may_answer source.old) result
         (λ entries row. IsEdgeRowOf H.digest size level (take size entries) row.items) }
 {
     if edge_width(size, level) == 0 {
@@ -103,7 +103,7 @@ fn first_edge<H: TreeHash, S: Source>(
     ensures later { StaysWithin (S.may_answer source.old) (S.may_answer source.new) }
     ensures kept { KeepsRecord (S.files source.old) (S.files source.new) }
     ensures counted { CountsFailure (S.failed source.old) (S.failed source.new) result }
-    ensures honest { ReadsOf H.digest reader.old reader.new (S.may_answer source.old) result
+    ensures honest { ReadsTilesOf H.digest reader.old reader.new (S.may_answer source.old) result
         (λ entries first. (level : ℕ) → level ≤ 7
         → RowIsTrue H.digest first (take size entries) level) }
 {
@@ -139,7 +139,7 @@ impl<H: TreeHash> LogReader<H> {
         ensures later { StaysWithin (S.may_answer source.old) (S.may_answer source.new) }
         ensures kept { KeepsRecord (S.files source.old) (S.files source.new) }
         ensures counted { CountsFailure (S.failed source.old) (S.failed source.new) result }
-        ensures honest { ReadsOf H.digest self.old self.new (S.may_answer source.old) result
+        ensures honest { ReadsTilesOf H.digest self.old self.new (S.may_answer source.old) result
             (λ entries reader. IsReaderOf H.digest (take size entries) reader) }
     {
         let edge = first_edge::<H, S>(alloc, self, source, size)?;

@@ -4,7 +4,7 @@ ghost use Rattle.tlog_hash.specs.Rows.{level_row};
 ghost use Rattle.mirror_sources.specs.Source.{StaysWithin};
 ghost use Rattle.mirror_sources.specs.Recorded.{KeepsRecord};
 ghost use Rattle.log_reader.specs.Faults.{CountsFailure};
-ghost use Rattle.log_reader.specs.Holding.{IsSourceOf, IsTileHash, ReadsTrue};
+ghost use Rattle.log_reader.specs.Holding.{HasFullTiles, IsTileHash, ReadsTrue};
 ghost use Rattle.log_reader.specs.Verified.{IsVerifiedRow};
 
 use crate::fault::ReadFault;
@@ -27,7 +27,7 @@ pub(crate) fn read_tile<H: TreeHash, S: Source>(
     ensures kept { KeepsRecord (S.files source.old) (S.files source.new) }
     ensures counted { CountsFailure (S.failed source.old) (S.failed source.new) result }
     ensures honest { (entries : List (List ℕ)) → IsTileHash H.digest entries level index hash.now
-        → IsSourceOf H.digest entries (S.may_answer source.old) → ReadsTrue result
+        → HasFullTiles H.digest entries (S.may_answer source.old) → ReadsTrue result
         (λ row. row.items ≡ level_row H.digest entries level (256 * index) 256) }
 {
     let path = Path::Tile {

@@ -5,7 +5,7 @@ ghost use Rattle.tlog_hash.specs.Rows.{level_row};
 ghost use Rattle.mirror_sources.specs.Source.{StaysWithin};
 ghost use Rattle.mirror_sources.specs.Recorded.{KeepsRecord};
 ghost use Rattle.log_reader.specs.Faults.{CountsFailure};
-ghost use Rattle.log_reader.specs.Holding.{IsBelow, IsReaderOf, IsSourceOf, ReadsOf, ReadsTrue, true_row};
+ghost use Rattle.log_reader.specs.Holding.{IsBelow, IsReaderOf, HasFullTiles, ReadsTilesOf, ReadsTrue, true_row};
 ghost use Rattle.log_reader.specs.Ways.{IsRowUnder, IsShownRow, row_of_way};
 
 use crate::fault::ReadFault;
@@ -44,7 +44,7 @@ fn read_below<H: TreeHash, S: Source>(
     ensures kept { KeepsRecord (S.files source.old) (S.files source.new) }
     ensures counted { CountsFailure (S.failed source.old) (S.failed source.new) result }
     ensures honest { (entries : List (List ℕ)) → IsReaderOf H.digest entries reader.now
-        → IsSourceOf H.digest entries (S.may_answer source.old) → IsBelow reader.now level index
+        → HasFullTiles H.digest entries (S.may_answer source.old) → IsBelow reader.now level index
         → ReadsTrue result
         (λ row. row.items ≡ level_row H.digest entries level (256 * index) 256) }
 {
@@ -76,7 +76,7 @@ pub(crate) fn go_to<H: TreeHash, S: Source>(
     ensures later { StaysWithin (S.may_answer source.old) (S.may_answer source.new) }
     ensures kept { KeepsRecord (S.files source.old) (S.files source.new) }
     ensures counted { CountsFailure (S.failed source.old) (S.failed source.new) result }
-    ensures honest { ReadsOf H.digest reader.old reader.new (S.may_answer source.old) result
+    ensures honest { ReadsTilesOf H.digest reader.old reader.new (S.may_answer source.old) result
         (λ entries _. ⊤) }
 {
     climb(reader, level);
@@ -130,7 +130,7 @@ impl<H: TreeHash> LogReader<H> {
         ensures later { StaysWithin (S.may_answer source.old) (S.may_answer source.new) }
         ensures kept { KeepsRecord (S.files source.old) (S.files source.new) }
         ensures counted { CountsFailure (S.failed source.old) (S.failed source.new) result }
-        ensures honest { ReadsOf H.digest self.old self.new (S.may_answer source.old) result
+        ensures honest { ReadsTilesOf H.digest self.old self.new (S.may_answer source.old) result
             (λ entries row. row.items ≡ true_row H.digest entries level index) }
     {
         go_to::<H, S>(alloc, self, source, level, index)?;

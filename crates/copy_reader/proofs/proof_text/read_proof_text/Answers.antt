@@ -4,8 +4,8 @@ use Rattle.copy_reader.proofs.MadeProofs.{made_writable}
 use Rattle.copy_reader.proofs.proof_text.read_proof_text.Goals as goal
 
 pub returns-clause-honest : goal.returns-clause-honest
-returns-clause-honest g c = λ same small entries r files.
-    let read = c.in_ok-proof.ensures.honest same entries r files in
+returns-clause-honest g c = λ small entries r files.
+    let read = c.in_ok-proof.ensures.honest entries r files in
     let writable = made_writable g.H.TreeHash.digest entries c.args.ask c.in_ok-proof.proof
     (subst (λ n. n ≤ MAX_SIZE) r.size_is small) read.answer in
     absurd ((rw c.in-None.is at c.in_ok-text.ensures.none) writable)

@@ -3,10 +3,10 @@ use Rattle.tlog_hash.specs.Rows.{part}
 use Rattle.tlog_hash.specs.Tree.{mth}
 use Rattle.tlog_proof.specs.Inclusion.{path_of}
 use Rattle.tlog_proof.proofs.Parts.{none_added, path_of-left, path_of-one, path_of-right, then_push}
-use Rattle.log_reader.specs.Holding.{IsReaderOf, IsSourceOf}
+use Rattle.log_reader.specs.Holding.{IsReaderOf, HasFullTiles}
 use Rattle.log_reader.specs.Nodes.{IsNodeRange}
 use Rattle.log_reader.proofs.NodeNumbers.{left_node, right_node}
-use Rattle.log_reader.proofs.TrueReads.{reads_more, source_later}
+use Rattle.log_reader.proofs.TrueReads.{reads_more, tiles_later}
 use Rattle.log_reader.proofs.inclusion.+add_path.Goals as goal
 use Rattle.log_reader.proofs.inclusion.+add_path.Goals.{then-index-k+in_ok-add_path, else-index-k+in_ok-add_path-2}
 
@@ -72,9 +72,9 @@ returns-clause-honest g t c = λ entries r s.
       | then-index-k+in_ok-add_path w ↦
           let step = w.in_ok-add_path.ensures in
           let below = step.honest entries r s in
-          let later = source_later d entries (may c.args.source.now) (may w.add_path.new.source) step.later s in
+          let later = tiles_later d entries (may c.args.source.now) (may w.add_path.new.source) step.later s in
           let went = c.add_node.ensures.honest entries (subst (IsReaderOf d entries) (sym w.reader-is) below.reader_is)
-          (subst (λ x. IsSourceOf d entries (may x)) (sym w.source-is) later) in
+          (subst (λ x. HasFullTiles d entries (may x)) (sym w.source-is) later) in
           record {
             reader_is = went.reader_is;
             answer = reads_more c.add_node.result (λ _. new ≡ mid ++ mth d (part beside.0 beside.1 entries) ∷ [])
@@ -87,9 +87,9 @@ returns-clause-honest g t c = λ entries r s.
       | else-index-k+in_ok-add_path-2 w ↦
           let step = w.in_ok-add_path-2.ensures in
           let below = step.honest entries r s in
-          let later = source_later d entries (may c.args.source.now) (may w.add_path-else-index-k.new.source) step.later s in
+          let later = tiles_later d entries (may c.args.source.now) (may w.add_path-else-index-k.new.source) step.later s in
           let went = c.add_node.ensures.honest entries (subst (IsReaderOf d entries) (sym w.reader-is) below.reader_is)
-          (subst (λ x. IsSourceOf d entries (may x)) (sym w.source-is) later) in
+          (subst (λ x. HasFullTiles d entries (may x)) (sym w.source-is) later) in
           record {
             reader_is = went.reader_is;
             answer = reads_more c.add_node.result (λ _. new ≡ mid ++ mth d (part beside.0 beside.1 entries) ∷ [])

@@ -3,7 +3,7 @@ use Rattle.log_reader.specs.Holding.{IsEdgeRowOf}
 use Rattle.log_reader.specs.Ways.{IsShownPart}
 use Rattle.log_reader.proofs.Kept.{kept_once, kept_twice}
 use Rattle.log_reader.proofs.RowLists.{count_more, items_of, rows_more}
-use Rattle.log_reader.proofs.TrueReads.{rows_true, source_later}
+use Rattle.log_reader.proofs.TrueReads.{rows_true, tiles_later}
 use Rattle.log_reader.proofs.prefix.first_edge.Goals as goal
 
 pub loop-level-init : goal.loop-level-init
@@ -22,7 +22,7 @@ pub returns-in_err-first_row_if_any-clause-honest : goal.returns-in_err-first_ro
 returns-in_err-first_row_if_any-clause-honest g c = λ entries r s.
     let i = c.loop-level.invariant in
     let went = c.in_err-first_row_if_any.ensures.honest entries (i.honest entries r s).0
-    (source_later g.H.TreeHash.digest entries (g.S.Source.may_answer c.args.source.now)
+    (tiles_later g.H.TreeHash.digest entries (g.S.Source.may_answer c.args.source.now)
     (g.S.Source.may_answer c.loop-level.source) i.later s) in
     let fault = went.answer in
     record { reader_is = went.reader_is; answer = search (rules, fault) }
@@ -31,7 +31,7 @@ pub returns-in_err-push-clause-honest : goal.returns-in_err-push-clause-honest
 returns-in_err-push-clause-honest g c = λ entries r s.
     let i = c.loop-level.invariant in
     let went = c.in_ok-first_row_if_any.ensures.honest entries (i.honest entries r s).0
-    (source_later g.H.TreeHash.digest entries (g.S.Source.may_answer c.args.source.now)
+    (tiles_later g.H.TreeHash.digest entries (g.S.Source.may_answer c.args.source.now)
     (g.S.Source.may_answer c.loop-level.source) i.later s) in
     record { reader_is = went.reader_is; answer = search rules }
 
@@ -60,7 +60,7 @@ loop-level-preserved g c =
           (subst (λ e. IsShownPart digest e size n v.items) i.edge step.row);
       honest = λ entries r s.
           let at = i.honest entries r s in
-          let went = step.honest entries at.0 (source_later digest entries (may c.args.source.now) (may c.loop-level.source) i.later s)
+          let went = step.honest entries at.0 (tiles_later digest entries (may c.args.source.now) (may c.loop-level.source) i.later s)
           in (
             went.reader_is,
             rows_more (λ k row. IsEdgeRowOf digest size k (take size entries) row) vs more v n is i.count at.1 went.answer,

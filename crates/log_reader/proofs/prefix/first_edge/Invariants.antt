@@ -1,7 +1,7 @@
 use Rattle.std.proofs.Common.{◌≡◌, ◌<◌, ℕ, List, [], length, get_or, take}
 use Rattle.mirror_sources.specs.Source.{StaysWithin}
 use Rattle.mirror_sources.specs.Recorded.{KeepsRecord}
-use Rattle.log_reader.specs.Holding.{IsEdgeRowOf, IsReaderOf, IsSourceOf}
+use Rattle.log_reader.specs.Holding.{IsEdgeRowOf, IsReaderOf, HasFullTiles}
 use Rattle.log_reader.specs.Ways.{IsShownPart}
 use Rattle.log_reader.proofs.RowLists.{items_of}
 use Rattle.log_reader.proofs.prefix.first_edge.Given as goal
@@ -18,7 +18,7 @@ invariant-loop-level g l = record {
   shown : (k : ℕ) → k < l.level →
       IsShownPart g.H.TreeHash.digest l.fn.reader.edge l.size k (get_or (items_of l.rows.items) k []);
   honest : (entries : List (List ℕ)) → IsReaderOf g.H.TreeHash.digest entries l.fn.reader →
-      IsSourceOf g.H.TreeHash.digest entries (g.S.Source.may_answer l.fn.source) →
+      HasFullTiles g.H.TreeHash.digest entries (g.S.Source.may_answer l.fn.source) →
       IsReaderOf g.H.TreeHash.digest entries l.reader × ((k : ℕ) → k < l.level →
       IsEdgeRowOf g.H.TreeHash.digest l.size k (take l.size entries) (get_or (items_of l.rows.items) k []));
 }

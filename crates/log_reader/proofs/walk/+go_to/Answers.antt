@@ -1,7 +1,7 @@
 use Rattle.std.proofs.Common.{rules, ◌≡◌, sym, subst, ap, ◌∙◌, ◌+◌, ◌/◌, ◌<◌, ◌≤◌, ◌^◌, arith}
 use Rattle.tlog_shape.specs.Edge.{edge_index_of}
 use Rattle.log_reader.proofs.Climbing.{above_full}
-use Rattle.log_reader.proofs.TrueReads.{is_below, row_below, source_later, went_down}
+use Rattle.log_reader.proofs.TrueReads.{is_below, row_below, tiles_later, went_down}
 use Rattle.log_reader.proofs.walk.+go_to.Goals as goal
 
 pub go_to-requires : goal.go_to-requires
@@ -27,7 +27,7 @@ returns-in_err-row-clause-honest g t c = λ entries r s.
     c.in_ok-go_to.ensures.there.0 c.in_ok-go_to.ensures.there.1 c.edge_index-end.ensures
     (ap (λ e. e.size) c.in_ok-go_to.ensures.edge ∙ sym c.size.ensures) c.if-index-end.false in
     let fault = c.in_err-row.ensures.honest entries up.reader_is
-    (source_later digest entries _ _ c.in_ok-go_to.ensures.later s) b in
+    (tiles_later digest entries _ _ c.in_ok-go_to.ensures.later s) b in
     record { reader_is = up.reader_is; answer = search (rules, fault) }
 
 pub returns-clause-honest : goal.returns-clause-honest
@@ -39,7 +39,7 @@ returns-clause-honest g t c = λ entries r s.
     (ap (λ e. e.size) c.in_ok-go_to.ensures.edge ∙ sym c.size.ensures) c.if-index-end.false in
     let length_is = g.met.H.TreeHash.digest_length in
     let row = row_below digest length_is entries c.go_to.new.reader up.reader_is c.args.level c.args.index b c.in_ok-row.row.items
-    (c.in_ok-row.ensures.honest entries up.reader_is (source_later digest entries _ _ c.in_ok-go_to.ensures.later s) b) in
+    (c.in_ok-row.ensures.honest entries up.reader_is (tiles_later digest entries _ _ c.in_ok-go_to.ensures.later s) b) in
     record {
       reader_is = went_down digest length_is entries c.go_to.new.reader up.reader_is c.args.level c.args.index b c.down.new.self
           c.in_ok-row.row.items row c.in_ok-down.ensures.ok;

@@ -5,6 +5,7 @@ use Rattle.tlog_hash.specs.Rows.{level_row}
 use Rattle.tlog_tiles.specs.Tiles.{bundle_bytes}
 use Rattle.log_reader.specs.EdgeRows.{row_at}
 use Rattle.log_reader.specs.Holding.{IsTileHash, ReadsTrue, row_width}
+use Rattle.log_reader.proofs.FullTiles.{source_tiles}
 use Rattle.log_reader.proofs.TrueBundles.{end_row}
 use Rattle.log_reader.proofs.TrueReads.{hash_in_row, source_later, width_at_edge, width_full, within_row}
 use Rattle.log_reader.proofs.reader.LogReader.bundle.Goals as goal
@@ -33,7 +34,8 @@ returns-then-index-edge_index-clause-honest g c = λ entries r s.
 
 pub returns-in_err-row-clause-honest : goal.returns-in_err-row-clause-honest
 returns-in_err-row-clause-honest g c = λ entries r s.
-    let went = c.in_err-row.ensures.honest entries r s in
+    let went = c.in_err-row.ensures.honest entries r
+    (source_tiles g.H.TreeHash.digest entries (g.S.Source.may_answer c.args.source.now) s) in
     let fault = went.answer in
     record { reader_is = went.reader_is; answer = search (rules, fault) }
 
@@ -44,7 +46,8 @@ returns-in-Some-clause-honest g c = λ entries r s.
     let n = length entries in
     let index = c.args.index in
     let row = c.deref.result.now in
-    let done = c.in_ok-row.ensures.honest entries r s in
+    let done = c.in_ok-row.ensures.honest entries r
+    (source_tiles digest entries (g.S.Source.may_answer c.args.source.now) s) in
     let end : c.edge_index.result ≡ edge_index_of n 0 =
     c.edge_index.ensures ∙ ap (λ m. edge_index_of m 0) (c.size.ensures ∙ r.size_is) in
     let some : 256 * index < n = subst (λ m. 256 * index < m) r.size_is c.requires in
@@ -70,7 +73,8 @@ returns-clause-honest g c = λ entries r s.
     let n = length entries in
     let index = c.args.index in
     let row = c.deref.result.now in
-    let done = c.in_ok-row.ensures.honest entries r s in
+    let done = c.in_ok-row.ensures.honest entries r
+    (source_tiles digest entries (g.S.Source.may_answer c.args.source.now) s) in
     let end : c.edge_index.result ≡ edge_index_of n 0 =
     c.edge_index.ensures ∙ ap (λ m. edge_index_of m 0) (c.size.ensures ∙ r.size_is) in
     let some : 256 * index < n = subst (λ m. 256 * index < m) r.size_is c.requires in

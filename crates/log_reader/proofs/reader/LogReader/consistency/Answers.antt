@@ -1,32 +1,23 @@
-use Rattle.std.proofs.Common.{◌≡◌, ◌<◌, ◌≤◌, ◌++◌, true, length, subst, sym, ap, ◌∙◌, rules, arith}
+use Rattle.std.proofs.Common.{◌≡◌, ◌<◌, ◌≤◌, ◌++◌, true, length, take, subst, sym, ap, ◌∙◌, rules, arith}
 use Rattle.std.proofs.lemmas.Bool.{false≢true}
 use Rattle.std.proofs.lemmas.List.{take_all}
 use Rattle.tlog_hash.specs.Rows.{part}
+use Rattle.tlog_hash.specs.Tree.{mth}
 use Rattle.tlog_proof.specs.Consistency.{proof_of, subproof_of}
 use Rattle.log_reader.specs.Nodes.{IsNodeRange}
 use Rattle.log_reader.proofs.Asked.{consistency_holds, consistency_is}
 use Rattle.log_reader.proofs.NodeNumbers.{whole_node}
-use Rattle.log_reader.proofs.TrueReads.{source_later}
 use Rattle.log_reader.proofs.reader.LogReader.consistency.Goals as goal
 
 pub add_subproof-requires-clause-node : goal.add_subproof-requires-clause-node
 add_subproof-requires-clause-node g c =
     let size = c.size-second.result in
-    let some : 0 < size = omega (arith, c.requires.some, c.requires.within, c.size-second.ensures, ap (λ e. e.size) c.in_ok-prefix.ensures.edge) in
+    let some : 0 < size = omega (arith, c.requires.some, c.requires.within, c.size-second.ensures) in
     subst (λ m. IsNodeRange m 0 size) c.size-second.ensures (whole_node size some c.size-second.type_inv)
 
-pub returns-in_err-prefix-clause-honest : goal.returns-in_err-prefix-clause-honest
-returns-in_err-prefix-clause-honest g c = λ entries r s.
-    let went = c.in_err-prefix.ensures.honest entries r s in
-    let fault = went.answer in
-    record { reader_is = went.reader_is; answer = search (rules, fault) }
-
-pub returns-in_err-add_subproof-clause-honest : goal.returns-in_err-add_subproof-clause-honest
-returns-in_err-add_subproof-clause-honest g c = λ entries r s.
-    let digest = g.H.TreeHash.digest in
-    let at = c.in_ok-prefix.ensures.honest entries r s in
-    let went = c.in_err-add_subproof.ensures.honest entries at.reader_is
-    (source_later digest entries _ _ c.in_ok-prefix.ensures.later s) in
+pub returns-in_err-first_root-clause-honest : goal.returns-in_err-first_root-clause-honest
+returns-in_err-first_root-clause-honest g c = λ entries r s.
+    let went = c.in_err-first_root.ensures.honest entries r s in
     let fault = went.answer in
     record { reader_is = went.reader_is; answer = search (rules, fault) }
 
@@ -35,20 +26,19 @@ returns-then-holds-clause-honest g c = λ entries r s.
     let digest = g.H.TreeHash.digest in
     let n = c.size-second.result in
     let first = c.args.first in
-    let at = c.in_ok-prefix.ensures.honest entries r s in
-    let went = c.in_ok-add_subproof.ensures.honest entries at.reader_is
-    (source_later digest entries _ _ c.in_ok-prefix.ensures.later s) in
-    let second_is : n ≡ length entries = c.size-second.ensures ∙ at.reader_is.size_is in
-    let upto : first ≤ n =
-    omega (arith, c.requires.within, second_is, r.size_is) in
-    let first_is = c.root-first_root.ensures.root ∙ at.answer.root_is in
-    let root_is = c.root-2.ensures.root ∙ went.reader_is.root_is in
+    let went = c.in_ok-first_root.ensures.honest entries r s in
+    let second_is : n ≡ length entries = c.size-second.ensures ∙ r.size_is in
+    let upto : first ≤ n = omega (arith, c.requires.within, c.size-second.ensures) in
+    let all = take_all n entries (omega (arith, second_is)) in
+    let first_is = went.answer.hash_is ∙ ap (λ es. mth digest (take first es)) all in
+    let root_is = c.root.ensures.root ∙ went.reader_is.root_is in
     let path_is : c.new.result ≡ proof_of digest first entries =
-    c.new.ensures ∙ (went.answer ∙ (ap (λ xs. xs ++ subproof_of digest first (part 0 n entries) true) c.new-path.ensures.items
-    ∙ ap (λ es. subproof_of digest first es true) (take_all n entries (omega (arith, second_is))))) in
+    c.new.ensures ∙ (went.answer.path_is
+    ∙ (ap (λ xs. xs ++ subproof_of digest first (part 0 n entries) true) c.new-path.ensures.items
+    ∙ ap (λ es. subproof_of digest first es true) all)) in
     record {
       reader_is = went.reader_is;
-      answer = consistency_is digest entries first n c.root-first_root.result c.root-2.result c.new.result second_is
+      answer = consistency_is digest entries first n c.in_ok-first_root.first_root c.root.result c.new.result second_is
           c.requires.some upto first_is root_is path_is;
     }
 
@@ -57,17 +47,16 @@ returns-else-holds-clause-honest g c = λ entries r s.
     let digest = g.H.TreeHash.digest in
     let n = c.size-second.result in
     let first = c.args.first in
-    let at = c.in_ok-prefix.ensures.honest entries r s in
-    let went = c.in_ok-add_subproof.ensures.honest entries at.reader_is
-    (source_later digest entries _ _ c.in_ok-prefix.ensures.later s) in
-    let second_is : n ≡ length entries = c.size-second.ensures ∙ at.reader_is.size_is in
-    let upto : first ≤ n =
-    omega (arith, c.requires.within, second_is, r.size_is) in
-    let first_is = c.root-first_root.ensures.root ∙ at.answer.root_is in
-    let root_is = c.root-2.ensures.root ∙ went.reader_is.root_is in
+    let went = c.in_ok-first_root.ensures.honest entries r s in
+    let second_is : n ≡ length entries = c.size-second.ensures ∙ r.size_is in
+    let upto : first ≤ n = omega (arith, c.requires.within, c.size-second.ensures) in
+    let all = take_all n entries (omega (arith, second_is)) in
+    let first_is = went.answer.hash_is ∙ ap (λ es. mth digest (take first es)) all in
+    let root_is = c.root.ensures.root ∙ went.reader_is.root_is in
     let path_is : c.new.result ≡ proof_of digest first entries =
-    c.new.ensures ∙ (went.answer ∙ (ap (λ xs. xs ++ subproof_of digest first (part 0 n entries) true) c.new-path.ensures.items
-    ∙ ap (λ es. subproof_of digest first es true) (take_all n entries (omega (arith, second_is))))) in
-    let holds = consistency_holds digest entries first n c.root-first_root.result c.root-2.result c.new.result second_is
+    c.new.ensures ∙ (went.answer.path_is
+    ∙ (ap (λ xs. xs ++ subproof_of digest first (part 0 n entries) true) c.new-path.ensures.items
+    ∙ ap (λ es. subproof_of digest first es true) all)) in
+    let holds = consistency_holds digest entries first n c.in_ok-first_root.first_root c.root.result c.new.result second_is
     c.requires.some upto first_is root_is path_is in
     absurd (false≢true (sym c.if-holds.false ∙ c.holds.ensures.1 holds))

@@ -6,7 +6,7 @@ use Rattle.tlog_proof.specs.Inclusion.{path_of}
 use Rattle.log_reader.specs.Nodes.{IsNodeRange}
 use Rattle.log_reader.proofs.Asked.{inclusion_holds, inclusion_is}
 use Rattle.log_reader.proofs.NodeNumbers.{whole_node}
-use Rattle.log_reader.proofs.TrueReads.{source_later}
+use Rattle.log_reader.proofs.TrueReads.{tiles_later}
 use Rattle.log_reader.proofs.reader.LogReader.inclusion.Goals as goal
 
 pub add_path-requires-clause-node : goal.add_path-requires-clause-node
@@ -26,7 +26,7 @@ returns-in_err-add_path-clause-honest g c = λ entries r s.
     let digest = g.H.TreeHash.digest in
     let at = c.in_ok-leaf.ensures.honest entries r s in
     let went = c.in_err-add_path.ensures.honest entries at.reader_is
-    (source_later digest entries _ _ c.in_ok-leaf.ensures.later s) in
+    (tiles_later digest entries _ _ c.in_ok-leaf.ensures.later s) in
     let fault = went.answer in
     record { reader_is = went.reader_is; answer = search (rules, fault) }
 
@@ -37,7 +37,7 @@ returns-then-holds-clause-honest g c = λ entries r s.
     let index = c.args.index in
     let at = c.in_ok-leaf.ensures.honest entries r s in
     let went = c.in_ok-add_path.ensures.honest entries at.reader_is
-    (source_later digest entries _ _ c.in_ok-leaf.ensures.later s) in
+    (tiles_later digest entries _ _ c.in_ok-leaf.ensures.later s) in
     let size_is : n ≡ length entries = c.size-size.ensures ∙ r.size_is in
     let below : index < n = subst (λ m. index < m) (sym c.size-size.ensures) c.requires in
     let root_is = c.root.ensures.root ∙ went.reader_is.root_is in
@@ -56,7 +56,7 @@ returns-else-holds-clause-honest g c = λ entries r s.
     let index = c.args.index in
     let at = c.in_ok-leaf.ensures.honest entries r s in
     let went = c.in_ok-add_path.ensures.honest entries at.reader_is
-    (source_later digest entries _ _ c.in_ok-leaf.ensures.later s) in
+    (tiles_later digest entries _ _ c.in_ok-leaf.ensures.later s) in
     let size_is : n ≡ length entries = c.size-size.ensures ∙ r.size_is in
     let below : index < n = subst (λ m. index < m) (sym c.size-size.ensures) c.requires in
     let root_is = c.root.ensures.root ∙ went.reader_is.root_is in

@@ -1,0 +1,26 @@
+use Rattle.std.proofs.Common.{◌≤◌, length, subst, take, arith}
+use Rattle.log_reader.proofs.FullTiles.{first_tiles}
+use Rattle.log_reader.proofs.TrueReads.{reads_more, tiles_later}
+use Rattle.copy_reader.specs.Proofs.{IsMadeOf}
+use Rattle.copy_reader.proofs.MadeProofs.{first_made, within_size}
+use Rattle.copy_reader.proofs.proving.proof_of.Goals as goal
+
+pub returns-clause-honest : goal.returns-clause-honest
+returns-clause-honest g c = λ entries r s.
+    let digest = g.H.TreeHash.digest in
+    let may = g.S.Source.may_answer in
+    let n = c.args.reader.now.edge.size in
+    let ask = c.args.ask in
+    let size = c.tree_size-size.result in
+    let size_is = c.tree_size-size.ensures in
+    let went = c.in_ok-first.ensures.honest entries r s in
+    let within : size ≤ length entries = omega (arith, size_is, within_size ask n c.requires, r.size_is) in
+    let later = tiles_later digest entries (may c.args.files.now) (may c.prefix.new.source) c.in_ok-first.ensures.later s in
+    let made = c.whole_proof-2.ensures.honest (take size entries) went.answer
+    (first_tiles digest entries (may c.prefix.new.source) size within later) in
+    record {
+      reader_is = went.reader_is;
+      answer = reads_more c.whole_proof-2.result _ _
+          (λ proof is. first_made digest entries n ask proof r.size_is c.requires
+          (subst (λ m. IsMadeOf digest ask (take m entries) proof) size_is is)) made.answer;
+    }
