@@ -649,12 +649,12 @@ pub fn follow<H: TreeHash, D: ReadableShelf, S: Source + Drop>(
     ensures ends { IfErr result (EndsFor H.digest S.may_answer origin.now
         (map (λ k. key k) keys.now) (D.puts shelf.old) places.old places.new
         (option_map (λ v. v.items) given)) }
-    ensures suffices { (h : IsHonestRun H.digest S.may_answer (D.puts shelf.old) places.old places.new
-        origin.now (AreCandidates S.may_answer origin.now (map (λ k. key k) keys.now)
+    ensures suffices { (h : IsHonestRun H.digest S.may_answer (D.puts shelf.old) places.old
+        places.new origin.now (AreCandidates S.may_answer origin.now (map (λ k. key k) keys.now)
         places.old places.new (option_map (λ v. v.items) given)))
         → ReachesLog H.digest h.entries h.size result }
-    ensures reaches { (h : IsHonestAmong H.digest S.may_answer (D.puts shelf.new) places.old places.new
-        origin.now (D.puts shelf.old) (AreCandidates S.may_answer origin.now
+    ensures reaches { (h : IsHonestAmong H.digest S.may_answer (D.puts shelf.new) places.old
+        places.new origin.now (D.puts shelf.old) (AreCandidates S.may_answer origin.now
         (map (λ k. key k) keys.now) places.old places.new (option_map (λ v. v.items) given)))
         → ReachesSize h.size result }
 {
