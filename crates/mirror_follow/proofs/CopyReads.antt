@@ -1,5 +1,5 @@
 -- Reads of a copy: where one stands, none of its files is called damaged.
-use Rattle.std.proofs.Common.{◌≡◌, ℕ, ◌++◌, List, length, Option, Some, Result, Ok, Err, IsErr, IsErrAnd, IfErr, sym, subst}
+use Rattle.std.proofs.Common.{◌≡◌, ℕ, ◌++◌, List, length, Option, None, Some, Result, Ok, Err, IsErr, IsErrAnd, IfErr, sym, subst}
 use Rattle.std.specs.Prelude.{⊤}
 use Rattle.std.proofs.lemmas.Bool.{false≢true}
 use Rattle.tlog_hash.specs.Tree.{mth}
@@ -7,7 +7,7 @@ use Rattle.tlog_tiles.specs.declared.paths.Path.{Path}
 use Rattle.tlog_tiles.specs.declared.paths.Path.TheVariants.{Checkpoint}
 use Rattle.mirror_sources.specs.Source.{StaysWithin}
 use Rattle.mirror_sources.specs.Recorded.{KeepsRecord}
-use Rattle.mirror_folders.specs.Shelf.{Put, RecordsRead}
+use Rattle.mirror_folders.specs.Shelf.{Put, RecordsRead, RecordsSome}
 use Rattle.mirror_model.specs.Heads.{IsHead}
 use Rattle.log_reader.specs.Holding.{IsReaderOf, ReadsLog, ReadsOf}
 use Rattle.log_reader.specs.Ways.{Reader}
@@ -20,6 +20,7 @@ use Rattle.copy_reader.specs.declared.fault.CopyFault.TheVariants as reading
 use Rattle.copy_reader.proofs.WholeCopies.{files_later, whole_read}
 use Rattle.copy_reader.proofs.WholeLaws.{copies_are_whole}
 use Rattle.mirror_copy.specs.Copies.{IsCopy}
+use Rattle.mirror_copy.proofs.TipReads.{stands_has}
 use Rattle.mirror_follow.specs.Blame.{CountsFollow, CountsFollowFault, by_copy}
 use Rattle.mirror_follow.specs.Ending.{EndsRun}
 use Rattle.mirror_follow.specs.Gathering.{note_of}
@@ -120,3 +121,13 @@ module _ (digest : List ℕ → List ℕ) (origin : List ℕ) where
     no_edge T size root head kept e reads other held is note entries copy =
         other (whole_read digest origin x y kept found size root stands head {T = T} (Err e) (λ _ _. ⊤) reads note entries
         (subst (λ p. IsWholeCopy digest origin note entries p) (sym is) (whole note entries held copy)))
+
+-- a checkpoint that was read was put
+pub read_some : (x : Option (List Put)) (note : List ℕ) → RecordsRead x Checkpoint (Some note) → RecordsSome x Checkpoint
+read_some None note h = tt
+read_some (Some held) note h = stands_has held Checkpoint note h
+
+pub some_any : {T E : Type 0} (r : Result T E) (x : Option (List Put)) (f : E) → RecordsSome x Checkpoint →
+    IfErr r (λ e. e ≡ f → RecordsSome x Checkpoint)
+some_any (Ok t) x f h = tt
+some_any (Err e) x f h = λ is. h

@@ -20,3 +20,5 @@ pub mod Agreeing
 pub mod Noted
 pub mod Split
 pub mod Lines
+pub mod OneHonest
+pub mod HonestRuns

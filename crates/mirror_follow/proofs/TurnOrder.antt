@@ -187,3 +187,22 @@ pub element : (cs : List Candidate) (i : ℕ) → i < length cs → (x : Candida
 element [] i lt = absurd (omega (arith, lt))
 element (y ∷ ys) i lt =
     let x = get_or (y ∷ ys) i y in (x, get_or_default (y ∷ ys) i y x lt)
+
+-- no candidate is larger than the first
+pub none_above : (cs : List Candidate) → IsSorted turn_cmp cs → (first : Candidate) (others : List Candidate) →
+    cs ≡ first ∷ others → (c : Candidate) → Contains cs c → c.size.0 ≤ first.size.0
+none_above cs rises first others are c listed =
+    let f = far cs rises listed.0 c listed.1 (sym listed.2) 0 listed.0 c (omega arith) listed.1 in
+    let head : get_or cs 0 c ≡ first = ap (λ (l : List Candidate). get_or l 0 c) are in
+    let upto : (get_or cs listed.0 c).size.0 ≤ (get_or cs 0 c).size.0 = f.upto in
+    subst (λ x. x.size.0 ≤ first.size.0) listed.2
+    (subst (λ x. (get_or cs listed.0 c).size.0 ≤ x.size.0) head upto)
+
+-- a candidate is not larger than one before it
+pub falls : (cs : List Candidate) → IsSorted turn_cmp cs → (i : ℕ) (c : Candidate) → i < length cs → c ≡ get_or cs i c →
+    (j : ℕ) (d : Candidate) → i ≤ j → j < length cs → d ≡ get_or cs j d → d.size.0 ≤ c.size.0
+falls cs rises i c lt is j d le within there =
+    let f = far cs rises i c lt is i j d le within in
+    let head : get_or cs i d ≡ c = get_or_default cs i d c lt ∙ sym is in
+    let upto : (get_or cs j d).size.0 ≤ (get_or cs i d).size.0 = f.upto in
+    subst (λ x. x.size.0 ≤ c.size.0) (sym there) (subst (λ x. (get_or cs j d).size.0 ≤ x.size.0) head upto)

@@ -16,3 +16,4 @@ pub mod Lines
 pub mod Says
 pub mod Adding
 pub mod Taken
+pub mod OneHonest

@@ -3,8 +3,10 @@ ghost use Rattle.std.specs.Prelude.{◌≡◌, ◌↔◌, ◌<◌, IfErr, IfOk, 
 ghost use Rattle.std.specs.List.{AllByRecursion};
 ghost use Rattle.tlog_text.specs.Hash.{Is32Bytes};
 ghost use Rattle.tlog_proof.specs.Text.{HasHashes};
+ghost use Rattle.tlog_tiles.specs.declared.paths.Path.TheVariants.{Checkpoint};
 ghost use Rattle.mirror_sources.specs.Source.{StaysWithin};
 ghost use Rattle.mirror_sources.specs.Recorded.{KeepsRecord};
+ghost use Rattle.mirror_folders.specs.Shelf.{RecordsSome};
 ghost use Rattle.log_reader.specs.Faults.{CountsFailure};
 ghost use Rattle.log_reader.specs.Holding.{ReadsLog};
 ghost use Rattle.copy_reader.specs.Faults.{CountsRead};
@@ -228,6 +230,8 @@ pub(crate) fn judge_copy<H: TreeHash, D: ReadableShelf>(
         (EndsRun (HoldsNoCopy H.digest origin.now (D.puts shelf.old)) ⊥) }
     ensures head { IfOk result (λ copy. IfSome copy (IsHeadOf origin.now)) }
     ensures found { IfOk result (IsFoundCopy origin.now (D.puts shelf.old)) }
+    ensures some { IfErr result (λ e. e ≡ FollowFault.CopyDamaged
+        → RecordsSome (D.puts shelf.old) Checkpoint) }
 {
     let Some(note) = shelf.read(&Path::Checkpoint)? else {
         return Ok(None);

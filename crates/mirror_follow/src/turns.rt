@@ -1,15 +1,17 @@
 //! A copy that follows its places.
-ghost use Rattle.std.specs.Prelude.{◌≡◌, ◌≢◌, ◌⊎◌, ◌↔◌, ◌∷◌, ◌+◌, ◌++◌, ◌<◌, ◌≤◌, [], ℕ, All, IfErr, IfOk, IfSome, IsFalse, IsTrue, List, None, OnOk, Option, Some, length, map, option_map, take, ⊤};
+ghost use Rattle.std.specs.Prelude.{◌≡◌, ◌≢◌, ◌⊎◌, ◌↔◌, ◌∷◌, ◌+◌, ◌++◌, ◌<◌, ◌≤◌, [], ℕ, All, IfErr, IfOk, IfSome, IsFalse, IsTrue, List, None, OnOk, Option, Some, get_or, length, map, option_map, take, ⊤};
 ghost use Rattle.std.specs.List.Sorted.{IsSorted};
 ghost use Rattle.mirror_sources.specs.Recorded.{KeepsRecord};
 ghost use Rattle.mirror_folders.specs.Shelf.{Put};
 ghost use Rattle.mirror_copy.specs.Faults.{CountsFault, IsOtherFound};
 ghost use Rattle.mirror_copy.specs.Moments.{CopyStays, KeepsCopy};
+ghost use Rattle.mirror_copy.specs.OneHonest.{IsShelfOrMemory};
 ghost use Rattle.mirror_follow.specs.Blame.{AsksAny, CountsFollow, IsGivenOrMayGive, PlaceFails};
 ghost use Rattle.mirror_follow.specs.Candidates.{IsCandidate, turn_cmp};
 ghost use Rattle.mirror_follow.specs.Ending.{BlamesPlace, EndsAt, EndsFor, EndsRun, HasFalseRoot, IsOfEmpty, IsOfOtherRun, KeepsFault, LacksCandidates, RefusesGiven};
 ghost use Rattle.mirror_follow.specs.Gathering.{note_of};
 ghost use Rattle.mirror_follow.specs.GatheredFrom.{AreCandidates, IsOnly};
+ghost use Rattle.mirror_follow.specs.OneHonest.{BringsTo, HasSize, IsBroughtOr, IsHonestAmong, IsHonestFirst, IsHonestListed, IsHonestRun, IsHonestTurn, ReachesLog, ReachesSize, StepsUp, TurnsReach};
 ghost use Rattle.mirror_follow.specs.Runs.{FollowsCandidates, KeepsCopies};
 ghost use Rattle.mirror_follow.specs.Says.{IsNoteUpTo, IsOnePoint, Says};
 ghost use Rattle.mirror_follow.specs.Shown.{ShowsLine, ShowsTurn};
@@ -48,6 +50,7 @@ fn turn_of(fault: BringFault) -> Result<Outcome, FollowFault>
     ensures says { IfOk result (λ turn. (digest : List ℕ → List ℕ) (copy : Option Candidate)
         (candidate : Candidate) → IsLargerThan copy candidate
         → SaysTurn digest copy candidate turn) }
+    ensures suffices { IsShelfOrMemory fault → IsBroughtOr result }
 {
     match fault {
         BringFault::Contradiction => Ok(Outcome::Contradicts),
@@ -88,6 +91,8 @@ fn bring<H: TreeHash, D: ReadableShelf, S: Source + Drop>(
     ensures says { IfOk result (λ turn. (digest : List ℕ → List ℕ) (copy : Option Candidate)
         (candidate : Candidate) → IsLargerThan copy candidate
         → SaysTurn digest copy candidate turn) }
+    ensures suffices { IsHonestTurn H.digest S.may_answer (D.puts shelf.old) places.old places.new
+        origin.now candidate.now → IsBroughtOr result }
 {
     match bring_copy::<H, D, S>(alloc, origin, shelf, places, &candidate.note) {
         Ok(_) => Ok(Outcome::Brought),
@@ -140,6 +145,8 @@ fn take_larger<H: TreeHash, D: ReadableShelf, S: Source + Drop>(
         (EndsAt (¬ HasStanding H.digest origin.now (Some copy.now) (D.puts shelf.old))) }
     ensures shows { IfOk result (ShowsTurn H.digest (Some copy.now) candidate.now) }
     ensures says { IfOk result (SaysTurn H.digest (Some copy.now) candidate.now) }
+    ensures suffices { IsHonestTurn H.digest S.may_answer (D.puts shelf.old) places.old places.new
+        origin.now candidate.now → IsBroughtOr result }
 {
     let turn = bring::<H, D, S>(alloc, origin, shelf, places, candidate)?;
     match turn {
@@ -162,6 +169,7 @@ fn over_none(turn: Outcome) -> Result<Outcome, FollowFault>
     ensures empty { IfOk result (λ now. (digest : List ℕ → List ℕ) (candidate : Candidate)
         → IsOfEmpty digest candidate now) }
     ensures ends { IfErr result (λ e. e ≡ FollowFault.CopyInUse) }
+    ensures suffices { turn ≡ Outcome.Brought → IsBroughtOr result }
 {
     match turn {
         Outcome::Brought => Ok(Outcome::Brought),
@@ -191,6 +199,8 @@ fn take_first<H: TreeHash, D: ReadableShelf, S: Source + Drop>(
     ensures ends { IfErr result
         (EndsAt (¬ HasStanding H.digest origin.now None (D.puts shelf.old))) }
     ensures empty { IfOk result (IsOfEmpty H.digest candidate.now) }
+    ensures suffices { IsHonestTurn H.digest S.may_answer (D.puts shelf.old) places.old places.new
+        origin.now candidate.now → IsBroughtOr result }
 {
     if has_false_root::<H>(candidate) {
         return Ok(Outcome::Contradicts);
@@ -388,6 +398,9 @@ fn turn_for<H: TreeHash, D: ReadableShelf, S: Source + Drop>(
         (EndsAt (¬ HasStanding H.digest origin.now run.now.copy (D.puts shelf.old))) }
     ensures empty { run.now.copy ≡ None → IfOk result (IsOfEmpty H.digest candidate.now) }
     ensures says { IfOk result (SaysTurn H.digest run.now.copy candidate.now) }
+    ensures suffices { IsLargerThan run.now.copy candidate.now
+        → IsHonestTurn H.digest S.may_answer (D.puts shelf.old) places.old places.new
+        origin.now candidate.now → IsBroughtOr result }
 {
     let Some(copy) = &run.copy else {
         return take_first::<H, D, S>(alloc, origin, shelf, places, candidate);
@@ -427,6 +440,10 @@ fn take_turn<H: TreeHash, D: ReadableShelf, S: Source + Drop>(
     ensures taken { OnOk result ((first : Option Candidate) (done : List Candidate)
         → IsNextOf done candidate.now → HasTakenRun H.digest first done run.old
         → HasTakenRun H.digest first (done ++ candidate.now ∷ []) run.new) }
+    ensures suffices { IsLargerThan run.old.copy candidate.now
+        → IsHonestTurn H.digest S.may_answer (D.puts shelf.old) places.old places.new
+        origin.now candidate.now → BringsTo candidate.now run.new.copy result }
+    ensures steps { OnOk result (StepsUp candidate.now run.old.copy run.new.copy) }
 {
     let turn = turn_for::<H, D, S>(alloc, origin, shelf, places, run, candidate)?;
     run.add(alloc, candidate, turn)?;
@@ -474,6 +491,13 @@ fn take_turn_at<H: TreeHash, D: ReadableShelf, S: Source + Drop>(
     ensures taken { OnOk result ((first : Option Candidate) → IsSorted turn_cmp candidates.now
         → HasTakenRun H.digest first (take i candidates.now) run.old
         → HasTakenRun H.digest first (take (i + 1) candidates.now) run.new) }
+    ensures suffices { IsRepeat candidates.now i ⊎ ((candidate : Candidate)
+        → candidate ≡ get_or candidates.now i candidate → IsLargerThan run.old.copy candidate
+        → IsHonestTurn H.digest S.may_answer (D.puts shelf.old) places.old places.new origin.now
+        candidate → BringsTo candidate run.new.copy result) }
+    ensures steps { OnOk result ((candidate : Candidate)
+        → candidate ≡ get_or candidates.now i candidate
+        → StepsUp candidate run.old.copy run.new.copy) }
 {
     if is_repeated(candidates, i) {
         return Ok(());
@@ -506,6 +530,12 @@ fn take_turns<H: TreeHash, D: ReadableShelf, S: Source + Drop>(
     ensures fault { IfOk result (KeepsFault H.digest candidates.now) }
     ensures taken { IfOk result (λ run. IsSorted turn_cmp candidates.now
         → HasTakenRun H.digest copy candidates.now run) }
+    ensures suffices { IsSorted turn_cmp candidates.now
+        → (h : IsHonestFirst H.digest S.may_answer (D.puts shelf.old) places.old places.new
+        origin.now copy candidates.now) → TurnsReach copy h.first result }
+    ensures passes { IfOk result (λ run. IsSorted turn_cmp candidates.now
+        → (h : IsHonestListed H.digest S.may_answer (D.puts shelf.new) places.old places.new
+        origin.now (D.puts shelf.old) copy candidates.now) → HasSize h.candidate.size.0 run.copy) }
 {
     let mut run = Run::new(alloc, copy);
     for i in 0..candidates.len() {
@@ -619,6 +649,14 @@ pub fn follow<H: TreeHash, D: ReadableShelf, S: Source + Drop>(
     ensures ends { IfErr result (EndsFor H.digest S.may_answer origin.now
         (map (λ k. key k) keys.now) (D.puts shelf.old) places.old places.new
         (option_map (λ v. v.items) given)) }
+    ensures suffices { (h : IsHonestRun H.digest S.may_answer (D.puts shelf.old) places.old
+        places.new origin.now (AreCandidates S.may_answer origin.now (map (λ k. key k) keys.now)
+        places.old places.new (option_map (λ v. v.items) given)))
+        → ReachesLog H.digest h.entries h.size result }
+    ensures reaches { (h : IsHonestAmong H.digest S.may_answer (D.puts shelf.new) places.old
+        places.new origin.now (D.puts shelf.old) (AreCandidates S.may_answer origin.now
+        (map (λ k. key k) keys.now) places.old places.new (option_map (λ v. v.items) given)))
+        → ReachesSize h.size result }
 {
     let copy = judge_copy::<H, D>(alloc, origin, shelf)?;
     let candidates = candidates_of::<S>(alloc, origin, keys, places, given)?;

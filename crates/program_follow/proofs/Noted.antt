@@ -1,5 +1,5 @@
 -- What a run says of its note, of the copy, of the output and of the evidence.
-use Rattle.std.proofs.Common.{◌≡◌, ℕ, List, IfErr, IfOk, Option, Some, None, Result, Ok, Err, sym, subst, ◌∙◌}
+use Rattle.std.proofs.Common.{◌≡◌, inr, ℕ, List, IfErr, IfOk, Option, Some, None, Result, Ok, Err, sym, subst, ◌∙◌}
 use Rattle.std.specs.Io.KnownBytes.{Keeps}
 use Rattle.std.proofs.lemmas.List.Elements.{All-weaker}
 use Rattle.std.proofs.lemmas.Option.{none-some}
@@ -9,16 +9,19 @@ use Rattle.mirror_folders.specs.Shelf.{Put}
 use Rattle.mirror_copy.specs.declared.places.Places.{Places}
 use Rattle.mirror_follow.specs.Blame.{CountsFollowFault, IsGivenOrMayGive}
 use Rattle.mirror_follow.specs.Ending.{EndsFor}
+use Rattle.mirror_follow.specs.OneHonest.{IsHonestAmong, IsHonestRun, ReachesLog, ReachesSize}
 use Rattle.mirror_follow.specs.Runs.{FollowsCandidates}
 use Rattle.mirror_follow.specs.GatheredFrom.{AreCandidates}
 use Rattle.mirror_follow.specs.Gathering.{note_of}
 use Rattle.mirror_follow.specs.Says.{Says}
+use Rattle.mirror_follow.specs.Standing.{IsFollowed}
+use Rattle.mirror_follow.specs.declared.candidate.Candidate.{Candidate}
 use Rattle.mirror_follow.specs.declared.fault.FollowFault.{FollowFault}
 use Rattle.mirror_follow.specs.declared.fault.FollowFault.TheVariants as following
 use Rattle.mirror_follow.specs.declared.report.Followed.{Followed}
 use Rattle.program_files.specs.Named.{HasContents, NamedFile}
 use Rattle.program_follow.specs.Following.{AreRunCandidates, CopyFollowed, CountsRun, EndsFollowing, Follows, FollowsIn, IsNoteOf}
-use Rattle.program_follow.specs.Following.{PrintsSettled, ReadsNote, PrintsDone}
+use Rattle.program_follow.specs.Following.{HonestSuffices, PrintsSettled, ReachesIn, ReachesRun, ReadsNote, PrintsDone, SufficesForRun}
 use Rattle.program_follow.specs.declared.fault.FollowRunFault.{FollowRunFault}
 use Rattle.program_follow.specs.declared.fault.FollowRunFault.TheVariants.{File, OutOfMemory, Follow, WriteFault, Evidence}
 
@@ -147,3 +150,88 @@ module _ (digest : List ℕ → List ℕ) {S : Type 0} (may : S → Path → Opt
       (subst (λ g. EndsFor digest may origin keys held x y given g) (sym tells.fault_is ∙ same) (memory_ends given))
   ends_recorded forks done from left old new (Err WriteFault) tells = λ fault e. absurd cc
   ends_recorded forks done from left old new (Err (Evidence f)) tells = λ fault e. absurd cc
+
+-- ---- one honest place
+
+module _ (digest : List ℕ → List ℕ) {S : Type 0} (may : S → Path → Option (List ℕ) → Type 0) (origin : List ℕ)
+    (keys : List Key) (held put : Option (List Put)) (x y : Places S) (recorded : Option (List NamedFile))
+    (name : Option (List ℕ)) (old new : Option (List ℕ)) (given : Option (List ℕ))
+    (reads : ReadsNote recorded name (Ok given)) where
+  abbrev Greatest : Type 0
+  Greatest = IsHonestRun digest may held x y origin (AreCandidates may origin keys x y given)
+
+  abbrev Among : Type 0
+  Among = IsHonestAmong digest may put x y origin held (AreCandidates may origin keys x y given)
+
+  abbrev Suffices : Result ℕ FollowRunFault → Type 0
+  Suffices r = SufficesForRun digest may origin keys held put x y recorded name old new r
+
+  -- what was told after the copy was followed
+  reaches_told : (so : Followed → Type 0) (forks : Option (List ℕ)) (done : Followed) (from left : Option (List NamedFile))
+      (r : Result ℕ FollowRunFault) → IsFollowed digest origin held put done → so done →
+      PrintsDone forks done from left old new r → ReachesRun digest origin held put old new so r
+  reaches_told so forks done from left (Ok status) brought is tells =
+      record { done = done; brought = brought; is_so = is; written = tells.whole.text }
+  reaches_told so forks done from left (Err (File f)) brought is tells = tt
+  reaches_told so forks done from left (Err OutOfMemory) brought is tells = tt
+  reaches_told so forks done from left (Err (Follow f)) brought is tells = inr tells.fault_is
+  reaches_told so forks done from left (Err WriteFault) brought is tells =
+      record { done = done; brought = brought; is_so = is; written = tells.text }
+  reaches_told so forks done from left (Err (Evidence f)) brought is tells =
+      record { done = done; brought = brought; is_so = is; written = tells.text }
+
+  for_run : (r : Result ℕ FollowRunFault) → HonestSuffices digest may origin keys held put x y recorded name old new r →
+      Suffices r
+  for_run (Ok status) h = h
+  for_run (Err (File f)) h = tt
+  for_run (Err OutOfMemory) h = h
+  for_run (Err (Follow f)) h = h
+  for_run (Err WriteFault) h = h
+  for_run (Err (Evidence f)) h = h
+
+  -- the copy was followed, and then it was told
+  pub suffices_recorded : (forks : Option (List ℕ)) (done : Followed) (from left : Option (List NamedFile))
+      (r : Result ℕ FollowRunFault) → IsFollowed digest origin held put done →
+      ((h : Greatest) → ReachesLog digest h.entries h.size (Ok done)) → ((h : Among) → ReachesSize h.size (Ok done)) →
+      PrintsDone forks done from left old new r → Suffices r
+  suffices_recorded forks done from left r brought log size tells = for_run r (record {
+    given = given;
+    reads = reads;
+    suffices = λ h. reaches_told (λ f. ReachesLog digest h.entries h.size (Ok f)) forks done from left r brought (log h) tells;
+    reaches = λ h. reaches_told (λ f. ReachesSize h.size (Ok f)) forks done from left r brought (size h) tells;
+  })
+
+  ended_in : (so : Followed → Type 0) (fault : FollowRunFault) → ReachesIn so (Err fault) →
+      ReachesRun digest origin held put old new so (Err fault)
+  ended_in so (File f) h = tt
+  ended_in so OutOfMemory h = tt
+  ended_in so (Follow f) h = h
+  ended_in so WriteFault h = absurd h
+  ended_in so (Evidence f) h = absurd h
+
+  -- it was not followed, and nothing was told
+  pub suffices_ended : (fault : FollowRunFault) →
+      ((h : Greatest) → ReachesIn (λ f. ReachesLog digest h.entries h.size (Ok f)) (Err fault)) →
+      ((h : Among) → ReachesIn (λ f. ReachesSize h.size (Ok f)) (Err fault)) → Suffices (Err fault)
+  suffices_ended fault log size = for_run (Err fault) (record {
+    given = given;
+    reads = reads;
+    suffices = λ h. ended_in (λ f. ReachesLog digest h.entries h.size (Ok f)) fault (log h);
+    reaches = λ h. ended_in (λ f. ReachesSize h.size (Ok f)) fault (size h);
+  })
+
+-- where the folder holds the same
+module _ (digest : List ℕ → List ℕ) {S : Type 0} (may : S → Path → Option (List ℕ) → Type 0) (origin : List ℕ)
+    (x y : Places S) (so : List Candidate → Type 0) (r : Result Followed FollowFault) where
+  pub greatest_same : (a b : Option (List Put)) → b ≡ a →
+      ((h : IsHonestRun digest may b x y origin so) → ReachesLog digest h.entries h.size r) →
+      (h : IsHonestRun digest may a x y origin so) → ReachesLog digest h.entries h.size r
+  greatest_same a b same f =
+      subst (λ o. (h : IsHonestRun digest may o x y origin so) → ReachesLog digest h.entries h.size r) same f
+
+  pub among_same : (a b last put : Option (List Put)) → b ≡ a → last ≡ put →
+      ((h : IsHonestAmong digest may put x y origin b so) → ReachesSize h.size r) →
+      (h : IsHonestAmong digest may last x y origin a so) → ReachesSize h.size r
+  among_same a b last put same kept f =
+      subst (λ o. (h : IsHonestAmong digest may o x y origin a so) → ReachesSize h.size r) (sym kept)
+      (subst (λ o. (h : IsHonestAmong digest may put x y origin o so) → ReachesSize h.size r) same f)

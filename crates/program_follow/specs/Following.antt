@@ -1,5 +1,5 @@
 -- What a run of `follow` reads, puts into its folder, writes to its output, and leaves as evidence.
-use Rattle.std.specs.Prelude.{◌≡◌, ℕ, All, List, Option, Some, None, Result, Ok, Err}
+use Rattle.std.specs.Prelude.{◌≡◌, ℕ, All, List, Option, Some, None, Result, Ok, Err, ⊤}
 use Rattle.std.specs.Io.KnownBytes.{Appends, Keeps}
 use Rattle.byte_streams.specs.Streams.{AppendsPrefix}
 use Rattle.tlog_tiles.specs.declared.paths.Path.{Path}
@@ -9,6 +9,7 @@ use Rattle.mirror_copy.specs.declared.places.Places.{Places}
 use Rattle.mirror_follow.specs.Blame.{CountsFollowFault, MayGive}
 use Rattle.mirror_follow.specs.Ending.{EndsFor}
 use Rattle.mirror_follow.specs.GatheredFrom.{AreCandidates}
+use Rattle.mirror_follow.specs.OneHonest.{IsHonestAmong, IsHonestRun, IsOfShelfOrMemory, ReachesLog, ReachesSize}
 use Rattle.mirror_follow.specs.Runs.{FollowsCandidates}
 use Rattle.mirror_follow.specs.Says.{Says}
 use Rattle.mirror_follow.specs.Shown.{ShowsLine}
@@ -144,6 +145,60 @@ module _ (forks : Option (List ℕ)) (done : Followed) (recorded : Option (List 
   PrintsDone (Err (Follow fault)) = PrintsNothing fault
   PrintsDone (Err WriteFault) = PrintsFront
   PrintsDone (Err (Evidence fault)) = PrintsAllText (files_failed fault)
+
+-- ---- one honest place
+
+-- the answer says so; or following ended since the folder failed, or memory was refused
+abbrev pub ReachesIn : (Followed → Type 0) → Result Followed FollowRunFault → Type 0
+ReachesIn so (Ok done) = so done
+ReachesIn so (Err (File fault)) = ⊥
+ReachesIn so (Err OutOfMemory) = ⊤
+ReachesIn so (Err (Follow fault)) = IsOfShelfOrMemory fault
+ReachesIn so (Err WriteFault) = ⊥
+ReachesIn so (Err (Evidence fault)) = ⊥
+
+module _ (digest : List ℕ → List ℕ) (origin : List ℕ) (held put : Option (List Put)) (old new : Option (List ℕ))
+    (so : Followed → Type 0) where
+  -- the copy was followed, its answer says so, and of it this was written
+  pub record CopyReaches (text : Followed → Type 0) : Type 0 where
+    pub done : Followed
+    pub brought : IsFollowed digest origin held put done
+    pub is_so : so done
+    pub written : text done
+
+  -- the copy was followed, and its answer says so, whatever came of the output and the evidence; or following ended since the
+  -- folder failed, or memory was refused
+  abbrev pub ReachesRun : Result ℕ FollowRunFault → Type 0
+  ReachesRun (Ok status) = CopyReaches (λ done. Appends old new (followed_lines done))
+  ReachesRun (Err (File fault)) = ⊤
+  ReachesRun (Err OutOfMemory) = ⊤
+  ReachesRun (Err (Follow fault)) = IsOfShelfOrMemory fault
+  ReachesRun (Err WriteFault) = CopyReaches (λ done. AppendsPrefix old new (followed_lines done))
+  ReachesRun (Err (Evidence fault)) = CopyReaches (λ done. Appends old new (followed_lines done))
+
+module _ (digest : List ℕ → List ℕ) {S : Type 0} (may : S → Path → Option (List ℕ) → Type 0) (origin : List ℕ)
+    (keys : List Key) (held put : Option (List Put)) (places left : Places S) (recorded : Option (List NamedFile))
+    (name : Option (List ℕ)) (old new : Option (List ℕ)) where
+  -- where one place is honest, and the greatest candidate is of its log, the copy is followed to it; where any is, the copy
+  -- has at least its size. The candidates are the note of the named file, or where none is named those of the places
+  pub record HonestSuffices (answer : Result ℕ FollowRunFault) : Type 0 where
+    pub given : Option (List ℕ)
+    pub reads : ReadsNote recorded name (Ok given)
+    pub suffices :
+        (h : IsHonestRun digest may held places left origin (AreCandidates may origin keys places left given)) →
+        ReachesRun digest origin held put old new (λ done. ReachesLog digest h.entries h.size (Ok done)) answer
+    pub reaches :
+        (h : IsHonestAmong digest may put places left origin held (AreCandidates may origin keys places left given)) →
+        ReachesRun digest origin held put old new (λ done. ReachesSize h.size (Ok done)) answer
+
+  -- so it is if the named file was read
+  abbrev pub SufficesForRun : Result ℕ FollowRunFault → Type 0
+  SufficesForRun (Ok status) = HonestSuffices (Ok status)
+  SufficesForRun (Err (File fault)) = ⊤
+  SufficesForRun (Err OutOfMemory) = HonestSuffices (Err OutOfMemory)
+  SufficesForRun (Err (Follow fault)) = HonestSuffices (Err (Follow fault))
+  SufficesForRun (Err WriteFault) = HonestSuffices (Err WriteFault)
+  SufficesForRun (Err (Evidence fault)) = HonestSuffices (Err (Evidence fault))
 
 -- ---- the command
 

@@ -1,15 +1,16 @@
 //! The command `follow`: a copy in a folder, brought to the newest checkpoint of some places.
-ghost use Rattle.std.specs.Prelude.{◌≡◌, ◌⊎◌, All, IfErr, IfOk, map, option_map};
+ghost use Rattle.std.specs.Prelude.{◌≡◌, ◌⊎◌, All, IfErr, IfOk, Ok, map, option_map};
 ghost use Rattle.tlog_text.specs.Answers.{seen};
 ghost use Rattle.mirror_follow.specs.Blame.{CountsFollow, IsGivenOrMayGive};
 ghost use Rattle.mirror_follow.specs.Ending.{EndsFor};
 ghost use Rattle.mirror_follow.specs.GatheredFrom.{AreCandidates};
 ghost use Rattle.mirror_follow.specs.declared.fault.FollowFault.{FollowFault};
+ghost use Rattle.mirror_follow.specs.OneHonest.{IsHonestAmong, IsHonestRun, ReachesLog, ReachesSize};
 ghost use Rattle.mirror_follow.specs.Runs.{FollowsCandidates};
 ghost use Rattle.mirror_follow.specs.Says.{Says};
 ghost use Rattle.mirror_follow.specs.Shown.{ShowsLine};
 ghost use Rattle.mirror_follow.specs.Standing.{IsFollowed};
-ghost use Rattle.program_follow.specs.Following.{AreRunCandidates, CountsRun, EndsFollowing, Follows, FollowsIn, IsNoteOf, PrintsSettled};
+ghost use Rattle.program_follow.specs.Following.{AreRunCandidates, CountsRun, EndsFollowing, Follows, FollowsIn, IsNoteOf, PrintsSettled, ReachesIn, SufficesForRun};
 ghost use Rattle.program_follow.specs.Following.{ReadsGiven, ReadsNote, PrintsDone};
 
 use crate::evidence::write_evidence;
@@ -55,6 +56,32 @@ fn read_given<F: NamedFiles>(files: &F, name: Option<&str>) -> Result<Option<Vec
     }
 }
 
+// Begins the lines of progress, if these are asked for.
+fn begin_lines<D: CountedFolders>(folders: &mut D, progress: bool)
+    ensures puts { D.puts folders.new ≡ D.puts folders.old }
+    ensures failed { D.failed folders.new ≡ D.failed folders.old }
+{
+    if progress {
+        folders.begin(Task::Follow);
+    }
+}
+
+// Ends the lines of progress of an answer, if these are asked for.
+fn end_lines<D: CountedFolders>(
+    folders: &mut D,
+    progress: bool,
+    done: &Result<Followed, FollowFault>,
+)
+    ensures puts { D.puts folders.new ≡ D.puts folders.old }
+    ensures failed { D.failed folders.new ≡ D.failed folders.old }
+{
+    if progress {
+        if let Ok(done) = done {
+            folders.end_followed(done.old, done.size);
+        }
+    }
+}
+
 // Follows the places into the folder that is open, with lines of progress if these are asked for.
 fn follow_reporting<H: TreeHash, D: CountedFolders, S: Source + Drop>(
     folders: &mut D,
@@ -79,16 +106,18 @@ fn follow_reporting<H: TreeHash, D: CountedFolders, S: Source + Drop>(
         (map (λ k. key k) keys.now) (D.puts folders.old) places.old places.new
         (option_map (λ v. v.items) given)) }
     ensures counted { CountsFollow (D.failed folders.old) (D.failed folders.new) result }
+    ensures suffices { (h : IsHonestRun H.digest S.may_answer (D.puts folders.old) places.old
+        places.new following.now.origin.now (AreCandidates S.may_answer following.now.origin.now
+        (map (λ k. key k) keys.now) places.old places.new (option_map (λ v. v.items) given)))
+        → ReachesLog H.digest h.entries h.size result }
+    ensures reaches { (h : IsHonestAmong H.digest S.may_answer (D.puts folders.new) places.old
+        places.new following.now.origin.now (D.puts folders.old)
+        (AreCandidates S.may_answer following.now.origin.now (map (λ k. key k) keys.now)
+        places.old places.new (option_map (λ v. v.items) given))) → ReachesSize h.size result }
 {
-    if following.progress {
-        folders.begin(Task::Follow);
-    }
+    begin_lines::<D>(folders, following.progress);
     let done = follow::<H, D, S>(alloc, following.origin, keys, folders, places, given);
-    if following.progress {
-        if let Ok(done) = &done {
-            folders.end_followed(done.old, done.size);
-        }
-    }
+    end_lines::<D>(folders, following.progress, &done);
     done
 }
 
@@ -115,6 +144,16 @@ fn follow_into<H: TreeHash, D: CountedFolders, S: Source + Drop>(
         (D.held folders.old following.now.folder.now) places.old places.new
         (option_map (λ v. v.items) given) fault) }
     ensures counted { CountsRun (D.failed folders.old) (D.failed folders.new) result }
+    ensures suffices { (h : IsHonestRun H.digest S.may_answer
+        (D.held folders.old following.now.folder.now) places.old places.new
+        following.now.origin.now (AreCandidates S.may_answer following.now.origin.now
+        (map (λ k. key k) keys.now) places.old places.new (option_map (λ v. v.items) given)))
+        → ReachesIn (λ done. ReachesLog H.digest h.entries h.size (Ok done)) result }
+    ensures reaches { (h : IsHonestAmong H.digest S.may_answer (D.puts folders.new) places.old
+        places.new following.now.origin.now (D.held folders.old following.now.folder.now)
+        (AreCandidates S.may_answer following.now.origin.now (map (λ k. key k) keys.now)
+        places.old places.new (option_map (λ v. v.items) given)))
+        → ReachesIn (λ done. ReachesSize h.size (Ok done)) result }
 {
     match folders.open(following.folder) {
         Ok(()) => {}
@@ -200,6 +239,11 @@ pub fn run_follow<H: TreeHash, F: NamedFiles, D: CountedFolders, S: Source + Dro
         (option_map (λ name. name.now) following.now.checkpoint) result }
     ensures counted { CountsRun (D.failed folders.old) (D.failed folders.new) result }
     ensures status { IfOk result (λ status. (status ≡ 0) ⊎ (status ≡ 3)) }
+    ensures suffices { SufficesForRun H.digest S.may_answer following.now.origin.now
+        (map (λ k. key k) keys.now) (D.held folders.old following.now.folder.now)
+        (D.puts folders.new) places.old places.new (F.puts files.old)
+        (option_map (λ name. name.now) following.now.checkpoint) (W.contents output.old)
+        (W.contents output.new) result }
 {
     let given = match read_given(files, following.checkpoint) {
         Ok(given) => given,

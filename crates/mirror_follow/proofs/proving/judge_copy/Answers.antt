@@ -4,6 +4,8 @@ use Rattle.mirror_model.specs.Heads.{IsHead}
 use Rattle.mirror_follow.specs.Blame.{CountsFollow}
 use Rattle.mirror_follow.specs.Standing.{HoldsNoCopy}
 use Rattle.mirror_follow.proofs.CopyReads.{no_edge, no_head, read_counts, read_ends}
+use Rattle.mirror_follow.specs.declared.fault.FollowFault.TheVariants.{CopyDamaged}
+use Rattle.mirror_follow.proofs.CopyReads.{read_some, some_any}
 use Rattle.mirror_follow.proofs.proving.judge_copy.Goals as goal
 
 pub returns-in_default-clause-found : goal.returns-in_default-clause-found
@@ -45,3 +47,12 @@ returns-in_err-judge_files-clause-ends g c =
     c.from_residual-in_err-judge_files.ensures c.in_err-judge_files.ensures.counted
     (no_edge digest origin x (g.D.Shelf.puts c.read.new.self) c.in-Some.note.items (rw c.in-Some.is at c.in_ok-note.ensures.answer)
     ⊤ head.0 head.1 is c.in_ok-note.ensures.same e c.in_err-judge_files.ensures.honest)
+
+pub returns-in_default-2-clause-some : goal.returns-in_default-2-clause-some
+returns-in_default-2-clause-some g c = λ e.
+    read_some (g.D.Shelf.puts c.args.shelf.now) c.in-Some.note.items (rw c.in-Some.is at c.in_ok-note.ensures.answer)
+
+pub returns-in_err-judge_files-clause-some : goal.returns-in_err-judge_files-clause-some
+returns-in_err-judge_files-clause-some g c =
+    some_any c.from_residual-in_err-judge_files.result (g.D.Shelf.puts c.args.shelf.now) CopyDamaged
+    (read_some (g.D.Shelf.puts c.args.shelf.now) c.in-Some.note.items (rw c.in-Some.is at c.in_ok-note.ensures.answer))

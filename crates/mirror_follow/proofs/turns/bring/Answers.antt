@@ -6,6 +6,9 @@ use Rattle.mirror_follow.specs.Standing.{HoldsNoCopy, HoldsNoSmaller}
 use Rattle.mirror_follow.proofs.Blame.{any_copied}
 use Rattle.mirror_follow.proofs.Ending.{brought_damaged, ends_if, no_smaller, turned_fails}
 use Rattle.mirror_follow.proofs.Taken.{larger_above}
+use Rattle.std.proofs.Common.{sym}
+use Rattle.mirror_copy.specs.OneHonest.{IsHonestNote}
+use Rattle.mirror_follow.proofs.OneHonest.{honest_note}
 use Rattle.mirror_follow.proofs.turns.bring.Goals as goal
 
 pub returns-in-Err-clause-counted : goal.returns-in-Err-clause-counted
@@ -43,3 +46,14 @@ returns-in-Err-clause-ends g c =
     (subst (λ note. RefusesNote digest origin note x c.in-Err.fault) c.deref.ensures.value c.in-Err.ensures.refuses)
     c.in-Err.ensures.in_use)
     c.turn_of.ensures.ends
+
+pub returns-in-Err-clause-suffices : goal.returns-in-Err-clause-suffices
+returns-in-Err-clause-suffices g c = λ h.
+    let digest = g.H.TreeHash.digest in
+    let origin = c.args.origin.now in
+    let may = g.S.Source.may_answer in
+    let x = g.D.Shelf.puts c.args.shelf.now in
+    c.turn_of.ensures.suffices (c.in-Err.ensures.suffices
+    (subst (λ note. IsHonestNote digest may x c.args.places.now c.bring_copy.new.places origin note)
+    (sym c.deref.ensures.value)
+    (honest_note digest may x c.args.places.now c.bring_copy.new.places origin c.args.candidate.now c.requires h)))

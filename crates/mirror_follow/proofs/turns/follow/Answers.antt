@@ -18,6 +18,9 @@ use Rattle.mirror_follow.proofs.GatheredFrom.{candidates_later}
 use Rattle.mirror_follow.proofs.Shown.{reported_forks}
 use Rattle.mirror_follow.proofs.Standing.{followed_by, had_found, known_found, read_found}
 use Rattle.mirror_follow.proofs.Turning.{counts_same}
+use Rattle.mirror_follow.specs.OneHonest.{HasPart}
+use Rattle.mirror_follow.proofs.HonestRuns.{honest_first, honest_listed, one_given, part_stands, report_passes, report_reaches, some_given}
+use Rattle.mirror_follow.proofs.OneHonest.{never_damaged}
 use Rattle.mirror_follow.proofs.turns.follow.Goals as goal
 
 pub returns-in_err-copy-clause-whole : goal.returns-in_err-copy-clause-whole
@@ -152,3 +155,124 @@ returns-clause-says g c =
     c.candidates_of.new.places c.take_turns.new.places (option_map (λ v. v.items) c.args.given)
     c.in_ok-candidates.candidates.items c.take_turns.ensures.asks c.in_ok-candidates.ensures.gathered)
     rising
+
+pub returns-in_err-copy-clause-suffices : goal.returns-in_err-copy-clause-suffices
+returns-in_err-copy-clause-suffices g c = λ h.
+    let p = err_from_is_err_and c.from_residual.result c.from_residual.ensures.1 in
+    rw (p.1, p.2) (never_damaged g.H.TreeHash.digest c.args.origin.now h.entries (g.D.Shelf.puts c.args.shelf.now)
+    c.in_err-copy.field-0.0 h.holds c.in_err-copy.ensures.ends c.in_err-copy.ensures.some)
+
+pub returns-in_err-candidates-clause-suffices : goal.returns-in_err-candidates-clause-suffices
+returns-in_err-candidates-clause-suffices g c = λ h.
+    let p = err_from_is_err_and c.from_residual-in_err-candidates.result c.from_residual-in_err-candidates.ensures.1 in
+    rw (p.1, p.2) (some_given g.S.Source.may_answer c.args.origin.now _ c.args.places.now c.candidates_of.new.places
+    g.H.TreeHash.digest (g.D.Shelf.puts c.args.shelf.now) (option_map (λ v. v.items) c.args.given)
+    c.in_err-candidates.field-0.0 c.in_err-candidates.ensures.ends h)
+
+pub returns-in_err-run-clause-suffices : goal.returns-in_err-run-clause-suffices
+returns-in_err-run-clause-suffices g c = λ h.
+    let digest = g.H.TreeHash.digest in
+    let origin = c.args.origin.now in
+    let x = g.D.Shelf.puts c.args.shelf.now in
+    let y = g.D.Shelf.puts c.judge_copy.new.shelf in
+    let may = g.S.Source.may_answer in
+    let failed = g.S.Source.failed in
+    let asked = g.S.Source.asked in
+    let start = c.args.places.now in
+    let mid = c.candidates_of.new.places in
+    let new = c.take_turns.new.places in
+    let given = option_map (λ v. v.items) c.args.given in
+    let copy = c.in_ok-copy.copy in
+    let candidates = c.in_ok-candidates.candidates.items in
+    let rising = c.in_ok-candidates.ensures.rising in
+    let p = err_from_is_err_and c.from_residual-in_err-run.result c.from_residual-in_err-run.ensures.1 in
+    let gathered = candidates_later origin _ may failed asked start mid new given candidates c.take_turns.ensures.asks
+    c.in_ok-candidates.ensures.gathered in
+    let k = honest_first digest may origin x start new _ h candidates gathered rising failed asked mid
+    c.candidates_of.ensures.asks c.take_turns.ensures.asks y c.judge_copy.ensures.same copy
+    (known_found digest origin x y copy c.in_ok-copy.ensures.found c.judge_copy.ensures.same) _ c.deref.ensures.value in
+    rw (p.1, p.2) (c.in_err-run.ensures.suffices (subst (IsSorted turn_cmp) (sym c.deref.ensures.value) rising) k.0)
+
+pub returns-clause-suffices : goal.returns-clause-suffices
+returns-clause-suffices g c = λ h.
+    let digest = g.H.TreeHash.digest in
+    let origin = c.args.origin.now in
+    let x = g.D.Shelf.puts c.args.shelf.now in
+    let y = g.D.Shelf.puts c.judge_copy.new.shelf in
+    let may = g.S.Source.may_answer in
+    let failed = g.S.Source.failed in
+    let asked = g.S.Source.asked in
+    let start = c.args.places.now in
+    let mid = c.candidates_of.new.places in
+    let new = c.take_turns.new.places in
+    let given = option_map (λ v. v.items) c.args.given in
+    let copy = c.in_ok-copy.copy in
+    let candidates = c.in_ok-candidates.candidates.items in
+    let rising = c.in_ok-candidates.ensures.rising in
+    let gathered = candidates_later origin _ may failed asked start mid new given candidates c.take_turns.ensures.asks
+    c.in_ok-candidates.ensures.gathered in
+    let known = known_found digest origin x y copy c.in_ok-copy.ensures.found c.judge_copy.ensures.same in
+    let k = honest_first digest may origin x start new _ h candidates gathered rising failed asked mid
+    c.candidates_of.ensures.asks c.take_turns.ensures.asks y c.judge_copy.ensures.same copy known _
+    c.deref.ensures.value in
+    report_reaches digest may origin x start new _ h candidates gathered rising y copy
+    (read_found digest origin x copy c.in_ok-copy.ensures.found) known k.0.first k.1 k.2 c.in_ok-run.run' c.report.result
+    c.in_ok-run.ensures.run.had_is
+    (c.in_ok-run.ensures.suffices (subst (IsSorted turn_cmp) (sym c.deref.ensures.value) rising) k.0)
+    c.report.ensures.copy c.report.ensures.had c.report.ensures.fault
+
+pub returns-in_err-copy-clause-reaches : goal.returns-in_err-copy-clause-reaches
+returns-in_err-copy-clause-reaches g c = λ h.
+    let p = err_from_is_err_and c.from_residual.result c.from_residual.ensures.1 in
+    rw (p.1, p.2) (never_damaged g.H.TreeHash.digest c.args.origin.now h.entries (g.D.Shelf.puts c.args.shelf.now)
+    c.in_err-copy.field-0.0 (HasPart h.holds) c.in_err-copy.ensures.ends c.in_err-copy.ensures.some)
+
+pub returns-in_err-candidates-clause-reaches : goal.returns-in_err-candidates-clause-reaches
+returns-in_err-candidates-clause-reaches g c = λ h.
+    let p = err_from_is_err_and c.from_residual-in_err-candidates.result c.from_residual-in_err-candidates.ensures.1 in
+    rw (p.1, p.2) (one_given g.S.Source.may_answer c.args.origin.now _ c.args.places.now c.candidates_of.new.places
+    g.H.TreeHash.digest (g.D.Shelf.puts c.judge_copy.new.shelf) (g.D.Shelf.puts c.args.shelf.now)
+    (option_map (λ v. v.items) c.args.given) c.in_err-candidates.field-0.0 c.in_err-candidates.ensures.ends h)
+
+pub returns-in_err-run-clause-reaches : goal.returns-in_err-run-clause-reaches
+returns-in_err-run-clause-reaches g c = λ h.
+    let digest = g.H.TreeHash.digest in
+    let origin = c.args.origin.now in
+    let x = g.D.Shelf.puts c.args.shelf.now in
+    let y = g.D.Shelf.puts c.judge_copy.new.shelf in
+    let copy = c.in_ok-copy.copy in
+    let e = c.in_err-run.field-0.0 in
+    let p = err_from_is_err_and c.from_residual-in_err-run.result c.from_residual-in_err-run.ensures.1 in
+    let Lacked = (first : Option (List Put)) → IsCopyOfRun digest origin first y copy → HoldsNoCopy digest origin first in
+    let so : Lacked → HoldsNoCopy digest origin x =
+    λ none. none x (known_found digest origin x y copy c.in_ok-copy.ensures.found c.judge_copy.ensures.same) in
+    rw (p.1, p.2) (part_stands digest origin h.entries x e h.holds
+    (ends_so Lacked Lacked (HoldsNoCopy digest origin x) (HoldsNoCopy digest origin x) e so so c.in_err-run.ensures.ends))
+
+pub returns-clause-reaches : goal.returns-clause-reaches
+returns-clause-reaches g c = λ h.
+    let digest = g.H.TreeHash.digest in
+    let origin = c.args.origin.now in
+    let x = g.D.Shelf.puts c.args.shelf.now in
+    let y = g.D.Shelf.puts c.judge_copy.new.shelf in
+    let last = g.D.Shelf.puts c.take_turns.new.shelf in
+    let may = g.S.Source.may_answer in
+    let failed = g.S.Source.failed in
+    let asked = g.S.Source.asked in
+    let start = c.args.places.now in
+    let mid = c.candidates_of.new.places in
+    let new = c.take_turns.new.places in
+    let given = option_map (λ v. v.items) c.args.given in
+    let copy = c.in_ok-copy.copy in
+    let candidates = c.in_ok-candidates.candidates.items in
+    let rising = c.in_ok-candidates.ensures.rising in
+    let gathered = candidates_later origin _ may failed asked start mid new given candidates c.take_turns.ensures.asks
+    c.in_ok-candidates.ensures.gathered in
+    let k = honest_listed digest may origin x last start new _ h candidates gathered failed asked mid
+    c.candidates_of.ensures.asks c.take_turns.ensures.asks y c.judge_copy.ensures.same copy
+    (known_found digest origin x y copy c.in_ok-copy.ensures.found c.judge_copy.ensures.same)
+    (read_found digest origin x copy c.in_ok-copy.ensures.found) _ c.deref.ensures.value in
+    report_passes digest may origin x last start new _ h candidates gathered c.in_ok-run.run' k.0.candidate.size.0
+    c.report.result k.1
+    (c.in_ok-run.ensures.passes (subst (IsSorted turn_cmp) (sym c.deref.ensures.value) rising) k.0)
+    c.report.ensures.copy c.report.ensures.fault

@@ -3,6 +3,7 @@ use Rattle.std.proofs.lemmas.Result.{err_from_is_err_and}
 use Rattle.mirror_follow.specs.Standing.{HasStanding, HoldsNoCopy, HoldsNoSmaller}
 use Rattle.mirror_follow.proofs.Blame.{any_then}
 use Rattle.mirror_follow.proofs.Ending.{ends_so, none_at_all, none_stands}
+use Rattle.mirror_follow.proofs.OneHonest.{honest_before}
 use Rattle.mirror_follow.proofs.turns.take_larger.Goals as goal
 
 pub returns-in_err-contradict-in-Contradicts-clause-asks : goal.returns-in_err-contradict-in-Contradicts-clause-asks
@@ -35,3 +36,15 @@ returns-in_default-clause-shows g c =
 pub returns-in_default-clause-says : goal.returns-in_default-clause-says
 returns-in_default-clause-says g c =
     c.in_ok-turn.ensures.says g.H.TreeHash.digest (Some c.args.copy.now) c.args.candidate.now c.requires.larger
+
+pub returns-in_err-turn-clause-suffices : goal.returns-in_err-turn-clause-suffices
+returns-in_err-turn-clause-suffices g c = λ h.
+    let p = err_from_is_err_and c.from_residual.result c.from_residual.ensures.1 in
+    rw (p.1, p.2) (c.in_err-turn.ensures.suffices h)
+
+pub returns-in_ok-contradict-in-Contradicts-clause-suffices : goal.returns-in_ok-contradict-in-Contradicts-clause-suffices
+returns-in_ok-contradict-in-Contradicts-clause-suffices g c = λ h.
+    let brought = c.in_ok-turn.ensures.suffices (honest_before g.H.TreeHash.digest g.S.Source.may_answer g.S.Source.failed
+    g.S.Source.asked (g.D.Shelf.puts c.args.shelf.now) c.args.places.now c.bring.new.places c.contradict.new.places
+    c.args.origin.now c.args.candidate.now c.bring.ensures.asks c.contradict.ensures.asks h) in
+    absurd (cc (brought, c.in-Contradicts.is))

@@ -1,6 +1,10 @@
 use Rattle.mirror_follow.proofs.Ending.{keeps_fault, source_blames}
 use Rattle.mirror_follow.proofs.Taken.{taken_turn}
 use Rattle.mirror_follow.proofs.Turning.{run_turned}
+use Rattle.std.proofs.Common.{subst}
+use Rattle.std.proofs.lemmas.Result.{err_from_is_err_and}
+use Rattle.mirror_follow.specs.Standing.{KnowsAfter}
+use Rattle.mirror_follow.proofs.OneHonest.{steps_up}
 use Rattle.mirror_follow.proofs.turns.take_turn.Goals as goal
 
 pub returns-clause-run : goal.returns-clause-run
@@ -25,3 +29,18 @@ returns-clause-taken g c =
     λ first done is h. taken_turn g.H.TreeHash.digest first done c.args.candidate.now c.args.run.now c.add.new.self
     c.in_ok-turn.turn h is c.in_ok-add.ensures.copy c.in_ok-add.ensures.added c.in_ok-turn.ensures.says
     c.in_ok-turn.ensures.shows
+
+pub returns-in_err-turn-clause-suffices : goal.returns-in_err-turn-clause-suffices
+returns-in_err-turn-clause-suffices g c = λ larger h.
+    let p = err_from_is_err_and c.from_residual.result c.from_residual.ensures.1 in
+    rw (p.1, p.2) (c.in_err-turn.ensures.suffices larger h)
+
+pub returns-clause-suffices : goal.returns-clause-suffices
+returns-clause-suffices g c = λ larger h.
+    subst (λ t. KnowsAfter c.args.candidate.now t c.args.run.now.copy c.add.new.self.copy)
+    (c.in_ok-turn.ensures.suffices larger h) c.in_ok-add.ensures.copy
+
+pub returns-clause-steps : goal.returns-clause-steps
+returns-clause-steps g c =
+    steps_up g.H.TreeHash.digest c.args.candidate.now c.in_ok-turn.turn c.args.run.now.copy c.add.new.self.copy
+    c.in_ok-turn.ensures.says c.in_ok-add.ensures.copy

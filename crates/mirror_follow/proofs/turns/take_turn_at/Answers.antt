@@ -6,6 +6,10 @@ use Rattle.mirror_follow.proofs.Ending.{keeps_again, keeps_at}
 use Rattle.mirror_follow.proofs.Runs.{listed_note, no_run, one_run}
 use Rattle.mirror_follow.proofs.Taken.{taken_repeat, turn_ok}
 use Rattle.mirror_follow.proofs.Turning.{run_same}
+use Rattle.std.proofs.Common.{inl, inr, refl, subst}
+use Rattle.mirror_follow.specs.OneHonest.{BringsTo, IsHonestTurn}
+use Rattle.mirror_follow.specs.Taken.{IsLargerThan}
+use Rattle.mirror_follow.proofs.OneHonest.{same_at, steps_at}
 use Rattle.mirror_follow.proofs.turns.take_turn_at.Goals as goal
 
 pub returns-then-is_repeated-clause-keeps : goal.returns-then-is_repeated-clause-keeps
@@ -46,3 +50,23 @@ pub returns-clause-fault : goal.returns-clause-fault
 returns-clause-fault g c =
     keeps_at g.H.TreeHash.digest c.take_turn.result c.args.candidates.now c.args.i c.index-candidates-i.result
     c.requires.within c.index-candidates-i.is c.args.run.now c.take_turn.new.run c.take_turn.ensures.fault
+
+pub returns-then-is_repeated-clause-suffices : goal.returns-then-is_repeated-clause-suffices
+returns-then-is_repeated-clause-suffices g c = inl (c.is_repeated.ensures.is.0 c.if-is_repeated.true)
+
+pub returns-clause-suffices : goal.returns-clause-suffices
+returns-clause-suffices g c =
+    let x = g.D.Shelf.puts c.args.shelf.now in
+    inr (λ candidate is. subst (λ d. IsLargerThan c.args.run.now.copy d →
+    IsHonestTurn g.H.TreeHash.digest g.S.Source.may_answer x c.args.places.now c.take_turn.new.places c.args.origin.now d →
+    BringsTo d c.take_turn.new.run.copy c.take_turn.result)
+    (same_at c.args.candidates.now c.args.i c.requires.within c.index-candidates-i.result candidate
+    c.index-candidates-i.is is) c.take_turn.ensures.suffices)
+
+pub returns-then-is_repeated-clause-steps : goal.returns-then-is_repeated-clause-steps
+returns-then-is_repeated-clause-steps g c = λ candidate is. inl refl
+
+pub returns-clause-steps : goal.returns-clause-steps
+returns-clause-steps g c =
+    steps_at c.take_turn.result c.args.candidates.now c.args.i c.requires.within c.index-candidates-i.result
+    c.index-candidates-i.is c.args.run.now.copy c.take_turn.new.run.copy c.take_turn.ensures.steps

@@ -9,6 +9,9 @@ use Rattle.mirror_follow.specs.Gathering.{note_of}
 use Rattle.mirror_follow.proofs.Runs.{no_run, two_runs}
 use Rattle.mirror_follow.proofs.Taken.{taken_all, taken_begin}
 use Rattle.mirror_follow.proofs.Turning.{run_first, run_then}
+use Rattle.mirror_follow.proofs.OneHonest.{pass_all, reach_all, reach_begin, reach_fails, reach_turn}
+use Rattle.mirror_follow.proofs.TurnOrder.{element}
+use Rattle.std.proofs.Common.{◌<◌, length}
 use Rattle.mirror_follow.proofs.turns.take_turns.Goals as goal
 
 pub loop-i-init : goal.loop-i-init
@@ -21,6 +24,8 @@ loop-i-init g c =
       fault = λ none. c.new-run.ensures.fault;
       asks = any_same g.S.Source.may_answer g.S.Source.failed g.S.Source.asked c.args.places.now;
       source = λ e. absurd (cc (c.new-run.ensures.fault, e));
+      reaching = reach_begin g.H.TreeHash.digest g.S.Source.may_answer g.S.Source.failed g.S.Source.asked c.args.origin.now x
+          c.args.places.now c.args.copy c.args.candidates.now c.new-run.result.copy c.new-run.ensures.copy;
       taken = λ rises. taken_begin g.H.TreeHash.digest c.args.copy c.new-run.result c.new-run.ensures.copy
           c.new-run.ensures.forks c.new-run.ensures.not_had c.new-run.ensures.behind c.new-run.ensures.reached;
     }
@@ -44,6 +49,15 @@ loop-i-preserved g c = record {
   fault = c.in_ok-take_turn_at.ensures.fault c.loop-i.invariant.fault;
   asks = any_then g.S.Source.may_answer g.S.Source.failed g.S.Source.asked c.args.places.now c.loop-i.places
       c.take_turn_at.new.places c.loop-i.invariant.asks c.take_turn_at.ensures.asks;
+  reaching =
+      let lt : c.loop-i.i < length c.args.candidates.now = omega (arith, c.loop-i-test.true) in
+      let x = element c.args.candidates.now c.loop-i.i lt in
+      reach_turn g.H.TreeHash.digest g.S.Source.may_answer g.S.Source.failed g.S.Source.asked c.args.origin.now
+      (g.D.Shelf.puts c.args.shelf.now) c.args.places.now c.args.copy c.args.candidates.now c.loop-i.i
+      (g.D.Shelf.puts c.loop-i.shelf) c.loop-i.places c.take_turn_at.new.places c.loop-i.run.copy
+      c.loop-i.invariant.reaching c.loop-i.invariant.asks c.take_turn_at.ensures.asks lt x.0 x.1
+      (g.D.Shelf.puts c.take_turn_at.new.shelf) c.take_turn_at.new.run.copy c.in_ok-take_turn_at.ensures.suffices
+      (c.in_ok-take_turn_at.ensures.steps x.0 x.1) c.loop-i.invariant.run.known c.take_turn_at.ensures.keeps;
   source = fails_now g.S.Source.may_answer g.S.Source.failed g.S.Source.asked c.args.places.now c.loop-i.places
       c.take_turn_at.new.places c.loop-i.run.first_fault c.take_turn_at.new.run.first_fault c.loop-i.invariant.asks
       c.take_turn_at.ensures.asks c.loop-i.invariant.source c.in_ok-take_turn_at.ensures.source;
@@ -79,3 +93,26 @@ returns-in_err-take_turn_at-clause-ends g c =
     λ none first known. none_first digest origin first y run.copy none (c.loop-i.invariant.run.known first known) in
     rw (p.1, p.2) (ends_so Lost Lost Lacked Lacked c.in_err-take_turn_at.field-0.0 so so
     c.in_err-take_turn_at.ensures.ends)
+
+pub returns-in_err-take_turn_at-clause-suffices : goal.returns-in_err-take_turn_at-clause-suffices
+returns-in_err-take_turn_at-clause-suffices g c = λ rises h.
+    let p = err_from_is_err_and c.from_residual.result c.from_residual.ensures.1 in
+    rw (p.1, p.2) (reach_fails g.H.TreeHash.digest g.S.Source.may_answer g.S.Source.failed g.S.Source.asked c.args.origin.now
+    (g.D.Shelf.puts c.args.shelf.now) c.args.places.now c.args.copy c.args.candidates.now c.loop-i.i
+    (g.D.Shelf.puts c.loop-i.shelf) c.loop-i.places c.take_turn_at.new.places c.loop-i.run.copy
+    c.loop-i.invariant.reaching c.loop-i.invariant.asks c.take_turn_at.ensures.asks c.in_err-take_turn_at.field-0.0
+    c.in_err-take_turn_at.ensures.suffices c.in_err-take_turn_at.ensures.ends c.loop-i.invariant.run.known rises h)
+
+pub returns-clause-suffices : goal.returns-clause-suffices
+returns-clause-suffices g c = λ rises h.
+    reach_all g.H.TreeHash.digest g.S.Source.may_answer g.S.Source.failed g.S.Source.asked c.args.origin.now
+    (g.D.Shelf.puts c.args.shelf.now) c.args.places.now c.args.copy c.args.candidates.now c.loop-i.i
+    (g.D.Shelf.puts c.loop-i.shelf) c.loop-i.places c.loop-i.run.copy (omega (arith, c.loop-i-test.false))
+    c.loop-i.invariant.reaching rises h
+
+pub returns-clause-passes : goal.returns-clause-passes
+returns-clause-passes g c = λ rises h.
+    pass_all g.H.TreeHash.digest g.S.Source.may_answer g.S.Source.failed g.S.Source.asked c.args.origin.now
+    (g.D.Shelf.puts c.args.shelf.now) c.args.places.now c.args.copy c.args.candidates.now c.loop-i.i
+    (g.D.Shelf.puts c.loop-i.shelf) c.loop-i.places c.loop-i.run.copy (omega (arith, c.loop-i-test.false))
+    c.loop-i.invariant.reaching rises h

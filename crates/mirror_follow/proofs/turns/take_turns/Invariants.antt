@@ -8,6 +8,7 @@ use Rattle.mirror_follow.specs.Runs.{KeepsCopies}
 use Rattle.mirror_follow.specs.Taken.{HasTakenRun}
 use Rattle.mirror_follow.specs.Turning.{IsRunFrom}
 use Rattle.mirror_follow.specs.declared.fault.FollowFault.TheVariants.{Source}
+use Rattle.mirror_follow.proofs.OneHonest.{Reaching}
 use Rattle.mirror_follow.proofs.turns.take_turns.Given as goal
 
 abbrev pub invariant-loop-i : goal.invariant-loop-i
@@ -19,5 +20,8 @@ invariant-loop-i g l = record {
   fault : KeepsFault g.H.TreeHash.digest (take l.i l.candidates) l.run;
   asks : AsksAny g.S.Source.may_answer g.S.Source.failed g.S.Source.asked l.initial.places l.places;
   taken : IsSorted turn_cmp l.candidates → HasTakenRun g.H.TreeHash.digest l.fn.copy (take l.i l.candidates) l.run;
+  reaching : Reaching g.H.TreeHash.digest g.S.Source.may_answer g.S.Source.failed g.S.Source.asked l.origin
+      (g.D.Shelf.puts l.initial.shelf) l.initial.places l.fn.copy l.candidates l.i (g.D.Shelf.puts l.shelf) l.places
+      l.run.copy;
   source : l.run.first_fault ≡ Some Source → PlaceFails l.initial.places l.places;
 }

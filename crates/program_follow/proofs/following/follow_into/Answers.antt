@@ -19,3 +19,15 @@ pub returns-in-Err-follow_reporting-clause-ends : goal.returns-in-Err-follow_rep
 returns-in-Err-follow_reporting-clause-ends g c = λ fault e.
     let same : c.in-Err-follow_reporting.fault ≡ fault = cc in
     rw (← same) (rw (← c.in-Ok.ensures.opened) c.in-Err-follow_reporting.ensures.ends)
+
+pub returns-in-Ok-follow_reporting-clause-suffices : goal.returns-in-Ok-follow_reporting-clause-suffices
+returns-in-Ok-follow_reporting-clause-suffices g c = rw (← c.in-Ok.ensures.opened) c.in-Ok-follow_reporting.ensures.suffices
+
+pub returns-in-Err-follow_reporting-clause-suffices : goal.returns-in-Err-follow_reporting-clause-suffices
+returns-in-Err-follow_reporting-clause-suffices g c = rw (← c.in-Ok.ensures.opened) c.in-Err-follow_reporting.ensures.suffices
+
+pub returns-in-Ok-follow_reporting-clause-reaches : goal.returns-in-Ok-follow_reporting-clause-reaches
+returns-in-Ok-follow_reporting-clause-reaches g c = rw (← c.in-Ok.ensures.opened) c.in-Ok-follow_reporting.ensures.reaches
+
+pub returns-in-Err-follow_reporting-clause-reaches : goal.returns-in-Err-follow_reporting-clause-reaches
+returns-in-Err-follow_reporting-clause-reaches g c = rw (← c.in-Ok.ensures.opened) c.in-Err-follow_reporting.ensures.reaches
