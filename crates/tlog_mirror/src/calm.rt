@@ -20,7 +20,7 @@ pub(crate) fn calm_of(alloc: Global, branches: &[Branch]) -> Result<Vec<bool>, A
     Ok(calm)
 }
 
-// DecidesFork of each head whether it is calm.
+// Finds which heads are calm.
 fn find_calm(calm: &mut [bool], branches: &[Branch])
     requires len { length calm.old ≡ length branches.now }
     requires rising { IsStrictlySortedBy by_point (map (λ b. b.head) branches.now) }
