@@ -5,7 +5,6 @@ use Rattle.tlog_shape.specs.Edge.{edge_index_of, width_of}
 use Rattle.tlog_hash.specs.Rows.{level_row, part}
 use Rattle.tlog_hash.specs.Tree.{mth}
 use Rattle.tlog_hash.proofs.LeafRanges.{rows_of_leaves}
-use Rattle.tlog_tiles.specs.declared.paths.Path.{Path}
 use Rattle.tlog_tiles.specs.declared.paths.Path.TheVariants.{Checkpoint, Tile, Entries}
 use Rattle.tlog_tiles.specs.Row.{IsRow}
 use Rattle.tlog_tiles.specs.Tiles.{IsWithin, bundle_bytes, tile_bytes}
@@ -15,8 +14,7 @@ use Rattle.mirror_model.specs.Heads.{IsHead}
 use Rattle.mirror_model.specs.Strings.{IsDigest}
 use Rattle.mirror_model.proofs.HeadNotes.{head_once}
 use Rattle.mirror_sources.specs.Recorded.{KeepsRecord}
-use Rattle.mirror_folders.specs.Shelf.{HasPut, Put, Stands, RecordsRead}
-use Rattle.mirror_export.proofs.AllFiles.{files_are_all, partial_widest}
+use Rattle.mirror_folders.specs.Shelf.{HasPut, Put, RecordsRead}
 use Rattle.log_reader.specs.EdgeRows.{Edge, LeadsTo, RowIsTrue, hash_of_edge, row_at}
 use Rattle.log_reader.specs.Verified.{HasLeaves}
 use Rattle.log_reader.proofs.Prefixes.{true_rows_lead}

@@ -1,8 +1,8 @@
 -- The checkpoint that is read in the last step.
-use Rattle.std.proofs.Common.{◌≡◌, ◌⊎◌, inl, inr, ℕ, List, [], Option, Some, None, Result, Ok, Err, IfErr, refl, sym, subst, ap, ◌∙◌}
+use Rattle.std.proofs.Common.{◌≡◌, ◌⊎◌, inl, inr, ℕ, List, [], Option, Some, None, Result, Ok, Err, IfErr, sym, subst}
 use Rattle.tlog_tiles.specs.declared.paths.Path.TheVariants.{Checkpoint}
 use Rattle.mirror_sources.specs.Recorded.{KeepsRecord}
-use Rattle.mirror_folders.specs.Shelf.{HasPut, Put, Stands, RecordsRead}
+use Rattle.mirror_folders.specs.Shelf.{Put, RecordsRead}
 use Rattle.mirror_copy.specs.AskedForCopy.{IsInUse}
 use Rattle.mirror_copy.specs.Faults.{BlamesFrom, BlamesPlaces, BlamesRun, IsOfNoPlace, IsOtherFound, IsOtherThen}
 use Rattle.mirror_copy.specs.Found.{IsTipRead}

@@ -21,7 +21,7 @@ use Rattle.tlog_tiles.proofs.RowLemmas.{length-row_text}
 use Rattle.tlog_tiles.proofs.TileLemmas.{served_is_read}
 use Rattle.mirror_model.specs.Strings.{IsDigest}
 use Rattle.mirror_model.specs.TrueLaws.{AreShort}
-use Rattle.mirror_sources.specs.Files.{full_of, width_named}
+use Rattle.mirror_sources.specs.Files.{full_of}
 use Rattle.mirror_sources.specs.Honest.{true_bytes}
 use Rattle.mirror_folders.specs.Shelf.{HasPut, Put, Stands}
 use Rattle.mirror_export.specs.Files.{paths_of, served_bytes}

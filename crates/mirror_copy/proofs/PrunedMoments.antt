@@ -1,33 +1,31 @@
 -- What a bringing leaves of a copy whose partial files may have given way: as if these had been put first, and every file stood.
-use Rattle.std.proofs.Common.{◌≡◌, ◌≢◌, ◌⊎◌, ℕ, ◌+◌, ◌^◌, ◌<◌, ◌≤◌, List, [], ◌∷◌, ◌++◌, length, Option, Some, None, Result, Ok, Err, All}
+use Rattle.std.proofs.Common.{◌≡◌, ◌⊎◌, ℕ, ◌^◌, ◌<◌, ◌≤◌, List, [], ◌∷◌, ◌++◌, length, Option, Some, None, Result, Ok, Err}
 use Rattle.std.proofs.Common.{refl, sym, ap, subst, ◌∙◌, append_assoc, inl, inr, arith}
-use Rattle.std.specs.List.{Contains}
 use Rattle.std.proofs.lemmas.List.{append-nil}
 use Rattle.std.proofs.lemmas.List.Elements.{All-append}
 use Rattle.tlog_tiles.specs.declared.paths.Path.{Path}
 use Rattle.tlog_tiles.specs.declared.paths.Path.TheVariants.{Checkpoint}
-use Rattle.tlog_tiles.specs.Tiles.{IsWithin}
 use Rattle.mirror_model.specs.Heads.{IsHead}
 use Rattle.mirror_model.specs.Strings.{IsDigest}
 use Rattle.mirror_model.specs.TrueLaws.{AreShort}
 use Rattle.mirror_sources.specs.Honest.{true_bytes}
 use Rattle.mirror_sources.specs.Recorded.{AddsToRecord, KeepsRecord}
-use Rattle.mirror_folders.specs.Shelf.{Put, Stands}
+use Rattle.mirror_folders.specs.Shelf.{Put}
 use Rattle.mirror_export.specs.Exports.{IsMoment}
 use Rattle.mirror_export.specs.Files.{paths_of}
 use Rattle.log_reader.specs.EdgeRows.{Edge, hash_of_edge}
 use Rattle.mirror_copy.specs.Copies.{IsCopy}
 use Rattle.mirror_copy.specs.Edges.{BringsToEdge, IsCopyBrought, PutsNote}
 use Rattle.mirror_copy.specs.Found.{IsTipRead}
-use Rattle.mirror_copy.specs.Growing.{IsCutShort, IsKnown, IsNewFile, Obtains, Tip}
-use Rattle.mirror_copy.specs.Moments.{AtEachMoment, InTheEnd, IsGrownCopy, PutsBeyond}
+use Rattle.mirror_copy.specs.Growing.{IsCutShort, IsKnown, Obtains, Tip}
+use Rattle.mirror_copy.specs.Moments.{InTheEnd, IsGrownCopy}
 use Rattle.mirror_copy.specs.Pruned.{HadPruned, HasGivenWay, IsGrownPruned, IsPrunedCopy, KeepsPruned, LeavesPruned}
 use Rattle.mirror_copy.specs.Standing.{RecordsStands}
 use Rattle.log_reader.specs.Holding.{IsTreeFile}
 use Rattle.mirror_copy.proofs.CopyMoments.{copy_files, new_files_keep_copies, put_new}
 use Rattle.mirror_copy.proofs.Growth.{adds_then, left_none}
 use Rattle.mirror_copy.proofs.Prefixes.{bytes_front}
-use Rattle.mirror_copy.proofs.PrunedFiles.{IsFilled, IsGone, all_filled, copy_back, filled_copy, given_later, kept_back, stands_behind}
+use Rattle.mirror_copy.proofs.PrunedFiles.{IsFilled, all_filled, copy_back, filled_copy, given_later, kept_back, stands_behind}
 use Rattle.mirror_copy.proofs.WholeMoments.{at_kept, beyond_brought, beyond_cut, beyond_same, empty_brought, empty_edge, empty_edge_hash, grown_copy, grown_end, so_far_put}
 
 -- ---- a call, as if other files had been put before it

@@ -5,7 +5,6 @@ use Rattle.mirror_sources.specs.Recorded.{KeepsRecord}
 use Rattle.mirror_folders.specs.Shelf.{Put, Stands, HasPut, RecordsRead}
 use Rattle.mirror_sources.specs.Files.{full_of}
 use Rattle.mirror_copy.specs.Found.{CutsGivenWay, IsEdgeRead, IsRowRead, RecordsPartial}
-use Rattle.mirror_copy.specs.Pruned.{HasGivenWay}
 use Rattle.mirror_model.specs.Strings.{IsDigest}
 use Rattle.mirror_model.specs.TrueLaws.{AreShort}
 use Rattle.mirror_sources.specs.Honest.{true_bytes}
