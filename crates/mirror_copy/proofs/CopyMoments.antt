@@ -46,7 +46,7 @@ module _ (digest : List ℕ → List ℕ) (origin note : List ℕ) (entries next
       (sym (append_assoc old at.so_far at.later)
       ∙ (ap (λ (l : List Put). l ++ at.later) (sym at.now_is) ∙ (sym at.new_is ∙ g.recorded)))
 
-  put_new : (put : Put) → Contains at.so_far put → IsNewFile digest (length entries) next put
+  pub put_new : (put : Put) → Contains at.so_far put → IsNewFile digest (length entries) next put
   put_new put h = All-contains (IsNewFile digest (length entries) next) g.puts put g.are_new
       (subst (λ (l : List Put). Contains l put) cut (Contains-append_left at.so_far at.later put h))
 

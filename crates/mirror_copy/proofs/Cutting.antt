@@ -1,7 +1,7 @@
 -- Partial files cut from full ones.
 use Rattle.std.proofs.Common.{◌≡◌, ℕ, suc, ◌+◌, ◌-◌, ◌*◌, ◌^◌, ◌<◌, ◌≤◌, All, List, [], ◌∷◌, ◌++◌, length, take, drop, get_or}
-use Rattle.std.proofs.Common.{refl, sym, ap, ◌∙◌, arith, length-append}
-use Rattle.std.proofs.lemmas.List.{length-take-le, take-append-drop, take-take, take_at}
+use Rattle.std.proofs.Common.{refl, sym, ap, ◌∙◌, append_assoc, arith, length-append}
+use Rattle.std.proofs.lemmas.List.{length-take-le, take-append-drop, take-take, take_all, take_at}
 use Rattle.std.proofs.Math.Seq.{drop-cons}
 use Rattle.std.proofs.lemmas.List.Elements.{All-get_or, All-map, All-nil, All-push, All-take}
 use Rattle.std.proofs.lemmas.List.Concat.{flat_map-append}
@@ -75,6 +75,27 @@ module _ (count : ℕ) (bundle rest : List ℕ) (h : HasRead count bundle rest) 
 
     pub read_more : count < length es → ((entry after : List ℕ) → length entry < 2 ^ 16 → rest ≡ entry_text entry ++ after → ⊥) → ⊥
     read_more lt none = splits es count rest short lt both.1 none
+
+  -- the bundle begins with these entries, and may go on
+  module _ (es : List (List ℕ)) (short : AreShort es) (tail : List ℕ) (is : bundle ≡ bundle_text es ++ tail)
+      (le : count ≤ length es) where
+    begun : (h.entries ≡ take count es) × (rest ≡ bundle_text (drop count es) ++ tail)
+    begun = bundle_one h.entries (take count es) rest (bundle_text (drop count es) ++ tail)
+        (h.count_is ∙ sym (length-take-le count es le)) h.fits (All-take (λ (x : List ℕ). length x < 2 ^ 16) count es short)
+        (sym h.text ∙ (is ∙ (ap (λ (l : List ℕ). l ++ tail)
+        (ap bundle_text (sym (take-append-drop count es)) ∙ flat_map-append entry_text (take count es) (drop count es))
+        ∙ append_assoc (bundle_text (take count es)) (bundle_text (drop count es)) tail)))
+
+    pub cut_whole : count ≡ length es → (part : List ℕ) → part ≡ take (length bundle - length rest) bundle →
+        part ≡ bundle_text es
+    cut_whole all part at = read_front part at ∙ ap bundle_text (begun.0 ∙ (ap (λ k. take k es) all ∙ take_all (length es) es (omega arith)))
+
+    pub cut_more : count < length es → ((entry after : List ℕ) → length entry < 2 ^ 16 → rest ≡ entry_text entry ++ after → ⊥) → ⊥
+    cut_more lt none =
+        none (get_or es count []) (bundle_text (drop (count + 1) es) ++ tail)
+        (All-get_or (λ (e : List ℕ). length e < 2 ^ 16) es count [] lt short)
+        (begun.1 ∙ (ap (λ (l : List ℕ). l ++ tail) (next_there es count lt)
+        ∙ append_assoc (entry_text (get_or es count [])) (bundle_text (drop (count + 1) es)) tail))
 
 -- the bytes of the first hashes of a row
 pub front_row : (row : List (List ℕ)) (n : ℕ) → All (λ (h : List ℕ). length h ≡ 32) row → n ≤ length row →

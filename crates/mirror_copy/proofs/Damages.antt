@@ -5,7 +5,6 @@ use Rattle.tlog_shape.specs.Edge.{edge_index_of, width_of}
 use Rattle.tlog_hash.specs.Rows.{level_row, part}
 use Rattle.tlog_hash.specs.Tree.{mth}
 use Rattle.tlog_hash.proofs.LeafRanges.{rows_of_leaves}
-use Rattle.tlog_tiles.specs.declared.paths.Path.{Path}
 use Rattle.tlog_tiles.specs.declared.paths.Path.TheVariants.{Checkpoint, Tile, Entries}
 use Rattle.tlog_tiles.specs.Row.{IsRow}
 use Rattle.tlog_tiles.specs.Tiles.{IsWithin, bundle_bytes, tile_bytes}
@@ -15,12 +14,11 @@ use Rattle.mirror_model.specs.Heads.{IsHead}
 use Rattle.mirror_model.specs.Strings.{IsDigest}
 use Rattle.mirror_model.proofs.HeadNotes.{head_once}
 use Rattle.mirror_sources.specs.Recorded.{KeepsRecord}
-use Rattle.mirror_folders.specs.Shelf.{HasPut, Put, Stands, RecordsRead}
-use Rattle.mirror_export.proofs.AllFiles.{files_are_all, partial_widest}
+use Rattle.mirror_folders.specs.Shelf.{HasPut, Put, RecordsRead}
 use Rattle.log_reader.specs.EdgeRows.{Edge, LeadsTo, RowIsTrue, hash_of_edge, row_at}
 use Rattle.log_reader.specs.Verified.{HasLeaves}
 use Rattle.log_reader.proofs.Prefixes.{true_rows_lead}
-use Rattle.mirror_copy.specs.Copies.{IsCopy}
+use Rattle.mirror_copy.specs.Pruned.{IsPrunedCopy}
 use Rattle.mirror_copy.specs.Damaged.{HasOtherRoot, HasWrongBundle, HasWrongEdge, HasWrongRow, IsBundleWrong, IsDamaged, IsEdgeWrong, IsNoHead, IsRowWrong, IsTipWrong}
 use Rattle.mirror_copy.specs.Faults.{BlamesFrom, BlamesPlaces, IsOfNoPlace}
 use Rattle.mirror_copy.specs.Found.{IsEdgeRead, RecordsPartial}
@@ -30,41 +28,24 @@ use Rattle.mirror_copy.specs.declared.fault.BringFault.TheVariants.{CopyDamaged}
 use Rattle.mirror_copy.specs.declared.places.Places.{Places}
 use Rattle.mirror_copy.proofs.Earlier.{kept_then}
 use Rattle.mirror_copy.proofs.ShelfReads.{edge_before, partial_before}
-use Rattle.mirror_copy.proofs.TipReads.{note_read, row_read, stands_has, stands_one}
+use Rattle.mirror_copy.proofs.PrunedFiles.{copies_are_pruned}
+use Rattle.mirror_copy.proofs.TipReads.{edge_file, file_read, note_read, row_read, stands_has}
 
 module _ (digest : List ℕ → List ℕ) (hash : IsDigest digest) (origin note : List ℕ) (entries : List (List ℕ))
-    (held : List Put) (copy : IsCopy digest origin note entries held) where
+    (held : List Put) (copy : IsPrunedCopy digest origin note entries held) where
   abbrev n : ℕ
   n = length entries
 
   small : n < 256 ^ 8
   small = let range = copy.is_head.is_checkpoint.in_range in omega (arith, range)
 
-  tile_stands : (level : ℕ) → level ≤ 7 → 1 ≤ width_of n level →
-      Stands held (Tile level (edge_index_of n level) (width_of n level))
-      (tile_bytes digest entries level (edge_index_of n level) (width_of n level))
-  tile_stands level upto some =
-      copy.holds _ ((files_are_all n _).1 (partial_widest n level upto (λ e. omega (arith, e, some))))
-
-  bundle_stands : 1 ≤ width_of n 0 → Stands held (Entries (edge_index_of n 0) (width_of n 0))
-      (bundle_bytes entries (edge_index_of n 0) (width_of n 0))
-  bundle_stands some =
-      copy.holds _ ((files_are_all n _).1 (partial_widest n 0 (omega arith) (λ e. omega (arith, e, some))))
-
-  -- what is read at the path of a file that stands is that file
-  file_read : (path : Path) (bytes : List ℕ) (found : Option (List ℕ)) → Stands held path bytes →
-      RecordsPartial (Some held) path found → found ≡ Some bytes
-  file_read path bytes None stands h = absurd (h (stands_has held path bytes stands))
-  file_read path bytes (Some other) stands h =
-      ap (λ (b : List ℕ). Some b) (stands_one held path other bytes (h (stands_has held path bytes stands)) stands)
-
   row_there : (level : ℕ) → IsRowWrong (Some held) n level → ⊥
   row_there level w =
       let index = edge_index_of n level in
       let width = width_of n level in
       let found : w.found ≡ Some (tile_bytes digest entries level index width) =
-      file_read (Tile level index width) (tile_bytes digest entries level index width) w.found
-      (tile_stands level w.upto w.some) w.found_is in
+      file_read digest hash origin note entries held copy (Tile level index width) w.found
+      (w.upto, edge_file digest hash origin note entries held copy level w.some) w.found_is in
       let row = level_row digest entries level (256 * index) width in
       (subst (λ (o : Option (List ℕ)). IfSome o (λ b. (r : List (List ℕ)) → IsRow width b r → ⊥)) found w.no_row) row
       ((served_is_read digest hash entries copy.short).tile level index width)
@@ -90,7 +71,8 @@ module _ (digest : List ℕ → List ℕ) (hash : IsDigest digest) (origin note 
       let some : 1 ≤ width = subst (λ k. 1 ≤ width_of k 0) r.size_is w.some in
       let read : RecordsPartial (Some held) (Entries index width) w.found =
       subst (λ k. RecordsPartial (Some held) (Entries (edge_index_of k 0) (width_of k 0)) w.found) r.size_is w.found_is in
-      let found : w.found ≡ Some bytes = file_read (Entries index width) bytes w.found (bundle_stands some) read in
+      let found : w.found ≡ Some bytes = file_read digest hash origin note entries held copy (Entries index width) w.found
+      (edge_file digest hash origin note entries held copy 0 some) read in
       let whole : 256 * index + width ≡ n = hashes_of n 0 ∙ omega arith in
       let within : IsWithin n (Entries index width) =
       record { level_fits = omega arith; some = some; upto = omega arith; within = omega (arith, whole) } in
@@ -129,6 +111,9 @@ pub damaged : (digest : List ℕ → List ℕ) → IsDigest digest → (origin :
 damaged digest hash origin puts w = record {
   reason = w;
   no_copy = λ held is note entries copy.
+      not_wrong digest hash origin note entries held (copies_are_pruned digest origin note entries held copy)
+      (subst (λ p. IsTipWrong digest origin p) is w);
+  no_pruned = λ held is note entries copy.
       not_wrong digest hash origin note entries held copy (subst (λ p. IsTipWrong digest origin p) is w);
   not_none = λ held is none. none (wrong_has digest origin held (subst (λ p. IsTipWrong digest origin p) is w));
 }

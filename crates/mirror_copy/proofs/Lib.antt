@@ -12,8 +12,10 @@ pub mod Finishing
 pub mod Roots
 pub mod Earlier
 pub mod ShelfReads
+pub mod PrunedFiles
 pub mod TipReads
 pub mod WholeMoments
+pub mod PrunedMoments
 pub mod SameCopies
 pub mod Stays
 pub mod Suffices

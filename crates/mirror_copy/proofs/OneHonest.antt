@@ -16,7 +16,7 @@ use Rattle.mirror_copy.specs.Damaged.{IsDamaged}
 use Rattle.mirror_copy.specs.Faults.{BlamesFrom, BlamesPlaces, IsOfNoPlace}
 use Rattle.mirror_copy.specs.Found.{IsTipRead}
 use Rattle.mirror_copy.specs.Growing.{Tip}
-use Rattle.mirror_copy.specs.OneHonest.{HoldsCopy, HoldsFirst, HoldsNone, IsHonestFor, IsHonestNote, IsShelfOrMemory}
+use Rattle.mirror_copy.specs.OneHonest.{HoldsCopy, HoldsFirst, HoldsNone, HoldsPruned, IsHonestFor, IsHonestNote, IsShelfOrMemory}
 use Rattle.mirror_copy.specs.Suffices.{IsEdgeTrue, IsSpared, IsTipOf}
 use Rattle.mirror_copy.specs.Taken.{EdgesAreClear, FilesAreClear, IsEdgeFrom, MayGive, MayTake}
 use Rattle.mirror_copy.specs.declared.fault.BringFault.{BringFault}
@@ -62,10 +62,12 @@ only_read OutOfMemory h n = inr refl
 module _ (digest : List ℕ → List ℕ) (origin : List ℕ) (log : List (List ℕ)) (puts : Option (List Put)) where
   not_damaged : HoldsFirst digest origin log puts → IsDamaged digest origin puts → ⊥
   not_damaged (HoldsCopy held is note entries more copy log_is some) d = d.no_copy held is note entries copy
+  not_damaged (HoldsPruned held is note entries more copy log_is some) d = d.no_pruned held is note entries copy
   not_damaged (HoldsNone held is none) d = d.not_none held is none
 
   not_used : HoldsFirst digest origin log puts → IsInUse digest origin puts → ⊥
   not_used (HoldsCopy held is note entries more copy log_is some) d = d.no_copy held is note entries copy
+  not_used (HoldsPruned held is note entries more copy log_is some) d = d.no_pruned held is note entries copy
   not_used (HoldsNone held is none) d = d.not_none held is none
 
   pub read_fails : (e : BringFault) → HoldsFirst digest origin log puts →
@@ -85,6 +87,12 @@ module _ (digest : List ℕ → List ℕ) (origin : List ℕ) (log : List (List 
       log_is = log_is;
       known_is = t.copy held is note entries copy;
     }
+    tip_first (HoldsPruned held is note entries more copy log_is some) = record {
+      known = entries;
+      rest = more;
+      log_is = log_is;
+      known_is = t.pruned held is note entries copy;
+    }
     tip_first (HoldsNone held is none) = record {
       known = [];
       rest = log;
@@ -95,6 +103,9 @@ module _ (digest : List ℕ → List ℕ) (origin : List ℕ) (log : List (List 
     is_larger : (n : ℕ) → n ≡ length log → HoldsFirst digest origin log puts → n ≤ tip.size → (n ≡ 0 → tip.checkpoint ≢ None) → ⊥
     is_larger n long (HoldsCopy held is note entries more copy log_is some) upto other =
         let size = (t.copy held is note entries copy).size_is in
+        omega (arith, size, upto, long, some, ap length log_is, length-append entries more)
+    is_larger n long (HoldsPruned held is note entries more copy log_is some) upto other =
+        let size = (t.pruned held is note entries copy).size_is in
         omega (arith, size, upto, long, some, ap length log_is, length-append entries more)
     is_larger n long (HoldsNone held is none) upto other =
         let gone = none_there held is none in

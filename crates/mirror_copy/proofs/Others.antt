@@ -1,23 +1,20 @@
 -- The checkpoint that is read in the last step.
-use Rattle.std.proofs.Common.{◌≡◌, ◌⊎◌, inl, inr, ℕ, List, Option, Some, None, Result, Ok, Err, IfErr, refl, sym, subst, ap, ◌∙◌}
+use Rattle.std.proofs.Common.{◌≡◌, ◌⊎◌, inl, inr, ℕ, List, [], Option, Some, None, Result, Ok, Err, IfErr, sym, subst}
 use Rattle.tlog_tiles.specs.declared.paths.Path.TheVariants.{Checkpoint}
 use Rattle.mirror_sources.specs.Recorded.{KeepsRecord}
-use Rattle.mirror_folders.specs.Shelf.{HasPut, Put, Stands, RecordsRead}
-use Rattle.mirror_export.proofs.AllFiles.{files_are_all}
+use Rattle.mirror_folders.specs.Shelf.{Put, RecordsRead}
 use Rattle.mirror_copy.specs.AskedForCopy.{IsInUse}
-use Rattle.mirror_copy.specs.Copies.{IsCopy}
 use Rattle.mirror_copy.specs.Faults.{BlamesFrom, BlamesPlaces, BlamesRun, IsOfNoPlace, IsOtherFound, IsOtherThen}
 use Rattle.mirror_copy.specs.Found.{IsTipRead}
 use Rattle.mirror_copy.specs.Growing.{IsCutShort, IsKnown, Tip}
-use Rattle.mirror_copy.specs.Moments.{InTheEnd}
 use Rattle.mirror_copy.specs.declared.fault.BringFault.{BringFault}
 use Rattle.mirror_copy.specs.declared.fault.BringFault.TheVariants.{BadCheckpoint, CopyDamaged, NotLarger}
 use Rattle.mirror_copy.specs.declared.fault.BringFault.TheVariants.{Contradiction, Collision, NoFile, Source, CopyInUse}
 use Rattle.mirror_copy.specs.declared.fault.BringFault.TheVariants.{ShelfFault, OutOfMemory}
 use Rattle.mirror_copy.specs.declared.places.Places.{Places}
 use Rattle.mirror_copy.proofs.Growth.{left_then}
-use Rattle.mirror_copy.proofs.Stays.{stays_cut}
-use Rattle.mirror_copy.proofs.TipReads.{stands_has, stands_one}
+use Rattle.mirror_export.proofs.FoundOnce.{read_more, read_once}
+use Rattle.mirror_copy.proofs.WholeMoments.{new_no_checkpoint, none_found}
 
 -- a fault of no place is one of a bringing
 pub of_no_place : {S : Type 0} (places : Places S) (e : BringFault) → IsOfNoPlace e → BlamesPlaces places e
@@ -67,50 +64,37 @@ last_empty digest tip x w (Err e) cut (inr h) = inr h
 
 -- ---- a shelf that records its puts
 
-read_stands : (puts : List Put) (a : Option (List ℕ)) (b : List ℕ) → Stands puts Checkpoint b → RecordsRead (Some puts) Checkpoint a →
-    a ≡ Some b
-read_stands puts None b stands read = absurd (read (stands_has puts Checkpoint b stands))
-read_stands puts (Some a) b stands read = ap (λ (x : List ℕ). Some x) (stands_one puts Checkpoint a b read stands)
-
-read_none : (puts : List Put) (a : Option (List ℕ)) → (HasPut puts Checkpoint → ⊥) → RecordsRead (Some puts) Checkpoint a → a ≡ None
-read_none puts None none read = refl
-read_none puts (Some a) none read = absurd (none (stands_has puts Checkpoint a read))
-
-module _ (digest : List ℕ → List ℕ) (origin : List ℕ) (found : Option (List ℕ)) where
-  note_there : (note : List ℕ) (entries : List (List ℕ)) (puts : List Put) → IsCopy digest origin note entries puts →
-      Stands puts Checkpoint note
-  note_there note entries puts copy = copy.holds Checkpoint ((files_are_all _ Checkpoint).1 tt)
-
-  copy_read : (note : List ℕ) (entries : List (List ℕ)) (w : Option (List Put)) → InTheEnd w (IsCopy digest origin note entries) →
-      (a : Option (List ℕ)) → RecordsRead w Checkpoint a → a ≡ Some note
-  copy_read note entries None h a read = absurd h
-  copy_read note entries (Some puts) h a read = read_stands puts a note (note_there note entries puts h) read
-
-  none_read : (w : Option (List Put)) → InTheEnd w (λ now. HasPut now Checkpoint → ⊥) → (a : Option (List ℕ)) →
-      RecordsRead w Checkpoint a → a ≡ None
-  none_read None h a read = absurd h
-  none_read (Some puts) h a read = read_none puts a h read
+-- what was read at the start is read again, where new files alone were put
+same_found : (digest : List ℕ → List ℕ) (m : ℕ) (known : List (List ℕ)) (held : List Put) (w : Option (List Put))
+    (first last : Option (List ℕ)) → RecordsRead (Some held) Checkpoint first → IsCutShort digest m known (Some held) w →
+    RecordsRead w Checkpoint last → last ≡ first
+same_found digest m known held None first last read cut again = absurd cut.gathers.recorded
+same_found digest m known held (Some new) first last read cut again =
+    let g = cut.gathers in
+    read_once new Checkpoint last first again
+    (subst (λ (l : List Put). RecordsRead (Some l) Checkpoint first) (sym g.recorded)
+    (read_more held Checkpoint g.puts first (new_no_checkpoint digest m cut.next g.puts g.are_new) read))
 
 pub in_use : (digest : List ℕ → List ℕ) (origin : List ℕ) (tip : Tip) (x : Option (List Put)) → IsTipRead digest origin x tip →
     IsOtherThen digest tip x → IsInUse digest origin x
-in_use digest origin tip x t o =
-    let s = stays_cut digest origin tip x o.before t o.cut in
-    record {
-      found = tip.checkpoint;
-      found_is = t.checkpoint;
-      before = o.before;
-      other = o.found;
-      no_copy = λ held is note entries copy.
-          let first = copy_read digest origin tip.checkpoint note entries (Some held) copy tip.checkpoint
-          (subst (λ (p : Option (List Put)). RecordsRead p Checkpoint tip.checkpoint) is t.checkpoint) in
-          let last = copy_read digest origin tip.checkpoint note entries o.before (s.copy held is note entries copy) o.found.now
-          o.found.now_is in o.found.other (last ∙ sym first);
-      not_none = λ held is none.
-          let first = none_read digest origin tip.checkpoint (Some held) none tip.checkpoint
-          (subst (λ (p : Option (List Put)). RecordsRead p Checkpoint tip.checkpoint) is t.checkpoint) in
-          let last = none_read digest origin tip.checkpoint o.before (s.none held is none) o.found.now o.found.now_is in
-          o.found.other (last ∙ sym first);
-    }
+in_use digest origin tip x t o = record {
+  found = tip.checkpoint;
+  found_is = t.checkpoint;
+  before = o.before;
+  other = o.found;
+  no_copy = λ held is note entries copy. same held is entries (t.copy held is note entries copy);
+  no_pruned = λ held is note entries copy. same held is entries (t.pruned held is note entries copy);
+  not_none = λ held is none.
+      same held is [] (t.known (none_found held tip.checkpoint (there held is) none));
+}
+  where
+    there : (held : List Put) → x ≡ Some held → RecordsRead (Some held) Checkpoint tip.checkpoint
+    there held is = subst (λ (p : Option (List Put)). RecordsRead p Checkpoint tip.checkpoint) is t.checkpoint
+
+    same : (held : List Put) → x ≡ Some held → (known : List (List ℕ)) → IsKnown digest tip 0 known → ⊥
+    same held is known k =
+        o.found.other (same_found digest tip.size known held o.before tip.checkpoint o.found.now (there held is)
+        (subst (λ (p : Option (List Put)). IsCutShort digest tip.size known p o.before) is (o.cut known k)) o.found.now_is)
 
 -- CopyInUse, of a call that goes on from a tip
 pub in_use_later : (digest : List ℕ → List ℕ) (origin : List ℕ) {S : Type 0} (places : Places S) (tip : Tip) (n : ℕ)

@@ -1,10 +1,15 @@
 -- What was read of a shelf, before and after calls that put nothing.
-use Rattle.std.proofs.Common.{ℕ, List, Option, Some, None, inl, inr, sym, subst}
+use Rattle.std.proofs.Common.{◌≡◌, ℕ, List, length, Option, Some, None, inl, inr, sym, subst, ◌∙◌}
 use Rattle.tlog_tiles.specs.declared.paths.Path.{Path}
 use Rattle.mirror_sources.specs.Recorded.{KeepsRecord}
 use Rattle.mirror_folders.specs.Shelf.{Put, Stands, HasPut, RecordsRead}
 use Rattle.mirror_sources.specs.Files.{full_of}
-use Rattle.mirror_copy.specs.Found.{IsEdgeRead, IsRowRead, RecordsPartial}
+use Rattle.mirror_copy.specs.Found.{CutsGivenWay, IsEdgeRead, IsRowRead, RecordsPartial}
+use Rattle.mirror_model.specs.Strings.{IsDigest}
+use Rattle.mirror_model.specs.TrueLaws.{AreShort}
+use Rattle.mirror_sources.specs.Honest.{true_bytes}
+use Rattle.tlog_tiles.specs.Tiles.{IsWithin}
+use Rattle.mirror_copy.proofs.TipReads.{stands_has, stands_one}
 use Rattle.mirror_copy.specs.Taken.{IsFirstOf, PartOf, WasPut}
 use Rattle.log_reader.specs.EdgeRows.{Edge, row_at}
 use Rattle.mirror_copy.proofs.OnePlace.{put_before, put_read}
@@ -20,27 +25,62 @@ read_before (Some xs) (Some ys) path (Some bytes) k h = subst (λ (l : List Put)
 read_before (Some xs) (Some ys) path None k h = λ has. h (subst (λ (l : List Put). HasPut l path) (sym k) has)
 
 -- the same of a partial file
+way_before : (xs ys : List Put) (path : Path) (answer : Option (List ℕ)) → ys ≡ xs → CutsGivenWay ys path answer →
+    CutsGivenWay xs path answer
+way_before xs ys path answer k h = subst (λ (l : List Put). CutsGivenWay l path answer) k h
+
 pub partial_before : (x y : Option (List Put)) (path : Path) (answer : Option (List ℕ)) → KeepsRecord x y →
     RecordsPartial y path answer → RecordsPartial x path answer
 partial_before None y path answer k h = tt
 partial_before (Some xs) None path answer k h = absurd k
 partial_before (Some xs) (Some ys) path (Some bytes) k h =
-    subst (λ (l : List Put). HasPut l path → Stands l path bytes) k h
-partial_before (Some xs) (Some ys) path None k h = λ has. h (subst (λ (l : List Put). HasPut l path) (sym k) has)
+    (subst (λ (l : List Put). HasPut l path → Stands l path bytes) k h.0, way_before xs ys path (Some bytes) k h.1)
+partial_before (Some xs) (Some ys) path None k h =
+    (λ has. h.0 (subst (λ (l : List Put). HasPut l path) (sym k) has), way_before xs ys path None k h.1)
 
 -- what stands at the path of a partial file
-pub partial_read : (x : Option (List Put)) (path : Path) (answer : Option (List ℕ)) → RecordsRead x path answer →
-    RecordsPartial x path answer
-partial_read None path answer h = tt
-partial_read (Some puts) path (Some bytes) h = λ has. h
-partial_read (Some puts) path None h = h
+pub partial_read : (x : Option (List Put)) (path : Path) (bytes : List ℕ) → RecordsRead x path (Some bytes) →
+    RecordsPartial x path (Some bytes)
+partial_read None path bytes h = tt
+partial_read (Some puts) path bytes h =
+    (λ has. h, λ digest hash entries short within way. absurd (way.gone (stands_has puts path bytes h)))
 
--- nothing stands there
-pub partial_any : (x : Option (List Put)) (path : Path) (answer : Option (List ℕ)) → RecordsRead x path None →
-    RecordsPartial x path answer
-partial_any None path answer h = tt
-partial_any (Some puts) path (Some bytes) h = λ has. absurd (h has)
-partial_any (Some puts) path None h = h
+-- nothing stands there, and it is cut from what stands at the path of the full file
+abbrev pub Cuts : Path → List ℕ → Option (List ℕ) → Type 0
+Cuts path full answer =
+    (digest : List ℕ → List ℕ) → IsDigest digest → (entries : List (List ℕ)) → AreShort entries →
+    IsWithin (length entries) path → IsFirstOf full (true_bytes digest entries path) →
+    answer ≡ Some (true_bytes digest entries path)
+
+way_cut : (xs : List Put) (path : Path) (full : List ℕ) (answer : Option (List ℕ)) → Stands xs (full_of path) full →
+    Cuts path full answer → CutsGivenWay xs path answer
+way_cut xs path full answer stands cuts digest hash entries short within way =
+    cuts digest hash entries short within (record {
+      rest = way.begins.rest;
+      full_is = stands_one xs (full_of path) full way.full stands way.stands ∙ way.begins.bytes_are;
+    })
+
+pub partial_cut : (x y : Option (List Put)) (path : Path) (full : List ℕ) (answer : Option (List ℕ)) → RecordsRead x path None →
+    KeepsRecord x y → RecordsRead y (full_of path) (Some full) → Cuts path full answer → RecordsPartial x path answer
+partial_cut None y path full answer none k there cuts = tt
+partial_cut (Some xs) None path full answer none k there cuts = absurd k
+partial_cut (Some xs) (Some ys) path full (Some bytes) none k there cuts = (
+  λ has. absurd (none has),
+  way_cut xs path full (Some bytes) (subst (λ (l : List Put). Stands l (full_of path) full) k there) cuts,
+)
+partial_cut (Some xs) (Some ys) path full None none k there cuts =
+    (none, way_cut xs path full None (subst (λ (l : List Put). Stands l (full_of path) full) k there) cuts)
+
+-- the full file does not stand either
+pub partial_none : (x y : Option (List Put)) (path : Path) → RecordsRead x path None → KeepsRecord x y →
+    RecordsRead y (full_of path) None → RecordsPartial x path None
+partial_none None y path none k full = tt
+partial_none (Some xs) None path none k full = absurd k
+partial_none (Some xs) (Some ys) path none k full = (
+  none,
+  λ digest hash entries short within way. absurd
+      (full (subst (λ (l : List Put). HasPut l (full_of path)) (sym k) (stands_has xs (full_of path) way.full way.stands))),
+)
 
 pub part_weaker : (take also : Path → List ℕ → Type 0) → ((path : Path) (bytes : List ℕ) → take path bytes → also path bytes) →
     (path : Path) (bytes : List ℕ) → PartOf take path bytes → PartOf also path bytes

@@ -1,11 +1,11 @@
 -- What is read of a copy's edge is that of the copy.
-use Rattle.std.proofs.Common.{◌≡◌, ◌≢◌, ℕ, suc, ◌+◌, ◌-◌, ◌*◌, ◌≤◌, ◌<◌, List, [], ◌∷◌, ◌++◌, length, get_or, Option, Some}
+use Rattle.std.proofs.Common.{◌≡◌, ℕ, suc, ◌+◌, ◌-◌, ◌*◌, ◌≤◌, ◌<◌, List, [], ◌∷◌, ◌++◌, length, get_or, Option, Some, None}
 use Rattle.std.proofs.Common.{refl, sym, ap, subst, ◌∙◌, arith, inl, inr}
 use Rattle.std.specs.List.{Contains}
 use Rattle.std.proofs.Math.Seq.{get_or-append_seam}
 use Rattle.std.proofs.lemmas.Bool.{cases_lt}
 use Rattle.std.proofs.lemmas.List.{get_or-append_right, length-append, nil_from_length}
-use Rattle.tlog_shape.specs.Edge.{edge_index_of, width_of}
+use Rattle.tlog_shape.specs.Edge.{edge_index_of, IsTile, width_of}
 use Rattle.tlog_hash.specs.Rows.{level_row, part}
 use Rattle.tlog_hash.specs.Tree.{mth}
 use Rattle.tlog_tiles.specs.declared.paths.Path.{Path}
@@ -19,11 +19,12 @@ use Rattle.mirror_model.specs.Heads.{IsHead}
 use Rattle.mirror_model.specs.Strings.{IsDigest}
 use Rattle.mirror_model.proofs.HeadNotes.{head_once}
 use Rattle.mirror_folders.specs.Shelf.{HasPut, Put, Stands}
-use Rattle.mirror_export.specs.FileLaws.{IsFileOf}
 use Rattle.mirror_export.proofs.Standing.{put_has}
-use Rattle.mirror_export.proofs.AllFiles.{files_are_all, partial_widest}
-use Rattle.mirror_copy.specs.Copies.{IsCopy}
-use Rattle.mirror_copy.specs.Found.{IsBundleRead, IsEdgeRead, IsRowRead, IsTipRead}
+use Rattle.mirror_copy.specs.Found.{IsBundleRead, IsEdgeRead, IsRowRead, IsTipRead, RecordsPartial}
+use Rattle.mirror_copy.specs.Pruned.{HasGivenWay, IsPrunedCopy}
+use Rattle.mirror_copy.proofs.PrunedFiles.{copies_are_pruned, file_within}
+use Rattle.log_reader.specs.Holding.{IsTreeFile}
+use Rattle.mirror_sources.specs.Honest.{true_bytes}
 use Rattle.mirror_copy.specs.Growing.{IsKnown, Tip}
 use Rattle.mirror_folders.specs.Shelf.{RecordsRead}
 
@@ -79,15 +80,12 @@ stands_has puts path bytes s = put_has puts path bytes (
 -- ---- the tip of a copy
 
 module _ (digest : List ℕ → List ℕ) (hash : IsDigest digest) (origin note : List ℕ) (entries : List (List ℕ))
-    (held : List Put) (copy : IsCopy digest origin note entries held) where
+    (held : List Put) (copy : IsPrunedCopy digest origin note entries held) where
   abbrev n : ℕ
   n = length entries
 
-  note_stands : Stands held Checkpoint note
-  note_stands = copy.holds Checkpoint ((files_are_all n Checkpoint).1 tt)
-
   pub note_read : (bytes : List ℕ) → Stands held Checkpoint bytes → bytes ≡ note
-  note_read bytes there = stands_one held Checkpoint bytes note there note_stands
+  note_read bytes there = stands_one held Checkpoint bytes note there copy.note_stands
 
   pub size_read : (bytes : List ℕ) (size : ℕ) (root : List ℕ) → Stands held Checkpoint bytes →
       IsHead bytes origin size root → size ≡ n
@@ -95,22 +93,39 @@ module _ (digest : List ℕ → List ℕ) (hash : IsDigest digest) (origin note 
       (head_once note origin origin size n root (mth digest entries)
       (subst (λ b. IsHead b origin size root) (note_read bytes there) head) copy.is_head).size_is
 
-  read_one : (path : Path) (bytes other : List ℕ) → (HasPut held path → Stands held path bytes) → Stands held path other →
-      bytes ≡ other
-  read_one path bytes other there stands = stands_one held path bytes other (there (stands_has held path other stands)) stands
+  stands_read : (path : Path) (bytes : List ℕ) (found : Option (List ℕ)) → Stands held path bytes →
+      RecordsPartial (Some held) path found → found ≡ Some bytes
+  stands_read path bytes None stands h = absurd (h.0 (stands_has held path bytes stands))
+  stands_read path bytes (Some other) stands h =
+      ap (λ (b : List ℕ). Some b) (stands_one held path other bytes (h.0 (stands_has held path bytes stands)) stands)
 
-  row_true : (level width : ℕ) (bytes : List ℕ) (row : List (List ℕ)) → IsRow width bytes row → level ≤ 7 →
-      width ≢ 0 → width ≡ width_of n level → (HasPut held (Tile level (edge_index_of n level) width) →
-      Stands held (Tile level (edge_index_of n level) width) bytes) →
-      row ≡ level_row digest entries level (256 * edge_index_of n level) width
-  row_true level width bytes row is upto some width_is there =
+  way_read : (path : Path) (found : Option (List ℕ)) → IsTreeFile n path → HasGivenWay digest entries held path →
+      RecordsPartial (Some held) path found → found ≡ Some (true_bytes digest entries path)
+  way_read path None file way h = h.1 digest hash entries copy.short (file_within n path file) way
+  way_read path (Some bytes) file way h = h.1 digest hash entries copy.short (file_within n path file) way
+
+  -- what is read at the path of a file is that file, also where it has given way
+  pub file_read : (path : Path) (found : Option (List ℕ)) → IsTreeFile n path → RecordsPartial (Some held) path found →
+      found ≡ Some (true_bytes digest entries path)
+  file_read path found file h = elim (copy.files path file) [
+    | inl stands ↦ stands_read path (true_bytes digest entries path) found stands h
+    | inr way ↦ way_read path found file way h
+  ]
+
+  -- the partial tile and the partial bundle at the edge
+  pub edge_file : (level : ℕ) → 1 ≤ width_of n level → IsTile n level (edge_index_of n level) (width_of n level)
+  edge_file level some = inr (record { index_is = refl; width_is = refl; some = omega (arith, some) })
+
+  row_true : (level : ℕ) (bytes : List ℕ) (row : List (List ℕ)) → IsRow (width_of n level) bytes row → level ≤ 7 →
+      1 ≤ width_of n level →
+      RecordsPartial (Some held) (Tile level (edge_index_of n level) (width_of n level)) (Some bytes) →
+      row ≡ level_row digest entries level (256 * edge_index_of n level) (width_of n level)
+  row_true level bytes row is upto some there =
       let index = edge_index_of n level in
-      let path = Tile level index width in
-      let file : IsFileOf n path = subst (λ w. IsFileOf n (Tile level index w)) (sym width_is)
-      (partial_widest n level upto (λ e. some (width_is ∙ e))) in
-      let bytes_are : bytes ≡ tile_bytes digest entries level index width =
-      read_one path bytes (tile_bytes digest entries level index width) there
-      (copy.holds path ((files_are_all n path).1 file)) in
+      let width = width_of n level in
+      let found : Some bytes ≡ Some (tile_bytes digest entries level index width) =
+      file_read (Tile level index width) (Some bytes) (upto, edge_file level some) there in
+      let bytes_are : bytes ≡ tile_bytes digest entries level index width = cc found in
       let true_row = (served_is_read digest hash entries copy.short).tile level index width in
       row_one row (level_row digest entries level (256 * index) width) is.sizes true_row.sizes
       (is.count ∙ sym true_row.count) (sym is.text ∙ bytes_are)
@@ -124,8 +139,7 @@ module _ (digest : List ℕ → List ℕ) (hash : IsDigest digest) (origin note 
   pub row_read : (level : ℕ) (row : List (List ℕ)) → level ≤ 7 → IsRowRead (Some held) n level row →
       row ≡ level_row digest entries level (256 * edge_index_of n level) (width_of n level)
   row_read level row upto r = elim (cases_lt 0 (width_of n level)) [
-    | inl some ↦ row_true level (width_of n level) r.bytes row r.is_row upto (λ e. omega arith) refl
-        (r.stands (omega arith))
+    | inl some ↦ row_true level r.bytes row r.is_row upto (omega arith) (r.stands (omega arith))
     | inr none ↦ no_row level row r.is_row.count (omega arith)
   ]
 
@@ -134,9 +148,10 @@ module _ (digest : List ℕ → List ℕ) (hash : IsDigest digest) (origin note 
   bundle_read bytes r = elim (cases_lt 0 (width_of n 0)) [
     | inl some ↦
         let index = edge_index_of n 0 in
-        let path = Entries index (width_of n 0) in
-        read_one path bytes (bundle_bytes entries index (width_of n 0)) (r.stands (omega arith))
-        (copy.holds path ((files_are_all n path).1 (partial_widest n 0 (omega arith) (λ e. omega arith))))
+        let width = width_of n 0 in
+        let found : Some bytes ≡ Some (bundle_bytes entries index width) =
+        file_read (Entries index width) (Some bytes) (edge_file 0 (omega arith)) (r.stands (omega arith)) in
+        cc found
     | inr none ↦
         let zero_wide : width_of n 0 ≡ 0 = omega arith in
         r.none zero_wide
@@ -169,12 +184,18 @@ pub tip_read : (digest : List ℕ → List ℕ) → IsDigest digest → (origin 
 tip_read digest hash origin puts tip checkpoint size root is there head edge bundle = record {
   checkpoint = subst (λ answer. RecordsRead puts Checkpoint answer) (sym is) there;
   copy = λ held puts_are note entries copy.
-      let stands : Stands held Checkpoint checkpoint =
-      subst (λ p. RecordsRead p Checkpoint (Some checkpoint)) puts_are there in
-      tip_known digest hash origin note entries held copy tip size
-      (size_read digest hash origin note entries held copy checkpoint size root stands head) edge.size_is
-      (λ level upto. subst (λ p. IsRowRead p size level (get_or tip.rows level [])) puts_are (edge.rows_are level upto))
-      (subst (λ p. IsBundleRead p size tip.bundle) puts_are bundle);
+      tip_of held puts_are note entries (copies_are_pruned digest origin note entries held copy);
+  pruned = tip_of;
   empty = λ e. absurd (cc (is, e));
   known = λ e. absurd (cc (is, e));
 }
+  where
+    tip_of : (held : List Put) → puts ≡ Some held → (note : List ℕ) (entries : List (List ℕ)) →
+        IsPrunedCopy digest origin note entries held → IsKnown digest tip 0 entries
+    tip_of held puts_are note entries copy =
+        let stands : Stands held Checkpoint checkpoint =
+        subst (λ p. RecordsRead p Checkpoint (Some checkpoint)) puts_are there in
+        tip_known digest hash origin note entries held copy tip size
+        (size_read digest hash origin note entries held copy checkpoint size root stands head) edge.size_is
+        (λ level upto. subst (λ p. IsRowRead p size level (get_or tip.rows level [])) puts_are (edge.rows_are level upto))
+        (subst (λ p. IsBundleRead p size tip.bundle) puts_are bundle)

@@ -29,6 +29,7 @@ use Rattle.mirror_copy.specs.Edges.{BringsToEdge, IsCopyBrought, PutsNote}
 use Rattle.mirror_copy.specs.Found.{IsBundleRead, IsEdgeRead, IsRowRead, IsTipRead, RecordsPartial}
 use Rattle.mirror_copy.specs.Growing.{Obtains, IsCutShort, IsKnown, IsNewFile, Tip, empty_tip}
 use Rattle.mirror_copy.specs.Moments.{AtEachMoment, HadSize, InTheEnd, IsBroughtTo, IsGrownCopy, KeepsCopy, PutsBeyond}
+use Rattle.mirror_copy.specs.Pruned.{IsPrunedCopy}
 use Rattle.mirror_folders.specs.Shelf.{RecordsRead}
 use Rattle.mirror_copy.proofs.CopyMoments.{bringing_makes_copy, bringing_stays_copy, copy_files, new_files_keep_copies, not_file}
 use Rattle.mirror_copy.proofs.Growth.{adds_then, gathers_none, kept_adds, kept_same, left_none}
@@ -79,7 +80,7 @@ copy_found digest origin note entries puts answer copy h is =
 abbrev IsPutOf : (List ℕ → List ℕ) → ℕ → List (List ℕ) → Put → Type 0
 IsPutOf digest m next put = IsNewFile digest m next put ⊎ (put.0 ≡ Checkpoint)
 
-new_no_checkpoint : (digest : List ℕ → List ℕ) (m : ℕ) (next : List (List ℕ)) (puts : List Put) →
+pub new_no_checkpoint : (digest : List ℕ → List ℕ) (m : ℕ) (next : List (List ℕ)) (puts : List Put) →
     All (IsNewFile digest m next) puts → HasPut puts Checkpoint → ⊥
 new_no_checkpoint digest m next puts all has =
     All-contains (λ (path : Path). path ≢ Checkpoint) (paths puts) Checkpoint
@@ -213,7 +214,7 @@ module _ (digest : List ℕ → List ℕ) (origin note : List ℕ) (tip : Tip) (
         (sym (append_assoc old at.so_far at.later)
         ∙ (ap (λ (l : List Put). l ++ at.later) (sym at.now_is) ∙ (sym at.new_is ∙ new_is)))
 
-    so_far_put : (put : Put) → Contains at.so_far put → IsPutOf digest tip.size b.next put
+    pub so_far_put : (put : Put) → Contains at.so_far put → IsPutOf digest tip.size b.next put
     so_far_put put has = each_put put
         (subst (λ (l : List Put). Contains l put) split (Contains-append_left at.so_far at.later put has))
 
@@ -254,7 +255,7 @@ beyond_new : (digest : List ℕ → List ℕ) (m : ℕ) (next : List (List ℕ))
     IsWithin m put.0 → ⊥
 beyond_new digest m next put new = new.new
 
-beyond_same : (n : ℕ) (held : List Put) (x w : Option (List Put)) → x ≡ Some held → KeepsRecord x w →
+pub beyond_same : (n : ℕ) (held : List Put) (x w : Option (List Put)) → x ≡ Some held → KeepsRecord x w →
     PutsBeyond n held w
 beyond_same n held x w is kept = record {
   puts = [];
@@ -557,12 +558,18 @@ empty_known digest = record {
   bundle_is = refl;
 }
 
+pruned_found : (digest : List ℕ → List ℕ) (origin note : List ℕ) (entries : List (List ℕ)) (puts : List Put) →
+    IsPrunedCopy digest origin note entries puts → RecordsRead (Some puts) Checkpoint None → ⊥
+pruned_found digest origin note entries puts copy none = none (stands_has puts Checkpoint note copy.note_stands)
+
 pub empty_read : (digest : List ℕ → List ℕ) (origin : List ℕ) (x : Option (List Put)) → RecordsRead x Checkpoint None →
     IsTipRead digest origin x empty_tip
 empty_read digest origin x h = record {
   checkpoint = h;
   copy = λ held is note entries copy. absurd
       (copy_found digest origin note entries held None copy (subst (λ o. RecordsRead o Checkpoint None) is h) refl);
+  pruned = λ held is note entries copy. absurd
+      (pruned_found digest origin note entries held copy (subst (λ o. RecordsRead o Checkpoint None) is h));
   empty = λ e. refl;
   known = λ e. empty_known digest;
 }

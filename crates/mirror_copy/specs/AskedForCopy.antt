@@ -8,6 +8,7 @@ use Rattle.mirror_copy.specs.Asked.{MayBeAsked}
 use Rattle.mirror_copy.specs.Copies.{IsCopy}
 use Rattle.mirror_copy.specs.Faults.{IsOtherFound}
 use Rattle.mirror_copy.specs.Moments.{HadSize}
+use Rattle.mirror_copy.specs.Pruned.{IsPrunedCopy}
 use Rattle.mirror_copy.specs.PlaceGets.{APlaceFailed, AsksEach}
 use Rattle.mirror_copy.specs.declared.place.Place.{Place}
 use Rattle.mirror_copy.specs.declared.places.Places.{Places}
@@ -76,4 +77,6 @@ pub record IsInUse (digest : List ℕ → List ℕ) (origin : List ℕ) (old : O
   pub other : IsOtherFound found before
   pub no_copy : (held : List Put) → old ≡ Some held → (note : List ℕ) (entries : List (List ℕ)) →
       ¬ IsCopy digest origin note entries held
+  pub no_pruned : (held : List Put) → old ≡ Some held → (note : List ℕ) (entries : List (List ℕ)) →
+      ¬ IsPrunedCopy digest origin note entries held
   pub not_none : (held : List Put) → old ≡ Some held → ¬ ¬ HasPut held Checkpoint

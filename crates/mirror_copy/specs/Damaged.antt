@@ -9,6 +9,7 @@ use Rattle.log_reader.specs.EdgeRows.{Edge, LeadsTo, hash_of_edge, row_at}
 use Rattle.log_reader.specs.Verified.{HasLeaves}
 use Rattle.mirror_copy.specs.Copies.{IsCopy}
 use Rattle.mirror_copy.specs.Found.{IsEdgeRead, RecordsPartial}
+use Rattle.mirror_copy.specs.Pruned.{IsPrunedCopy}
 
 module _ (puts : Option (List Put)) (n : ℕ) where
   -- the partial tile of a level of the edge of n entries is not there, or is no row of its width
@@ -46,9 +47,11 @@ module _ (digest : List ℕ → List ℕ) (origin : List ℕ) (puts : Option (Li
         IsHead note origin size root → (edge : Edge) → IsEdgeRead puts size edge → LeadsTo digest size root edge →
         IsBundleWrong digest puts edge → IsTipWrong
 
-  -- so a shelf that records its puts holds no copy, and has a checkpoint
+  -- so a shelf that records its puts holds no copy, also none whose partial files have given way, and has a checkpoint
   pub record IsDamaged : Type 0 where
     pub reason : IsTipWrong
     pub no_copy : (held : List Put) → puts ≡ Some held → (note : List ℕ) (entries : List (List ℕ)) →
         ¬ IsCopy digest origin note entries held
+    pub no_pruned : (held : List Put) → puts ≡ Some held → (note : List ℕ) (entries : List (List ℕ)) →
+        ¬ IsPrunedCopy digest origin note entries held
     pub not_none : (held : List Put) → puts ≡ Some held → ¬ ¬ HasPut held Checkpoint

@@ -1,6 +1,6 @@
 -- What was read of a copy's edge. It is cited by the contracts of
 -- private functions alone.
-use Rattle.std.specs.Prelude.{◌≡◌, ⊤, ℕ, ◌≤◌, List, [], Option, Some, None, Result, IfErr, OnOk}
+use Rattle.std.specs.Prelude.{◌≡◌, ⊤, ℕ, ◌≤◌, List, [], length, Option, Some, None, Result, IfErr, OnOk}
 use Rattle.tlog_shape.specs.Edge.{width_of, edge_index_of}
 use Rattle.tlog_tiles.specs.declared.paths.Path.{Path}
 use Rattle.tlog_tiles.specs.declared.paths.Path.TheVariants.{Checkpoint, Tile, Entries}
@@ -11,15 +11,28 @@ use Rattle.mirror_copy.specs.Copies.{IsCopy}
 use Rattle.log_reader.specs.EdgeRows.{Edge, row_at}
 use Rattle.mirror_copy.specs.Growing.{IsKnown, Tip}
 use Rattle.mirror_copy.specs.Moments.{CopyStays, IsBroughtTo, KeepsCopy}
+use Rattle.mirror_copy.specs.Pruned.{HasGivenWay, IsPrunedCopy, LeavesPruned}
 use Rattle.mirror_copy.specs.Taken.{PartOf, WasPut}
+use Rattle.mirror_model.specs.Strings.{IsDigest}
+use Rattle.mirror_model.specs.TrueLaws.{AreShort}
+use Rattle.mirror_sources.specs.Honest.{true_bytes}
+use Rattle.tlog_tiles.specs.Tiles.{IsWithin}
 use Rattle.mirror_folders.specs.Shelf.{RecordsRead}
+
+-- where a partial file has given way to its full one, its true bytes were cut from that
+abbrev pub CutsGivenWay : List Put → Path → Option (List ℕ) → Type 0
+CutsGivenWay puts path answer =
+    (digest : List ℕ → List ℕ) → IsDigest digest → (entries : List (List ℕ)) → AreShort entries →
+    IsWithin (length entries) path → HasGivenWay digest entries puts path →
+    answer ≡ Some (true_bytes digest entries path)
 
 -- the answer is what stands at the path of a partial file, where something was put there; where nothing was, it may be
 -- cut from the full file
 abbrev pub RecordsPartial : Option (List Put) → Path → Option (List ℕ) → Type 0
 RecordsPartial None path answer = ⊤
-RecordsPartial (Some puts) path None = ¬ HasPut puts path
-RecordsPartial (Some puts) path (Some bytes) = HasPut puts path → Stands puts path bytes
+RecordsPartial (Some puts) path None = (¬ HasPut puts path) × CutsGivenWay puts path None
+RecordsPartial (Some puts) path (Some bytes) =
+    (HasPut puts path → Stands puts path bytes) × CutsGivenWay puts path (Some bytes)
 
 -- the row of a level of the edge of n entries is what stands on the shelf, where there is one
 pub record IsRowRead (puts : Option (List Put)) (n level : ℕ) (row : List (List ℕ)) : Type 0 where
@@ -46,6 +59,8 @@ module _ (digest : List ℕ → List ℕ) where
     pub checkpoint : RecordsRead puts Checkpoint tip.checkpoint
     pub copy : (held : List Put) → puts ≡ Some held → (note : List ℕ) (entries : List (List ℕ)) →
         IsCopy digest origin note entries held → IsKnown digest tip 0 entries
+    pub pruned : (held : List Put) → puts ≡ Some held → (note : List ℕ) (entries : List (List ℕ)) →
+        IsPrunedCopy digest origin note entries held → IsKnown digest tip 0 entries
     pub empty : tip.checkpoint ≡ None → tip.size ≡ 0
     pub known : tip.checkpoint ≡ None → IsKnown digest tip 0 []
 
@@ -56,4 +71,4 @@ module _ (digest : List ℕ → List ℕ) where
   BringsFromTip origin note tip old new result =
       (before : Option (List Put)) → KeepsRecord before old → IsTipRead origin before tip →
       KeepsCopy digest origin note before new × OnOk result (IsBroughtTo digest origin note before new)
-      × IfErr result (λ e. CopyStays digest origin before new)
+      × IfErr result (λ e. CopyStays digest origin before new) × LeavesPruned digest origin note before new result

@@ -6,6 +6,7 @@ pub mod Asked
 pub mod Conflicts
 pub mod Copies
 pub mod Moments
+pub mod Pruned
 pub mod Edges
 pub mod Found
 pub mod AskedForCopy

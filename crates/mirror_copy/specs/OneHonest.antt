@@ -6,6 +6,7 @@ use Rattle.tlog_tiles.specs.declared.paths.Path.TheVariants.{Checkpoint}
 use Rattle.mirror_folders.specs.Shelf.{HasPut, Put}
 use Rattle.mirror_model.specs.Heads.{IsHead}
 use Rattle.mirror_copy.specs.Copies.{IsCopy}
+use Rattle.mirror_copy.specs.Pruned.{IsPrunedCopy}
 use Rattle.mirror_copy.specs.Suffices.{OneIsHonest}
 use Rattle.mirror_copy.specs.Taken.{EdgesAreClear, MayTake}
 use Rattle.mirror_copy.specs.declared.fault.BringFault.{BringFault}
@@ -16,12 +17,17 @@ use Rattle.mirror_copy.specs.declared.places.Places.{Places}
 abbrev pub IsShelfOrMemory : BringFault → Type 0
 IsShelfOrMemory e = (e ≡ ShelfFault) ⊎ (e ≡ OutOfMemory)
 
--- the shelf records its puts, and it holds a copy of the first entries of the log, though not of all, or no checkpoint
+-- the shelf records its puts, and it holds a copy of the first entries of the log, though not of all, or no checkpoint. Partial
+-- files of the copy may have given way
 pub data HoldsFirst (digest : List ℕ → List ℕ) (origin : List ℕ) (log : List (List ℕ)) (puts : Option (List Put))
     : Type 0 where
   HoldsCopy :
       (held : List Put) → puts ≡ Some held → (note : List ℕ) (entries more : List (List ℕ)) →
       IsCopy digest origin note entries held → log ≡ entries ++ more → 1 ≤ length more →
+      HoldsFirst digest origin log puts
+  HoldsPruned :
+      (held : List Put) → puts ≡ Some held → (note : List ℕ) (entries more : List (List ℕ)) →
+      IsPrunedCopy digest origin note entries held → log ≡ entries ++ more → 1 ≤ length more →
       HoldsFirst digest origin log puts
   HoldsNone : (held : List Put) → puts ≡ Some held → ¬ HasPut held Checkpoint → HoldsFirst digest origin log puts
 

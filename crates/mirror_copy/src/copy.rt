@@ -12,6 +12,7 @@ ghost use Rattle.mirror_copy.specs.Faults.{BlamesFrom, BlamesPlaces, BlamesRun, 
 ghost use Rattle.mirror_copy.specs.PlaceGets.{AsksPlaces};
 ghost use Rattle.mirror_copy.specs.Damaged.{IsDamaged};
 ghost use Rattle.mirror_copy.specs.Found.{BringsFromTip};
+ghost use Rattle.mirror_copy.specs.Pruned.{HadPruned, LeavesPruned};
 ghost use Rattle.mirror_copy.specs.OneHonest.{IsHonestFor, IsHonestNote, IsShelfOrMemory};
 ghost use Rattle.mirror_copy.specs.Suffices.{HasTruePlace, IsNoLack, IsSpared, IsTipOf};
 ghost use Rattle.mirror_copy.specs.Taken.{IsEdgeFrom, MayTake};
@@ -232,6 +233,9 @@ pub fn bring_copy<H: TreeHash, D: ReadableShelf, S: Source + Drop>(
         (λ _. CopyStays H.digest origin.now (D.puts shelf.old) (D.puts shelf.new)) }
     ensures brought { OnOk result (IsBroughtTo H.digest origin.now note.now
         (D.puts shelf.old) (D.puts shelf.new)) }
+    ensures pruned { LeavesPruned H.digest origin.now note.now (D.puts shelf.old)
+        (D.puts shelf.new) result }
+    ensures had_pruned { IfOk result (HadPruned H.digest origin.now (D.puts shelf.old)) }
 {
     places.begin();
     let Some(head) = head_of(alloc, origin, note)? else {

@@ -1,5 +1,6 @@
 //! Laws of the definitions that the contracts cite.
 ghost use Rattle.mirror_copy.specs.Copies.{BringingBeginsEmpty, BringingMakesCopy, BringingStaysCopy, BroughtRowsLeadToRoot, CopiesAreSame, NewFilesKeepCopies};
+ghost use Rattle.mirror_copy.specs.Pruned.{CopiesArePruned};
 
 /// At each moment at which new files alone were put, the copy is as it was.
 pub fn new_files_law()
@@ -25,6 +26,11 @@ pub fn root_law()
 /// share a digest.
 pub fn same_copy_law()
     ensures { CopiesAreSame }
+{}
+
+/// A copy in which every file is there is one whose partial files may have given way to their full ones.
+pub fn pruned_copy_law()
+    ensures { CopiesArePruned }
 {}
 
 /// A bringing may begin with nothing.

@@ -30,7 +30,8 @@ mod to_edge;
 pub use copy::bring_copy;
 pub use fault::BringFault;
 pub use laws::{
-    empty_tip_law, makes_copy_law, new_files_law, root_law, same_copy_law, stays_copy_law,
+    empty_tip_law, makes_copy_law, new_files_law, pruned_copy_law, root_law, same_copy_law,
+    stays_copy_law,
 };
 pub use place::{Place, PlaceAnswer, Wrong, WrongFile};
 pub use places::Places;

@@ -35,6 +35,9 @@ fn first_entries(bundle: &[u8], count: u32) -> Option<&[u8]>
     ensures whole { (entries : List (List ℕ)) → AreShort entries → bundle.now ≡ bundle_text entries
         → count ≤ length entries
         → option_map (λ part. part.now) result ≡ Some (bundle_text (take count entries)) }
+    ensures cut { (entries : List (List ℕ)) → AreShort entries → count ≡ length entries
+        → IsFirstOf bundle.now (bundle_text entries)
+        → option_map (λ part. part.now) result ≡ Some (bundle_text entries) }
 {
     let mut rest = bundle;
     for done in 0..count {
@@ -53,6 +56,9 @@ fn first_hashes(tile: &[u8], count: u32) -> Option<&[u8]>
     ensures whole { (row : List (List ℕ)) → All (λ hash. length hash ≡ 32) row
         → tile.now ≡ row_text row → count ≤ length row
         → option_map (λ part. part.now) result ≡ Some (row_text (take count row)) }
+    ensures cut { (row : List (List ℕ)) → All (λ hash. length hash ≡ 32) row → count ≡ length row
+        → IsFirstOf tile.now (row_text row)
+        → option_map (λ part. part.now) result ≡ Some (row_text row) }
 {
     let len = 32 * count as usize;
     if tile.len() < len {
@@ -69,6 +75,10 @@ pub(crate) fn part_of<'a>(path: &Path, full: &'a [u8]) -> Option<&'a [u8]>
         → AreShort entries → IsWithin (length entries) path.now
         → IsWithin (length entries) (full_of path.now)
         → full.now ≡ true_bytes digest entries (full_of path.now)
+        → option_map (λ part. part.now) result ≡ Some (true_bytes digest entries path.now) }
+    ensures cut { (digest : List ℕ → List ℕ) → IsDigest digest → (entries : List (List ℕ))
+        → AreShort entries → IsWithin (length entries) path.now
+        → IsFirstOf full.now (true_bytes digest entries path.now)
         → option_map (λ part. part.now) result ≡ Some (true_bytes digest entries path.now) }
 {
     match path {

@@ -14,7 +14,7 @@ use tlog_tiles::Path;
 
 /// The bytes of a partial file on the shelf; None if it is not there. It may have given way to its full file: then they
 /// are cut from that.
-#[tactic(auto, using(crate::proofs::ShelfReads::partial_read, crate::proofs::ShelfReads::partial_any, crate::proofs::Earlier::kept_then))]
+#[tactic(auto, using(crate::proofs::Earlier::kept_then))]
 pub(crate) fn read_partial<D: ReadableShelf>(
     alloc: Global,
     shelf: &mut D,

@@ -8,6 +8,8 @@ use Rattle.mirror_copy.proofs.Begun.{asks_begun, begun_then, blames_from, blames
 use Rattle.mirror_copy.proofs.Growth.{kept_same}
 use Rattle.mirror_copy.proofs.Others.{in_use_later, tip_not_in_use}
 use Rattle.mirror_copy.proofs.Stays.{stays_same}
+use Rattle.mirror_copy.specs.declared.fault.BringFault.TheVariants.{BadCheckpoint}
+use Rattle.mirror_copy.proofs.PrunedMoments.{had_pruned, leaves_err, leaves_ok, leaves_same}
 use Rattle.mirror_copy.proofs.WholeMoments.{had_size, whole_same}
 use Rattle.mirror_copy.proofs.copy.bring_copy.Goals as goal
 
@@ -161,3 +163,40 @@ returns-in_err-tip-clause-blames g c =
     let p = err_from_is_err_and c.from_residual-in_err-tip.result c.from_residual-in_err-tip.ensures.1 in
     rw (p.1, p.2) (blames_tip g.S.Source.may_answer g.S.Source.failed g.S.Source.asked c.args.places.now c.begin.new.self
     c.in_err-tip.field-0.0 c.in_err-tip.ensures.damaged)
+
+pub returns-in_err-head-clause-pruned : goal.returns-in_err-head-clause-pruned
+returns-in_err-head-clause-pruned g c =
+    let p = err_from_is_err_and c.from_residual.result c.from_residual.ensures.1 in
+    let x = g.D.Shelf.puts c.args.shelf.now in
+    rw p.1 (leaves_same g.H.TreeHash.digest c.args.origin.now c.args.note.now x x (kept_same x) p.0)
+
+pub returns-in_default-clause-pruned : goal.returns-in_default-clause-pruned
+returns-in_default-clause-pruned g c =
+    let x = g.D.Shelf.puts c.args.shelf.now in
+    leaves_same g.H.TreeHash.digest c.args.origin.now c.args.note.now x x (kept_same x) BadCheckpoint
+
+pub returns-in_err-tip-clause-pruned : goal.returns-in_err-tip-clause-pruned
+returns-in_err-tip-clause-pruned g c =
+    let p = err_from_is_err_and c.from_residual-in_err-tip.result c.from_residual-in_err-tip.ensures.1 in
+    rw p.1 (leaves_same g.H.TreeHash.digest c.args.origin.now c.args.note.now (g.D.Shelf.puts c.args.shelf.now)
+    (g.D.Shelf.puts c.read_tip.new.shelf) c.read_tip.ensures.same p.0)
+
+pub returns-in_err-done-clause-pruned : goal.returns-in_err-done-clause-pruned
+returns-in_err-done-clause-pruned g c =
+    let p = err_from_is_err_and c.from_residual-in_err-done.result c.from_residual-in_err-done.ensures.1 in
+    let x = g.D.Shelf.puts c.args.shelf.now in
+    let w = g.D.Shelf.puts c.bring_from-done.new.shelf in
+    let left = (c.in_err-done.ensures.brings x c.read_tip.ensures.same c.in_ok-tip.ensures.tip).3 in
+    rw p.1 (leaves_err g.H.TreeHash.digest c.args.origin.now c.args.note.now x w c.in_err-done.field-0.0 p.0 left)
+
+pub returns-clause-pruned : goal.returns-clause-pruned
+returns-clause-pruned g c =
+    let x = g.D.Shelf.puts c.args.shelf.now in
+    let w = g.D.Shelf.puts c.bring_from-done.new.shelf in
+    let left = (c.in_ok-done.ensures.brings x c.read_tip.ensures.same c.in_ok-tip.ensures.tip).3 in
+    leaves_ok g.H.TreeHash.digest c.args.origin.now c.args.note.now x w _ c.size-had.result left
+
+pub returns-clause-had_pruned : goal.returns-clause-had_pruned
+returns-clause-had_pruned g c =
+    rw c.size-had.ensures (had_pruned g.H.TreeHash.digest c.args.origin.now c.in_ok-tip.tip
+    (g.D.Shelf.puts c.args.shelf.now) c.in_ok-tip.ensures.tip)

@@ -4,6 +4,8 @@ use Rattle.tlog_hash.specs.Tree.{mth}
 use Rattle.mirror_copy.proofs.Spared.{err_weaker}
 use Rattle.mirror_copy.proofs.Asking.{asks_same}
 use Rattle.mirror_copy.proofs.Stays.{stays_same}
+use Rattle.mirror_copy.specs.declared.fault.BringFault.TheVariants.{NotLarger}
+use Rattle.mirror_copy.proofs.PrunedMoments.{leaves_same}
 use Rattle.mirror_copy.proofs.WholeMoments.{whole_same}
 use Rattle.mirror_copy.proofs.copy.bring_from.Goals as goal
 
@@ -13,6 +15,8 @@ returns-clause-brings g c = λ before kept t. (
       (g.D.Shelf.puts c.args.shelf.now) kept,
   tt,
   stays_same g.H.TreeHash.digest c.args.origin.now before (g.D.Shelf.puts c.args.shelf.now) kept,
+  leaves_same g.H.TreeHash.digest c.args.origin.now c.args.candidate.now.note.now before
+      (g.D.Shelf.puts c.args.shelf.now) kept NotLarger,
 )
 
 pub returns-then-is_none-clause-asks : goal.returns-then-is_none-clause-asks

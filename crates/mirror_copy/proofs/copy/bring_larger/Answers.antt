@@ -10,6 +10,7 @@ use Rattle.mirror_copy.proofs.Asking.{asks_same, asks_weaker, larger_asks}
 use Rattle.mirror_copy.proofs.Earlier.{conflict_keeps, conflict_later, kept_then}
 use Rattle.mirror_copy.proofs.Others.{later_blames}
 use Rattle.mirror_copy.proofs.Stays.{larger_stays, stays_later, stays_same}
+use Rattle.mirror_copy.proofs.PrunedMoments.{larger_leaves, leaves_later, leaves_same}
 use Rattle.mirror_copy.proofs.WholeMoments.{ends_later, larger_ends, larger_whole, whole_later, whole_same}
 use Rattle.mirror_copy.proofs.copy.bring_larger.Goals as goal
 
@@ -18,12 +19,14 @@ returns-in_err-edge-clause-brings g c = λ before kept t.
     let p = err_from_is_err_and c.from_residual.result c.from_residual.ensures.1 in
     let x = g.D.Shelf.puts c.args.shelf.now in
     let y = g.D.Shelf.puts c.find_new_edge.new.shelf in
-    rw p.1 (
+    rw (p.1, p.2) (
       whole_same g.H.TreeHash.digest c.args.origin.now c.args.candidate.now.note.now before y
           (kept_then before x y kept c.find_new_edge.ensures.same),
       tt,
       stays_same g.H.TreeHash.digest c.args.origin.now before y
           (kept_then before x y kept c.find_new_edge.ensures.same),
+      leaves_same g.H.TreeHash.digest c.args.origin.now c.args.candidate.now.note.now before y
+          (kept_then before x y kept c.find_new_edge.ensures.same) c.in_err-edge.field-0.0,
     )
 
 pub returns-clause-conflict : goal.returns-clause-conflict
@@ -61,6 +64,9 @@ returns-clause-brings g c = λ before kept t.
       stays_later digest origin tip before y w c.bring_to_edge-done.result still t
           (λ t'. larger_stays digest origin note tip edge y w t' c.bring_to_edge-done.result
           c.bring_to_edge-done.ensures.brings),
+      leaves_later digest g.met.H.TreeHash.digest_length origin note tip before y w c.bring_to_edge-done.result still t
+          (λ t'. larger_leaves digest g.met.H.TreeHash.digest_length origin note tip edge root upto head leads.root_is y w t'
+          c.bring_to_edge-done.result c.bring_to_edge-done.ensures.brings),
     )
 
 pub returns-in_err-edge-clause-asks : goal.returns-in_err-edge-clause-asks

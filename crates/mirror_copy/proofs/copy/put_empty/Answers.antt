@@ -7,6 +7,8 @@ use Rattle.mirror_copy.proofs.Earlier.{kept_then}
 use Rattle.mirror_copy.proofs.Growth.{left_none}
 use Rattle.mirror_copy.proofs.Others.{last_empty}
 use Rattle.mirror_copy.proofs.Stays.{empty_stays, stays_later, stays_same}
+use Rattle.mirror_copy.specs.declared.fault.BringFault.TheVariants.{Contradiction}
+use Rattle.mirror_copy.proofs.PrunedMoments.{empty_leaves, leaves_later, leaves_same}
 use Rattle.mirror_copy.proofs.WholeMoments.{empty_ends, empty_whole, ends_later, whole_later, whole_same}
 use Rattle.mirror_copy.proofs.copy.put_empty.Goals as goal
 
@@ -16,6 +18,8 @@ returns-then-not-is_empty_root-clause-brings g c = λ before kept t. (
       (g.D.Shelf.puts c.args.shelf.now) kept,
   tt,
   stays_same g.H.TreeHash.digest c.args.origin.now before (g.D.Shelf.puts c.args.shelf.now) kept,
+  leaves_same g.H.TreeHash.digest c.args.origin.now c.args.candidate.now.note.now before
+      (g.D.Shelf.puts c.args.shelf.now) kept Contradiction,
 )
 
 pub returns-clause-brings : goal.returns-clause-brings
@@ -37,6 +41,9 @@ returns-clause-brings g c = λ before kept t.
           c.requires.empty root_is y w t' c.requires.none c.put_last.result c.put_last.ensures.puts),
       stays_later digest origin tip before y w c.put_last.result still t
           (λ t'. empty_stays digest origin candidate.note.now y w c.put_last.result c.put_last.ensures.puts),
+      leaves_later digest g.met.H.TreeHash.digest_length origin candidate.note.now tip before y w c.put_last.result still t
+          (λ t'. empty_leaves digest g.met.H.TreeHash.digest_length origin candidate.note.now tip candidate.size candidate.root
+          c.requires.head c.requires.empty root_is y w t' c.requires.none c.put_last.result c.put_last.ensures.puts),
     )
 
 pub returns-clause-blames : goal.returns-clause-blames
