@@ -8,3 +8,7 @@ pub mod Trees
 pub mod RowsGiven
 pub mod WholeLogs
 pub mod OpenNotes
+pub mod Orders
+pub mod Stops
+pub mod ShortLogs
+pub mod LogStops

@@ -1,13 +1,18 @@
 -- A checkpoint's note that opens is read, and in one way.
-use Rattle.std.proofs.Common.{◌≡◌, ◌≢◌, ℕ, List, Result, Ok, Err, refl, sym, subst}
+use Rattle.std.proofs.Common.{◌≡◌, ◌≢◌, ℕ, List, [], ◌∷◌, Option, Some, Result, Ok, Err, refl, sym, subst}
 use Rattle.signed_note.specs.Keys.{Key}
-use Rattle.tlog_checkpoint.specs.declared.Checkpoint.{Checkpoint}
+use Rattle.tlog_checkpoint.specs.declared.Checkpoint.{Checkpoint as Read}
 use Rattle.mirror_model.specs.Heads.{IsOpenHead}
 use Rattle.mirror_model.specs.Refusals.{IsOpenCheckpoint, ReadsHead}
 use Rattle.mirror_model.specs.declared.fault.TakeFault.{TakeFault}
 use Rattle.mirror_model.specs.declared.fault.TakeFault.TheVariants as taking
 use Rattle.mirror_model.proofs.RefusedHeads.{head_notes_are_read_once}
+use Rattle.tlog_tiles.specs.declared.paths.Path.{Path}
+use Rattle.tlog_tiles.specs.declared.paths.Path.TheVariants.{Checkpoint}
+use Rattle.mirror_sources.specs.Replies.{reply}
+use Rattle.mirror_audit.specs.Answering.{AreGiven}
 use Rattle.mirror_audit.specs.Faults.{IsFailure, fault_of_head}
+use Rattle.mirror_audit.specs.Stops.{NamesHead}
 
 module _ (bytes origin : List ℕ) (keys : List Key) (size : ℕ) (root : List ℕ)
     (head : IsOpenHead bytes origin keys size root) where
@@ -23,9 +28,9 @@ module _ (bytes origin : List ℕ) (keys : List Key) (size : ℕ) (root : List �
 
   never : (fault : TakeFault) → fault ≢ taking.OutOfMemory → ReadsHead bytes origin keys (Err fault) → ⊥
   never fault memory refused =
-      let one : Result Checkpoint TakeFault =
+      let one : Result Read TakeFault =
       Ok (record { origin = origin; size = size; root = root; extensions = head.extensions }) in
-      let other : Result Checkpoint TakeFault = Err fault in
+      let other : Result Read TakeFault = Err fault in
       let same : one ≡ other =
       head_notes_are_read_once bytes origin keys one other is_open refused (λ e. cc e) (λ e. memory (cc e)) in
       cc same
@@ -44,11 +49,11 @@ module _ (bytes origin : List ℕ) (keys : List Key) (size : ℕ) (root : List �
   not_refused taking.Collision r = absurd r
   not_refused taking.OutOfMemory r = tt
 
-  pub same_head : (c : Checkpoint) → ReadsHead bytes origin keys (Ok c) → (size ≡ c.size) × (root ≡ c.root)
+  pub same_head : (c : Read) → ReadsHead bytes origin keys (Ok c) → (size ≡ c.size) × (root ≡ c.root)
   same_head c is =
-      let one : Result Checkpoint TakeFault =
+      let one : Result Read TakeFault =
       Ok (record { origin = origin; size = size; root = root; extensions = head.extensions }) in
-      let other : Result Checkpoint TakeFault = Ok c in
+      let other : Result Read TakeFault = Ok c in
       let same : one ≡ other =
       head_notes_are_read_once bytes origin keys one other is_open is (λ e. cc e) (λ e. cc e) in
       (cc same, cc same)
@@ -61,7 +66,25 @@ given_not_refused bytes note origin keys size root is head =
     not_refused bytes origin keys size root (subst (λ b. IsOpenHead b origin keys size root) (sym is) head)
 
 pub given_same_head : (bytes note origin : List ℕ) (keys : List Key) (size : ℕ) (root : List ℕ) → bytes ≡ note →
-    IsOpenHead note origin keys size root → (c : Checkpoint) → ReadsHead bytes origin keys (Ok c) →
+    IsOpenHead note origin keys size root → (c : Read) → ReadsHead bytes origin keys (Ok c) →
     (size ≡ c.size) × (root ≡ c.root)
 given_same_head bytes note origin keys size root is head =
     same_head bytes origin keys size root (subst (λ b. IsOpenHead b origin keys size root) (sym is) head)
+
+-- bytes that were given and are refused
+module _ (bytes origin : List ℕ) (keys : List Key) (a b : Path → Option (List ℕ) → Type 0) (x y : Option (List Path))
+    (given : AreGiven a b x y (reply Checkpoint (Some bytes) ∷ [])) where
+  pub refused_head : (fault : TakeFault) → ReadsHead bytes origin keys (Err fault) →
+      NamesHead origin keys a b x y (fault_of_head fault)
+  refused_head (taking.Note f) r = record { bytes = bytes; given = given; refused = r }
+  refused_head (taking.Checkpoint f) r = record { bytes = bytes; given = given; refused = r }
+  refused_head taking.OtherOrigin r = record { bytes = bytes; given = given; refused = r }
+  refused_head taking.NoTrustedSignature r = record { bytes = bytes; given = given; refused = r }
+  refused_head taking.EdgeCount r = absurd r
+  refused_head taking.EdgeLength r = absurd r
+  refused_head taking.EdgeMismatch r = absurd r
+  refused_head taking.RowLength r = absurd r
+  refused_head taking.BundleShort r = absurd r
+  refused_head taking.BundleLong r = absurd r
+  refused_head taking.Collision r = absurd r
+  refused_head taking.OutOfMemory r = tt

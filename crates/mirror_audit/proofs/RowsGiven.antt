@@ -1,5 +1,5 @@
 -- The rows of the edge that were given, read one after the other.
-use Rattle.std.proofs.Common.{◌≡◌, ℕ, ◌+◌, ◌≤◌, List, [], ◌∷◌, ◌++◌, length, get_or, Vec, Global, Option, arith}
+use Rattle.std.proofs.Common.{◌≡◌, ℕ, ◌+◌, ◌*◌, ◌≤◌, List, [], ◌∷◌, ◌++◌, length, get_or, Vec, Global, Option, ap, sym, ◌∙◌, arith}
 use Rattle.tlog_shape.specs.Edge.{edge_index_of, width_of}
 use Rattle.tlog_tiles.specs.declared.paths.Path.{Path}
 use Rattle.tlog_tiles.specs.declared.paths.Path.TheVariants.{Tile}
@@ -7,6 +7,16 @@ use Rattle.tlog_tiles.specs.Row.{row_text}
 use Rattle.log_reader.proofs.RowLists.{items_of, rows_more}
 use Rattle.mirror_audit.specs.Answering.{IsHad}
 use Rattle.mirror_audit.specs.Edges.{AreRowsGiven, IsRowGivenAt}
+use Rattle.tlog_hash.specs.Rows.{level_row}
+use Rattle.mirror_model.specs.Strings.{IsDigest}
+use Rattle.mirror_model.specs.TrueLaws.{AreShort}
+use Rattle.log_reader.specs.EdgeRows.{Edge, RowIsTrue, row_at}
+use Rattle.log_reader.specs.Holding.{IsEdgeRowOf}
+use Rattle.mirror_audit.specs.Found.{AreTrue}
+use Rattle.mirror_audit.specs.Order.{edge_file, edge_order}
+use Rattle.mirror_audit.specs.Stops.{AreRead, AreRowsRead, IsRowRead}
+use Rattle.mirror_audit.proofs.Orders.{each_none, next_file}
+use Rattle.mirror_audit.proofs.Stops.{given_more, paths_more, true_append}
 use Rattle.mirror_audit.proofs.Given.{given_none, given_then, had_left, had_right}
 
 -- the rows that were given so far
@@ -36,3 +46,45 @@ one_more size vs more v n a b c x y z is count f g =
           (λ level lt some. had_left p q (path level) (row_text (get_or (items_of vs) level [])) (f.had level lt some))
           (λ some. had_right p q (path n) (row_text v.items) (g.had some));
     }
+
+-- the rows that were read so far
+abbrev pub ReadSoFar : ℕ → List (Vec (List ℕ) Global) → ℕ → (may later : Path → Option (List ℕ) → Type 0) →
+    Option (List Path) → Option (List Path) → Type 0
+ReadSoFar size vs n may later old new = AreRowsRead size (λ k. get_or (items_of vs) k []) n may later old new
+
+pub no_rows_read : (size : ℕ) (vs : List (Vec (List ℕ) Global)) (may : Path → Option (List ℕ) → Type 0)
+    (x : Option (List Path)) → ReadSoFar size vs 0 may may x x
+no_rows_read size vs may x = record {
+  reads = [];
+  given = given_none may x;
+  paths_are = sym (each_none (edge_file size) 0);
+  is_true = λ digest entries hash short same t level lt. absurd (omega arith);
+}
+
+pub one_more_read : (size : ℕ) (vs more : List (Vec (List ℕ) Global)) (v : Vec (List ℕ) Global) (n : ℕ)
+    (a b c : Path → Option (List ℕ) → Type 0) (x y z : Option (List Path)) → more ≡ vs ++ v ∷ [] → length vs ≡ n →
+    ReadSoFar size vs n a b x y → IsRowRead size n v.items b c y z → ReadSoFar size more (n + 1) a c x z
+one_more_read size vs more v n a b c x y z is count f g = record {
+  reads = f.reads ++ g.reads;
+  given = given_more a b c x y z f.reads g.reads f.given g.given;
+  paths_are = paths_more a b c x y z f.reads g.reads (edge_order size n) (edge_file size n) f.paths_are g.paths_are
+      ∙ sym (next_file size n);
+  is_true = λ digest entries hash short same t.
+      let parts = true_append digest entries f.reads g.reads t in
+      rows_more (λ level row. IsEdgeRowOf digest size level entries row) vs more v n is count
+      (f.is_true digest entries hash short same parts.0) (g.is_true digest entries hash short same parts.1);
+}
+
+-- the paths of the rows of some levels
+abbrev pub rows_paths : (size : ℕ) (rows : ℕ → List (List ℕ)) (n : ℕ) (a b : Path → Option (List ℕ) → Type 0)
+    (x y : Option (List Path)) → AreRowsRead size rows n a b x y → AreRead (edge_order size n) a b x y
+rows_paths size rows n a b x y r = record { reads = r.reads; given = r.given; paths_are = r.paths_are }
+
+-- where the files of an edge are true, so are its rows
+pub edge_is_true : (digest : List ℕ → List ℕ) → IsDigest digest → (edge : Edge) (size : ℕ) → edge.size ≡ size →
+    (a b : Path → Option (List ℕ) → Type 0) (x y : Option (List Path)) (r : AreRowsRead size (row_at edge) 8 a b x y) →
+    (entries : List (List ℕ)) → AreShort entries → length entries ≡ size → AreTrue digest entries r.reads → (level : ℕ) →
+    level ≤ 7 → RowIsTrue digest edge entries level
+edge_is_true digest hash edge size is a b x y r entries short same t level low =
+    r.is_true digest entries hash short same t level (omega arith)
+    ∙ ap (λ n. level_row digest entries level (256 * edge_index_of n level) (width_of n level)) (sym is)

@@ -4,3 +4,6 @@ pub mod Audits
 pub mod Covering
 pub mod Edges
 pub mod WholeLogs
+pub mod Order
+pub mod Found
+pub mod Stops

@@ -6,6 +6,7 @@ ghost use Rattle.mirror_sources.specs.Honest.{true_bytes};
 ghost use Rattle.mirror_sources.specs.Replies.{reply};
 ghost use Rattle.mirror_audit.specs.Answering.{AreGiven};
 ghost use Rattle.mirror_audit.specs.Faults.{BlamesPlace, GivesTrue, IsForAbsence};
+ghost use Rattle.mirror_audit.specs.Stops.{LacksFile};
 
 use crate::fault::AuditFault;
 use mirror_sources::Source;
@@ -16,6 +17,8 @@ pub(crate) fn get_file<S: Source>(source: &mut S, path: Path) -> Result<Vec<u8>,
     requires { full_of path ≡ path }
     ensures counted { BlamesPlace (S.failed source.old) (S.failed source.new) result }
     ensures absent { IfErr result (IsForAbsence (S.may_answer source.old)) }
+    ensures missing { IfErr result (LacksFile path (S.may_answer source.old)
+        (S.may_answer source.new) (S.asked source.old) (S.asked source.new)) }
     ensures given { IfOk result (λ bytes. AreGiven (S.may_answer source.old)
         (S.may_answer source.new) (S.asked source.old) (S.asked source.new)
         (reply path (Some bytes.items) ∷ [])) }

@@ -8,6 +8,8 @@ ghost use Rattle.tlog_tiles.specs.declared.paths.Path.TheVariants.{Tile};
 ghost use Rattle.mirror_audit.specs.Answering.{AreGiven};
 ghost use Rattle.mirror_audit.specs.Covering.{CoversTile};
 ghost use Rattle.mirror_audit.specs.Faults.{BlamesPlace, IsFailure, IsForAbsence};
+ghost use Rattle.mirror_audit.specs.Order.{tile_order};
+ghost use Rattle.mirror_audit.specs.Stops.{AreRead, HasLeavesOf, HasTile, StopsIn};
 
 use crate::ask::get_file;
 use crate::fault::AuditFault;
@@ -35,6 +37,9 @@ fn audit_leaves<S: Source>(
     ensures given { OnOk result (AreGiven (S.may_answer source.old)
         (S.may_answer source.new) (S.asked source.old) (S.asked source.new)
         (reply (Tile 0 index 256) (Some (row_text row.now)) ∷ [])) }
+    ensures first { (digest : List ℕ → List ℕ) → IfErr result (StopsIn digest
+        (Tile 0 index 256 ∷ []) (HasLeavesOf digest index row.now) (S.may_answer source.old)
+        (S.may_answer source.new) (S.asked source.old) (S.asked source.new)) }
     ensures honest { (digest : List ℕ → List ℕ) (entries : List (List ℕ))
         → IsSourceOf digest entries (S.may_answer source.old) → (index + 1) * 256 ≤ length entries
         → row.now ≡ level_row digest entries 0 (256 * index) 256 → IfErr result IsFailure }
@@ -64,6 +69,11 @@ pub(crate) fn audit_bundle<H: TreeHash, S: Source>(
     ensures absent { IfErr result (IsForAbsence (S.may_answer source.old)) }
     ensures covers { OnOk result (CoversTile H.digest 0 index hash.now (S.may_answer source.old)
         (S.may_answer source.new) (S.asked source.old) (S.asked source.new)) }
+    ensures read { OnOk result (AreRead (tile_order 0 index) (S.may_answer source.old)
+        (S.may_answer source.new) (S.asked source.old) (S.asked source.new)) }
+    ensures first { IfErr result (StopsIn H.digest (tile_order 0 index)
+        (HasTile H.digest 0 index hash.now) (S.may_answer source.old) (S.may_answer source.new)
+        (S.asked source.old) (S.asked source.new)) }
     ensures honest { (entries : List (List ℕ))
         → IsSourceOf H.digest entries (S.may_answer source.old)
         → IsTileHash H.digest entries 0 index hash.now → IfErr result IsFailure }

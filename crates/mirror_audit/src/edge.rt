@@ -4,6 +4,8 @@ ghost use Rattle.log_reader.specs.EdgeRows.{HasWidths, RowIsTrue};
 ghost use Rattle.log_reader.specs.Holding.{IsSourceOf};
 ghost use Rattle.mirror_audit.specs.Edges.{CoversLevels};
 ghost use Rattle.mirror_audit.specs.Faults.{BlamesPlace, IsFailure, IsForAbsence};
+ghost use Rattle.mirror_audit.specs.Order.{levels_order};
+ghost use Rattle.mirror_audit.specs.Stops.{AreRead, HasEdge, StopsIn};
 
 use crate::fault::AuditFault;
 use crate::tiles::audit_row;
@@ -25,6 +27,11 @@ pub(crate) fn audit_levels<H: TreeHash, S: Source>(
     ensures absent { IfErr result (IsForAbsence (S.may_answer source.old)) }
     ensures covers { OnOk result (CoversLevels H.digest edge.now 1 (S.may_answer source.old)
         (S.may_answer source.new) (S.asked source.old) (S.asked source.new)) }
+    ensures read { OnOk result (AreRead (levels_order edge.now.size 7) (S.may_answer source.old)
+        (S.may_answer source.new) (S.asked source.old) (S.asked source.new)) }
+    ensures first { IfErr result (StopsIn H.digest (levels_order edge.now.size 7)
+        (HasEdge H.digest edge.now) (S.may_answer source.old) (S.may_answer source.new)
+        (S.asked source.old) (S.asked source.new)) }
     ensures honest { (entries : List (List ℕ))
         → IsSourceOf H.digest entries (S.may_answer source.old)
         → edge.now.size ≡ length entries

@@ -5,6 +5,8 @@ ghost use Rattle.log_reader.specs.EdgeRows.{HasWidths, RowIsTrue};
 ghost use Rattle.log_reader.specs.Verified.{HasLeaves};
 ghost use Rattle.mirror_audit.specs.Edges.{CoversEdgeBundle};
 ghost use Rattle.mirror_audit.specs.Faults.{BlamesPlace, IsFailure, IsForAbsence};
+ghost use Rattle.mirror_audit.specs.Order.{edge_bundle};
+ghost use Rattle.mirror_audit.specs.Stops.{AreRead, HasEdge, StopsIn};
 
 use crate::fault::AuditFault;
 use crate::part::get_part;
@@ -43,6 +45,11 @@ pub(crate) fn audit_edge_bundle<H: TreeHash, S: Source>(
     ensures absent { IfErr result (IsForAbsence (S.may_answer source.old)) }
     ensures covers { OnOk result (CoversEdgeBundle H.digest edge.now (S.may_answer source.old)
         (S.may_answer source.new) (S.asked source.old) (S.asked source.new)) }
+    ensures read { OnOk result (AreRead (edge_bundle edge.now.size) (S.may_answer source.old)
+        (S.may_answer source.new) (S.asked source.old) (S.asked source.new)) }
+    ensures first { IfErr result (StopsIn H.digest (edge_bundle edge.now.size)
+        (HasEdge H.digest edge.now) (S.may_answer source.old) (S.may_answer source.new)
+        (S.asked source.old) (S.asked source.new)) }
     ensures honest { (entries : List (List ℕ))
         → IsSourceOf H.digest entries (S.may_answer source.old)
         → edge.now.size ≡ length entries → RowIsTrue H.digest edge.now entries 0

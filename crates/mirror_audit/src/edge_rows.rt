@@ -7,6 +7,8 @@ ghost use Rattle.tlog_shape.specs.Edge.{width_of};
 ghost use Rattle.log_reader.specs.EdgeRows.{LeadsTo, IsEdgeOf, RowIsTrue, row_at};
 ghost use Rattle.mirror_audit.specs.Edges.{AreRowsGiven, IsRowGivenAt};
 ghost use Rattle.mirror_audit.specs.Faults.{BlamesPlace, GivesTrue, IsForAbsence};
+ghost use Rattle.mirror_audit.specs.Order.{edge_file, edge_order, first_path};
+ghost use Rattle.mirror_audit.specs.Stops.{AreRowsRead, HasSize, IsRowRead, StopsEdge, StopsIn};
 
 use crate::fault::AuditFault;
 use crate::part::get_part;
@@ -30,6 +32,12 @@ fn row_at_level<S: Source>(
     ensures given { IfOk result (λ row. IsRowGivenAt size level row.items
         (S.may_answer source.old) (S.may_answer source.new) (S.asked source.old)
         (S.asked source.new)) }
+    ensures read { IfOk result (λ row. IsRowRead size level row.items
+        (S.may_answer source.old) (S.may_answer source.new) (S.asked source.old)
+        (S.asked source.new)) }
+    ensures first { (digest : List ℕ → List ℕ) → IsDigest digest → IfErr result (StopsIn digest
+        (edge_file size level) (HasSize digest size) (S.may_answer source.old)
+        (S.may_answer source.new) (S.asked source.old) (S.asked source.new)) }
     ensures honest { (digest : List ℕ → List ℕ) (entries : List (List ℕ)) → IsDigest digest
         → IsSourceOf digest entries (S.may_answer source.old) → length entries ≡ size
         → GivesTrue result (λ row. IsEdgeRowOf digest size level entries row.items) }
@@ -58,6 +66,12 @@ fn rows_of<S: Source>(alloc: Global, source: &mut S, size: u64) -> Result<EdgeRo
     ensures given { IfOk result (λ edge. AreRowsGiven size (row_at edge) 8
         (S.may_answer source.old) (S.may_answer source.new) (S.asked source.old)
         (S.asked source.new)) }
+    ensures read { IfOk result (λ edge. AreRowsRead size (row_at edge) 8
+        (S.may_answer source.old) (S.may_answer source.new) (S.asked source.old)
+        (S.asked source.new)) }
+    ensures first { (digest : List ℕ → List ℕ) → IsDigest digest → IfErr result (StopsIn digest
+        (edge_order size 8) (HasSize digest size) (S.may_answer source.old)
+        (S.may_answer source.new) (S.asked source.old) (S.asked source.new)) }
     ensures honest { (digest : List ℕ → List ℕ) (entries : List (List ℕ)) → IsDigest digest
         → IsSourceOf digest entries (S.may_answer source.old) → length entries ≡ size
         → GivesTrue result
@@ -72,7 +86,9 @@ fn rows_of<S: Source>(alloc: Global, source: &mut S, size: u64) -> Result<EdgeRo
 }
 
 // The path of the lowest partial tile; of no entries the checkpoint's, which then has another root.
-fn lowest_path(size: u64) -> Path {
+fn lowest_path(size: u64) -> Path
+    ensures { result ≡ first_path (edge_order size 8) }
+{
     for level in 0..8u32 {
         if edge_width(size, level) > 0 {
             return edge_path(size, level);
@@ -92,6 +108,12 @@ pub(crate) fn read_edge<H: TreeHash, S: Source>(
     ensures absent { IfErr result (IsForAbsence (S.may_answer source.old)) }
     ensures leads { IfOk result (λ edge. LeadsTo H.digest size root.now edge) }
     ensures given { IfOk result (λ edge. AreRowsGiven size (row_at edge) 8
+        (S.may_answer source.old) (S.may_answer source.new) (S.asked source.old)
+        (S.asked source.new)) }
+    ensures read { IfOk result (λ edge. AreRowsRead size (row_at edge) 8
+        (S.may_answer source.old) (S.may_answer source.new) (S.asked source.old)
+        (S.asked source.new)) }
+    ensures first { IfErr result (StopsEdge H.digest (edge_order size 8) size root.now
         (S.may_answer source.old) (S.may_answer source.new) (S.asked source.old)
         (S.asked source.new)) }
     ensures honest { (entries : List (List ℕ))

@@ -6,6 +6,9 @@ ghost use Rattle.log_reader.specs.Holding.{IsSourceOf};
 ghost use Rattle.mirror_audit.specs.Audits.{IsAudited, IsHeadGiven, IsTreeGiven};
 ghost use Rattle.mirror_audit.specs.Edges.{CoversLog};
 ghost use Rattle.mirror_audit.specs.Faults.{BlamesPlace, GivesTrue, IsFailure, IsForAbsence};
+ghost use Rattle.mirror_audit.specs.Found.{IsReadInOrder, NamesWrong};
+ghost use Rattle.mirror_audit.specs.Order.{below_edge, file_order};
+ghost use Rattle.mirror_audit.specs.Stops.{AreRead, HasEdge, NamesHead, StopsEdge, StopsIn};
 ghost use Rattle.mirror_audit.specs.WholeLogs.{HasWholeLog};
 
 use crate::edge::audit_levels;
@@ -40,6 +43,9 @@ fn read_checkpoint<S: Source>(
     ensures given { IfOk result (λ a. IsHeadGiven origin.now (map (λ k. key k) keys.now)
         a.size a.root (S.may_answer source.old) (S.may_answer source.new) (S.asked source.old)
         (S.asked source.new)) }
+    ensures first { IfErr result (NamesHead origin.now (map (λ k. key k) keys.now)
+        (S.may_answer source.old) (S.may_answer source.new) (S.asked source.old)
+        (S.asked source.new)) }
     ensures honest { (digest : List ℕ → List ℕ) (entries : List (List ℕ)) (note : List ℕ)
         → HasWholeLog digest entries origin.now (map (λ k. key k) keys.now) note
         (S.may_answer source.old) → GivesTrue result
@@ -69,6 +75,11 @@ fn audit_edge<H: TreeHash, S: Source>(
     ensures absent { IfErr result (IsForAbsence (S.may_answer source.old)) }
     ensures covers { OnOk result (CoversLog H.digest edge.now (S.may_answer source.old)
         (S.may_answer source.new) (S.asked source.old) (S.asked source.new)) }
+    ensures read { OnOk result (AreRead (below_edge edge.now.size) (S.may_answer source.old)
+        (S.may_answer source.new) (S.asked source.old) (S.asked source.new)) }
+    ensures first { IfErr result (StopsIn H.digest (below_edge edge.now.size)
+        (HasEdge H.digest edge.now) (S.may_answer source.old) (S.may_answer source.new)
+        (S.asked source.old) (S.asked source.new)) }
     ensures honest { (entries : List (List ℕ))
         → IsSourceOf H.digest entries (S.may_answer source.old)
         → edge.now.size ≡ length entries
@@ -89,6 +100,11 @@ fn audit_tree<H: TreeHash, S: Source>(
     ensures counted { BlamesPlace (S.failed source.old) (S.failed source.new) result }
     ensures absent { IfErr result (IsForAbsence (S.may_answer source.old)) }
     ensures given { OnOk result (IsTreeGiven H.digest size root.now
+        (S.may_answer source.old) (S.may_answer source.new) (S.asked source.old)
+        (S.asked source.new)) }
+    ensures read { OnOk result (AreRead (file_order size) (S.may_answer source.old)
+        (S.may_answer source.new) (S.asked source.old) (S.asked source.new)) }
+    ensures first { IfErr result (StopsEdge H.digest (file_order size) size root.now
         (S.may_answer source.old) (S.may_answer source.new) (S.asked source.old)
         (S.asked source.new)) }
     ensures honest { (entries : List (List ℕ))
@@ -129,6 +145,11 @@ pub fn audit<H: TreeHash, S: Source>(
 ) -> Result<Audited, AuditFault>
     ensures counted { BlamesPlace (S.failed source.old) (S.failed source.new) result }
     ensures absent { IfErr result (IsForAbsence (S.may_answer source.old)) }
+    ensures named { IfErr result (NamesWrong H.digest origin.now (map (λ k. key k) keys.now)
+        (S.may_answer source.old) (S.may_answer source.new) (S.asked source.old)
+        (S.asked source.new)) }
+    ensures ordered { IfOk result (λ a. IsReadInOrder a.size (S.may_answer source.old)
+        (S.may_answer source.new) (S.asked source.old) (S.asked source.new)) }
     ensures audited { IfOk result (λ a. IsAudited H.digest origin.now (map (λ k. key k) keys.now)
         a.size a.root (S.may_answer source.old) (S.may_answer source.new) (S.asked source.old)
         (S.asked source.new)) }

@@ -1,5 +1,5 @@
 //! A partial file, or the part of the full one that replaces it.
-ghost use Rattle.std.specs.Prelude.{◌≡◌, ◌<◌, ◌≤◌, ◌++◌, ℕ, IfErr, IfNone, IfOk, IfSome, IsSomeAnd, List, None, length, take};
+ghost use Rattle.std.specs.Prelude.{◌≡◌, ◌<◌, ◌≤◌, ◌++◌, ◌∷◌, [], ℕ, IfErr, IfNone, IfOk, IfSome, IsSomeAnd, List, None, length, take};
 ghost use Rattle.tlog_tiles.specs.Bundle.{bundle_text};
 ghost use Rattle.mirror_model.specs.Strings.{IsDigest};
 ghost use Rattle.mirror_model.specs.TrueLaws.{AreShort};
@@ -7,7 +7,11 @@ ghost use Rattle.mirror_sources.specs.Files.{full_of, width_named};
 ghost use Rattle.mirror_sources.specs.Honest.{true_bytes};
 ghost use Rattle.log_reader.specs.Holding.{GivesWay, GoesOn, IsSourceOf, IsTreeFile};
 ghost use Rattle.mirror_audit.specs.Edges.{IsFullGiven, IsGivenAt};
+ghost use Rattle.mirror_audit.specs.Answering.{AreGiven};
 ghost use Rattle.mirror_audit.specs.Faults.{BlamesPlace, GivesTrue, IsForAbsence, MayLack};
+ghost use Rattle.mirror_audit.specs.Found.{NotInFull, replies_of};
+ghost use Rattle.mirror_audit.specs.Stops.{FindsFalse, IsFullRead, IsPartRead};
+ghost use Rattle.mirror_sources.specs.Replies.{reply};
 
 use crate::fault::AuditFault;
 use mirror_sources::Source;
@@ -75,6 +79,14 @@ fn get_full_part<S: Source>(source: &mut S, path: Path) -> Result<Option<Vec<u8>
     ensures given { IfOk result (λ found. IfSome found (λ bytes. IsFullGiven path bytes.items
         (S.may_answer source.old) (S.may_answer source.new) (S.asked source.old)
         (S.asked source.new))) }
+    ensures gone { IfOk result (λ found. IfNone found (AreGiven (S.may_answer source.old)
+        (S.may_answer source.new) (S.asked source.old) (S.asked source.new)
+        (reply (full_of path) None ∷ []))) }
+    ensures read { IfOk result (λ found. IfSome found (λ bytes. IsFullRead path bytes.items
+        (S.may_answer source.old) (S.may_answer source.new) (S.asked source.old)
+        (S.asked source.new))) }
+    ensures first { IfErr result (FindsFalse path [] (S.may_answer source.old)
+        (S.may_answer source.new) (S.asked source.old) (S.asked source.new)) }
     ensures honest { (digest : List ℕ → List ℕ) (entries : List (List ℕ)) → IsDigest digest
         → AreShort entries → IsTreeFile (length entries) path
         → GivesWay digest entries (S.may_answer source.old) path
@@ -101,6 +113,14 @@ pub(crate) fn get_part<S: Source>(source: &mut S, path: Path) -> Result<Option<V
     ensures given { IfOk result (λ found. IfSome found (λ bytes. IsGivenAt path bytes.items
         (S.may_answer source.old) (S.may_answer source.new) (S.asked source.old)
         (S.asked source.new))) }
+    ensures gone { IfOk result (λ found. IfNone found (AreGiven (S.may_answer source.old)
+        (S.may_answer source.new) (S.asked source.old) (S.asked source.new)
+        (replies_of path NotInFull))) }
+    ensures read { IfOk result (λ found. IfSome found (λ bytes. IsPartRead path bytes.items
+        (S.may_answer source.old) (S.may_answer source.new) (S.asked source.old)
+        (S.asked source.new))) }
+    ensures first { IfErr result (FindsFalse path (reply path None ∷ []) (S.may_answer source.old)
+        (S.may_answer source.new) (S.asked source.old) (S.asked source.new)) }
     ensures honest { (digest : List ℕ → List ℕ) (entries : List (List ℕ)) → IsDigest digest
         → IsSourceOf digest entries (S.may_answer source.old) → IsTreeFile (length entries) path
         → GivesTrue result

@@ -1,11 +1,13 @@
 //! Full tiles, with all that lies below them.
-ghost use Rattle.std.specs.Prelude.{◌≡◌, ◌+◌, ◌*◌, ◌^◌, ◌<◌, ◌≤◌, ℕ, IfErr, IfOk, List, OnOk, length};
+ghost use Rattle.std.specs.Prelude.{◌≡◌, ◌+◌, ◌*◌, ◌^◌, ◌<◌, ◌≤◌, ◌∷◌, [], ℕ, IfErr, IfOk, List, OnOk, length};
 ghost use Rattle.tlog_hash.specs.Rows.{level_row};
 ghost use Rattle.tlog_tiles.specs.declared.paths.Path.TheVariants.{Tile};
 ghost use Rattle.log_reader.specs.Holding.{IsSourceOf, IsTileHash};
 ghost use Rattle.mirror_sources.specs.Files.{full_of};
 ghost use Rattle.mirror_audit.specs.Covering.{CoversRow, CoversTile, IsRowFound};
 ghost use Rattle.mirror_audit.specs.Faults.{BlamesPlace, GivesTrue, IsFailure, IsForAbsence};
+ghost use Rattle.mirror_audit.specs.Order.{row_order, tile_order};
+ghost use Rattle.mirror_audit.specs.Stops.{AreRead, HasRow, HasTile, StopsIn};
 ghost use Rattle.mirror_audit.specs.WholeLogs.{IsTrueRow};
 
 use crate::ahead::expect_bundles;
@@ -29,6 +31,10 @@ fn row_of<H: TreeHash, S: Source>(
     ensures counted { BlamesPlace (S.failed source.old) (S.failed source.new) result }
     ensures absent { IfErr result (IsForAbsence (S.may_answer source.old)) }
     ensures found { IfOk result (λ row. IsRowFound H.digest path hash.now row.items
+        (S.may_answer source.old) (S.may_answer source.new) (S.asked source.old)
+        (S.asked source.new)) }
+    ensures first { (level index : ℕ) → path ≡ Tile level index 256 → IfErr result
+        (StopsIn H.digest (path ∷ []) (HasTile H.digest level index hash.now)
         (S.may_answer source.old) (S.may_answer source.new) (S.asked source.old)
         (S.asked source.new)) }
     ensures honest { (entries : List (List ℕ)) (level index : ℕ) → path ≡ Tile level index 256
@@ -58,6 +64,11 @@ fn audit_tile<H: TreeHash, S: Source>(
     ensures absent { IfErr result (IsForAbsence (S.may_answer source.old)) }
     ensures covers { OnOk result (CoversTile H.digest level index hash.now (S.may_answer source.old)
         (S.may_answer source.new) (S.asked source.old) (S.asked source.new)) }
+    ensures read { OnOk result (AreRead (tile_order level index) (S.may_answer source.old)
+        (S.may_answer source.new) (S.asked source.old) (S.asked source.new)) }
+    ensures first { IfErr result (StopsIn H.digest (tile_order level index)
+        (HasTile H.digest level index hash.now) (S.may_answer source.old) (S.may_answer source.new)
+        (S.asked source.old) (S.asked source.new)) }
     ensures honest { (entries : List (List ℕ))
         → IsSourceOf H.digest entries (S.may_answer source.old)
         → IsTileHash H.digest entries level index hash.now → IfErr result IsFailure }
@@ -91,6 +102,12 @@ pub(crate) fn audit_row<H: TreeHash, S: Source>(
     ensures covers { OnOk result (CoversRow H.digest level index row.now (length row.now)
         (S.may_answer source.old)
         (S.may_answer source.new) (S.asked source.old) (S.asked source.new)) }
+    ensures read { OnOk result (AreRead (row_order level index (length row.now))
+        (S.may_answer source.old) (S.may_answer source.new) (S.asked source.old)
+        (S.asked source.new)) }
+    ensures first { IfErr result (StopsIn H.digest (row_order level index (length row.now))
+        (HasRow H.digest level index row.now) (S.may_answer source.old) (S.may_answer source.new)
+        (S.asked source.old) (S.asked source.new)) }
     ensures honest { (entries : List (List ℕ))
         → IsSourceOf H.digest entries (S.may_answer source.old)
         → IsTrueRow H.digest entries level index row.now → IfErr result IsFailure }

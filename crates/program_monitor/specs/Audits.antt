@@ -6,6 +6,7 @@ use Rattle.signed_note.specs.Keys.{Key}
 use Rattle.tlog_tiles.specs.declared.paths.Path.{Path}
 use Rattle.mirror_audit.specs.Audits.{IsAudited}
 use Rattle.mirror_audit.specs.Faults.{IsForAbsence, BlamesPlace}
+use Rattle.mirror_audit.specs.Found.{IsReadInOrder, NamesWrong}
 use Rattle.program_monitor.specs.Texts.{audited_line}
 use Rattle.program_monitor.specs.declared.fault.AuditRunFault.{AuditRunFault}
 use Rattle.program_monitor.specs.declared.fault.AuditRunFault.TheVariants.{Audit, WriteFault}
@@ -18,6 +19,7 @@ module _ (digest : List ℕ → List ℕ) (origin : List ℕ) (keys : List Key)
     pub size : ℕ
     pub root : List ℕ
     pub audited : IsAudited digest origin keys size root may later asked now
+    pub ordered : IsReadInOrder size may later asked now
     pub written : Appends old new (audited_line size root)
 
   -- a whole log was read at the source, and a prefix of its line was written
@@ -25,13 +27,15 @@ module _ (digest : List ℕ → List ℕ) (origin : List ℕ) (keys : List Key)
     pub size : ℕ
     pub root : List ℕ
     pub audited : IsAudited digest origin keys size root may later asked now
+    pub ordered : IsReadInOrder size may later asked now
     pub written : AppendsPrefix old new (audited_line size root)
 
-  -- what each answer of the command says: nothing is written at a fault of the audit
+  -- what each answer of the command says: at a fault of the audit, which names a wrong file, nothing is written
   abbrev pub RunsAudit : Result ℕ AuditRunFault → Type 0
   RunsAudit (Ok status) = (status ≡ 0) × PrintsAudited
   RunsAudit (Err WriteFault) = BeginsAudited
-  RunsAudit (Err (Audit fault)) = IsForAbsence may fault × Keeps old new
+  RunsAudit (Err (Audit fault)) =
+      IsForAbsence may fault × NamesWrong digest origin keys may later asked now fault × Keeps old new
 
 -- the source is blamed as the audit blames it
 abbrev pub BlamesRun : ℕ → ℕ → Result ℕ AuditRunFault → Type 0

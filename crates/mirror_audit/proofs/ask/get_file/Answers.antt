@@ -1,5 +1,5 @@
-use Rattle.std.proofs.Common.{None, Some, sym, subst, arith}
-use Rattle.mirror_audit.proofs.Given.{may_none, may_some}
+use Rattle.std.proofs.Common.{None, Some, refl, sym, subst, arith}
+use Rattle.mirror_audit.proofs.Given.{given_one, may_none, may_some}
 use Rattle.mirror_audit.proofs.ask.get_file.Goals as goal
 
 pub returns-in-None-clause-absent : goal.returns-in-None-clause-absent
@@ -20,3 +20,15 @@ returns-in-None-clause-honest g c = λ digest entries s file wide.
     (may_none (g.S.Source.may_answer c.args.source.now) c.args.path c.in_ok-bytes.field-0 c.in-None.is
     c.in_ok-bytes.ensures.answer) in
     absurd (omega (arith, way.partial, wide))
+
+pub returns-in-None-clause-missing : goal.returns-in-None-clause-missing
+returns-in-None-clause-missing g c =
+    let a = g.S.Source.may_answer c.args.source.now in
+    let b = g.S.Source.may_answer c.get.new.self in
+    let x = g.S.Source.asked c.args.source.now in
+    let y = g.S.Source.asked c.get.new.self in (
+      refl,
+      given_one a b x y c.args.path None c.in_ok-bytes.ensures.later
+          (may_none a c.args.path c.in_ok-bytes.field-0 c.in-None.is c.in_ok-bytes.ensures.answer)
+          c.in_ok-bytes.ensures.recorded,
+    )

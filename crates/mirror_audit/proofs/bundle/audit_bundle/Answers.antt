@@ -1,6 +1,6 @@
 use Rattle.std.proofs.Common.{[], ◌∷◌, Some, IfSome, inl, refl, subst, ◌∙◌, rules, arith}
 use Rattle.tlog_tiles.specs.Row.{row_text}
-use Rattle.tlog_tiles.specs.declared.paths.Path.TheVariants.{Tile}
+use Rattle.tlog_tiles.specs.declared.paths.Path.TheVariants.{Tile, Entries}
 use Rattle.log_reader.proofs.Refusing.{leaves_one}
 use Rattle.log_reader.proofs.TrueBundles.{bundle_verifies}
 use Rattle.log_reader.proofs.TrueReads.{source_later}
@@ -10,6 +10,12 @@ use Rattle.mirror_sources.specs.Replies.{reply}
 use Rattle.mirror_audit.specs.Answering.{AreGiven}
 use Rattle.mirror_audit.proofs.Bundles.{covers_bundle}
 use Rattle.mirror_audit.proofs.Given.{on_ok}
+use Rattle.mirror_audit.specs.Found.{Here, IsPresent}
+use Rattle.mirror_audit.specs.Order.{tile_order}
+use Rattle.mirror_audit.specs.Stops.{HasLeavesOf, HasTile, StopsIn}
+use Rattle.mirror_audit.proofs.Orders.{lowest_tile}
+use Rattle.mirror_audit.proofs.ShortLogs.{short_verifies}
+use Rattle.mirror_audit.proofs.Stops.{lacks_first, on_err, read_one, read_then, stops_here, stops_in}
 use Rattle.mirror_audit.proofs.bundle.audit_bundle.Goals as goal
 
 pub returns-clause-covers : goal.returns-clause-covers
@@ -59,3 +65,69 @@ returns-clause-honest g c = λ entries s t.
     c.audit_leaves.ensures.honest digest entries
     (source_later digest entries (may c.args.source.now) (may c.get_file.new.source) c.in_ok-bytes.ensures.given.stays s)
     (omega (arith, t.fits)) (c.deref-2.ensures.value ∙ leaves_one digest 256 bytes row _ found.is_row due.is_row)
+
+pub returns-clause-read : goal.returns-clause-read
+returns-clause-read g c =
+    let index = c.args.index in
+    let may = g.S.Source.may_answer in
+    let asked = g.S.Source.asked in
+    let m = c.get_file.new.source in
+    let n = c.audit_leaves.new.source in
+    let bundle = Entries index 256 in
+    let tile = Tile 0 index 256 in
+    on_ok c.audit_leaves.result c.audit_leaves.ensures.given
+    (λ given. read_then (may c.args.source.now) (may m) (may n) (asked c.args.source.now) (asked m) (asked n)
+    (bundle ∷ []) (tile ∷ []) (tile_order 0 index) (lowest_tile index)
+    (read_one (may c.args.source.now) (may m) (asked c.args.source.now) (asked m) bundle (Here c.in_ok-bytes.bytes.items)
+    c.in_ok-bytes.ensures.given)
+    (read_one (may m) (may n) (asked m) (asked n) tile (Here (row_text c.deref-2.result.now)) given))
+
+pub returns-in_err-bytes-clause-first : goal.returns-in_err-bytes-clause-first
+returns-in_err-bytes-clause-first g c =
+    let index = c.args.index in
+    let stop = lacks_first g.H.TreeHash.digest (tile_order 0 index) (HasTile g.H.TreeHash.digest 0 index c.args.hash.now)
+    (g.S.Source.may_answer c.args.source.now) (g.S.Source.may_answer c.get_file.new.source)
+    (g.S.Source.asked c.args.source.now) (g.S.Source.asked c.get_file.new.source) (Entries index 256)
+    (Tile 0 index 256 ∷ []) (lowest_tile index) refl _ c.in_err-bytes.ensures.missing in
+    search (rules, stop)
+
+pub returns-in_default-clause-first : goal.returns-in_default-clause-first
+returns-in_default-clause-first g c =
+    let digest = g.H.TreeHash.digest in
+    let index = c.args.index in
+    stops_here digest (tile_order 0 index) (HasTile digest 0 index c.args.hash.now)
+    (g.S.Source.may_answer c.args.source.now) (g.S.Source.may_answer c.get_file.new.source)
+    (g.S.Source.asked c.args.source.now) (g.S.Source.asked c.get_file.new.source) IsPresent (Entries index 256)
+    (Here c.in_ok-bytes.bytes.items) (Tile 0 index 256 ∷ []) (lowest_tile index) c.in_ok-bytes.ensures.given tt
+    (λ entries h is. (rw c.in_default.is at c.in_ok-row.ensures.none) _
+    (short_verifies digest g.met.H.TreeHash.digest_length entries h.short index c.args.hash.now h.is_hash c.deref.result.now
+    (c.deref.ensures.value ∙ is)))
+
+pub returns-clause-first : goal.returns-clause-first
+returns-clause-first g c =
+    let digest = g.H.TreeHash.digest in
+    let index = c.args.index in
+    let hash = c.args.hash.now in
+    let may = g.S.Source.may_answer in
+    let asked = g.S.Source.asked in
+    let m = c.get_file.new.source in
+    let n = c.audit_leaves.new.source in
+    let bundle = Entries index 256 in
+    let tile = Tile 0 index 256 in
+    let bytes = c.deref.result.now in
+    let row = c.in-Some.row.items in
+    let found = subst (λ o. IfSome o (λ r. Verifies digest Bundle hash bytes r.items)) c.in-Some.is c.in_ok-row.ensures.found in
+    on_err (StopsIn digest (tile ∷ []) (HasLeavesOf digest index c.deref-2.result.now) (may m) (may n) (asked m) (asked n))
+    (StopsIn digest (tile_order 0 index) (HasTile digest 0 index hash) (may c.args.source.now) (may n)
+    (asked c.args.source.now) (asked n)) c.audit_leaves.result
+    (stops_in digest (bundle ∷ []) (tile ∷ []) [] (tile_order 0 index) (HasTile digest 0 index hash)
+    (HasLeavesOf digest index c.deref-2.result.now) (may c.args.source.now) (may m) (may n) (asked c.args.source.now) (asked m)
+    (asked n)
+    (read_one (may c.args.source.now) (may m) (asked c.args.source.now) (asked m) bundle (Here c.in_ok-bytes.bytes.items)
+    c.in_ok-bytes.ensures.given)
+    (λ entries h t.
+    let due = short_verifies digest g.met.H.TreeHash.digest_length entries h.short index hash h.is_hash bytes
+    (c.deref.ensures.value ∙ t.0) in
+    c.deref-2.ensures.value ∙ leaves_one digest 256 bytes row _ found.is_row due.is_row)
+    (lowest_tile index))
+    (c.audit_leaves.ensures.first digest)

@@ -1,7 +1,11 @@
-use Rattle.std.proofs.Common.{length, sym, ap, ◌∙◌, rules, arith}
+use Rattle.std.proofs.Common.{[], ◌∷◌, length, refl, sym, ap, ◌∙◌, rules, arith}
 use Rattle.std.proofs.lemmas.Bool.{false≢true}
 use Rattle.tlog_tiles.specs.Row.{row_text}
 use Rattle.log_reader.proofs.TrueReads.{full_tile}
+use Rattle.tlog_tiles.specs.declared.paths.Path.TheVariants.{Tile}
+use Rattle.mirror_audit.specs.Found.{Here, IsPresent}
+use Rattle.mirror_audit.specs.Stops.{HasLeavesOf}
+use Rattle.mirror_audit.proofs.Stops.{lacks_first, stops_here}
 use Rattle.mirror_audit.proofs.bundle.audit_leaves.Goals as goal
 
 pub returns-in_err-bytes-clause-honest : goal.returns-in_err-bytes-clause-honest
@@ -16,3 +20,24 @@ returns-clause-honest g c = λ digest entries s fits row.
     (full_tile (length entries) 0 c.args.index (omega arith) fits) (omega arith) in
     let due = c.deref-2.ensures.value ∙ (c.in_ok-due.ensures.text ∙ ap row_text row) in
     absurd (false≢true (sym c.if-is_same.false ∙ c.is_same.ensures.1 (c.deref.ensures.value ∙ (is ∙ sym due))))
+
+pub returns-in_err-bytes-clause-first : goal.returns-in_err-bytes-clause-first
+returns-in_err-bytes-clause-first g c = λ digest.
+    let path = Tile 0 c.args.index 256 in
+    let stop = lacks_first digest (path ∷ []) (HasLeavesOf digest c.args.index c.args.row.now)
+    (g.S.Source.may_answer c.args.source.now) (g.S.Source.may_answer c.get_file.new.source)
+    (g.S.Source.asked c.args.source.now) (g.S.Source.asked c.get_file.new.source) path [] refl refl _
+    c.in_err-bytes.ensures.missing in
+    search (rules, stop)
+
+pub returns-clause-first : goal.returns-clause-first
+returns-clause-first g c = λ digest.
+    let path = Tile 0 c.args.index 256 in
+    let bytes = c.in_ok-bytes.bytes.items in
+    stops_here digest (path ∷ []) (HasLeavesOf digest c.args.index c.args.row.now)
+    (g.S.Source.may_answer c.args.source.now) (g.S.Source.may_answer c.get_file.new.source)
+    (g.S.Source.asked c.args.source.now) (g.S.Source.asked c.get_file.new.source) IsPresent path (Here bytes) [] refl
+    c.in_ok-bytes.ensures.given tt
+    (λ entries row is.
+    let due = c.deref-2.ensures.value ∙ (c.in_ok-due.ensures.text ∙ ap row_text row) in
+    absurd (false≢true (sym c.if-is_same.false ∙ c.is_same.ensures.1 (c.deref.ensures.value ∙ (is ∙ sym due)))))

@@ -1,10 +1,14 @@
 use Rattle.std.proofs.Common.{◌≡◌, ◌+◌, ◌-◌, ◌*◌, ◌^◌, ◌<◌, ℕ, List, length, refl, subst, sym, ap, ◌∙◌, rules, arith}
-use Rattle.tlog_shape.specs.Edge.{edge_index_of}
+use Rattle.tlog_shape.specs.Edge.{edge_index_of, width_of}
 use Rattle.mirror_audit.specs.Covering.{CoversRow}
 use Rattle.mirror_audit.specs.Edges.{CoversLevels}
 use Rattle.mirror_audit.proofs.Levels.{levels_first, levels_step, row_small}
 use Rattle.log_reader.proofs.TrueReads.{source_later}
 use Rattle.mirror_audit.proofs.WholeLogs.{edge_row_true}
+use Rattle.mirror_audit.specs.Order.{level_order, levels_order, row_order}
+use Rattle.mirror_audit.specs.Stops.{HasEdge, HasRow}
+use Rattle.mirror_audit.proofs.Orders.{each_none, level_parts, next_level}
+use Rattle.mirror_audit.proofs.Stops.{read_as, read_none, read_then, stops_in}
 use Rattle.mirror_audit.proofs.edge.audit_levels.Goals as goal
 
 pub loop-done-init : goal.loop-done-init
@@ -12,6 +16,8 @@ loop-done-init g c = record {
   counted = refl;
   covers = levels_first c.args.edge.now c.requires.widths g.H.TreeHash.digest (g.S.Source.may_answer c.args.source.now)
       (g.S.Source.asked c.args.source.now) c.requires.small;
+  read = read_none (g.S.Source.may_answer c.args.source.now) (g.S.Source.asked c.args.source.now)
+      (levels_order c.args.edge.now.size 0) (each_none (level_order c.args.edge.now.size) 0);
 }
 
 pub audit_row-requires-clause-fits : goal.audit_row-requires-clause-fits
@@ -48,6 +54,25 @@ loop-done-preserved g c = record {
       subst (λ k. CoversLevels digest edge k a d x z) next
       (levels_step edge c.requires.widths digest a b d x y z low level (omega arith) (omega arith) (omega arith)
       c.loop-done.invariant.covers rowed);
+  read =
+      let n = c.args.edge.now.size in
+      let a = g.S.Source.may_answer c.args.source.now in
+      let b = g.S.Source.may_answer c.loop-done.source in
+      let d = g.S.Source.may_answer c.audit_row.new.source in
+      let x = g.S.Source.asked c.args.source.now in
+      let y = g.S.Source.asked c.loop-done.source in
+      let z = g.S.Source.asked c.audit_row.new.source in
+      let done = c.loop-done.done in
+      let level = 7 - done in
+      let at : c.edge_index-index.result ≡ edge_index_of n level =
+      c.edge_index-index.ensures ∙ ap (λ k. edge_index_of k level) c.size.ensures in
+      let wide : length c.row.result.now ≡ width_of n level =
+      ap length c.row.ensures ∙ c.requires.widths level (omega arith) in
+      read_then a b d x y z (levels_order n done) (row_order level (edge_index_of n level) (width_of n level))
+      (levels_order n (done + 1)) (next_level n done) c.loop-done.invariant.read
+      (read_as b d y z (row_order level c.edge_index-index.result (length c.row.result.now))
+      (row_order level (edge_index_of n level) (width_of n level)) (λ j. row_order level (at j) (wide j))
+      c.in_ok-audit_row.ensures.read);
 }
 
 pub returns-in_err-audit_row-clause-honest : goal.returns-in_err-audit_row-clause-honest
@@ -64,3 +89,30 @@ returns-in_err-audit_row-clause-honest g c = λ entries s size rows.
     (edge_row_true digest entries edge level c.edge_index-index.result c.row.result.now size (rows level (omega arith))
     c.row.ensures (c.requires.widths level (omega arith)) at) in
     search (rules, fault)
+
+pub returns-in_err-audit_row-clause-first : goal.returns-in_err-audit_row-clause-first
+returns-in_err-audit_row-clause-first g c =
+    let digest = g.H.TreeHash.digest in
+    let may = g.S.Source.may_answer in
+    let asked = g.S.Source.asked in
+    let edge = c.args.edge.now in
+    let n = edge.size in
+    let done = c.loop-done.done in
+    let level = 7 - done in
+    let index = c.edge_index-index.result in
+    let row = c.row.result.now in
+    let at : index ≡ edge_index_of n level =
+    c.edge_index-index.ensures ∙ ap (λ k. edge_index_of k level) c.size.ensures in
+    let wide : length row ≡ width_of n level = ap length c.row.ensures ∙ c.requires.widths level (omega arith) in
+    let parts = level_parts n done level index (length row) (omega arith) refl at wide in
+    let stop = stops_in digest (levels_order n done) (row_order level index (length row)) parts.rest (levels_order n 7)
+    (HasEdge digest edge) (HasRow digest level index row) (may c.args.source.now) (may c.loop-done.source)
+    (may c.audit_row.new.source) (asked c.args.source.now) (asked c.loop-done.source) (asked c.audit_row.new.source)
+    c.loop-done.invariant.read
+    (λ entries h t. record {
+      short = h.short;
+      is_row = edge_row_true digest entries edge level index row h.size_is (h.rows level (omega arith)) c.row.ensures
+          (c.requires.widths level (omega arith)) at;
+    })
+    parts.levels_are _ c.in_err-audit_row.ensures.first in
+    search (rules, stop)

@@ -4,7 +4,11 @@ use Rattle.mirror_audit.specs.Edges.{AreRowsGiven}
 use Rattle.log_reader.specs.Holding.{IsEdgeRowOf}
 use Rattle.log_reader.proofs.TrueReads.{rows_true, source_later}
 use Rattle.log_reader.proofs.RowLists.{count_more, items_of, rows_more}
-use Rattle.mirror_audit.proofs.RowsGiven.{no_rows, one_more}
+use Rattle.mirror_audit.specs.Order.{edge_file, edge_order}
+use Rattle.mirror_audit.specs.Stops.{AreRowsRead, HasSize}
+use Rattle.mirror_audit.proofs.Orders.{file_parts}
+use Rattle.mirror_audit.proofs.RowsGiven.{no_rows, no_rows_read, one_more, one_more_read, rows_paths}
+use Rattle.mirror_audit.proofs.Stops.{stops_in}
 use Rattle.mirror_audit.proofs.edge_rows.rows_of.Goals as goal
 
 pub loop-level-init : goal.loop-level-init
@@ -13,6 +17,8 @@ loop-level-init g c = record {
   count = ap length c.new-rows.ensures.items;
   widths = λ k lt. absurd (omega (arith, lt));
   given = no_rows c.args.size c.new-rows.result.items (g.S.Source.may_answer c.args.source.now)
+      (g.S.Source.asked c.args.source.now);
+  read = no_rows_read c.args.size c.new-rows.result.items (g.S.Source.may_answer c.args.source.now)
       (g.S.Source.asked c.args.source.now);
   honest = λ digest entries hash s same k lt. absurd (omega (arith, lt));
 }
@@ -36,6 +42,9 @@ loop-level-preserved g c =
       given = one_more size vs more v n (may c.args.source.now) (may c.loop-level.source) (may c.row_at_level.new.source)
           (asked c.args.source.now) (asked c.loop-level.source) (asked c.row_at_level.new.source) is i.count i.given
           c.in_ok-row.ensures.given;
+      read = one_more_read size vs more v n (may c.args.source.now) (may c.loop-level.source) (may c.row_at_level.new.source)
+          (asked c.args.source.now) (asked c.loop-level.source) (asked c.row_at_level.new.source) is i.count i.read
+          c.in_ok-row.ensures.read;
       honest = λ digest entries hash s same.
           rows_more (λ k row. IsEdgeRowOf digest size k entries row) vs more v n is i.count (i.honest digest entries hash s same)
           (c.in_ok-row.ensures.honest digest entries hash
@@ -69,3 +78,33 @@ returns-clause-given g c =
     let all : c.loop-level.level ≡ 8 = omega arith in
     subst (λ r. AreRowsGiven size (λ level. get_or r level []) 8 a b x y) (sym c.new.ensures.rows)
     (subst (λ n. AreRowsGiven size (λ k. get_or (items_of vs) k []) n a b x y) all c.loop-level.invariant.given)
+
+pub returns-in_err-row-clause-first : goal.returns-in_err-row-clause-first
+returns-in_err-row-clause-first g c = λ digest hash.
+    let may = g.S.Source.may_answer in
+    let asked = g.S.Source.asked in
+    let size = c.args.size in
+    let n = c.loop-level.level in
+    let a = may c.args.source.now in
+    let b = may c.loop-level.source in
+    let d = may c.row_at_level.new.source in
+    let x = asked c.args.source.now in
+    let y = asked c.loop-level.source in
+    let z = asked c.row_at_level.new.source in
+    let parts = file_parts size n c.loop-level-test.true in
+    let read = rows_paths size (λ k. get_or (items_of c.loop-level.rows.items) k []) n a b x y c.loop-level.invariant.read in
+    let stop = stops_in digest (edge_order size n) (edge_file size n) parts.rest (edge_order size 8) (HasSize digest size)
+    (HasSize digest size) a b d x y z read (λ entries h t. h) parts.files_are _ (c.in_err-row.ensures.first digest hash) in
+    search (rules, stop)
+
+pub returns-clause-read : goal.returns-clause-read
+returns-clause-read g c =
+    let size = c.args.size in
+    let vs = c.loop-level.rows.items in
+    let a = g.S.Source.may_answer c.args.source.now in
+    let b = g.S.Source.may_answer c.loop-level.source in
+    let x = g.S.Source.asked c.args.source.now in
+    let y = g.S.Source.asked c.loop-level.source in
+    let all : c.loop-level.level ≡ 8 = omega arith in
+    subst (λ r. AreRowsRead size (λ level. get_or r level []) 8 a b x y) (sym c.new.ensures.rows)
+    (subst (λ n. AreRowsRead size (λ k. get_or (items_of vs) k []) n a b x y) all c.loop-level.invariant.read)

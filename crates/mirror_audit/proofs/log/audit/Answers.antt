@@ -1,6 +1,7 @@
 use Rattle.std.proofs.Common.{rules}
 use Rattle.log_reader.proofs.TrueReads.{source_later}
 use Rattle.mirror_audit.proofs.Trees.{log_audited}
+use Rattle.mirror_audit.proofs.LogStops.{names_wrong, names_head, read_in_order}
 use Rattle.mirror_audit.proofs.log.audit.Goals as goal
 
 pub returns-clause-audited : goal.returns-clause-audited
@@ -25,3 +26,29 @@ returns-in_err-audit_tree-clause-honest g c = λ entries note log.
     (source_later g.H.TreeHash.digest entries (may c.args.source.now) (may c.read_checkpoint.new.source)
     c.in_ok-audited.ensures.given.given.stays log.files) head.0 head.1 in
     search (rules, fault)
+
+pub returns-in_err-audited-clause-named : goal.returns-in_err-audited-clause-named
+returns-in_err-audited-clause-named g c =
+    let stop = names_head g.H.TreeHash.digest c.args.origin.now _ (g.S.Source.may_answer c.args.source.now)
+    (g.S.Source.may_answer c.read_checkpoint.new.source) (g.S.Source.asked c.args.source.now)
+    (g.S.Source.asked c.read_checkpoint.new.source) _ c.in_err-audited.ensures.first in
+    search (rules, stop)
+
+pub returns-in_err-audit_tree-clause-named : goal.returns-in_err-audit_tree-clause-named
+returns-in_err-audit_tree-clause-named g c =
+    let may = g.S.Source.may_answer in
+    let asked = g.S.Source.asked in
+    let stop = names_wrong g.H.TreeHash.digest c.args.origin.now _ c.in_ok-audited.audited.size c.in_ok-audited.audited.root
+    (may c.args.source.now) (may c.read_checkpoint.new.source) (may c.audit_tree.new.source) (asked c.args.source.now)
+    (asked c.read_checkpoint.new.source) (asked c.audit_tree.new.source) c.in_ok-audited.ensures.given _
+    c.in_err-audit_tree.ensures.first in
+    search (rules, stop)
+
+pub returns-clause-ordered : goal.returns-clause-ordered
+returns-clause-ordered g c =
+    let may = g.S.Source.may_answer in
+    let asked = g.S.Source.asked in
+    read_in_order g.H.TreeHash.digest c.args.origin.now _ c.in_ok-audited.audited.size c.in_ok-audited.audited.root
+    (may c.args.source.now) (may c.read_checkpoint.new.source) (may c.audit_tree.new.source) (asked c.args.source.now)
+    (asked c.read_checkpoint.new.source) (asked c.audit_tree.new.source) c.in_ok-audited.ensures.given
+    c.in_ok-audit_tree.ensures.read

@@ -1,7 +1,16 @@
-use Rattle.std.proofs.Common.{◌<◌, sym, ◌∙◌, rules, arith}
+use Rattle.std.proofs.Common.{◌≡◌, ◌<◌, List, [], ◌++◌, refl, sym, ap, subst, ◌∙◌, rules, arith}
+use Rattle.std.proofs.lemmas.List.{append-nil}
+use Rattle.tlog_tiles.specs.declared.paths.Path.{Path}
+use Rattle.log_reader.specs.EdgeRows.{row_at}
 use Rattle.log_reader.proofs.TrueReads.{source_later}
 use Rattle.mirror_audit.proofs.Given.{on_ok}
 use Rattle.mirror_audit.proofs.Trees.{tree_given}
+use Rattle.mirror_audit.specs.Found.{IsLogOf}
+use Rattle.mirror_audit.specs.Order.{below_edge, edge_order, file_order}
+use Rattle.mirror_audit.specs.Stops.{AreRead, HasEdge, StopsEdge, StopsIn}
+use Rattle.mirror_audit.proofs.LogStops.{stops_as_edge, stops_longer}
+use Rattle.mirror_audit.proofs.RowsGiven.{edge_is_true, rows_paths}
+use Rattle.mirror_audit.proofs.Stops.{on_err, read_then, stops_in}
 use Rattle.mirror_audit.proofs.log.audit_tree.Goals as goal
 
 pub returns-clause-given : goal.returns-clause-given
@@ -29,3 +38,60 @@ returns-clause-honest g c = λ entries s same root.
     (source_later g.H.TreeHash.digest entries (may c.args.source.now) (may c.read_edge.new.source)
     c.in_ok-edge.ensures.given.given.stays s) (c.in_ok-edge.ensures.leads.is_edge.size_is ∙ sym same)
     (c.in_ok-edge.ensures.honest entries s same root)
+
+pub returns-clause-read : goal.returns-clause-read
+returns-clause-read g c =
+    let may = g.S.Source.may_answer in
+    let asked = g.S.Source.asked in
+    let size = c.args.size in
+    let edge = c.in_ok-edge.edge in
+    let a = may c.args.source.now in
+    let b = may c.read_edge.new.source in
+    let d = may c.audit_edge-done.new.source in
+    let x = asked c.args.source.now in
+    let y = asked c.read_edge.new.source in
+    let z = asked c.audit_edge-done.new.source in
+    on_ok c.audit_edge-done.result c.audit_edge-done.ensures.read
+    (λ below. read_then a b d x y z (edge_order size 8) (below_edge size) (file_order size) refl
+    (rows_paths size (row_at edge) 8 a b x y c.in_ok-edge.ensures.read)
+    (subst (λ n. AreRead (below_edge n) b d y z) c.in_ok-edge.ensures.leads.is_edge.size_is below))
+
+pub returns-in_err-edge-clause-first : goal.returns-in_err-edge-clause-first
+returns-in_err-edge-clause-first g c =
+    let size = c.args.size in
+    let stop = stops_longer g.H.TreeHash.digest (edge_order size 8) size c.args.root.now (below_edge size) (file_order size) refl
+    (g.S.Source.may_answer c.args.source.now) (g.S.Source.may_answer c.read_edge.new.source)
+    (g.S.Source.asked c.args.source.now) (g.S.Source.asked c.read_edge.new.source) _ c.in_err-edge.ensures.first in
+    search (rules, stop)
+
+pub returns-clause-first : goal.returns-clause-first
+returns-clause-first g c =
+    let digest = g.H.TreeHash.digest in
+    let may = g.S.Source.may_answer in
+    let asked = g.S.Source.asked in
+    let size = c.args.size in
+    let root = c.args.root.now in
+    let edge = c.in_ok-edge.edge in
+    let a = may c.args.source.now in
+    let b = may c.read_edge.new.source in
+    let d = may c.audit_edge-done.new.source in
+    let x = asked c.args.source.now in
+    let y = asked c.read_edge.new.source in
+    let z = asked c.audit_edge-done.new.source in
+    let r = c.in_ok-edge.ensures.read in
+    let size_is : edge.size ≡ size = c.in_ok-edge.ensures.leads.is_edge.size_is in
+    let has = HasEdge digest edge in
+    let log = IsLogOf digest size root in
+    on_err (StopsIn digest (below_edge edge.size) has b d y z) (StopsEdge digest (file_order size) size root a d x z)
+    c.audit_edge-done.result
+    (λ fault stop. stops_as_edge digest (file_order size) size root log (λ entries l. l) a d x z fault
+    (stops_in digest (edge_order size 8) (below_edge edge.size) [] (file_order size) log has a b d x y z
+    (rows_paths size (row_at edge) 8 a b x y r)
+    (λ entries l t. record {
+      short = l.short;
+      size_is = size_is ∙ sym l.size_is;
+      rows = edge_is_true digest g.met.H.TreeHash.digest_length edge size size_is a b x y r entries l.short l.size_is t;
+    })
+    ((λ j. edge_order size 8 ++ below_edge (sym size_is j))
+    ∙ ap (λ (l : List Path). edge_order size 8 ++ l) (sym (append-nil (below_edge edge.size)))) fault stop))
+    c.audit_edge-done.ensures.first

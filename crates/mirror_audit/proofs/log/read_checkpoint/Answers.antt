@@ -1,6 +1,8 @@
-use Rattle.std.proofs.Common.{◌≡◌, None, Some, ◌∙◌, rules}
-use Rattle.mirror_audit.proofs.Given.{may_none, may_some}
-use Rattle.mirror_audit.proofs.OpenNotes.{given_not_refused, given_same_head}
+use Rattle.std.proofs.Common.{◌≡◌, None, Some, Err, map, subst, ◌∙◌, rules}
+use Rattle.tlog_tiles.specs.declared.paths.Path.TheVariants.{Checkpoint}
+use Rattle.mirror_model.specs.Refusals.{ReadsHead}
+use Rattle.mirror_audit.proofs.Given.{given_one, may_none, may_some}
+use Rattle.mirror_audit.proofs.OpenNotes.{given_not_refused, given_same_head, refused_head}
 use Rattle.mirror_audit.proofs.log.read_checkpoint.Goals as goal
 
 pub returns-in-None-clause-honest : goal.returns-in-None-clause-honest
@@ -27,3 +29,25 @@ returns-clause-honest g c = λ digest entries note log.
     let is : c.in-Some.note.items ≡ note = cc given in
     given_same_head _ note _ _ _ _ (c.deref.ensures.value ∙ is) log.is_head c.in_ok-checkpoint.checkpoint
     c.in_ok-checkpoint.ensures
+
+pub returns-in-None-clause-first : goal.returns-in-None-clause-first
+returns-in-None-clause-first g c =
+    let a = g.S.Source.may_answer c.args.source.now in
+    given_one a (g.S.Source.may_answer c.get.new.self) (g.S.Source.asked c.args.source.now) (g.S.Source.asked c.get.new.self)
+    Checkpoint None c.in_ok-note.ensures.later (may_none a _ c.in_ok-note.field-0 c.in-None.is c.in_ok-note.ensures.answer)
+    c.in_ok-note.ensures.recorded
+
+pub returns-in_err-checkpoint-clause-first : goal.returns-in_err-checkpoint-clause-first
+returns-in_err-checkpoint-clause-first g c =
+    let a = g.S.Source.may_answer c.args.source.now in
+    let b = g.S.Source.may_answer c.get.new.self in
+    let x = g.S.Source.asked c.args.source.now in
+    let y = g.S.Source.asked c.get.new.self in
+    let bytes = c.in-Some.note.items in
+    let given = given_one a b x y Checkpoint (Some bytes) c.in_ok-note.ensures.later
+    (may_some a _ c.in_ok-note.field-0 c.in-Some.note c.in-Some.is c.in_ok-note.ensures.answer) c.in_ok-note.ensures.recorded in
+    let keys = map (λ v. (goal.Verifier-dyn g (v.vtable, v.value)).key v.value) c.args.keys.now in
+    let fault = c.in_err-checkpoint.field-0.0 in
+    let stop = refused_head bytes c.args.origin.now keys a b x y given fault
+    (subst (λ t. ReadsHead t c.args.origin.now keys (Err fault)) c.deref.ensures.value c.in_err-checkpoint.ensures) in
+    search (rules, stop)

@@ -1,8 +1,12 @@
-use Rattle.std.proofs.Common.{Some, None, Vec, Global, ℕ}
+use Rattle.std.proofs.Common.{[], ◌∷◌, Some, None, Vec, Global, ℕ}
 use Rattle.mirror_sources.specs.Files.{full_of}
 use Rattle.mirror_audit.specs.Edges.{IsFullGiven, IsGivenAt}
 use Rattle.mirror_audit.proofs.Given.{given_one, if_found, if_none, in_its_place, may_none, may_some, there}
 use Rattle.log_reader.proofs.TrueReads.{way_later}
+use Rattle.mirror_sources.specs.Replies.{reply}
+use Rattle.mirror_audit.specs.Found.{Here}
+use Rattle.mirror_audit.specs.Stops.{FindsFalse, IsFullRead, IsPartRead}
+use Rattle.mirror_audit.proofs.Stops.{false_part, gone_both, on_err, read_part}
 use Rattle.mirror_audit.proofs.part.get_part.Goals as goal
 
 pub returns-in-Some-clause-given : goal.returns-in-Some-clause-given
@@ -57,3 +61,63 @@ returns-in-None-clause-honest g c = λ digest entries hash s file.
     (may_none a c.args.path c.in_ok-bytes.field-0 c.in-None.is c.in_ok-bytes.ensures.answer) in
     c.get_full_part.ensures.honest digest entries hash s.short file
     (way_later digest entries a b c.in_ok-bytes.ensures.later c.args.path way)
+
+pub returns-in-Some-clause-read : goal.returns-in-Some-clause-read
+returns-in-Some-clause-read g c = record {
+  found = Here c.in-Some.bytes.items;
+  given = given_one (g.S.Source.may_answer c.args.source.now) (g.S.Source.may_answer c.get.new.self)
+      (g.S.Source.asked c.args.source.now) (g.S.Source.asked c.get.new.self) c.args.path (Some c.in-Some.bytes.items)
+      c.in_ok-bytes.ensures.later
+      (may_some (g.S.Source.may_answer c.args.source.now) c.args.path c.in_ok-bytes.field-0 c.in-Some.bytes c.in-Some.is
+      c.in_ok-bytes.ensures.answer)
+      c.in_ok-bytes.ensures.recorded;
+  present = tt;
+  is_true = λ digest entries hash short file is. is;
+}
+
+pub returns-in-None-clause-read : goal.returns-in-None-clause-read
+returns-in-None-clause-read g c =
+    let a = g.S.Source.may_answer c.args.source.now in
+    let b = g.S.Source.may_answer c.get.new.self in
+    let d = g.S.Source.may_answer c.get_full_part.new.source in
+    let x = g.S.Source.asked c.args.source.now in
+    let y = g.S.Source.asked c.get.new.self in
+    let z = g.S.Source.asked c.get_full_part.new.source in
+    let path = c.args.path in
+    if_found (λ (v : Vec ℕ Global). IsFullRead path v.items b d y z) (λ (v : Vec ℕ Global). IsPartRead path v.items a d x z)
+    c.get_full_part.result
+    (λ v full. read_part path a b d x y z
+    (given_one a b x y path None c.in_ok-bytes.ensures.later
+    (may_none a path c.in_ok-bytes.field-0 c.in-None.is c.in_ok-bytes.ensures.answer) c.in_ok-bytes.ensures.recorded)
+    v.items c.requires full)
+    c.get_full_part.ensures.read
+
+pub returns-in-None-clause-gone : goal.returns-in-None-clause-gone
+returns-in-None-clause-gone g c =
+    let a = g.S.Source.may_answer c.args.source.now in
+    let b = g.S.Source.may_answer c.get.new.self in
+    let d = g.S.Source.may_answer c.get_full_part.new.source in
+    let x = g.S.Source.asked c.args.source.now in
+    let y = g.S.Source.asked c.get.new.self in
+    let z = g.S.Source.asked c.get_full_part.new.source in
+    let path = c.args.path in
+    if_none c.get_full_part.result
+    (gone_both path a b d x y z
+    (given_one a b x y path None c.in_ok-bytes.ensures.later
+    (may_none a path c.in_ok-bytes.field-0 c.in-None.is c.in_ok-bytes.ensures.answer) c.in_ok-bytes.ensures.recorded))
+    c.get_full_part.ensures.gone
+
+pub returns-in-None-clause-first : goal.returns-in-None-clause-first
+returns-in-None-clause-first g c =
+    let a = g.S.Source.may_answer c.args.source.now in
+    let b = g.S.Source.may_answer c.get.new.self in
+    let d = g.S.Source.may_answer c.get_full_part.new.source in
+    let x = g.S.Source.asked c.args.source.now in
+    let y = g.S.Source.asked c.get.new.self in
+    let z = g.S.Source.asked c.get_full_part.new.source in
+    let path = c.args.path in
+    on_err (FindsFalse path [] b d y z) (FindsFalse path (reply path None ∷ []) a d x z) c.get_full_part.result
+    (false_part path a b d x y z
+    (given_one a b x y path None c.in_ok-bytes.ensures.later
+    (may_none a path c.in_ok-bytes.field-0 c.in-None.is c.in_ok-bytes.ensures.answer) c.in_ok-bytes.ensures.recorded))
+    c.get_full_part.ensures.first

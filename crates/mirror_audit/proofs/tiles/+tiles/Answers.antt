@@ -1,5 +1,5 @@
-use Rattle.std.proofs.Common.{rules, ◌≡◌, ◌<◌, ◌≤◌, [], length, get_or, OnOk, refl, sym, ap, subst, ◌∙◌, arith}
-use Rattle.std.proofs.lemmas.List.{get_or_default}
+use Rattle.std.proofs.Common.{List, rules, ◌≡◌, ◌+◌, ◌-◌, ◌*◌, ◌<◌, ◌≤◌, [], ◌∷◌, length, get_or, OnOk, IfErr, refl, sym, ap, subst, ◌∙◌, arith}
+use Rattle.std.proofs.lemmas.List.{append-nil, get_or_default}
 use Rattle.log_reader.specs.Holding.{IsTileHash}
 use Rattle.log_reader.proofs.TrueReads.{source_later}
 use Rattle.mirror_audit.specs.Covering.{CoversRow, CoversTile}
@@ -7,6 +7,15 @@ use Rattle.mirror_audit.proofs.Given.{on_ok}
 use Rattle.mirror_audit.proofs.TileRows.{child_small, row_first, row_fits, row_hinted, row_more, row_small, tile_covers}
 use Rattle.mirror_audit.proofs.WholeLogs.{child_hash, tile_row_true}
 use Rattle.mirror_audit.specs.WholeLogs.{IsTrueRow}
+use Rattle.tlog_tiles.specs.Row.{row_text}
+use Rattle.tlog_tiles.specs.declared.paths.Path.{Path}
+use Rattle.tlog_tiles.specs.declared.paths.Path.TheVariants.{Tile}
+use Rattle.mirror_audit.specs.Found.{Here}
+use Rattle.mirror_audit.specs.Order.{row_order, tile_order}
+use Rattle.mirror_audit.specs.Stops.{AreRead, HasRow, HasTile, StopsIn}
+use Rattle.mirror_audit.proofs.Orders.{each_next, each_none, each_parts, tile_then}
+use Rattle.mirror_audit.proofs.ShortLogs.{row_of_tile}
+use Rattle.mirror_audit.proofs.Stops.{on_err, read_hinted, read_none, read_one, read_then, stops_in}
 use Rattle.mirror_audit.proofs.tiles.+tiles.Goals as goal
 
 pub audit_row-loop-i-init : goal.audit_row-loop-i-init
@@ -14,6 +23,8 @@ audit_row-loop-i-init g t c = record {
   counted = refl;
   covers = row_first g.H.TreeHash.digest c.args.level c.args.index c.args.row.now (g.S.Source.may_answer c.args.source.now)
       (g.S.Source.asked c.args.source.now);
+  read = read_none (g.S.Source.may_answer c.args.source.now) (g.S.Source.asked c.args.source.now)
+      (row_order c.args.level c.args.index 0) (each_none (tile_order (c.args.level - 1)) (256 * c.args.index));
 }
 
 pub audit_row-overflow_mul-child : goal.audit_row-overflow_mul-child
@@ -49,6 +60,20 @@ audit_row-loop-i-preserved g t c = record {
       (asked c.args.source.now) (asked c.loop-i.source) (asked hinted) c.expect_bundles.ensures.later
       c.expect_bundles.ensures.recorded c.loop-i.invariant.covers)
       c.in_ok-audit_tile.ensures.covers;
+  read =
+      let may = g.S.Source.may_answer in
+      let asked = g.S.Source.asked in
+      let level = c.args.level in
+      let first = 256 * c.args.index in
+      let i = c.loop-i.i in
+      let hinted = c.expect_bundles.new.source in
+      read_then (may c.args.source.now) (may hinted) (may c.audit_tile.new.source) (asked c.args.source.now) (asked hinted)
+      (asked c.audit_tile.new.source) (row_order level c.args.index i) (tile_order (level - 1) (first + i))
+      (row_order level c.args.index (i + 1)) (each_next (tile_order (level - 1)) first i)
+      (read_hinted (may c.args.source.now) (may c.loop-i.source) (asked c.args.source.now) (asked c.loop-i.source) (may hinted)
+      (asked hinted) (row_order level c.args.index i) c.expect_bundles.ensures.later c.expect_bundles.ensures.recorded
+      c.loop-i.invariant.read)
+      c.in_ok-audit_tile.ensures.read;
 }
 
 pub audit_tile-returns-then-level-eq0-clause-covers : goal.audit_tile-returns-then-level-eq0-clause-covers
@@ -115,3 +140,116 @@ audit_tile-returns-clause-honest g t c = λ entries s hash.
     c.audit_row.ensures.honest entries
     (source_later digest entries (may c.args.source.now) (may c.row_of.new.source) found.found.given.stays s)
     (subst (IsTrueRow digest entries c.args.level c.args.index) (sym c.deref.ensures.value) row)
+
+pub audit_tile-returns-then-level-eq0-clause-read : goal.audit_tile-returns-then-level-eq0-clause-read
+audit_tile-returns-then-level-eq0-clause-read g t c =
+    let may = g.S.Source.may_answer in
+    let asked = g.S.Source.asked in
+    let zero : 0 ≡ c.args.level = omega arith in
+    subst (λ l. OnOk c.audit_bundle.result (AreRead (tile_order l c.args.index) (may c.args.source.now)
+    (may c.audit_bundle.new.source) (asked c.args.source.now) (asked c.audit_bundle.new.source)))
+    zero c.audit_bundle.ensures.read
+
+pub audit_tile-returns-then-level-eq0-clause-first : goal.audit_tile-returns-then-level-eq0-clause-first
+audit_tile-returns-then-level-eq0-clause-first g t c =
+    let may = g.S.Source.may_answer in
+    let asked = g.S.Source.asked in
+    let digest = g.H.TreeHash.digest in
+    let zero : 0 ≡ c.args.level = omega arith in
+    subst (λ l. IfErr c.audit_bundle.result (StopsIn digest (tile_order l c.args.index)
+    (HasTile digest l c.args.index c.args.hash.now) (may c.args.source.now) (may c.audit_bundle.new.source)
+    (asked c.args.source.now) (asked c.audit_bundle.new.source)))
+    zero c.audit_bundle.ensures.first
+
+pub audit_tile-returns-in_err-row-clause-first : goal.audit_tile-returns-in_err-row-clause-first
+audit_tile-returns-in_err-row-clause-first g t c =
+    let digest = g.H.TreeHash.digest in
+    let level = c.args.level in
+    let index = c.args.index in
+    let path = Tile level index 256 in
+    let a = g.S.Source.may_answer c.args.source.now in
+    let b = g.S.Source.may_answer c.row_of.new.source in
+    let x = g.S.Source.asked c.args.source.now in
+    let y = g.S.Source.asked c.row_of.new.source in
+    let some : 1 ≤ level = omega arith in
+    let has = HasTile digest level index c.args.hash.now in
+    let stop = stops_in digest [] (path ∷ []) (row_order level index 256) (tile_order level index) has has a a b x x y
+    (read_none a x [] refl) (λ entries h t. h) (tile_then level index some) _ (c.in_err-row.ensures.first level index refl) in
+    search (rules, stop)
+
+pub audit_tile-returns-clause-read : goal.audit_tile-returns-clause-read
+audit_tile-returns-clause-read g t c =
+    let may = g.S.Source.may_answer in
+    let asked = g.S.Source.asked in
+    let level = c.args.level in
+    let index = c.args.index in
+    let path = Tile level index 256 in
+    let row = c.in_ok-row.row.items in
+    let m = c.row_of.new.source in
+    let n = c.audit_row.new.source in
+    let some : 1 ≤ level = omega arith in
+    let long : length c.deref.result.now ≡ 256 = ap length c.deref.ensures.value ∙ c.in_ok-row.ensures.found.is_row.count in
+    on_ok c.audit_row.result c.audit_row.ensures.read
+    (λ below. read_then (may c.args.source.now) (may m) (may n) (asked c.args.source.now) (asked m) (asked n) (path ∷ [])
+    (row_order level index (length c.deref.result.now)) (tile_order level index)
+    (tile_then level index some ∙ ap (λ w. path ∷ row_order level index w) (sym long))
+    (read_one (may c.args.source.now) (may m) (asked c.args.source.now) (asked m) path (Here (row_text row))
+    c.in_ok-row.ensures.found.given) below)
+
+pub audit_tile-returns-clause-first : goal.audit_tile-returns-clause-first
+audit_tile-returns-clause-first g t c =
+    let digest = g.H.TreeHash.digest in
+    let may = g.S.Source.may_answer in
+    let asked = g.S.Source.asked in
+    let level = c.args.level in
+    let index = c.args.index in
+    let hash = c.args.hash.now in
+    let path = Tile level index 256 in
+    let row = c.in_ok-row.row.items in
+    let found = c.in_ok-row.ensures.found in
+    let a = may c.args.source.now in
+    let b = may c.row_of.new.source in
+    let d = may c.audit_row.new.source in
+    let x = asked c.args.source.now in
+    let y = asked c.row_of.new.source in
+    let z = asked c.audit_row.new.source in
+    let some : 1 ≤ level = omega arith in
+    let low = c.deref.result.now in
+    let long : length low ≡ 256 = ap length c.deref.ensures.value ∙ found.is_row.count in
+    on_err (StopsIn digest (row_order level index (length low)) (HasRow digest level index low) b d y z)
+    (StopsIn digest (tile_order level index) (HasTile digest level index hash) a d x z) c.audit_row.result
+    (stops_in digest (path ∷ []) (row_order level index (length low)) [] (tile_order level index)
+    (HasTile digest level index hash) (HasRow digest level index low) a b d x y z
+    (read_one a b x y path (Here (row_text row)) found.given)
+    (λ entries h t. subst (λ r. HasRow digest level index r entries) (sym c.deref.ensures.value)
+    (row_of_tile digest g.met.H.TreeHash.digest_length entries level index hash row h found.is_row t.0))
+    (tile_then level index some ∙ ((λ j. path ∷ row_order level index (sym long j))
+    ∙ ap (λ (l : List Path). path ∷ l) (sym (append-nil (row_order level index (length low)))))))
+    c.audit_row.ensures.first
+
+pub audit_row-returns-in_err-audit_tile-clause-first : goal.audit_row-returns-in_err-audit_tile-clause-first
+audit_row-returns-in_err-audit_tile-clause-first g t c =
+    let digest = g.H.TreeHash.digest in
+    let may = g.S.Source.may_answer in
+    let asked = g.S.Source.asked in
+    let level = c.args.level in
+    let index = c.args.index in
+    let row = c.args.row.now in
+    let i = c.loop-i.i in
+    let order = tile_order (level - 1) in
+    let first = 256 * index in
+    let hinted = c.expect_bundles.new.source in
+    let h = get_or row i [] in
+    let parts = each_parts order first i (length row) c.loop-i-test.true in
+    let stop = stops_in digest (row_order level index i) (order (first + i)) parts.rest (row_order level index (length row))
+    (HasRow digest level index row) (HasTile digest (level - 1) (first + i) h) (may c.args.source.now) (may hinted)
+    (may c.audit_tile.new.source) (asked c.args.source.now) (asked hinted) (asked c.audit_tile.new.source)
+    (read_hinted (may c.args.source.now) (may c.loop-i.source) (asked c.args.source.now) (asked c.loop-i.source) (may hinted)
+    (asked hinted) (row_order level index i) c.expect_bundles.ensures.later c.expect_bundles.ensures.recorded
+    c.loop-i.invariant.read)
+    (λ entries r t. record {
+      short = r.short;
+      is_hash = child_hash digest entries level index row r.is_row c.requires.above c.requires.level i c.loop-i-test.true;
+    })
+    parts.parts_are _ c.in_err-audit_tile.ensures.first in
+    search (rules, stop)

@@ -1,8 +1,11 @@
-use Rattle.std.proofs.Common.{◌≤◌, length, sym, ap, subst, ◌∙◌, rules, arith}
+use Rattle.std.proofs.Common.{◌≤◌, [], ◌∷◌, length, refl, sym, ap, subst, ◌∙◌, rules, arith}
 use Rattle.mirror_sources.specs.Files.{width_named}
 use Rattle.mirror_sources.specs.Honest.{true_bytes}
 use Rattle.log_reader.specs.Holding.{IsTreeFile}
 use Rattle.log_reader.proofs.TrueReads.{full_tile, row_is_true, tile_verifies}
+use Rattle.mirror_audit.specs.Found.{Here, IsPresent}
+use Rattle.mirror_audit.specs.Stops.{HasTile}
+use Rattle.mirror_audit.proofs.Stops.{lacks_first, stops_here}
 use Rattle.mirror_audit.proofs.tiles.row_of.Goals as goal
 
 pub returns-in_err-bytes-clause-honest : goal.returns-in_err-bytes-clause-honest
@@ -30,3 +33,22 @@ returns-clause-honest g c = λ entries level index at s t.
     absurd ((rw c.in-None.is at c.in_ok-row.ensures.none) _
     (tile_verifies digest g.met.H.TreeHash.digest_length entries level index c.args.hash.now c.deref.result.now t
     (c.deref.ensures.value ∙ is)))
+
+pub returns-in_err-bytes-clause-first : goal.returns-in_err-bytes-clause-first
+returns-in_err-bytes-clause-first g c = λ level index at.
+    let stop = lacks_first g.H.TreeHash.digest (c.args.path ∷ []) (HasTile g.H.TreeHash.digest level index c.args.hash.now)
+    (g.S.Source.may_answer c.args.source.now) (g.S.Source.may_answer c.get_file.new.source)
+    (g.S.Source.asked c.args.source.now) (g.S.Source.asked c.get_file.new.source) c.args.path [] refl c.requires _
+    c.in_err-bytes.ensures.missing in
+    search (rules, stop)
+
+pub returns-clause-first : goal.returns-clause-first
+returns-clause-first g c = λ level index at.
+    let digest = g.H.TreeHash.digest in
+    stops_here digest (c.args.path ∷ []) (HasTile digest level index c.args.hash.now)
+    (g.S.Source.may_answer c.args.source.now) (g.S.Source.may_answer c.get_file.new.source)
+    (g.S.Source.asked c.args.source.now) (g.S.Source.asked c.get_file.new.source) IsPresent c.args.path
+    (Here c.in_ok-bytes.bytes.items) [] refl c.in_ok-bytes.ensures.given tt
+    (λ entries h is. (rw c.in-None.is at c.in_ok-row.ensures.none) _
+    (tile_verifies digest g.met.H.TreeHash.digest_length entries level index c.args.hash.now c.deref.result.now h.is_hash
+    (c.deref.ensures.value ∙ (is ∙ ap (true_bytes digest entries) at))))

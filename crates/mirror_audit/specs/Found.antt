@@ -1,0 +1,146 @@
+-- What an audit found at the paths of a log, and the file at which it stopped (C2SP tlog-tiles, "Partial Tiles").
+use Rattle.std.specs.Prelude.{◌≡◌, ◌⊎◌, ℕ, ◌<◌, List, [], ◌∷◌, ◌++◌, map, length, Option, Some, None, Err, ⊤}
+use Rattle.signed_note.specs.Keys.{Key}
+use Rattle.tlog_hash.specs.Tree.{mth}
+use Rattle.tlog_tiles.specs.declared.paths.Path.{Path}
+use Rattle.tlog_tiles.specs.declared.paths.Path.TheVariants.{Checkpoint, Tile, Entries}
+use Rattle.mirror_model.specs.Heads.{IsOpenHead}
+use Rattle.mirror_model.specs.Refusals.{ReadsHead}
+use Rattle.mirror_model.specs.TrueLaws.{AreShort}
+use Rattle.mirror_model.specs.declared.fault.TakeFault.{TakeFault}
+use Rattle.mirror_sources.specs.Files.{full_of, width_named}
+use Rattle.mirror_sources.specs.Honest.{true_bytes}
+use Rattle.mirror_sources.specs.Replies.{Reply, reply}
+use Rattle.log_reader.specs.Holding.{GoesOn}
+use Rattle.mirror_audit.specs.declared.fault.AuditFault.{AuditFault}
+use Rattle.mirror_audit.specs.declared.fault.AuditFault.TheVariants.{NoCheckpoint, Head, NoEdge, NoFile, FalseFile, Source, OutOfMemory}
+use Rattle.mirror_audit.specs.Answering.{AreGiven}
+use Rattle.mirror_audit.specs.Order.{edge_order, file_order, first_path}
+
+-- what was found of a file: its bytes at its path; None there, and the bytes of the full file; or None, at a partial path also
+-- of the full one
+pub data Found : Type 0 where
+  Here : List ℕ → Found
+  InFull : List ℕ → Found
+  Nowhere : Found
+  NotInFull : Found
+
+-- the replies by which that was found
+abbrev pub replies_of : Path → Found → List Reply
+replies_of path (Here bytes) = reply path (Some bytes) ∷ []
+replies_of path (InFull bytes) = reply path None ∷ reply (full_of path) (Some bytes) ∷ []
+replies_of path Nowhere = reply path None ∷ []
+replies_of path NotInFull = reply path None ∷ reply (full_of path) None ∷ []
+
+-- a file that was asked for
+pub record FileRead : Type 0 where
+  pub path : Path
+  pub found : Found
+
+abbrev pub file_read : Path → Found → FileRead
+file_read path found = record { path = path; found = found }
+
+abbrev pub paths_read : List FileRead → List Path
+paths_read reads = map (λ r. r.path) reads
+
+abbrev pub all_replies : List FileRead → List Reply
+all_replies [] = []
+all_replies (r ∷ rs) = replies_of r.path r.found ++ all_replies rs
+
+-- neither the file nor its full one was there
+abbrev pub IsAbsent : Path → Found → Type 0
+IsAbsent path (Here bytes) = ⊥
+IsAbsent path (InFull bytes) = ⊥
+IsAbsent path Nowhere = full_of path ≡ path
+IsAbsent path NotInFull = width_named path < 256
+
+-- neither a partial tile nor its full one was there
+abbrev pub IsAbsentEdge : Path → Found → Type 0
+IsAbsentEdge Checkpoint found = ⊥
+IsAbsentEdge (Tile level index width) found = (width < 256) × IsAbsent (Tile level index width) found
+IsAbsentEdge (Entries index width) found = ⊥
+
+-- bytes were there, or in place of a partial file those of its full one
+abbrev pub IsPresent : Path → Found → Type 0
+IsPresent path (Here bytes) = ⊤
+IsPresent path (InFull bytes) = width_named path < 256
+IsPresent path Nowhere = ⊥
+IsPresent path NotInFull = ⊥
+
+-- the checkpoint alone was asked for, and its bytes are refused for that reason
+pub record IsNoHead (origin : List ℕ) (keys : List Key) (fault : TakeFault)
+    (may later : Path → Option (List ℕ) → Type 0) (old new : Option (List Path)) : Type 0 where
+  pub bytes : List ℕ
+  pub given : AreGiven may later old new (reply Checkpoint (Some bytes) ∷ [])
+  pub refused : ReadsHead bytes origin keys (Err fault)
+
+-- a note was given, and then each file of a log of that size, in their order
+pub record IsReadInOrder (size : ℕ) (may later : Path → Option (List ℕ) → Type 0) (old new : Option (List Path)) : Type 0
+  where
+    pub note : List ℕ
+    pub reads : List FileRead
+    pub given : AreGiven may later old new (reply Checkpoint (Some note) ∷ all_replies reads)
+    pub order : paths_read reads ≡ file_order size
+
+module _ (digest : List ℕ → List ℕ) where
+  module _ (entries : List (List ℕ)) where
+    -- the file of these entries was found: its true bytes, or a full file that begins with them
+    abbrev pub IsTrueFound : Path → Found → Type 0
+    IsTrueFound path (Here bytes) = bytes ≡ true_bytes digest entries path
+    IsTrueFound path (InFull bytes) = GoesOn path (true_bytes digest entries path) bytes
+    IsTrueFound path Nowhere = ⊥
+    IsTrueFound path NotInFull = ⊥
+
+    abbrev pub AreTrue : List FileRead → Type 0
+    AreTrue [] = ⊤
+    AreTrue (r ∷ rs) = IsTrueFound r.path r.found × AreTrue rs
+
+  -- a list of entries that may be the log of that size and root
+  pub record IsLogOf (size : ℕ) (root : List ℕ) (entries : List (List ℕ)) : Type 0 where
+    pub size_is : length entries ≡ size
+    pub root_is : mth digest entries ≡ root
+    pub short : AreShort entries
+
+  module _ (origin : List ℕ) (keys : List Key) where
+    -- a note was given that opens, of that size and root. Then the files before the named path were read, in their order, and
+    -- then that one: of no list of entries of that size and root whose files are those found before is it the true one
+    pub record IsFileWrong (kind : Path → Found → Type 0) (path : Path) (may later : Path → Option (List ℕ) → Type 0)
+        (old new : Option (List Path)) : Type 0 where
+      pub note : List ℕ
+      pub size : ℕ
+      pub root : List ℕ
+      pub is_head : IsOpenHead note origin keys size root
+      pub before : List FileRead
+      pub found : Found
+      pub rest : List Path
+      pub given : AreGiven may later old new (reply Checkpoint (Some note) ∷ (all_replies before ++ replies_of path found))
+      pub order : file_order size ≡ paths_read before ++ path ∷ rest
+      pub is_kind : kind path found
+      pub wrong : (entries : List (List ℕ)) → IsLogOf size root entries → AreTrue entries before →
+          IsTrueFound entries path found → ⊥
+
+    -- a note was given that opens, of that size and root, and then all rows of the edge, of which the path is the lowest: no
+    -- list of entries of that size and root has these rows
+    pub record IsEdgeWrong (path : Path) (may later : Path → Option (List ℕ) → Type 0) (old new : Option (List Path)) : Type 0
+      where
+        pub note : List ℕ
+        pub size : ℕ
+        pub root : List ℕ
+        pub is_head : IsOpenHead note origin keys size root
+        pub reads : List FileRead
+        pub given : AreGiven may later old new (reply Checkpoint (Some note) ∷ all_replies reads)
+        pub order : paths_read reads ≡ edge_order size 8
+        pub lowest : path ≡ first_path (edge_order size 8)
+        pub wrong : (entries : List (List ℕ)) → IsLogOf size root entries → AreTrue entries reads → ⊥
+
+    -- what a fault of an audit says of the file that it names
+    abbrev pub NamesWrong : (may later : Path → Option (List ℕ) → Type 0) → Option (List Path) → Option (List Path) →
+        AuditFault → Type 0
+    NamesWrong may later old new NoCheckpoint = AreGiven may later old new (reply Checkpoint None ∷ [])
+    NamesWrong may later old new (Head fault) = IsNoHead origin keys fault may later old new
+    NamesWrong may later old new NoEdge = (path : Path) × IsFileWrong IsAbsentEdge path may later old new
+    NamesWrong may later old new (NoFile path) = IsFileWrong IsAbsent path may later old new
+    NamesWrong may later old new (FalseFile path) =
+        IsFileWrong IsPresent path may later old new ⊎ IsEdgeWrong path may later old new
+    NamesWrong may later old new Source = ⊤
+    NamesWrong may later old new OutOfMemory = ⊤

@@ -1,0 +1,177 @@
+-- How the parts of an audit end: what was read, and the file at which they stop. Contracts of private functions alone cite these.
+use Rattle.std.specs.Prelude.{◌≡◌, ◌⊎◌, ℕ, ◌*◌, ◌<◌, ◌≤◌, List, [], ◌∷◌, ◌++◌, length, Option, Some, None, ⊤}
+use Rattle.tlog_hash.specs.Rows.{level_row}
+use Rattle.signed_note.specs.Keys.{Key}
+use Rattle.tlog_tiles.specs.declared.paths.Path.{Path}
+use Rattle.tlog_tiles.specs.declared.paths.Path.TheVariants.{Checkpoint}
+use Rattle.mirror_model.specs.Strings.{IsDigest}
+use Rattle.mirror_model.specs.TrueLaws.{AreShort}
+use Rattle.mirror_sources.specs.Files.{full_of, width_named}
+use Rattle.mirror_sources.specs.Honest.{true_bytes}
+use Rattle.mirror_sources.specs.Replies.{Reply, reply}
+use Rattle.log_reader.specs.EdgeRows.{Edge, RowIsTrue}
+use Rattle.log_reader.specs.Holding.{GoesOn, IsEdgeRowOf, IsTileHash, IsTreeFile}
+use Rattle.mirror_audit.specs.declared.fault.AuditFault.{AuditFault}
+use Rattle.mirror_audit.specs.declared.fault.AuditFault.TheVariants.{NoCheckpoint, Head, NoEdge, NoFile, FalseFile, Source, OutOfMemory}
+use Rattle.mirror_audit.specs.Answering.{AreGiven}
+use Rattle.mirror_audit.specs.Found.{AreTrue, FileRead, Found, IsAbsent, IsAbsentEdge, IsLogOf, IsNoHead, IsPresent, IsTrueFound}
+use Rattle.mirror_audit.specs.Found.{all_replies, paths_read, replies_of}
+use Rattle.mirror_audit.specs.Order.{edge_file, edge_order, first_path}
+use Rattle.mirror_audit.specs.WholeLogs.{IsTrueRow}
+
+-- the files of these paths were read, one after the other
+pub record AreRead (paths : List Path) (may later : Path → Option (List ℕ) → Type 0) (old new : Option (List Path)) : Type 0
+  where
+    pub reads : List FileRead
+    pub given : AreGiven may later old new (all_replies reads)
+    pub paths_are : paths_read reads ≡ paths
+
+-- a full file was asked for, and is not there
+abbrev pub LacksFile : Path → (may later : Path → Option (List ℕ) → Type 0) → Option (List Path) → Option (List Path) →
+    AuditFault → Type 0
+LacksFile path may later old new NoCheckpoint = ⊥
+LacksFile path may later old new (Head fault) = ⊥
+LacksFile path may later old new NoEdge = ⊥
+LacksFile path may later old new (NoFile p) = (p ≡ path) × AreGiven may later old new (reply path None ∷ [])
+LacksFile path may later old new (FalseFile p) = ⊥
+LacksFile path may later old new Source = ⊤
+LacksFile path may later old new OutOfMemory = ⊤
+
+-- the full file of a partial path was given, from which these bytes come: where it begins with the true ones, they are these
+pub record IsFullRead (path : Path) (bytes : List ℕ) (may later : Path → Option (List ℕ) → Type 0)
+    (old new : Option (List Path)) : Type 0 where
+  pub whole : List ℕ
+  pub given : AreGiven may later old new (reply (full_of path) (Some whole) ∷ [])
+  pub is_true : (digest : List ℕ → List ℕ) (entries : List (List ℕ)) → IsDigest digest → AreShort entries →
+      IsTreeFile (length entries) path → width_named path < 256 → GoesOn path (true_bytes digest entries path) whole →
+      bytes ≡ true_bytes digest entries path
+
+-- the bytes of a partial path were found, at it or in its full file
+pub record IsPartRead (path : Path) (bytes : List ℕ) (may later : Path → Option (List ℕ) → Type 0)
+    (old new : Option (List Path)) : Type 0 where
+  pub found : Found
+  pub given : AreGiven may later old new (replies_of path found)
+  pub present : IsPresent path found
+  pub is_true : (digest : List ℕ → List ℕ) (entries : List (List ℕ)) → IsDigest digest → AreShort entries →
+      IsTreeFile (length entries) path → IsTrueFound digest entries path found → bytes ≡ true_bytes digest entries path
+
+-- the full file of a partial path was given by these replies, and of no log is it that file
+pub record IsFullFalse (path : Path) (first : List Reply) (may later : Path → Option (List ℕ) → Type 0)
+    (old new : Option (List Path)) : Type 0 where
+  pub whole : List ℕ
+  pub given : AreGiven may later old new (first ++ reply (full_of path) (Some whole) ∷ [])
+  pub wrong : (digest : List ℕ → List ℕ) (entries : List (List ℕ)) → IsDigest digest → AreShort entries →
+      IsTreeFile (length entries) path → width_named path < 256 → GoesOn path (true_bytes digest entries path) whole → ⊥
+
+-- a partial file was asked for, and is false
+abbrev pub FindsFalse : Path → List Reply → (may later : Path → Option (List ℕ) → Type 0) → Option (List Path) →
+    Option (List Path) → AuditFault → Type 0
+FindsFalse path first may later old new NoCheckpoint = ⊥
+FindsFalse path first may later old new (Head fault) = ⊥
+FindsFalse path first may later old new NoEdge = ⊥
+FindsFalse path first may later old new (NoFile p) = ⊥
+FindsFalse path first may later old new (FalseFile p) = (p ≡ path) × IsFullFalse path first may later old new
+FindsFalse path first may later old new Source = ⊤
+FindsFalse path first may later old new OutOfMemory = ⊤
+
+-- the row of a level was read, where the level has one: where its file is true, so is the row
+pub record IsRowRead (size level : ℕ) (row : List (List ℕ)) (may later : Path → Option (List ℕ) → Type 0)
+    (old new : Option (List Path)) : Type 0 where
+  pub reads : List FileRead
+  pub given : AreGiven may later old new (all_replies reads)
+  pub paths_are : paths_read reads ≡ edge_file size level
+  pub is_true : (digest : List ℕ → List ℕ) (entries : List (List ℕ)) → IsDigest digest → AreShort entries →
+      length entries ≡ size → AreTrue digest entries reads → IsEdgeRowOf digest size level entries row
+
+-- the rows of the levels below some were read: where their files are true, so are these
+pub record AreRowsRead (size : ℕ) (rows : ℕ → List (List ℕ)) (below : ℕ) (may later : Path → Option (List ℕ) → Type 0)
+    (old new : Option (List Path)) : Type 0 where
+  pub reads : List FileRead
+  pub given : AreGiven may later old new (all_replies reads)
+  pub paths_are : paths_read reads ≡ edge_order size below
+  pub is_true : (digest : List ℕ → List ℕ) (entries : List (List ℕ)) → IsDigest digest → AreShort entries →
+      length entries ≡ size → AreTrue digest entries reads → (level : ℕ) → level < below →
+      IsEdgeRowOf digest size level entries (rows level)
+
+module _ (digest : List ℕ → List ℕ) where
+  -- of the paths those before the named one were read, in their order, and then that one. Of no entries of that kind whose
+  -- files are those found before is that file the true one
+  pub record StopsAt (paths : List Path) (about : List (List ℕ) → Type 0) (kind : Path → Found → Type 0) (path : Path)
+      (may later : Path → Option (List ℕ) → Type 0) (old new : Option (List Path)) : Type 0 where
+    pub before : List FileRead
+    pub found : Found
+    pub rest : List Path
+    pub given : AreGiven may later old new (all_replies before ++ replies_of path found)
+    pub order : paths ≡ paths_read before ++ path ∷ rest
+    pub is_kind : kind path found
+    pub wrong : (entries : List (List ℕ)) → about entries → AreTrue digest entries before → IsTrueFound digest entries path found → ⊥
+
+  -- a part of an audit, which reads these paths, stops at the first file that is not true
+  abbrev pub StopsIn : List Path → (List (List ℕ) → Type 0) → (may later : Path → Option (List ℕ) → Type 0) →
+      Option (List Path) → Option (List Path) → AuditFault → Type 0
+  StopsIn paths about may later old new NoCheckpoint = ⊥
+  StopsIn paths about may later old new (Head fault) = ⊥
+  StopsIn paths about may later old new NoEdge = (path : Path) × StopsAt paths about IsAbsentEdge path may later old new
+  StopsIn paths about may later old new (NoFile path) = StopsAt paths about IsAbsent path may later old new
+  StopsIn paths about may later old new (FalseFile path) = StopsAt paths about IsPresent path may later old new
+  StopsIn paths about may later old new Source = ⊤
+  StopsIn paths about may later old new OutOfMemory = ⊤
+
+  -- the row has the leaf hashes of a full bundle of these entries
+  abbrev pub HasLeavesOf : ℕ → List (List ℕ) → List (List ℕ) → Type 0
+  HasLeavesOf index row entries = row ≡ level_row digest entries 0 (256 * index) 256
+
+  -- these entries are short, and the hash is that of a full tile of theirs
+  pub record HasTile (level index : ℕ) (hash : List ℕ) (entries : List (List ℕ)) : Type 0 where
+    pub short : AreShort entries
+    pub is_hash : IsTileHash digest entries level index hash
+
+  -- these entries are short, and the row is one of theirs
+  pub record HasRow (level index : ℕ) (row : List (List ℕ)) (entries : List (List ℕ)) : Type 0 where
+    pub short : AreShort entries
+    pub is_row : IsTrueRow digest entries level index row
+
+  -- these entries are short and have the size and the rows of the edge
+  pub record HasEdge (edge : Edge) (entries : List (List ℕ)) : Type 0 where
+    pub short : AreShort entries
+    pub size_is : edge.size ≡ length entries
+    pub rows : (level : ℕ) → level ≤ 7 → RowIsTrue digest edge entries level
+
+  -- these entries are short and have the size
+  pub record HasSize (size : ℕ) (entries : List (List ℕ)) : Type 0 where
+    pub short : AreShort entries
+    pub size_is : length entries ≡ size
+
+  -- all rows of the edge were read, the named path is the lowest, and of no log of that size and root are all the true ones
+  pub record Misleads (size : ℕ) (root : List ℕ) (path : Path) (may later : Path → Option (List ℕ) → Type 0)
+      (old new : Option (List Path)) : Type 0 where
+    pub reads : List FileRead
+    pub given : AreGiven may later old new (all_replies reads)
+    pub order : paths_read reads ≡ edge_order size 8
+    pub lowest : path ≡ first_path (edge_order size 8)
+    pub wrong : (entries : List (List ℕ)) → IsLogOf digest size root entries → AreTrue digest entries reads → ⊥
+
+  -- the reading of the rows of the edge stops: at the first that is not true, or as they do not lead to the root
+  abbrev pub StopsEdge : List Path → ℕ → List ℕ → (may later : Path → Option (List ℕ) → Type 0) → Option (List Path) →
+      Option (List Path) → AuditFault → Type 0
+  StopsEdge paths size root may later old new NoCheckpoint = ⊥
+  StopsEdge paths size root may later old new (Head fault) = ⊥
+  StopsEdge paths size root may later old new NoEdge =
+      (path : Path) × StopsAt paths (IsLogOf digest size root) IsAbsentEdge path may later old new
+  StopsEdge paths size root may later old new (NoFile path) =
+      StopsAt paths (IsLogOf digest size root) IsAbsent path may later old new
+  StopsEdge paths size root may later old new (FalseFile path) =
+      StopsAt paths (IsLogOf digest size root) IsPresent path may later old new ⊎ Misleads size root path may later old new
+  StopsEdge paths size root may later old new Source = ⊤
+  StopsEdge paths size root may later old new OutOfMemory = ⊤
+
+-- why no checkpoint was read: there is none, or its bytes are refused
+abbrev pub NamesHead : List ℕ → List Key → (may later : Path → Option (List ℕ) → Type 0) → Option (List Path) →
+    Option (List Path) → AuditFault → Type 0
+NamesHead origin keys may later old new NoCheckpoint = AreGiven may later old new (reply Checkpoint None ∷ [])
+NamesHead origin keys may later old new (Head fault) = IsNoHead origin keys fault may later old new
+NamesHead origin keys may later old new NoEdge = ⊥
+NamesHead origin keys may later old new (NoFile path) = ⊥
+NamesHead origin keys may later old new (FalseFile path) = ⊥
+NamesHead origin keys may later old new Source = ⊤
+NamesHead origin keys may later old new OutOfMemory = ⊤
