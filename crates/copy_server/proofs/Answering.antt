@@ -20,7 +20,6 @@ use Rattle.copy_reader.specs.Faults.{CountsRead}
 use Rattle.copy_reader.specs.declared.fault.CopyFault.{CopyFault}
 use Rattle.copy_reader.specs.declared.fault.CopyFault.TheVariants as copy
 use Rattle.copy_reader.specs.WholeCopies.{IsDamaged}
-use Rattle.copy_server.specs.Asking.{AsksNoProof}
 use Rattle.copy_server.specs.Faults.{BlamesCopy, by_body}
 use Rattle.copy_server.specs.declared.fault.CopyAnswerFault.{CopyAnswerFault}
 use Rattle.copy_server.specs.declared.fault.CopyAnswerFault.TheVariants.{Http, CopyDamaged, ShelfFault}
@@ -100,7 +99,7 @@ module _ {X : Type 0} (old new : Option (List ℕ)) (digest : List ℕ → List 
 
   error : (puts : List Put) (bytes : List ℕ) (fault : CopyAnswerFault) (r : Result X CopyAnswerFault) →
       WritesError fault old new r →
-      ((path : Path) → fault ≡ CopyDamaged path → AsksNoProof bytes → IsDamaged digest origin (Some puts)) →
+      ((path : Path) → fault ≡ CopyDamaged path → IsDamaged digest origin (Some puts)) →
       AnswersFromCopy digest origin puts bytes old new r
   error puts bytes fault (Ok x) w blames = absurd w
   error puts bytes fault (Err (Http ReadFault)) w blames = absurd w
@@ -111,14 +110,13 @@ module _ {X : Type 0} (old new : Option (List ℕ)) (digest : List ℕ → List 
 
   pub answers_error : (known : Option (List ℕ)) (held : Option (List Put)) (request : Request) (body : CopyFault)
       (fault : CopyAnswerFault) (r : Result X CopyAnswerFault) → IfSome known (λ bytes. IsRequestOf bytes request) →
-      ((bytes : List ℕ) → IsRequestOf bytes request → AsksNoProof bytes → BlamesCopy digest origin held body) →
-      fault ≡ by_body body → WritesError fault old new r →
+      BlamesCopy digest origin held body → fault ≡ by_body body → WritesError fault old new r →
       IfSome known (λ bytes. IfSome held (λ puts. AnswersFromCopy digest origin puts bytes old new r))
   answers_error None held request body fault r asks blames e w = tt
   answers_error (Some bytes) None request body fault r asks blames e w = tt
   answers_error (Some bytes) (Some puts) request body fault r asks blames e w =
       error puts bytes fault r w
-      (λ path is none. blamed digest origin (Some puts) body path (blames bytes asks none) (sym e ∙ is))
+      (λ path is. blamed digest origin (Some puts) body path blames (sym e ∙ is))
 
 counts_some : (T : Type 0) (a b : ℕ) (fault : CopyFault) → CountsRead {T = T} a b (Err fault) →
     (b ≡ a) ⊎ (b ≡ one_more a)

@@ -9,20 +9,15 @@ use Rattle.mirror_model.specs.Heads.{IsHead}
 use Rattle.mirror_model.proofs.HeadNotes.{head_once}
 use Rattle.mirror_sources.specs.Recorded.{KeepsRecord}
 use Rattle.mirror_folders.specs.Shelf.{Put, RecordsRead}
-use Rattle.mirror_server.specs.Answered.{IsRequestOf}
-use Rattle.mirror_server.specs.declared.request.Request.{Request}
-use Rattle.mirror_server.specs.declared.request.Request.TheVariants.{Nothing, Unreadable, OtherMethod, Unknown, Get}
 use Rattle.copy_reader.specs.Faults.{CountsRead}
-use Rattle.copy_reader.specs.WholeCopies.{HasFilesOf, IsDamaged, IsShelfFailure}
+use Rattle.copy_reader.specs.WholeCopies.{IsDamaged, IsShelfFailure}
 use Rattle.copy_reader.specs.declared.fault.CopyFault.{CopyFault}
 use Rattle.copy_reader.specs.declared.fault.CopyFault.TheVariants as copy
 use Rattle.copy_reader.proofs.WholeCopies.{files_later}
-use Rattle.copy_server.specs.Asking.{AsksNoProof}
-use Rattle.copy_server.specs.Bodies.{WantsNoProof}
 use Rattle.copy_server.specs.CopyHeads.{CopyHead, IsCopyHead}
 use Rattle.copy_server.specs.Faults.{BlamesCopy, by_body}
+use Rattle.copy_server.specs.GivenProofs.{HasLogOf}
 use Rattle.copy_server.specs.declared.fault.CopyAnswerFault.TheVariants as answering
-use Rattle.copy_server.proofs.MirrorAnswers.{no_proof}
 
 -- a checkpoint that is none of the origin is that of no whole copy
 pub bad_head : (digest : List ℕ → List ℕ) (origin : List ℕ) (held : Option (List Put)) (found : List ℕ) →
@@ -38,8 +33,8 @@ module _ (digest : List ℕ → List ℕ) (origin : List ℕ) where
   -- what is wanted of a whole copy is there, unless the shelf failed or memory was refused
   pub body_blames : {T : Type 0} (held after : Option (List Put)) (head : CopyHead) (a b : ℕ) (result : Result T CopyFault) →
       KeepsRecord held after → IsCopyHead origin held (Some head) → CountsRead a b result →
-      ((entries : List (List ℕ)) → length entries ≡ head.size → HasFilesOf digest entries after →
-      IfErr result IsShelfFailure) → IfErr result (BlamesCopy digest origin held)
+      ((entries : List (List ℕ)) → HasLogOf digest after head.size head.root entries → IfErr result IsShelfFailure) →
+      IfErr result (BlamesCopy digest origin held)
   body_blames held after head a b (Ok x) kept is counts honest = tt
   body_blames held after head a b (Err (copy.Origin f)) kept is counts honest = absurd counts
   body_blames held after head a b (Err (copy.Head f)) kept is counts honest = absurd counts
@@ -48,7 +43,12 @@ module _ (digest : List ℕ → List ℕ) (origin : List ℕ) where
       let one : head.note ≡ note = cc in
       let once = head_once note origin origin head.size (length entries) head.root (mth digest entries)
       (subst (λ b. IsHead b origin head.size head.root) one is.1) w.is_head in
-      honest entries (sym once.size_is) (files_later digest held after kept entries w.files)
+      honest entries (record {
+        size_is = sym once.size_is;
+        root_is = sym once.root_is;
+        small = is.1.is_checkpoint.in_range;
+        files = files_later digest held after kept entries w.files;
+      })
   body_blames held after head a b (Err copy.ShelfFault) kept is counts honest = tt
   body_blames held after head a b (Err copy.OutOfMemory) kept is counts honest = tt
 
@@ -65,11 +65,3 @@ module _ (digest : List ℕ → List ℕ) (origin : List ℕ) where
   blamed held (copy.CopyDamaged other) path h e = h
   blamed held copy.ShelfFault path h e = absurd cc
   blamed held copy.OutOfMemory path h e = absurd cc
-
--- bytes that ask for no proof are a request for none
-pub wants_none : (bytes : List ℕ) (request : Request) → IsRequestOf bytes request → AsksNoProof bytes → WantsNoProof request
-wants_none bytes Nothing is none = tt
-wants_none bytes Unreadable is none = tt
-wants_none bytes OtherMethod is none = tt
-wants_none bytes Unknown is none = tt
-wants_none bytes (Get resource) (h, has, get, names) none = no_proof h.target resource names (none h has)

@@ -8,4 +8,5 @@ pub mod WholeFiles
 pub mod CopyBodies
 pub mod MirrorAnswers
 pub mod Blaming
+pub mod TrueProofs
 pub mod Answering

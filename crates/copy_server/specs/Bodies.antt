@@ -3,8 +3,6 @@ use Rattle.std.specs.Prelude.{◌≡◌, ℕ, List, [], Option, Some, None, ⊤}
 use Rattle.tlog_tiles.specs.declared.paths.Path.TheVariants.{Checkpoint, Tile, Entries}
 use Rattle.mirror_folders.specs.Shelf.{Put}
 use Rattle.mirror_model.specs.Forks.{Point}
-use Rattle.mirror_server.specs.declared.request.Request.{Request}
-use Rattle.mirror_server.specs.declared.request.Request.TheVariants.{Nothing, Unreadable, OtherMethod, Unknown, Get}
 use Rattle.mirror_server.specs.declared.resource.Resource.{Resource}
 use Rattle.mirror_server.specs.declared.resource.Resource.TheVariants.{File, Status, Forks, Missing, Proof}
 use Rattle.copy_reader.specs.Statuses.{copy_status}
@@ -19,14 +17,6 @@ IsNoProof Status = ⊤
 IsNoProof Forks = ⊤
 IsNoProof (Missing size root) = ⊤
 IsNoProof (Proof ask) = ⊥
-
--- the request is for no proof
-abbrev pub WantsNoProof : Request → Type 0
-WantsNoProof Nothing = ⊤
-WantsNoProof Unreadable = ⊤
-WantsNoProof OtherMethod = ⊤
-WantsNoProof Unknown = ⊤
-WantsNoProof (Get resource) = IsNoProof resource
 
 -- the size and root of a checkpoint
 abbrev pub head_point : CopyHead → Point
@@ -47,7 +37,7 @@ module _ (digest : List ℕ → List ℕ) (origin : List ℕ) (held : Option (Li
   IsBodyAt (Some head) Status body = body ≡ copy_status origin (Some (head_point head))
   IsBodyAt (Some head) Forks body = body ≡ []
   IsBodyAt (Some head) (Missing size root) body = (size ≡ head.size) × (root ≡ head.root) × (body ≡ [])
-  IsBodyAt (Some head) (Proof ask) body = IsProofGiven digest head.size head.root ask body
+  IsBodyAt (Some head) (Proof ask) body = IsProofGiven digest held head.size head.root ask body
 
   -- the bytes of a resource of the copy that stands on the shelf
   pub record IsCopyBody (resource : Resource) (body : List ℕ) : Type 0 where

@@ -7,7 +7,6 @@ use Rattle.mirror_server.specs.Response.{ResponseBy, server_error}
 use Rattle.mirror_server.specs.declared.fault.HttpFault.TheVariants.{ReadFault, WriteFault, OutOfMemory}
 use Rattle.mirror_sources.specs.Recorded.{one_more}
 use Rattle.copy_reader.specs.WholeCopies.{IsDamaged}
-use Rattle.copy_server.specs.Asking.{AsksNoProof}
 use Rattle.copy_server.specs.Bodies.{IsCopyBody}
 use Rattle.copy_server.specs.declared.fault.CopyAnswerFault.{CopyAnswerFault}
 use Rattle.copy_server.specs.declared.fault.CopyAnswerFault.TheVariants.{Http, CopyDamaged, ShelfFault}
@@ -19,7 +18,7 @@ module _ (digest : List ℕ → List ℕ) (origin : List ℕ) (puts : List Put) 
 
   -- what each answer says of what was written: the whole reply, a prefix of it, or nothing; where a file of the copy is
   -- damaged or cannot be read, the whole reply that says so, or a prefix of it where the write failed. A whole copy is never
-  -- damaged, where no proof is asked for
+  -- damaged
   abbrev pub AnswersFromCopy : {X : Type 0} → Option (List ℕ) → Option (List ℕ) → Result X CopyAnswerFault →
       Type 0
   AnswersFromCopy old new (Ok x) = (reply : List ℕ) × IsCopyReply reply × Appends old new reply
@@ -28,7 +27,7 @@ module _ (digest : List ℕ → List ℕ) (origin : List ℕ) (puts : List Put) 
       (reply : List ℕ) × (IsCopyReply reply ⊎ (reply ≡ server_error)) × AppendsPrefix old new reply
   AnswersFromCopy old new (Err (Http OutOfMemory)) = Keeps old new
   AnswersFromCopy old new (Err (CopyDamaged path)) =
-      Appends old new server_error × (AsksNoProof bytes → IsDamaged digest origin (Some puts))
+      Appends old new server_error × IsDamaged digest origin (Some puts)
   AnswersFromCopy old new (Err ShelfFault) = Appends old new server_error
 
 -- what writing a reply did

@@ -1,10 +1,23 @@
 -- Which proofs a copy gives: those that are asked for, which hold against the root of its checkpoint.
-use Rattle.std.specs.Prelude.{ℕ, List}
+use Rattle.std.specs.Prelude.{◌≡◌, ℕ, ◌≤◌, List, length, Option}
+use Rattle.tlog_shape.specs.declared.TheConstants.{MAX_SIZE}
+use Rattle.tlog_hash.specs.Tree.{mth}
 use Rattle.tlog_proof.specs.declared.proof.Ask.{Ask}
-use Rattle.copy_reader.specs.Proofs.{IsProofOf, IsWithin}
+use Rattle.mirror_folders.specs.Shelf.{Put}
+use Rattle.copy_reader.specs.Proofs.{IsProofOf, IsTrueText, IsWithin}
+use Rattle.copy_reader.specs.WholeCopies.{HasFilesOf}
 
--- the text is that of a proof that was asked for, and that is accepted. The copy has what is asked for
-pub record IsProofGiven (digest : List ℕ → List ℕ) (size : ℕ) (root : List ℕ) (ask : Ask) (text : List ℕ)
-    : Type 0 where
-  pub within : IsWithin ask size
-  pub is : IsProofOf digest size root ask text
+module _ (digest : List ℕ → List ℕ) (held : Option (List Put)) (size : ℕ) (root : List ℕ) where
+  -- the shelf has the files of a log of that size and root, which a checkpoint may have
+  pub record HasLogOf (entries : List (List ℕ)) : Type 0 where
+    pub size_is : length entries ≡ size
+    pub root_is : mth digest entries ≡ root
+    pub small : size ≤ MAX_SIZE
+    pub files : HasFilesOf digest entries held
+
+  -- the text is that of a proof that was asked for, and that is accepted. The copy has what is asked for. Where the shelf has
+  -- the files of such a log, it is the proof that the definitions make of its entries
+  pub record IsProofGiven (ask : Ask) (text : List ℕ) : Type 0 where
+    pub within : IsWithin ask size
+    pub is : IsProofOf digest size root ask text
+    pub whole : (entries : List (List ℕ)) → HasLogOf entries → IsTrueText digest ask entries text

@@ -6,7 +6,6 @@ ghost use Rattle.mirror_server.specs.Answered.{FailsBeforeHead, IsRequestOf};
 ghost use Rattle.mirror_sources.specs.Recorded.{KeepsRecord};
 ghost use Rattle.copy_server.specs.CopyAnswers.{AnswersFromCopy, CountsAnswer, IsCopyReply, IsQuiet, WritesError, WritesReply, WritesServerError};
 ghost use Rattle.copy_reader.specs.Faults.{CountsRead};
-ghost use Rattle.copy_server.specs.Asking.{AsksNoProof};
 ghost use Rattle.copy_server.specs.Faults.{BlamesCopy};
 
 use crate::body::requested_body;
@@ -20,7 +19,7 @@ use std::io::{Read, Write};
 use tlog_hash::TreeHash;
 
 // The reply to what is asked for.
-#[tactic(auto, using(crate::proofs::Answering::copy_reply_of, crate::proofs::Blaming::wants_none))]
+#[tactic(auto, using(crate::proofs::Answering::copy_reply_of))]
 fn reply_from_copy<H: TreeHash, D: ReadableShelf>(
     alloc: Global,
     shelf: &mut D,
@@ -30,8 +29,7 @@ fn reply_from_copy<H: TreeHash, D: ReadableShelf>(
     ensures reply { IfSome (D.puts shelf.old) (λ puts. IfOk result (λ reply. (bytes : List ℕ)
         → IsRequestOf bytes request.now
         → IsCopyReply H.digest origin.now puts bytes reply.items)) }
-    ensures blames { IfErr result (λ fault. (bytes : List ℕ) → IsRequestOf bytes request.now
-        → AsksNoProof bytes → BlamesCopy H.digest origin.now (D.puts shelf.old) fault) }
+    ensures blames { IfErr result (BlamesCopy H.digest origin.now (D.puts shelf.old)) }
     ensures same { KeepsRecord (D.puts shelf.old) (D.puts shelf.new) }
     ensures counted { CountsRead (D.failed shelf.old) (D.failed shelf.new) result }
 {

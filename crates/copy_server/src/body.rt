@@ -1,14 +1,15 @@
 //! The bytes of what is asked for.
-ghost use Rattle.std.specs.Prelude.{◌≡◌, ◌↔◌, ℕ, List, [], IfErr, IfNone, IfOk, IfSome, IsTrue, None, Option, Some, length, option_map};
+ghost use Rattle.std.specs.Prelude.{◌≡◌, ◌↔◌, ℕ, List, [], IfErr, IfNone, IfOk, IfSome, IsTrue, None, Option, Some, option_map};
 ghost use Rattle.mirror_folders.specs.Shelf.{Put};
 ghost use Rattle.mirror_server.specs.Answered.{IsBodyFor};
 ghost use Rattle.mirror_server.specs.declared.request.Request.TheVariants as Request;
 ghost use Rattle.mirror_sources.specs.Recorded.{KeepsRecord};
-ghost use Rattle.copy_server.specs.Bodies.{IsBodyAt, IsCopyBody, IsNoProof, WantsNoProof};
+ghost use Rattle.copy_server.specs.Bodies.{IsBodyAt, IsCopyBody};
 ghost use Rattle.copy_server.specs.CopyHeads.{copy_head};
 ghost use Rattle.copy_reader.specs.Faults.{CountsRead};
-ghost use Rattle.copy_reader.specs.WholeCopies.{HasFilesOf, IsShelfFailure};
+ghost use Rattle.copy_reader.specs.WholeCopies.{IsShelfFailure};
 ghost use Rattle.copy_server.specs.Faults.{BlamesCopy};
+ghost use Rattle.copy_server.specs.GivenProofs.{HasLogOf};
 
 use crate::checkpoint::read_checkpoint;
 use crate::file::read_file;
@@ -57,8 +58,9 @@ fn held_body<H: TreeHash, D: ReadableShelf>(
         resource.now body)) }
     ensures same { KeepsRecord (D.puts shelf.old) (D.puts shelf.new) }
     ensures counted { CountsRead (D.failed shelf.old) (D.failed shelf.new) result }
-    ensures honest { IsNoProof resource.now → (entries : List (List ℕ)) → length entries ≡ head.1
-        → HasFilesOf H.digest entries (D.puts shelf.old) → IfErr result IsShelfFailure }
+    ensures honest { (entries : List (List ℕ))
+        → HasLogOf H.digest (D.puts shelf.old) head.1 head.2 entries
+        → IfErr result IsShelfFailure }
 {
     let (note, size, root) = head;
     match *resource {
@@ -114,8 +116,7 @@ fn copy_body<H: TreeHash, D: ReadableShelf>(
         (option_map (λ body. body.items) o))) }
     ensures same { KeepsRecord (D.puts shelf.old) (D.puts shelf.new) }
     ensures counted { CountsRead (D.failed shelf.old) (D.failed shelf.new) result }
-    ensures blames { IsNoProof resource.now
-        → IfErr result (BlamesCopy H.digest origin.now (D.puts shelf.old)) }
+    ensures blames { IfErr result (BlamesCopy H.digest origin.now (D.puts shelf.old)) }
 {
     match read_checkpoint::<D>(alloc, shelf, origin)? {
         Some(head) => held_body::<H, D>(alloc, shelf, origin, head, resource),
@@ -139,8 +140,7 @@ pub(crate) fn requested_body<H: TreeHash, D: ReadableShelf>(
         (option_map (λ body. body.items) o))) }
     ensures same { KeepsRecord (D.puts shelf.old) (D.puts shelf.new) }
     ensures counted { CountsRead (D.failed shelf.old) (D.failed shelf.new) result }
-    ensures blames { WantsNoProof request.now
-        → IfErr result (BlamesCopy H.digest origin.now (D.puts shelf.old)) }
+    ensures blames { IfErr result (BlamesCopy H.digest origin.now (D.puts shelf.old)) }
 {
     match request {
         Request::Get(resource) => copy_body::<H, D>(alloc, shelf, origin, resource),

@@ -1,9 +1,10 @@
 //! Proofs of a copy's entries, made of its files.
-ghost use Rattle.std.specs.Prelude.{◌↔◌, List, ℕ, IfNone, IfOk, IfSome, IsTrue};
+ghost use Rattle.std.specs.Prelude.{◌↔◌, List, ℕ, IfErr, IfNone, IfOk, IfSome, IsTrue};
 ghost use Rattle.mirror_sources.specs.Recorded.{KeepsRecord};
 ghost use Rattle.copy_reader.specs.Faults.{CountsRead};
 ghost use Rattle.copy_reader.specs.Proofs.{IsWithin};
-ghost use Rattle.copy_server.specs.GivenProofs.{IsProofGiven};
+ghost use Rattle.copy_reader.specs.WholeCopies.{IsShelfFailure};
+ghost use Rattle.copy_server.specs.GivenProofs.{HasLogOf, IsProofGiven};
 
 use copy_reader::{CopyFault, open_reader, read_proof_text};
 use mirror_folders::ReadableShelf;
@@ -36,11 +37,14 @@ pub(crate) fn asked_proof<H: TreeHash, D: ReadableShelf>(
     ask: Ask,
 ) -> Result<Option<Vec<u8>>, CopyFault>
     ensures given { IfOk result (λ o. IfSome o
-        (λ text. IsProofGiven H.digest size root.now ask text.items)) }
+        (λ text. IsProofGiven H.digest (D.puts shelf.old) size root.now ask text.items)) }
     ensures none { IfOk result (λ o. IfNone o ((text : List ℕ)
-        → ¬ IsProofGiven H.digest size root.now ask text)) }
+        → ¬ IsProofGiven H.digest (D.puts shelf.old) size root.now ask text)) }
     ensures same { KeepsRecord (D.puts shelf.old) (D.puts shelf.new) }
     ensures counted { CountsRead (D.failed shelf.old) (D.failed shelf.new) result }
+    ensures honest { (entries : List (List ℕ))
+        → HasLogOf H.digest (D.puts shelf.old) size root.now entries
+        → IfErr result IsShelfFailure }
 {
     if !is_within(ask, size) {
         return Ok(None);

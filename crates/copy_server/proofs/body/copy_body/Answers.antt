@@ -21,15 +21,15 @@ returns-in_ok-empty_body-in-None-clause-body g c =
     (c.in_ok-empty_body-in-None.ensures.found digest held) (c.in_ok-empty_body-in-None.ensures.none digest held)
 
 pub returns-in_err-head-clause-blames : goal.returns-in_err-head-clause-blames
-returns-in_err-head-clause-blames g c = λ fine.
+returns-in_err-head-clause-blames g c =
     let digest = g.H.TreeHash.digest in
     blames_by digest c.args.origin.now (g.D.Shelf.puts c.args.shelf.now) c.in_err-head.field-0.0 c.from_residual.result
     c.from_residual.ensures (c.in_err-head.ensures.blames digest)
 
 pub returns-in-Some-clause-blames : goal.returns-in-Some-clause-blames
-returns-in-Some-clause-blames g c = λ fine.
+returns-in-Some-clause-blames g c =
     let head = c.in-Some.head in
     body_blames g.H.TreeHash.digest c.args.origin.now (g.D.Shelf.puts c.args.shelf.now)
     (g.D.Shelf.puts c.read_checkpoint.new.shelf) (copy_head head.0.items head.1 head.2) _ _ c.held_body.result
     c.in_ok-head.ensures.same (rw c.in-Some.is at c.in_ok-head.ensures.head) c.held_body.ensures.counted
-    (c.held_body.ensures.honest fine)
+    c.held_body.ensures.honest
