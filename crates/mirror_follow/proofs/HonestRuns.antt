@@ -1,5 +1,5 @@
 -- One honest place suffices for a whole run.
-use Rattle.std.proofs.Common.{◌≡◌, ◌≢◌, ◌⊎◌, inl, inr, ℕ, ◌<◌, ◌≤◌, max, List, [], ◌∷◌, ◌++◌, length, take, Option, Some, None, Result, Ok, Err, IfErr, IfOk, refl, sym, ap, subst, ◌∙◌, arith, length-append}
+use Rattle.std.proofs.Common.{◌≡◌, ◌⊎◌, inl, inr, ℕ, ◌<◌, ◌≤◌, List, [], ◌∷◌, ◌++◌, length, take, Option, Some, None, Result, Ok, Err, IfErr, IfOk, refl, sym, ap, subst, ◌∙◌, arith, length-append}
 use Rattle.std.proofs.lemmas.List.{append-nil, nil_from_length}
 use Rattle.std.proofs.Math.Seq.{take-append_seam}
 use Rattle.std.specs.List.{Contains}
@@ -17,7 +17,7 @@ use Rattle.mirror_follow.specs.Blame.{AsksAny}
 use Rattle.mirror_follow.specs.Candidates.{turn_cmp}
 use Rattle.mirror_follow.specs.Ending.{EndsAt, GivesNoneBy, LacksCandidates, RefusesGiven}
 use Rattle.mirror_follow.specs.GatheredFrom.{AreCandidates, GiveCandidates, GiveNone}
-use Rattle.mirror_follow.specs.OneHonest.{HasNone, HasPart, HasPointOf, HasReached, HasSize, HoldsPart, HoldsPartOrNone, IsFirstPoint, IsHonestAmong, IsHonestFirst, IsHonestListed, IsHonestRun, IsOfShelfOrMemory, KeepsPoint, ReachesLog, ReachesSize}
+use Rattle.mirror_follow.specs.OneHonest.{HasNone, HasPart, HasReached, HasSize, HoldsPart, HoldsPartOrNone, IsFirstPoint, IsHonestAmong, IsHonestFirst, IsHonestListed, IsHonestRun, IsOfShelfOrMemory, KeepsPoint, ReachesLog, ReachesSize}
 use Rattle.mirror_follow.specs.Says.{IsOnePoint}
 use Rattle.mirror_follow.specs.Standing.{HadCopy, HoldsNoCopy, IsCopyOfRun, IsCopyRead, StandsAs, StandsUnder, size_of_copy}
 use Rattle.mirror_follow.specs.Taken.{IsLargerThan}

@@ -22,3 +22,4 @@ pub mod Split
 pub mod Lines
 pub mod OneHonest
 pub mod HonestRuns
+pub mod Sparing

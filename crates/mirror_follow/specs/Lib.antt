@@ -17,3 +17,4 @@ pub mod Says
 pub mod Adding
 pub mod Taken
 pub mod OneHonest
+pub mod Sparing

@@ -1,6 +1,6 @@
 -- One honest place suffices for a run, whatever the others answer. What is said of turns is cited by the contracts of
 -- private functions alone.
-use Rattle.std.specs.Prelude.{◌≡◌, ◌⊎◌, ℕ, ◌≤◌, max, List, [], ◌∷◌, ◌++◌, take, Contains, Option, Some, None, Result, Ok, Err}
+use Rattle.std.specs.Prelude.{◌≡◌, ◌⊎◌, ℕ, ◌≤◌, max, List, [], ◌∷◌, ◌++◌, take, Contains, Option, Some, Result, Ok, Err}
 use Rattle.std.specs.List.Sorted.{IsSorted}
 use Rattle.tlog_hash.specs.Tree.{mth}
 use Rattle.tlog_tiles.specs.declared.paths.Path.{Path}

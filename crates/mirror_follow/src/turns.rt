@@ -16,6 +16,7 @@ ghost use Rattle.mirror_follow.specs.Runs.{FollowsCandidates, KeepsCopies};
 ghost use Rattle.mirror_follow.specs.Says.{IsNoteUpTo, IsOnePoint, Says};
 ghost use Rattle.mirror_follow.specs.Shown.{ShowsLine, ShowsTurn};
 ghost use Rattle.mirror_follow.specs.Renoting.{PutsNoteOver};
+ghost use Rattle.mirror_follow.specs.Sparing.{SparesAt, SparesBringing, SparesGreatest};
 ghost use Rattle.mirror_follow.specs.Standing.{HasStanding, HoldsNoCopy, HoldsNoSmaller, IsCopyOfRun, IsFollowed, IsHeadOf, LacksLog, StandsAfter};
 ghost use Rattle.mirror_follow.specs.Taken.{HasTakenRun, IsLargerThan, IsNextOf, IsNoted, IsRepeat, SaysTurn};
 ghost use Rattle.mirror_follow.specs.Turning.{ContinuesRun, IsRunFrom};
@@ -51,6 +52,8 @@ fn turn_of(fault: BringFault) -> Result<Outcome, FollowFault>
         (candidate : Candidate) → IsLargerThan copy candidate
         → SaysTurn digest copy candidate turn) }
     ensures suffices { IsShelfOrMemory fault → IsBroughtOr result }
+    ensures no_file { IfOk result (λ turn. turn ≡ Outcome.NotHad FollowFault.NoFile
+        → fault ≡ BringFault.NoFile) }
 {
     match fault {
         BringFault::Contradiction => Ok(Outcome::Contradicts),
@@ -93,6 +96,9 @@ fn bring<H: TreeHash, D: ReadableShelf, S: Source + Drop>(
         → SaysTurn digest copy candidate turn) }
     ensures suffices { IsHonestTurn H.digest S.may_answer (D.puts shelf.old) places.old places.new
         origin.now candidate.now → IsBroughtOr result }
+    ensures spares { IfOk result (λ turn. turn ≡ Outcome.NotHad FollowFault.NoFile
+        → SparesBringing H.digest S.may_answer S.failed S.asked origin.now (D.puts shelf.old)
+        places.old places.new (note_of candidate.now)) }
 {
     match bring_copy::<H, D, S>(alloc, origin, shelf, places, &candidate.note) {
         Ok(_) => Ok(Outcome::Brought),
@@ -201,6 +207,9 @@ fn take_first<H: TreeHash, D: ReadableShelf, S: Source + Drop>(
     ensures empty { IfOk result (IsOfEmpty H.digest candidate.now) }
     ensures suffices { IsHonestTurn H.digest S.may_answer (D.puts shelf.old) places.old places.new
         origin.now candidate.now → IsBroughtOr result }
+    ensures spares { IfOk result (λ turn. turn ≡ Outcome.NotHad FollowFault.NoFile
+        → SparesBringing H.digest S.may_answer S.failed S.asked origin.now (D.puts shelf.old)
+        places.old places.new (note_of candidate.now)) }
 {
     if has_false_root::<H>(candidate) {
         return Ok(Outcome::Contradicts);
@@ -401,6 +410,10 @@ fn turn_for<H: TreeHash, D: ReadableShelf, S: Source + Drop>(
     ensures suffices { IsLargerThan run.now.copy candidate.now
         → IsHonestTurn H.digest S.may_answer (D.puts shelf.old) places.old places.new
         origin.now candidate.now → IsBroughtOr result }
+    ensures spares { run.now.copy ≡ None → IfOk result
+        (λ turn. turn ≡ Outcome.NotHad FollowFault.NoFile
+        → SparesBringing H.digest S.may_answer S.failed S.asked origin.now (D.puts shelf.old)
+        places.old places.new (note_of candidate.now)) }
 {
     let Some(copy) = &run.copy else {
         return take_first::<H, D, S>(alloc, origin, shelf, places, candidate);
@@ -444,6 +457,9 @@ fn take_turn<H: TreeHash, D: ReadableShelf, S: Source + Drop>(
         → IsHonestTurn H.digest S.may_answer (D.puts shelf.old) places.old places.new
         origin.now candidate.now → BringsTo candidate.now run.new.copy result }
     ensures steps { OnOk result (StepsUp candidate.now run.old.copy run.new.copy) }
+    ensures spares { OnOk result (run.new.copy ≡ None
+        → SparesAt H.digest S.may_answer S.failed S.asked origin.now (D.puts shelf.old) places.old
+        places.new candidate.now run.old.first_fault run.new.first_fault) }
 {
     let turn = turn_for::<H, D, S>(alloc, origin, shelf, places, run, candidate)?;
     run.add(alloc, candidate, turn)?;
@@ -498,6 +514,10 @@ fn take_turn_at<H: TreeHash, D: ReadableShelf, S: Source + Drop>(
     ensures steps { OnOk result ((candidate : Candidate)
         → candidate ≡ get_or candidates.now i candidate
         → StepsUp candidate run.old.copy run.new.copy) }
+    ensures spares { OnOk result ((candidate : Candidate)
+        → candidate ≡ get_or candidates.now i candidate → run.new.copy ≡ None
+        → SparesAt H.digest S.may_answer S.failed S.asked origin.now (D.puts shelf.old) places.old
+        places.new candidate run.old.first_fault run.new.first_fault) }
 {
     if is_repeated(candidates, i) {
         return Ok(());
@@ -536,6 +556,11 @@ fn take_turns<H: TreeHash, D: ReadableShelf, S: Source + Drop>(
     ensures passes { IfOk result (λ run. IsSorted turn_cmp candidates.now
         → (h : IsHonestListed H.digest S.may_answer (D.puts shelf.new) places.old places.new
         origin.now (D.puts shelf.old) copy candidates.now) → HasSize h.candidate.size.0 run.copy) }
+    ensures spares { IfOk result (λ run. (first : Candidate) (others : List Candidate)
+        → candidates.now ≡ first ∷ others → run.copy ≡ None
+        → run.first_fault ≡ Some FollowFault.NoFile
+        → SparesBringing H.digest S.may_answer S.failed S.asked origin.now (D.puts shelf.old)
+        places.old places.new (note_of first)) }
 {
     let mut run = Run::new(alloc, copy);
     for i in 0..candidates.len() {
@@ -657,6 +682,10 @@ pub fn follow<H: TreeHash, D: ReadableShelf, S: Source + Drop>(
         places.new origin.now (D.puts shelf.old) (AreCandidates S.may_answer origin.now
         (map (λ k. key k) keys.now) places.old places.new (option_map (λ v. v.items) given)))
         → ReachesSize h.size result }
+    ensures spares { IfErr result (λ e. e ≡ FollowFault.NoFile
+        → SparesGreatest H.digest S.may_answer S.failed S.asked origin.now (D.puts shelf.old)
+        places.old places.new (AreCandidates S.may_answer origin.now (map (λ k. key k) keys.now)
+        places.old places.new (option_map (λ v. v.items) given))) }
 {
     let copy = judge_copy::<H, D>(alloc, origin, shelf)?;
     let candidates = candidates_of::<S>(alloc, origin, keys, places, given)?;

@@ -13,6 +13,7 @@ use Rattle.mirror_follow.specs.OneHonest.{IsHonestAmong, IsHonestRun, IsOfShelfO
 use Rattle.mirror_follow.specs.Runs.{FollowsCandidates}
 use Rattle.mirror_follow.specs.Says.{Says}
 use Rattle.mirror_follow.specs.Shown.{ShowsLine}
+use Rattle.mirror_follow.specs.Sparing.{SparesGreatest}
 use Rattle.mirror_follow.specs.Standing.{IsFollowed}
 use Rattle.mirror_follow.specs.declared.candidate.Candidate.{Candidate}
 use Rattle.mirror_follow.specs.declared.fault.FollowFault.{FollowFault}
@@ -67,6 +68,15 @@ pub record EndsFollowing (digest : List ℕ → List ℕ) {S : Type 0} (may : S 
   pub given : Option (List ℕ)
   pub reads : ReadsNote recorded name (Ok given)
   pub ends : EndsFor digest may origin keys held old new given fault
+
+-- where following ended as NoFile, no place failed in the bringing of the greatest candidate. The candidates are the note of the
+-- named file, or where none is named those of the places
+pub record SparesFollowing (digest : List ℕ → List ℕ) {S : Type 0} (may : S → Path → Option (List ℕ) → Type 0)
+    (failed : S → ℕ) (asked : S → Option (List Path)) (origin : List ℕ) (keys : List Key) (held : Option (List Put))
+    (old new : Places S) (recorded : Option (List NamedFile)) (name : Option (List ℕ)) : Type 0 where
+  pub given : Option (List ℕ)
+  pub reads : ReadsNote recorded name (Ok given)
+  pub spares : SparesGreatest digest may failed asked origin held old new (AreCandidates may origin keys old new given)
 
 -- what was printed says of each candidate how it was settled
 pub record PrintsSettled (digest : List ℕ → List ℕ) (origin : List ℕ) (so : List Candidate → Type 0)

@@ -9,6 +9,8 @@ use Rattle.mirror_follow.proofs.Taken.{larger_above}
 use Rattle.std.proofs.Common.{sym}
 use Rattle.mirror_copy.specs.OneHonest.{IsHonestNote}
 use Rattle.mirror_follow.proofs.OneHonest.{honest_note}
+use Rattle.mirror_copy.specs.AskedForCopy.{AsksForCopy}
+use Rattle.mirror_follow.proofs.Sparing.{turned_spares}
 use Rattle.mirror_follow.proofs.turns.bring.Goals as goal
 
 pub returns-in-Err-clause-counted : goal.returns-in-Err-clause-counted
@@ -57,3 +59,17 @@ returns-in-Err-clause-suffices g c = λ h.
     (subst (λ note. IsHonestNote digest may x c.args.places.now c.bring_copy.new.places origin note)
     (sym c.deref.ensures.value)
     (honest_note digest may x c.args.places.now c.bring_copy.new.places origin c.args.candidate.now c.requires h)))
+
+pub returns-in-Err-clause-spares : goal.returns-in-Err-clause-spares
+returns-in-Err-clause-spares g c =
+    let digest = g.H.TreeHash.digest in
+    let may = g.S.Source.may_answer in
+    let failed = g.S.Source.failed in
+    let asked = g.S.Source.asked in
+    let origin = c.args.origin.now in
+    let x = g.D.Shelf.puts c.args.shelf.now in
+    turned_spares digest may failed asked origin x c.args.places.now c.bring_copy.new.places c.args.candidate.now.note.items
+    c.in-Err.fault c.turn_of.result
+    (subst (λ note. AsksForCopy digest may failed asked origin note x c.args.places.now c.bring_copy.new.places)
+    c.deref.ensures.value c.bring_copy.ensures.asks)
+    c.in-Err.ensures.blames c.turn_of.ensures.no_file

@@ -5,6 +5,7 @@ use Rattle.std.proofs.Common.{subst}
 use Rattle.std.proofs.lemmas.Result.{err_from_is_err_and}
 use Rattle.mirror_follow.specs.Standing.{KnowsAfter}
 use Rattle.mirror_follow.proofs.OneHonest.{steps_up}
+use Rattle.mirror_follow.proofs.Sparing.{spares_turn}
 use Rattle.mirror_follow.proofs.turns.take_turn.Goals as goal
 
 pub returns-clause-run : goal.returns-clause-run
@@ -44,3 +45,9 @@ pub returns-clause-steps : goal.returns-clause-steps
 returns-clause-steps g c =
     steps_up g.H.TreeHash.digest c.args.candidate.now c.in_ok-turn.turn c.args.run.now.copy c.add.new.self.copy
     c.in_ok-turn.ensures.says c.in_ok-add.ensures.copy
+
+pub returns-clause-spares : goal.returns-clause-spares
+returns-clause-spares g c =
+    spares_turn g.H.TreeHash.digest g.S.Source.may_answer g.S.Source.failed g.S.Source.asked c.args.origin.now
+    (g.D.Shelf.puts c.args.shelf.now) c.args.places.now c.turn_for.new.places c.args.candidate.now c.args.run.now
+    c.add.new.self c.in_ok-turn.turn c.in_ok-add.ensures.copy c.in_ok-add.ensures.fault c.in_ok-turn.ensures.spares
