@@ -1,9 +1,8 @@
 -- Strings that a store gains, step by step.
-use Rattle.std.proofs.Common.{◌≡◌, ℕ, List, [], ◌∷◌, sym, subst, ◌⊎◌, inl, inr, Result, Ok, Err}
+use Rattle.std.proofs.Common.{◌≡◌, ℕ, List, sym, subst, ◌⊎◌, inl, inr, Result, Ok, Err}
 use Rattle.std.specs.Prelude.{OnOk, OnErr}
 use Rattle.std.specs.FinSet as set
 use Rattle.std.specs.List.{Contains}
-use Rattle.std.proofs.lemmas.List.Elements.{Contains-push}
 use Rattle.node_store.specs.Strings.{Strings, Has}
 use Rattle.node_store.proofs.Sets.{Has-insert, Has-insert_other, Has-union_left, Has-union_right, Has-union_cases}
 use Rattle.mirror_model.proofs.StringSets.{listed_from_has, has_from_listed}
@@ -13,13 +12,6 @@ use Rattle.mirror_trees.proofs.BuiltTrees.{IsBoth}
 pub gained_none : (v : Strings) (xs : List (List ℕ)) → HasGained v xs v
 gained_none v xs = record { at_least = λ s h. h; at_most = λ s h. inl h }
 
--- all of the list was added
-pub gained_all : (v w : Strings) (xs : List (List ℕ)) → w ≡ set.union v (set.from_list xs) → HasGained v xs w
-gained_all v w xs is = subst (HasGained v xs) (sym is) (record {
-  at_least = λ s h. Has-union_left v (set.from_list xs) s h;
-  at_most = λ s h. elim (Has-union_cases v (set.from_list xs) s h) [ inl m ↦ inl m | inr m ↦ inr (listed_from_has xs s m) ];
-})
-
 -- a string of the list was added, or none
 pub gained_one : {X E : Type 0} (r : Result X E) (v w : Strings) (x : List ℕ) (all : List (List ℕ)) → Contains all x →
     OnOk r (w ≡ set.insert v x) → OnErr r (w ≡ v) → HasGained v all w
@@ -28,12 +20,6 @@ gained_one (Ok a) v w x all c is same = subst (HasGained v all) (sym is) (record
   at_most = λ s h. elim (Has-insert v x s h) [ inl e ↦ inr (subst (Contains all) (sym e) c) | inr m ↦ inl m ];
 })
 gained_one (Err e) v w x all c is same = subst (HasGained v all) (sym same) (gained_none v all)
-
--- the one string of the list was added, or not
-pub gained_single : {X E : Type 0} (r : Result X E) (v w : Strings) (x : List ℕ) (all : List (List ℕ)) →
-    all ≡ x ∷ [] → OnOk r (w ≡ set.insert v x) → OnErr r (w ≡ v) → HasGained v all w
-gained_single r v w x all one is same =
-    gained_one r v w x all (subst (λ xs. Contains xs x) (sym one) (Contains-push [] x)) is same
 
 pub gained_more : (v w : Strings) (xs all : List (List ℕ)) → ((y : List ℕ) → Contains xs y → Contains all y) →
     HasGained v xs w → HasGained v all w
