@@ -22,8 +22,6 @@ use Rattle.mirror_follow.specs.OneHonest.{HasPart}
 use Rattle.mirror_follow.proofs.HonestRuns.{honest_first, honest_listed, one_given, part_stands, report_passes, report_reaches, some_given}
 use Rattle.mirror_follow.proofs.OneHonest.{never_damaged}
 use Rattle.mirror_follow.proofs.Sparing.{ends_spares, lacks_spares, report_spares}
-use Rattle.mirror_follow.specs.Sparing.{SparesGreatest}
-use Rattle.mirror_follow.specs.GatheredFrom.{AreCandidates}
 use Rattle.mirror_follow.proofs.turns.follow.Goals as goal
 
 pub returns-in_err-copy-clause-whole : goal.returns-in_err-copy-clause-whole
