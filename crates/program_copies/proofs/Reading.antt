@@ -1,8 +1,8 @@
 -- Faults of reading files, as a command counts them.
-use Rattle.std.proofs.Common.{◌≡◌, ℕ, List, Option, Some, None, Result, Ok, Err, subst, sym}
+use Rattle.std.proofs.Common.{◌≡◌, ℕ, ◌≤◌, List, Option, Some, None, Result, Ok, Err, subst, sym}
 use Rattle.std.proofs.lemmas.Bool.{false≢true}
 use Rattle.std.specs.Result.{IsErr, IsErrAnd}
-use Rattle.std.specs.Prelude.{option_map}
+use Rattle.std.specs.Prelude.{IfErr, option_map}
 use Rattle.log_reader.specs.Ways.{Reader}
 use Rattle.program_copies.specs.Statuses.{HasPoint, reader_point}
 use Rattle.signed_note.specs.Keys.{Key}
@@ -10,10 +10,19 @@ use Rattle.mirror_folders.specs.Shelf.{Put}
 use Rattle.copy_reader.specs.Copies.{HasCheckpoint, IsRefused, OpensCopy}
 use Rattle.mirror_sources.specs.Recorded.{KeepsRecord}
 use Rattle.program_reports.specs.declared.reports.Report.{Report as Printout}
-use Rattle.copy_reader.specs.Faults.{CountsRead}
+use Rattle.copy_reader.specs.Faults.{CountsRead, IsReadFault}
 use Rattle.copy_reader.specs.WholeCopies.{GivesOr, HoldsWhole, IsShelfFailure, OpensWhole, ReadsCopyOf}
 use Rattle.copy_reader.proofs.WholeCopies.{files_later}
+use Rattle.copy_reader.specs.Proofs.{IsTrueText}
+use Rattle.tlog_proof.specs.declared.proof.Ask.{Ask}
+use Rattle.tlog_shape.specs.declared.TheConstants.{MAX_SIZE}
+use Rattle.program_reports.specs.declared.fault.AskFault.TheVariants.{Report, WriteFault}
+use Rattle.program_reports.specs.declared.fault.ReportFault.TheVariants.{NothingComplete, NoSuchHead}
+use Rattle.program_reports.specs.declared.fault.ReportFault.TheVariants.{Proof as Refused, OutOfMemory as NoMemory}
 use Rattle.program_copies.specs.Comparisons.{IsComparisonOf, IsLogRead}
+use Rattle.program_copies.specs.Proofs.{IsProvable, IsReadOf, ReportsAsk, ReportsProof}
+use Rattle.program_copies.specs.declared.fault.CopyAskFault.{CopyAskFault}
+use Rattle.program_copies.specs.declared.fault.CopyAskFault.TheVariants as asking
 use Rattle.copy_reader.specs.declared.fault.CopyFault.{CopyFault}
 use Rattle.copy_reader.specs.declared.fault.CopyFault.TheVariants.{Origin, Head, CopyDamaged, ShelfFault, OutOfMemory}
 
@@ -70,3 +79,77 @@ ends_by fault (Err f) is h claim = subst IsShelfFailure (sym is.1) h
 pub ends_no_memory : {T : Type 0} (result : Result T CopyFault) → IsErr result × IsErrAnd result (λ f. f ≡ OutOfMemory) →
     (claim : T → Type 0) → GivesOr IsShelfFailure result claim
 ends_no_memory result is claim = ends_by OutOfMemory result is tt claim
+
+-- ---- proofs
+
+module _ {T : Type 0} (view : T → List ℕ) (digest : List ℕ → List ℕ) (old new : Reader) (held : Option (List Put)) (ask : Ask)
+  where
+    abbrev ReadsProof : Result T CopyFault → Type 0
+    ReadsProof result =
+        old.edge.size ≤ MAX_SIZE →
+        ReadsCopyOf IsShelfFailure digest old new held result (λ entries text. IsTrueText digest ask entries (view text))
+
+    small : (entries : List (List ℕ)) → IsProvable digest old held entries → old.edge.size ≤ MAX_SIZE
+    small entries p = subst (λ n. n ≤ MAX_SIZE) (sym p.is_read.0.size_is) p.small
+
+    -- what is read of a log is a proof of the definitions
+    pub read_true : (text : T) → ReadsProof (Ok text) → (entries : List (List ℕ)) → IsProvable digest old held entries →
+        IsTrueText digest ask entries (view text)
+    read_true text reads entries p = (reads (small entries p) entries p.is_read.0 p.is_read.1).answer
+
+    -- where it ends by a fault, the shelf failed or memory was refused
+    pub read_fails : (fault : CopyFault) → ReadsProof (Err fault) → (entries : List (List ℕ)) →
+        IsProvable digest old held entries → IsShelfFailure fault
+    read_fails fault reads entries p = (reads (small entries p) entries p.is_read.0 p.is_read.1).answer
+
+-- a fault that was passed on
+pub passed_on : {T : Type 0} (P : CopyFault → Type 0) (fault : CopyFault) (result : Result T CopyFault) →
+    IsErr result × IsErrAnd result (λ f. f ≡ fault) → P fault → IfErr result P
+passed_on P fault (Ok x) is h = tt
+passed_on P fault (Err f) is h = subst P (sym is.1) h
+
+-- a fault of a read is one of reading files
+pub read_fault : (T : Type 0) (a b : ℕ) (fault : CopyFault) → CountsRead {T = T} a b (Err fault) → IsReadFault fault
+read_fault T a b (Origin f) counts = absurd counts
+read_fault T a b (Head f) counts = absurd counts
+read_fault T a b (CopyDamaged path) counts = tt
+read_fault T a b ShelfFault counts = tt
+read_fault T a b OutOfMemory counts = tt
+
+module _ (digest : List ℕ → List ℕ) (origin : List ℕ) (keys : List Key) (held after : Option (List Put)) (reader : Reader)
+    (kept : KeepsRecord held after) (opens : OpensWhole digest origin held (Some reader))
+    (checkpoint : HasCheckpoint origin keys held reader.edge.size reader.root) (ask : Ask) where
+  -- the log of a whole copy is the one that was opened
+  provable : (entries : List (List ℕ)) → HoldsWhole digest origin held entries → IsProvable digest reader after entries
+  provable entries w = record {
+    is_read = (opens w.0 entries w.1, files_later digest held after kept entries w.1.files);
+    small = w.1.is_head.is_checkpoint.in_range;
+  }
+
+  proof_refused : (fault : CopyFault) →
+      IsReadOf digest reader.edge.size reader.root (IsProvable digest reader after) fault →
+      IsRefused digest origin keys held fault
+  proof_refused (Origin f) r = absurd r.is
+  proof_refused (Head f) r = absurd r.is
+  proof_refused (CopyDamaged path) r = λ note entries w. r.whole entries (provable entries (note, w))
+  proof_refused ShelfFault r = tt
+  proof_refused OutOfMemory r = tt
+
+  -- what is reported of the log that was opened is reported of the copy
+  pub proof_of_copy : (result : Result Printout CopyAskFault) →
+      ReportsAsk digest reader.edge.size reader.root (IsProvable digest reader after) ask result →
+      ReportsProof digest origin keys held ask result
+  proof_of_copy (Ok report) p = record {
+    size = reader.edge.size;
+    root = reader.root;
+    checkpoint = checkpoint;
+    is = record { is = p.is; whole = λ entries w. p.whole entries (provable entries w); status = p.status };
+  }
+  proof_of_copy (Err (asking.Copy fault)) p = proof_refused fault p
+  proof_of_copy (Err (asking.Heads fault)) p = absurd p
+  proof_of_copy (Err (asking.Ask (Report NothingComplete))) p = absurd p
+  proof_of_copy (Err (asking.Ask (Report (Refused fault)))) p =
+      record { size = reader.edge.size; root = reader.root; checkpoint = checkpoint; refused = p }
+  proof_of_copy (Err (asking.Ask (Report NoSuchHead))) p = absurd p
+  proof_of_copy (Err (asking.Ask (Report NoMemory))) p = absurd p
+  proof_of_copy (Err (asking.Ask WriteFault)) p = absurd p

@@ -1,5 +1,5 @@
 pub mod Printed
+pub mod Comparisons
 pub mod Proofs
 pub mod Statuses
-pub mod Comparisons
 pub mod Laws

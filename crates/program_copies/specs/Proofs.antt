@@ -1,6 +1,7 @@
 -- What `prove` reports of a copy.
-use Rattle.std.specs.Prelude.{◌≡◌, ◌⊎◌, ℕ, ◌<◌, ◌≤◌, List, Option, Result, Ok, Err}
+use Rattle.std.specs.Prelude.{◌≡◌, ℕ, ◌<◌, ◌≤◌, List, length, Option, Result, Ok, Err}
 use Rattle.signed_note.specs.Keys.{Key}
+use Rattle.tlog_shape.specs.declared.TheConstants.{MAX_SIZE}
 use Rattle.tlog_proof.specs.declared.make.ProofFault.{ProofFault}
 use Rattle.tlog_proof.specs.declared.make.ProofFault.TheVariants as proving
 use Rattle.tlog_proof.specs.declared.proof.Ask.{Ask}
@@ -14,7 +15,11 @@ use Rattle.program_reports.specs.declared.fault.ReportFault.TheVariants.{Nothing
 use Rattle.program_reports.specs.declared.fault.ReportFault.TheVariants.{Proof as Refused, OutOfMemory}
 use Rattle.copy_reader.specs.Copies.{HasCheckpoint, IsEmptyCopy, IsRefused}
 use Rattle.copy_reader.specs.Faults.{IsReadFault}
-use Rattle.copy_reader.specs.Proofs.{IsProofOf}
+use Rattle.copy_reader.specs.Proofs.{IsProofOf, IsTrueText}
+use Rattle.copy_reader.specs.WholeCopies.{HoldsWhole, IsShelfFailure}
+use Rattle.copy_reader.specs.declared.fault.CopyFault.{CopyFault}
+use Rattle.log_reader.specs.Ways.{Reader}
+use Rattle.program_copies.specs.Comparisons.{IsLogRead}
 use Rattle.program_copies.specs.declared.fault.CopyAskFault.{CopyAskFault}
 use Rattle.program_copies.specs.declared.fault.CopyAskFault.TheVariants as asking
 
@@ -32,16 +37,28 @@ IsRefusedOf (AskConsistency m n) size proving.FirstIsZero = (n ≤ size) × (m �
 IsRefusedOf (AskConsistency m n) size proving.Backwards = (n ≤ size) × (0 < m) × (n < m)
 IsRefusedOf (AskConsistency m n) size proving.OutOfMemory = ⊥
 
-module _ (digest : List ℕ → List ℕ) (size : ℕ) (root : List ℕ) where
-  -- the report is the text of a proof that was asked for, and is accepted
+-- the reader reads the log of these entries, whose proofs can be written, and the shelf has its files
+pub record IsProvable (digest : List ℕ → List ℕ) (reader : Reader) (held : Option (List Put))
+    (entries : List (List ℕ)) : Type 0 where
+  pub is_read : IsLogRead digest reader held entries
+  pub small : length entries ≤ MAX_SIZE
+
+module _ (digest : List ℕ → List ℕ) (size : ℕ) (root : List ℕ) (IsLog : List (List ℕ) → Type 0) where
+  -- the report is the text of a proof that was asked for, and is accepted. Of such a log it is the proof of the definitions
   pub record PrintsProof (ask : Ask) (report : Printout) : Type 0 where
     pub is : IsProofOf digest size root ask (printed report)
+    pub whole : (entries : List (List ℕ)) → IsLog entries → IsTrueText digest ask entries (printed report)
     pub status : report.status ≡ 0
+
+  -- the fault is one of reading files. Of such a log it is that the shelf failed, or memory was refused
+  pub record IsReadOf (fault : CopyFault) : Type 0 where
+    pub is : IsReadFault fault
+    pub whole : (entries : List (List ℕ)) → IsLog entries → IsShelfFailure fault
 
   -- what each answer of a reporter on a log of that size and root says
   abbrev pub ReportsAsk : Ask → Result Printout CopyAskFault → Type 0
   ReportsAsk ask (Ok report) = PrintsProof ask report
-  ReportsAsk ask (Err (asking.Copy fault)) = IsReadFault fault
+  ReportsAsk ask (Err (asking.Copy fault)) = IsReadOf fault
   ReportsAsk ask (Err (asking.Heads fault)) = ⊥
   ReportsAsk ask (Err (asking.Ask (Report NothingComplete))) = ⊥
   ReportsAsk ask (Err (asking.Ask (Report (Refused fault)))) = IsRefusedOf ask size fault
@@ -52,12 +69,12 @@ module _ (digest : List ℕ → List ℕ) (size : ℕ) (root : List ℕ) where
 module _ (digest : List ℕ → List ℕ) (origin : List ℕ) (keys : List Key) (held : Option (List Put)) (ask : Ask)
   where
     -- the report is the proof that was asked for, which is accepted against the copy's checkpoint, or against the root of as many
-    -- of its entries
+    -- of its entries. Of a whole copy it is the proof of the definitions
     pub record IsProofPrint (report : Printout) : Type 0 where
       pub size : ℕ
       pub root : List ℕ
       pub checkpoint : HasCheckpoint origin keys held size root
-      pub is : PrintsProof digest size root ask report
+      pub is : PrintsProof digest size root (HoldsWhole digest origin held) ask report
 
     -- the copy has a checkpoint, of a size of which what is asked for is refused
     pub record RefusesAsk (fault : ProofFault) : Type 0 where
@@ -69,7 +86,7 @@ module _ (digest : List ℕ → List ℕ) (origin : List ℕ) (keys : List Key) 
     -- what each answer of the reporter says
     abbrev pub ReportsProof : Result Printout CopyAskFault → Type 0
     ReportsProof (Ok report) = IsProofPrint report
-    ReportsProof (Err (asking.Copy fault)) = IsRefused digest origin keys held fault ⊎ IsReadFault fault
+    ReportsProof (Err (asking.Copy fault)) = IsRefused digest origin keys held fault
     ReportsProof (Err (asking.Heads fault)) = ⊥
     ReportsProof (Err (asking.Ask (Report NothingComplete))) = IsEmptyCopy origin keys held
     ReportsProof (Err (asking.Ask (Report (Refused fault)))) = RefusesAsk fault

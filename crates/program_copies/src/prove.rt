@@ -1,12 +1,13 @@
 //! Proofs of a copy's entries.
-ghost use Rattle.std.specs.Prelude.{◌≡◌, IfErr, IfOk, OnOk, map};
+ghost use Rattle.std.specs.Prelude.{◌≡◌, ℕ, IfErr, IfOk, List, OnOk, map};
 ghost use Rattle.mirror_sources.specs.Recorded.{KeepsRecord};
 ghost use Rattle.std.specs.Io.KnownBytes.{Keeps};
 ghost use Rattle.copy_reader.specs.Copies.{LeavesPuts};
 ghost use Rattle.copy_reader.specs.Faults.{CountsRead};
 ghost use Rattle.copy_reader.specs.Proofs.{IsWithin};
+ghost use Rattle.copy_reader.specs.WholeCopies.{IsShelfFailure};
 ghost use Rattle.program_copies.specs.Printed.{CountsAsk, HasStatus, IsStatus, IsWriteFault, Prints};
-ghost use Rattle.program_copies.specs.Proofs.{IsRefusedOf, PrintsProof, ReportsAsk, ReportsProof};
+ghost use Rattle.program_copies.specs.Proofs.{IsProvable, IsRefusedOf, PrintsProof, ReportsAsk, ReportsProof};
 
 use crate::fault::CopyAskFault;
 use crate::opened::open_copy;
@@ -59,9 +60,12 @@ fn read_report<H: TreeHash, D: ReadableShelf>(
     ask: Ask,
 ) -> Result<Report, CopyFault>
     requires { IsWithin ask reader.old.edge.size }
-    ensures report { IfOk result (PrintsProof H.digest reader.old.edge.size reader.old.root ask) }
+    ensures report { IfOk result (PrintsProof H.digest reader.old.edge.size reader.old.root
+        (IsProvable H.digest reader.old (D.puts shelf.old)) ask) }
     ensures same { KeepsRecord (D.puts shelf.old) (D.puts shelf.new) }
     ensures counted { CountsRead (D.failed shelf.old) (D.failed shelf.new) result }
+    ensures honest { IfErr result (λ fault. (entries : List (List ℕ))
+        → IsProvable H.digest reader.old (D.puts shelf.old) entries → IsShelfFailure fault) }
 {
     let text = read_proof_text::<H, D>(alloc, shelf, reader, ask)?;
     Ok(Report { text, status: 0 })
@@ -75,7 +79,8 @@ fn ask_reader<H: TreeHash, D: ReadableShelf>(
     reader: &mut LogReader<H>,
     ask: Ask,
 ) -> Result<Report, CopyAskFault>
-    ensures answer { ReportsAsk H.digest reader.old.edge.size reader.old.root ask result }
+    ensures answer { ReportsAsk H.digest reader.old.edge.size reader.old.root
+        (IsProvable H.digest reader.old (D.puts shelf.old)) ask result }
     ensures same { KeepsRecord (D.puts shelf.old) (D.puts shelf.new) }
     ensures counted { CountsAsk (D.failed shelf.old) (D.failed shelf.new) result }
 {
@@ -106,14 +111,15 @@ fn text_of_proof<H: TreeHash, D: NamedFolders>(
         (D.puts folders.new) }
     ensures counted { CountsAsk (D.failed folders.old) (D.failed folders.new) result }
 {
-    match open_copy::<H, D>(folders, alloc, origin, keys, folder) {
-        Ok(Some(reader)) => {
-            let mut reader = reader;
-            ask_reader::<H, D>(alloc, folders, &mut reader, ask)
-        }
-        Ok(None) => Err(CopyAskFault::Ask(AskFault::Report(ReportFault::NothingComplete))),
-        Err(fault) => Err(CopyAskFault::Copy(fault)),
-    }
+    let opened = match open_copy::<H, D>(folders, alloc, origin, keys, folder) {
+        Ok(opened) => opened,
+        Err(fault) => return Err(CopyAskFault::Copy(fault)),
+    };
+    let Some(reader) = opened else {
+        return Err(CopyAskFault::Ask(AskFault::Report(ReportFault::NothingComplete)));
+    };
+    let mut reader = reader;
+    ask_reader::<H, D>(alloc, folders, &mut reader, ask)
 }
 
 /// Prints a proof of the copy's entries, as `prove` prints it of a state with the copy's checkpoint, and answers the exit status,
