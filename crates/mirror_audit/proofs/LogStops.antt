@@ -1,12 +1,15 @@
 -- Where the audit of a whole log stops.
-use Rattle.std.proofs.Common.{◌≡◌, inl, inr, ℕ, List, [], ◌∷◌, ◌++◌, Option, Some, refl}
+use Rattle.std.proofs.Common.{◌≡◌, inl, inr, ℕ, List, [], ◌∷◌, ◌++◌, Option, Some, refl, None}
 use Rattle.signed_note.specs.Keys.{Key}
 use Rattle.tlog_tiles.specs.declared.paths.Path.{Path}
 use Rattle.tlog_tiles.specs.declared.paths.Path.TheVariants.{Checkpoint}
+use Rattle.mirror_sources.specs.Files.{full_of}
 use Rattle.mirror_sources.specs.Replies.{Reply, reply}
+use Rattle.mirror_sources.specs.Source.{StaysWithin}
 use Rattle.mirror_audit.specs.declared.fault.AuditFault.{AuditFault}
 use Rattle.mirror_audit.specs.declared.fault.AuditFault.TheVariants.{NoCheckpoint, Head, NoEdge, NoFile, FalseFile, Source, OutOfMemory}
 use Rattle.mirror_audit.specs.Audits.{IsHeadGiven}
+use Rattle.mirror_audit.specs.Faults.{IsForAbsence}
 use Rattle.mirror_audit.specs.Found.{Found, IsAbsent, IsAbsentEdge, IsEdgeWrong, IsFileWrong, IsLogOf, IsPresent, IsReadInOrder}
 use Rattle.mirror_audit.specs.Found.{NamesWrong, all_replies, replies_of}
 use Rattle.mirror_audit.specs.Order.{file_order}
@@ -27,6 +30,7 @@ module _ (digest : List ℕ → List ℕ) (paths : List Path) (size : ℕ) (root
       given = s.given;
       order = s.order;
       is_kind = s.is_kind;
+      verified = λ entries log. s.verified entries (is entries log);
       wrong = λ entries log t. s.wrong entries (is entries log) t;
     }
 
@@ -48,7 +52,7 @@ module _ (digest : List ℕ → List ℕ) (paths : List Path) (size : ℕ) (root
         StopsAt digest whole (IsLogOf digest size root) kind path a b x y
     longer kind path s =
         stops_later digest [] paths rest whole (IsLogOf digest size root) (IsLogOf digest size root) a a b x x y
-        (read_none a x [] refl) (λ entries log t. log) is kind path s
+        (read_none digest (IsLogOf digest size root) a x [] refl) (λ entries log t. log) is kind path s
 
     pub stops_longer : (fault : AuditFault) → StopsEdge digest paths size root a b x y fault →
         StopsEdge digest whole size root a b x y fault
@@ -93,6 +97,7 @@ module _ (digest : List ℕ → List ℕ) (origin : List ℕ) (keys : List Key) 
       given = given_then a b c x y z first (all_replies s.before ++ replies_of path s.found) head.given s.given;
       order = s.order;
       is_kind = s.is_kind;
+      verified = s.verified;
       wrong = s.wrong;
     }
 
@@ -120,10 +125,23 @@ module _ (digest : List ℕ → List ℕ) (origin : List ℕ) (keys : List Key) 
     names_wrong Source h = tt
     names_wrong OutOfMemory h = tt
 
-    pub read_in_order : AreRead (file_order size) b c y z → IsReadInOrder size a c x z
+    pub read_in_order : AreRead digest (IsLogOf digest size root) (file_order size) b c y z → IsReadInOrder size a c x z
     read_in_order r = record {
       note = head.note;
       reads = r.reads;
       given = given_then a b c x y z first (all_replies r.reads) head.given r.given;
       order = r.paths_are;
     }
+
+-- what a source lacks now it lacked before
+pub absence_before : (old new : Path → Option (List ℕ) → Type 0) → StaysWithin old new → (fault : AuditFault) →
+    IsForAbsence new fault → IsForAbsence old fault
+absence_before old new s NoCheckpoint h = s.stays Checkpoint None h
+absence_before old new s (Head f) h = tt
+absence_before old new s NoEdge h =
+    (h.0, record { none = s.stays h.0 None h.1.none; full = s.stays (full_of h.0) None h.1.full })
+absence_before old new s (NoFile path) h =
+    record { none = s.stays path None h.none; full = s.stays (full_of path) None h.full }
+absence_before old new s (FalseFile path) h = tt
+absence_before old new s Source h = tt
+absence_before old new s OutOfMemory h = tt

@@ -16,7 +16,7 @@ use Rattle.mirror_audit.specs.Found.{AreTrue}
 use Rattle.mirror_audit.specs.Order.{edge_file, edge_order}
 use Rattle.mirror_audit.specs.Stops.{AreRead, AreRowsRead, IsRowRead}
 use Rattle.mirror_audit.proofs.Orders.{each_none, next_file}
-use Rattle.mirror_audit.proofs.Stops.{given_more, paths_more, true_append}
+use Rattle.mirror_audit.proofs.Stops.{given_more, paths_more, true_append, verified_append}
 use Rattle.mirror_audit.proofs.Given.{given_none, given_then, had_left, had_right}
 
 -- the rows that were given so far
@@ -58,6 +58,7 @@ no_rows_read size vs may x = record {
   reads = [];
   given = given_none may x;
   paths_are = sym (each_none (edge_file size) 0);
+  verified = λ digest entries. tt;
   is_true = λ digest entries hash short same t level lt. absurd (omega arith);
 }
 
@@ -69,6 +70,8 @@ one_more_read size vs more v n a b c x y z is count f g = record {
   given = given_more a b c x y z f.reads g.reads f.given g.given;
   paths_are = paths_more a b c x y z f.reads g.reads (edge_order size n) (edge_file size n) f.paths_are g.paths_are
       ∙ sym (next_file size n);
+  verified = λ digest entries. verified_append digest entries f.reads g.reads (f.verified digest entries)
+      (λ t. g.verified digest entries);
   is_true = λ digest entries hash short same t.
       let parts = true_append digest entries f.reads g.reads t in
       rows_more (λ level row. IsEdgeRowOf digest size level entries row) vs more v n is count
@@ -76,9 +79,15 @@ one_more_read size vs more v n a b c x y z is count f g = record {
 }
 
 -- the paths of the rows of some levels
-abbrev pub rows_paths : (size : ℕ) (rows : ℕ → List (List ℕ)) (n : ℕ) (a b : Path → Option (List ℕ) → Type 0)
-    (x y : Option (List Path)) → AreRowsRead size rows n a b x y → AreRead (edge_order size n) a b x y
-rows_paths size rows n a b x y r = record { reads = r.reads; given = r.given; paths_are = r.paths_are }
+abbrev pub rows_paths : (digest : List ℕ → List ℕ) (about : List (List ℕ) → Type 0) (size : ℕ) (rows : ℕ → List (List ℕ)) (n : ℕ) (a b : Path → Option (List ℕ) → Type 0)
+    (x y : Option (List Path)) → AreRowsRead size rows n a b x y →
+    AreRead digest about (edge_order size n) a b x y
+rows_paths digest about size rows n a b x y r = record {
+  reads = r.reads;
+  given = r.given;
+  paths_are = r.paths_are;
+  verified = λ entries h. r.verified digest entries;
+}
 
 -- where the files of an edge are true, so are its rows
 pub edge_is_true : (digest : List ℕ → List ℕ) → IsDigest digest → (edge : Edge) (size : ℕ) → edge.size ≡ size →

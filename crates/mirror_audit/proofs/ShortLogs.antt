@@ -1,10 +1,10 @@
 -- Files of a list of entries, whatever a source answers.
-use Rattle.std.proofs.Common.{◌≡◌, inr, ℕ, ◌*◌, ◌<◌, List, length, Option, ap, ◌∙◌}
+use Rattle.std.proofs.Common.{◌≡◌, inr, ℕ, ◌*◌, ◌<◌, List, length, Option, sym, ap, ◌∙◌}
 use Rattle.tlog_shape.specs.Edge.{edge_index_of, width_of}
 use Rattle.tlog_tiles.specs.Tiles.{bundle_bytes}
 use Rattle.tlog_hash.specs.Rows.{level_row}
 use Rattle.tlog_tiles.specs.declared.paths.Path.{Path}
-use Rattle.tlog_tiles.specs.declared.paths.Path.TheVariants.{Entries}
+use Rattle.tlog_tiles.specs.declared.paths.Path.TheVariants.{Entries, Tile}
 use Rattle.tlog_tiles.specs.Row.{IsRow, row_text}
 use Rattle.tlog_tiles.specs.Tiles.{tile_bytes}
 use Rattle.mirror_model.specs.Strings.{IsDigest}
@@ -13,8 +13,10 @@ use Rattle.log_reader.specs.Holding.{IsSourceOf, IsTileHash, IsTreeFile}
 use Rattle.log_reader.specs.Verified.{Verifies}
 use Rattle.log_reader.specs.declared.verify.FullFile.TheVariants.{Bundle}
 use Rattle.log_reader.proofs.TrueBundles.{bundle_verifies}
-use Rattle.log_reader.proofs.TrueReads.{row_is_true}
+use Rattle.log_reader.proofs.TrueReads.{full_folds, row_is_true}
 use Rattle.mirror_audit.proofs.WholeLogs.{tile_row_true}
+use Rattle.tlog_hash.specs.Tree.{fold_of}
+use Rattle.mirror_audit.specs.Found.{FullBundle, FullTile, Here, IsVerified}
 use Rattle.mirror_audit.specs.Stops.{HasRow, HasTile}
 
 module _ (digest : List ℕ → List ℕ) (hash : IsDigest digest) (entries : List (List ℕ)) where
@@ -38,6 +40,18 @@ module _ (digest : List ℕ → List ℕ) (hash : IsDigest digest) (entries : Li
     is_row = tile_row_true digest entries level index h row t.is_hash
         (row_is_true digest hash entries level index 256 (row_text row) row same is) is.count;
   }
+
+  -- a full bundle that was read verifies, and so does a full tile
+  pub bundle_verified : (index : ℕ) (h bytes : List ℕ) (row : List (List ℕ)) → HasTile digest 0 index h entries →
+      Verifies digest Bundle h bytes row → IsVerified digest entries (Entries index 256) (Here bytes)
+  bundle_verified index h bytes row t v =
+      FullBundle index bytes row v.is_row (v.folds ∙ sym (full_folds digest hash entries 0 index h t.is_hash))
+
+  pub tile_verified : (level index : ℕ) (h : List ℕ) (row : List (List ℕ)) → HasTile digest level index h entries →
+      IsRow 256 (row_text row) row → fold_of digest row ≡ h →
+      IsVerified digest entries (Tile level index 256) (Here (row_text row))
+  tile_verified level index h row t is folds =
+      FullTile level index (row_text row) row is (folds ∙ sym (full_folds digest hash entries level index h t.is_hash))
 
 -- the partial bundle of some entries is one of their files
 pub end_file : (n : ℕ) (entries : List (List ℕ)) (index width : ℕ) → n ≡ length entries → index ≡ edge_index_of n 0 →

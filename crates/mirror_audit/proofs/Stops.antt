@@ -12,7 +12,7 @@ use Rattle.mirror_sources.specs.Recorded.{AddsToRecord}
 use Rattle.mirror_audit.specs.declared.fault.AuditFault.{AuditFault}
 use Rattle.mirror_audit.specs.declared.fault.AuditFault.TheVariants.{NoCheckpoint, Head, NoEdge, NoFile, FalseFile, Source, OutOfMemory}
 use Rattle.mirror_audit.specs.Answering.{AreGiven, IsTreeFile}
-use Rattle.mirror_audit.specs.Found.{AreTrue, FileRead, Found, InFull, IsAbsent, IsAbsentEdge, IsPresent, IsTrueFound}
+use Rattle.mirror_audit.specs.Found.{AreTrue, AreVerified, FileRead, Found, InFull, IsAbsent, IsAbsentEdge, IsPresent, IsTrueFound, IsVerified}
 use Rattle.mirror_audit.specs.Found.{Nowhere, NotInFull, all_replies, file_read, paths_read, replies_of}
 use Rattle.mirror_audit.specs.Stops.{AreRead, FindsFalse, IsFullRead, IsPartRead, LacksFile, StopsAt, StopsIn}
 use Rattle.mirror_audit.proofs.Given.{given_none, given_then}
@@ -44,34 +44,55 @@ given_hinted a b c x y z replies stays same g = record {
   recorded = subst (λ w. AddsToRecord x w (asked_paths replies)) (sym same) g.recorded;
 }
 
+-- ---- what was verified
+
+pub verified_append : (digest : List ℕ → List ℕ) (entries : List (List ℕ)) (xs ys : List FileRead) →
+    AreVerified digest entries xs → (AreTrue digest entries xs → AreVerified digest entries ys) →
+    AreVerified digest entries (xs ++ ys)
+verified_append digest entries [] ys v then = then tt
+verified_append digest entries (x ∷ xs) ys v then =
+    (v.0, λ t. verified_append digest entries xs ys (v.1 t) (λ ts. then (t, ts)))
+
 -- ---- what was read
 
-pub read_none : (may : Path → Option (List ℕ) → Type 0) (x : Option (List Path)) (paths : List Path) → paths ≡ [] →
-    AreRead paths may may x x
-read_none may x paths none = record { reads = []; given = given_none may x; paths_are = sym none }
+pub read_none : (digest : List ℕ → List ℕ) (about : List (List ℕ) → Type 0) (may : Path → Option (List ℕ) → Type 0)
+    (x : Option (List Path)) (paths : List Path) → paths ≡ [] → AreRead digest about paths may may x x
+read_none digest about may x paths none = record {
+  reads = [];
+  given = given_none may x;
+  paths_are = sym none;
+  verified = λ entries h. tt;
+}
 
 module _ (a b : Path → Option (List ℕ) → Type 0) (x y : Option (List Path)) where
   pub given_one_file : (path : Path) (found : Found) → AreGiven a b x y (replies_of path found) →
       AreGiven a b x y (all_replies (file_read path found ∷ []))
   given_one_file path found g = subst (AreGiven a b x y) (sym (append-nil (replies_of path found))) g
 
-  abbrev pub read_one : (path : Path) (found : Found) → AreGiven a b x y (replies_of path found) → AreRead (path ∷ []) a b x y
-  read_one path found g = record {
-    reads = file_read path found ∷ [];
-    given = given_one_file path found g;
-    paths_are = refl;
-  }
+  module _ (digest : List ℕ → List ℕ) (about : List (List ℕ) → Type 0) where
+    abbrev pub read_one : (path : Path) (found : Found) → AreGiven a b x y (replies_of path found) →
+        ((entries : List (List ℕ)) → about entries → IsVerified digest entries path found) →
+        AreRead digest about (path ∷ []) a b x y
+    read_one path found g v = record {
+      reads = file_read path found ∷ [];
+      given = given_one_file path found g;
+      paths_are = refl;
+      verified = λ entries h. (v entries h, λ t. tt);
+    }
 
-  pub read_as : (paths others : List Path) → paths ≡ others → AreRead paths a b x y → AreRead others a b x y
-  read_as paths others same r = record { reads = r.reads; given = r.given; paths_are = r.paths_are ∙ same }
+    pub read_as : (paths others : List Path) → paths ≡ others → AreRead digest about paths a b x y →
+        AreRead digest about others a b x y
+    read_as paths others same r =
+        record { reads = r.reads; given = r.given; paths_are = r.paths_are ∙ same; verified = r.verified }
 
-  pub read_hinted : (c : Path → Option (List ℕ) → Type 0) (z : Option (List Path)) (paths : List Path) → StaysWithin b c →
-      z ≡ y → AreRead paths a b x y → AreRead paths a c x z
-  read_hinted c z paths stays same r = record {
-    reads = r.reads;
-    given = given_hinted a b c x y z (all_replies r.reads) stays same r.given;
-    paths_are = r.paths_are;
-  }
+    pub read_hinted : (c : Path → Option (List ℕ) → Type 0) (z : Option (List Path)) (paths : List Path) → StaysWithin b c →
+        z ≡ y → AreRead digest about paths a b x y → AreRead digest about paths a c x z
+    read_hinted c z paths stays same r = record {
+      reads = r.reads;
+      given = given_hinted a b c x y z (all_replies r.reads) stays same r.given;
+      paths_are = r.paths_are;
+      verified = r.verified;
+    }
 
 module _ (a b c : Path → Option (List ℕ) → Type 0) (x y z : Option (List Path)) where
   pub given_more : (p q : List FileRead) → AreGiven a b x y (all_replies p) → AreGiven b c y z (all_replies q) →
@@ -83,12 +104,16 @@ module _ (a b c : Path → Option (List ℕ) → Type 0) (x y z : Option (List P
       paths_read (p ++ q) ≡ ps ++ qs
   paths_more p q ps qs f g = paths_append p q ∙ (λ i. f i ++ g i)
 
-  pub read_then : (ps qs paths : List Path) → paths ≡ ps ++ qs → AreRead ps a b x y → AreRead qs b c y z →
-      AreRead paths a c x z
-  read_then ps qs paths is p q = record {
+  pub read_then : (digest : List ℕ → List ℕ) (about inner : List (List ℕ) → Type 0) (ps qs paths : List Path) →
+      paths ≡ ps ++ qs → (p : AreRead digest about ps a b x y) →
+      ((entries : List (List ℕ)) → about entries → AreTrue digest entries p.reads → inner entries) →
+      AreRead digest inner qs b c y z → AreRead digest about paths a c x z
+  read_then digest about inner ps qs paths is p then q = record {
     reads = p.reads ++ q.reads;
     given = given_more p.reads q.reads p.given q.given;
     paths_are = paths_more p.reads q.reads ps qs p.paths_are q.paths_are ∙ sym is;
+    verified = λ entries h. verified_append digest entries p.reads q.reads (p.verified entries h)
+        (λ t. q.verified entries (then entries h t));
   }
 
 -- ---- where a reading stops
@@ -111,6 +136,7 @@ module _ (digest : List ℕ → List ℕ) (paths : List Path) (about : List (Lis
     given = given;
     order = is;
     is_kind = fits;
+    verified = λ entries h. tt;
     wrong = λ entries h t. wrong entries h;
   }
 
@@ -128,7 +154,7 @@ module _ (digest : List ℕ → List ℕ) (paths : List Path) (about : List (Lis
 
 -- at a later file, of a part of the paths
 module _ (digest : List ℕ → List ℕ) (ps qs rest paths : List Path) (about inner : List (List ℕ) → Type 0)
-    (a b c : Path → Option (List ℕ) → Type 0) (x y z : Option (List Path)) (p : AreRead ps a b x y)
+    (a b c : Path → Option (List ℕ) → Type 0) (x y z : Option (List Path)) (p : AreRead digest about ps a b x y)
     (then : (entries : List (List ℕ)) → about entries → AreTrue digest entries p.reads → inner entries)
     (split : paths ≡ ps ++ (qs ++ rest)) where
   pub stops_later : (kind : Path → Found → Type 0) (path : Path) → StopsAt digest qs inner kind path b c y z →
@@ -150,6 +176,8 @@ module _ (digest : List ℕ → List ℕ) (ps qs rest paths : List Path) (about 
             ∙ (sym (append_assoc start before last)
             ∙ ap (λ (l : List Path). l ++ last) (sym (paths_append p.reads s.before)))));
         is_kind = s.is_kind;
+        verified = λ entries h. verified_append digest entries p.reads s.before (p.verified entries h)
+            (λ t. s.verified entries (then entries h t));
         wrong = λ entries h t.
             let parts = true_append digest entries p.reads s.before t in
             s.wrong entries (then entries h parts.0) parts.1;
@@ -181,6 +209,7 @@ module _ (path : Path) (a b c : Path → Option (List ℕ) → Type 0) (x y z : 
     found = InFull r.whole;
     given = after_none (Some r.whole) r.given;
     present = partial;
+    begins = r.begins;
     is_true = λ digest entries hash short file goes. r.is_true digest entries hash short file partial goes;
   }
 

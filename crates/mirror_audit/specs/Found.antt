@@ -1,7 +1,10 @@
 -- What an audit found at the paths of a log, and the file at which it stopped (C2SP tlog-tiles, "Partial Tiles").
-use Rattle.std.specs.Prelude.{◌≡◌, ◌⊎◌, ℕ, ◌<◌, List, [], ◌∷◌, ◌++◌, map, length, Option, Some, None, Err, ⊤}
+use Rattle.std.specs.Prelude.{◌≡◌, ◌⊎◌, ℕ, ◌*◌, ◌<◌, List, [], ◌∷◌, ◌++◌, map, length, Option, Some, None, Err, ⊤}
 use Rattle.signed_note.specs.Keys.{Key}
-use Rattle.tlog_hash.specs.Tree.{mth}
+use Rattle.tlog_hash.specs.Rows.{level_row}
+use Rattle.tlog_hash.specs.Tree.{fold_of, mth}
+use Rattle.tlog_tiles.specs.Row.{IsRow}
+use Rattle.log_reader.specs.Verified.{HasLeaves}
 use Rattle.tlog_tiles.specs.declared.paths.Path.{Path}
 use Rattle.tlog_tiles.specs.declared.paths.Path.TheVariants.{Checkpoint, Tile, Entries}
 use Rattle.mirror_model.specs.Heads.{IsOpenHead}
@@ -82,6 +85,18 @@ pub record IsReadInOrder (size : ℕ) (may later : Path → Option (List ℕ) �
     pub given : AreGiven may later old new (reply Checkpoint (Some note) ∷ all_replies reads)
     pub order : paths_read reads ≡ file_order size
 
+-- the bytes that were found begin with these
+pub record StartsWith (first bytes : List ℕ) : Type 0 where
+  pub rest : List ℕ
+  pub bytes_are : bytes ≡ first ++ rest
+
+-- the bytes were found, or a full file that begins with them
+abbrev pub Begins : List ℕ → Found → Type 0
+Begins first (Here bytes) = bytes ≡ first
+Begins first (InFull bytes) = StartsWith first bytes
+Begins first Nowhere = ⊥
+Begins first NotInFull = ⊥
+
 module _ (digest : List ℕ → List ℕ) where
   module _ (entries : List (List ℕ)) where
     -- the file of these entries was found: its true bytes, or a full file that begins with them
@@ -94,6 +109,26 @@ module _ (digest : List ℕ → List ℕ) where
     abbrev pub AreTrue : List FileRead → Type 0
     AreTrue [] = ⊤
     AreTrue (r ∷ rs) = IsTrueFound r.path r.found × AreTrue rs
+
+    -- what was found of a file verifies: it is the true file; or a full tile or bundle whose fold is that of the true one; or a
+    -- partial bundle that has the true leaf hashes; or a row of the edge, of its width
+    pub data IsVerified : Path → Found → Type 0 where
+      TrueFile : (path : Path) (found : Found) → IsTrueFound path found → IsVerified path found
+      FullTile : (level index : ℕ) (bytes : List ℕ) (row : List (List ℕ)) → IsRow 256 bytes row →
+          fold_of digest row ≡ fold_of digest (level_row digest entries level (256 * index) 256) →
+          IsVerified (Tile level index 256) (Here bytes)
+      FullBundle : (index : ℕ) (bytes : List ℕ) (row : List (List ℕ)) → HasLeaves digest 256 bytes row →
+          fold_of digest row ≡ fold_of digest (level_row digest entries 0 (256 * index) 256) →
+          IsVerified (Entries index 256) (Here bytes)
+      EndBundle : (index width : ℕ) (found : Found) (bytes : List ℕ) → Begins bytes found →
+          HasLeaves digest width bytes (level_row digest entries 0 (256 * index) width) → IsVerified (Entries index width) found
+      EdgeRow : (level index width : ℕ) (found : Found) (bytes : List ℕ) (row : List (List ℕ)) → Begins bytes found →
+          IsRow width bytes row → IsVerified (Tile level index width) found
+
+    -- each file verifies, if those before it are true
+    abbrev pub AreVerified : List FileRead → Type 0
+    AreVerified [] = ⊤
+    AreVerified (r ∷ rs) = IsVerified r.path r.found × (IsTrueFound r.path r.found → AreVerified rs)
 
   -- a list of entries that may be the log of that size and root
   pub record IsLogOf (size : ℕ) (root : List ℕ) (entries : List (List ℕ)) : Type 0 where
@@ -116,6 +151,7 @@ module _ (digest : List ℕ → List ℕ) where
       pub given : AreGiven may later old new (reply Checkpoint (Some note) ∷ (all_replies before ++ replies_of path found))
       pub order : file_order size ≡ paths_read before ++ path ∷ rest
       pub is_kind : kind path found
+      pub verified : (entries : List (List ℕ)) → IsLogOf size root entries → AreVerified entries before
       pub wrong : (entries : List (List ℕ)) → IsLogOf size root entries → AreTrue entries before →
           IsTrueFound entries path found → ⊥
 

@@ -14,17 +14,18 @@ use Rattle.log_reader.specs.Holding.{GoesOn, IsEdgeRowOf, IsTileHash, IsTreeFile
 use Rattle.mirror_audit.specs.declared.fault.AuditFault.{AuditFault}
 use Rattle.mirror_audit.specs.declared.fault.AuditFault.TheVariants.{NoCheckpoint, Head, NoEdge, NoFile, FalseFile, Source, OutOfMemory}
 use Rattle.mirror_audit.specs.Answering.{AreGiven}
-use Rattle.mirror_audit.specs.Found.{AreTrue, FileRead, Found, IsAbsent, IsAbsentEdge, IsLogOf, IsNoHead, IsPresent, IsTrueFound}
-use Rattle.mirror_audit.specs.Found.{all_replies, paths_read, replies_of}
-use Rattle.mirror_audit.specs.Order.{edge_file, edge_order, first_path}
+use Rattle.mirror_audit.specs.Found.{AreTrue, AreVerified, Begins, FileRead, Found, InFull, IsAbsent, IsAbsentEdge, IsLogOf, IsNoHead, IsPresent, IsTrueFound}
+use Rattle.mirror_audit.specs.Found.{NotInFull, StartsWith, all_replies, paths_read, replies_of}
+use Rattle.mirror_audit.specs.Order.{edge_file, edge_order, file_order, first_path}
 use Rattle.mirror_audit.specs.WholeLogs.{IsTrueRow}
 
--- the files of these paths were read, one after the other
-pub record AreRead (paths : List Path) (may later : Path → Option (List ℕ) → Type 0) (old new : Option (List Path)) : Type 0
-  where
-    pub reads : List FileRead
-    pub given : AreGiven may later old new (all_replies reads)
-    pub paths_are : paths_read reads ≡ paths
+-- the files of these paths were read, one after the other: of entries of that kind each verifies, if those before it are true
+pub record AreRead (digest : List ℕ → List ℕ) (about : List (List ℕ) → Type 0) (paths : List Path)
+    (may later : Path → Option (List ℕ) → Type 0) (old new : Option (List Path)) : Type 0 where
+  pub reads : List FileRead
+  pub given : AreGiven may later old new (all_replies reads)
+  pub paths_are : paths_read reads ≡ paths
+  pub verified : (entries : List (List ℕ)) → about entries → AreVerified digest entries reads
 
 -- a full file was asked for, and is not there
 abbrev pub LacksFile : Path → (may later : Path → Option (List ℕ) → Type 0) → Option (List Path) → Option (List Path) →
@@ -42,6 +43,7 @@ pub record IsFullRead (path : Path) (bytes : List ℕ) (may later : Path → Opt
     (old new : Option (List Path)) : Type 0 where
   pub whole : List ℕ
   pub given : AreGiven may later old new (reply (full_of path) (Some whole) ∷ [])
+  pub begins : StartsWith bytes whole
   pub is_true : (digest : List ℕ → List ℕ) (entries : List (List ℕ)) → IsDigest digest → AreShort entries →
       IsTreeFile (length entries) path → width_named path < 256 → GoesOn path (true_bytes digest entries path) whole →
       bytes ≡ true_bytes digest entries path
@@ -52,6 +54,7 @@ pub record IsPartRead (path : Path) (bytes : List ℕ) (may later : Path → Opt
   pub found : Found
   pub given : AreGiven may later old new (replies_of path found)
   pub present : IsPresent path found
+  pub begins : Begins bytes found
   pub is_true : (digest : List ℕ → List ℕ) (entries : List (List ℕ)) → IsDigest digest → AreShort entries →
       IsTreeFile (length entries) path → IsTrueFound digest entries path found → bytes ≡ true_bytes digest entries path
 
@@ -80,6 +83,7 @@ pub record IsRowRead (size level : ℕ) (row : List (List ℕ)) (may later : Pat
   pub reads : List FileRead
   pub given : AreGiven may later old new (all_replies reads)
   pub paths_are : paths_read reads ≡ edge_file size level
+  pub verified : (digest : List ℕ → List ℕ) (entries : List (List ℕ)) → AreVerified digest entries reads
   pub is_true : (digest : List ℕ → List ℕ) (entries : List (List ℕ)) → IsDigest digest → AreShort entries →
       length entries ≡ size → AreTrue digest entries reads → IsEdgeRowOf digest size level entries row
 
@@ -89,6 +93,7 @@ pub record AreRowsRead (size : ℕ) (rows : ℕ → List (List ℕ)) (below : �
   pub reads : List FileRead
   pub given : AreGiven may later old new (all_replies reads)
   pub paths_are : paths_read reads ≡ edge_order size below
+  pub verified : (digest : List ℕ → List ℕ) (entries : List (List ℕ)) → AreVerified digest entries reads
   pub is_true : (digest : List ℕ → List ℕ) (entries : List (List ℕ)) → IsDigest digest → AreShort entries →
       length entries ≡ size → AreTrue digest entries reads → (level : ℕ) → level < below →
       IsEdgeRowOf digest size level entries (rows level)
@@ -104,6 +109,7 @@ module _ (digest : List ℕ → List ℕ) where
     pub given : AreGiven may later old new (all_replies before ++ replies_of path found)
     pub order : paths ≡ paths_read before ++ path ∷ rest
     pub is_kind : kind path found
+    pub verified : (entries : List (List ℕ)) → about entries → AreVerified digest entries before
     pub wrong : (entries : List (List ℕ)) → about entries → AreTrue digest entries before → IsTrueFound digest entries path found → ⊥
 
   -- a part of an audit, which reads these paths, stops at the first file that is not true

@@ -69,8 +69,8 @@ pub(crate) fn audit_bundle<H: TreeHash, S: Source>(
     ensures absent { IfErr result (IsForAbsence (S.may_answer source.old)) }
     ensures covers { OnOk result (CoversTile H.digest 0 index hash.now (S.may_answer source.old)
         (S.may_answer source.new) (S.asked source.old) (S.asked source.new)) }
-    ensures read { OnOk result (AreRead (tile_order 0 index) (S.may_answer source.old)
-        (S.may_answer source.new) (S.asked source.old) (S.asked source.new)) }
+    ensures read { OnOk result (AreRead H.digest (HasTile H.digest 0 index hash.now)
+        (tile_order 0 index) (S.may_answer source.old) (S.may_answer source.new) (S.asked source.old) (S.asked source.new)) }
     ensures first { IfErr result (StopsIn H.digest (tile_order 0 index)
         (HasTile H.digest 0 index hash.now) (S.may_answer source.old) (S.may_answer source.new)
         (S.asked source.old) (S.asked source.new)) }

@@ -27,8 +27,8 @@ pub(crate) fn audit_levels<H: TreeHash, S: Source>(
     ensures absent { IfErr result (IsForAbsence (S.may_answer source.old)) }
     ensures covers { OnOk result (CoversLevels H.digest edge.now 1 (S.may_answer source.old)
         (S.may_answer source.new) (S.asked source.old) (S.asked source.new)) }
-    ensures read { OnOk result (AreRead (levels_order edge.now.size 7) (S.may_answer source.old)
-        (S.may_answer source.new) (S.asked source.old) (S.asked source.new)) }
+    ensures read { OnOk result (AreRead H.digest (HasEdge H.digest edge.now)
+        (levels_order edge.now.size 7) (S.may_answer source.old) (S.may_answer source.new) (S.asked source.old) (S.asked source.new)) }
     ensures first { IfErr result (StopsIn H.digest (levels_order edge.now.size 7)
         (HasEdge H.digest edge.now) (S.may_answer source.old) (S.may_answer source.new)
         (S.asked source.old) (S.asked source.new)) }

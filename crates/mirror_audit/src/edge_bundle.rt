@@ -45,8 +45,8 @@ pub(crate) fn audit_edge_bundle<H: TreeHash, S: Source>(
     ensures absent { IfErr result (IsForAbsence (S.may_answer source.old)) }
     ensures covers { OnOk result (CoversEdgeBundle H.digest edge.now (S.may_answer source.old)
         (S.may_answer source.new) (S.asked source.old) (S.asked source.new)) }
-    ensures read { OnOk result (AreRead (edge_bundle edge.now.size) (S.may_answer source.old)
-        (S.may_answer source.new) (S.asked source.old) (S.asked source.new)) }
+    ensures read { OnOk result (AreRead H.digest (HasEdge H.digest edge.now)
+        (edge_bundle edge.now.size) (S.may_answer source.old) (S.may_answer source.new) (S.asked source.old) (S.asked source.new)) }
     ensures first { IfErr result (StopsIn H.digest (edge_bundle edge.now.size)
         (HasEdge H.digest edge.now) (S.may_answer source.old) (S.may_answer source.new)
         (S.asked source.old) (S.asked source.new)) }

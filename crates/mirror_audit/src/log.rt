@@ -6,7 +6,7 @@ ghost use Rattle.log_reader.specs.Holding.{IsSourceOf};
 ghost use Rattle.mirror_audit.specs.Audits.{IsAudited, IsHeadGiven, IsTreeGiven};
 ghost use Rattle.mirror_audit.specs.Edges.{CoversLog};
 ghost use Rattle.mirror_audit.specs.Faults.{BlamesPlace, GivesTrue, IsFailure, IsForAbsence};
-ghost use Rattle.mirror_audit.specs.Found.{IsReadInOrder, NamesWrong};
+ghost use Rattle.mirror_audit.specs.Found.{IsLogOf, IsReadInOrder, NamesWrong};
 ghost use Rattle.mirror_audit.specs.Order.{below_edge, file_order};
 ghost use Rattle.mirror_audit.specs.Stops.{AreRead, HasEdge, NamesHead, StopsEdge, StopsIn};
 ghost use Rattle.mirror_audit.specs.WholeLogs.{HasWholeLog};
@@ -75,8 +75,8 @@ fn audit_edge<H: TreeHash, S: Source>(
     ensures absent { IfErr result (IsForAbsence (S.may_answer source.old)) }
     ensures covers { OnOk result (CoversLog H.digest edge.now (S.may_answer source.old)
         (S.may_answer source.new) (S.asked source.old) (S.asked source.new)) }
-    ensures read { OnOk result (AreRead (below_edge edge.now.size) (S.may_answer source.old)
-        (S.may_answer source.new) (S.asked source.old) (S.asked source.new)) }
+    ensures read { OnOk result (AreRead H.digest (HasEdge H.digest edge.now)
+        (below_edge edge.now.size) (S.may_answer source.old) (S.may_answer source.new) (S.asked source.old) (S.asked source.new)) }
     ensures first { IfErr result (StopsIn H.digest (below_edge edge.now.size)
         (HasEdge H.digest edge.now) (S.may_answer source.old) (S.may_answer source.new)
         (S.asked source.old) (S.asked source.new)) }
@@ -102,8 +102,8 @@ fn audit_tree<H: TreeHash, S: Source>(
     ensures given { OnOk result (IsTreeGiven H.digest size root.now
         (S.may_answer source.old) (S.may_answer source.new) (S.asked source.old)
         (S.asked source.new)) }
-    ensures read { OnOk result (AreRead (file_order size) (S.may_answer source.old)
-        (S.may_answer source.new) (S.asked source.old) (S.asked source.new)) }
+    ensures read { OnOk result (AreRead H.digest (IsLogOf H.digest size root.now)
+        (file_order size) (S.may_answer source.old) (S.may_answer source.new) (S.asked source.old) (S.asked source.new)) }
     ensures first { IfErr result (StopsEdge H.digest (file_order size) size root.now
         (S.may_answer source.old) (S.may_answer source.new) (S.asked source.old)
         (S.asked source.new)) }

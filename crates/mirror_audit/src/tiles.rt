@@ -64,8 +64,8 @@ fn audit_tile<H: TreeHash, S: Source>(
     ensures absent { IfErr result (IsForAbsence (S.may_answer source.old)) }
     ensures covers { OnOk result (CoversTile H.digest level index hash.now (S.may_answer source.old)
         (S.may_answer source.new) (S.asked source.old) (S.asked source.new)) }
-    ensures read { OnOk result (AreRead (tile_order level index) (S.may_answer source.old)
-        (S.may_answer source.new) (S.asked source.old) (S.asked source.new)) }
+    ensures read { OnOk result (AreRead H.digest (HasTile H.digest level index hash.now)
+        (tile_order level index) (S.may_answer source.old) (S.may_answer source.new) (S.asked source.old) (S.asked source.new)) }
     ensures first { IfErr result (StopsIn H.digest (tile_order level index)
         (HasTile H.digest level index hash.now) (S.may_answer source.old) (S.may_answer source.new)
         (S.asked source.old) (S.asked source.new)) }
@@ -102,8 +102,8 @@ pub(crate) fn audit_row<H: TreeHash, S: Source>(
     ensures covers { OnOk result (CoversRow H.digest level index row.now (length row.now)
         (S.may_answer source.old)
         (S.may_answer source.new) (S.asked source.old) (S.asked source.new)) }
-    ensures read { OnOk result (AreRead (row_order level index (length row.now))
-        (S.may_answer source.old) (S.may_answer source.new) (S.asked source.old)
+    ensures read { OnOk result (AreRead H.digest (HasRow H.digest level index row.now)
+        (row_order level index (length row.now)) (S.may_answer source.old) (S.may_answer source.new) (S.asked source.old)
         (S.asked source.new)) }
     ensures first { IfErr result (StopsIn H.digest (row_order level index (length row.now))
         (HasRow H.digest level index row.now) (S.may_answer source.old) (S.may_answer source.new)

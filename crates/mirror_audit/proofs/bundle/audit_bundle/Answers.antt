@@ -1,4 +1,4 @@
-use Rattle.std.proofs.Common.{[], ◌∷◌, Some, IfSome, inl, refl, subst, ◌∙◌, rules, arith}
+use Rattle.std.proofs.Common.{[], ◌∷◌, Some, IfSome, inl, refl, ap, subst, ◌∙◌, rules, arith}
 use Rattle.tlog_tiles.specs.Row.{row_text}
 use Rattle.tlog_tiles.specs.declared.paths.Path.TheVariants.{Tile, Entries}
 use Rattle.log_reader.proofs.Refusing.{leaves_one}
@@ -10,11 +10,11 @@ use Rattle.mirror_sources.specs.Replies.{reply}
 use Rattle.mirror_audit.specs.Answering.{AreGiven}
 use Rattle.mirror_audit.proofs.Bundles.{covers_bundle}
 use Rattle.mirror_audit.proofs.Given.{on_ok}
-use Rattle.mirror_audit.specs.Found.{Here, IsPresent}
+use Rattle.mirror_audit.specs.Found.{Here, IsPresent, IsVerified, TrueFile}
 use Rattle.mirror_audit.specs.Order.{tile_order}
 use Rattle.mirror_audit.specs.Stops.{HasLeavesOf, HasTile, StopsIn}
 use Rattle.mirror_audit.proofs.Orders.{lowest_tile}
-use Rattle.mirror_audit.proofs.ShortLogs.{short_verifies}
+use Rattle.mirror_audit.proofs.ShortLogs.{bundle_verified, short_verifies}
 use Rattle.mirror_audit.proofs.Stops.{lacks_first, on_err, read_one, read_then, stops_here, stops_in}
 use Rattle.mirror_audit.proofs.bundle.audit_bundle.Goals as goal
 
@@ -68,19 +68,33 @@ returns-clause-honest g c = λ entries s t.
 
 pub returns-clause-read : goal.returns-clause-read
 returns-clause-read g c =
+    let digest = g.H.TreeHash.digest in
+    let hash = g.met.H.TreeHash.digest_length in
     let index = c.args.index in
+    let h = c.args.hash.now in
     let may = g.S.Source.may_answer in
     let asked = g.S.Source.asked in
     let m = c.get_file.new.source in
     let n = c.audit_leaves.new.source in
     let bundle = Entries index 256 in
     let tile = Tile 0 index 256 in
+    let bytes = c.deref.result.now in
+    let row = c.in-Some.row.items in
+    let found = subst (λ o. IfSome o (λ r. Verifies digest Bundle h bytes r.items)) c.in-Some.is c.in_ok-row.ensures.found in
+    let about = HasTile digest 0 index h in
+    let inner = HasLeavesOf digest index c.deref-2.result.now in
     on_ok c.audit_leaves.result c.audit_leaves.ensures.given
-    (λ given. read_then (may c.args.source.now) (may m) (may n) (asked c.args.source.now) (asked m) (asked n)
+    (λ given. read_then (may c.args.source.now) (may m) (may n) (asked c.args.source.now) (asked m) (asked n) digest about inner
     (bundle ∷ []) (tile ∷ []) (tile_order 0 index) (lowest_tile index)
-    (read_one (may c.args.source.now) (may m) (asked c.args.source.now) (asked m) bundle (Here c.in_ok-bytes.bytes.items)
-    c.in_ok-bytes.ensures.given)
-    (read_one (may m) (may n) (asked m) (asked n) tile (Here (row_text c.deref-2.result.now)) given))
+    (read_one (may c.args.source.now) (may m) (asked c.args.source.now) (asked m) digest about bundle
+    (Here c.in_ok-bytes.bytes.items) c.in_ok-bytes.ensures.given
+    (λ entries t. subst (λ b. IsVerified digest entries bundle (Here b)) c.deref.ensures.value
+    (bundle_verified digest hash entries index h bytes row t found)))
+    (λ entries t is.
+    let due = short_verifies digest hash entries t.short index h t.is_hash bytes (c.deref.ensures.value ∙ is.0) in
+    c.deref-2.ensures.value ∙ leaves_one digest 256 bytes row _ found.is_row due.is_row)
+    (read_one (may m) (may n) (asked m) (asked n) digest inner tile (Here (row_text c.deref-2.result.now)) given
+    (λ entries t. TrueFile tile (Here (row_text c.deref-2.result.now)) (ap row_text t))))
 
 pub returns-in_err-bytes-clause-first : goal.returns-in_err-bytes-clause-first
 returns-in_err-bytes-clause-first g c =
@@ -123,8 +137,10 @@ returns-clause-first g c =
     (stops_in digest (bundle ∷ []) (tile ∷ []) [] (tile_order 0 index) (HasTile digest 0 index hash)
     (HasLeavesOf digest index c.deref-2.result.now) (may c.args.source.now) (may m) (may n) (asked c.args.source.now) (asked m)
     (asked n)
-    (read_one (may c.args.source.now) (may m) (asked c.args.source.now) (asked m) bundle (Here c.in_ok-bytes.bytes.items)
-    c.in_ok-bytes.ensures.given)
+    (read_one (may c.args.source.now) (may m) (asked c.args.source.now) (asked m) digest (HasTile digest 0 index hash) bundle
+    (Here c.in_ok-bytes.bytes.items) c.in_ok-bytes.ensures.given
+    (λ entries t. subst (λ b. IsVerified digest entries bundle (Here b)) c.deref.ensures.value
+    (bundle_verified digest g.met.H.TreeHash.digest_length entries index hash bytes row t found)))
     (λ entries h t.
     let due = short_verifies digest g.met.H.TreeHash.digest_length entries h.short index hash h.is_hash bytes
     (c.deref.ensures.value ∙ t.0) in

@@ -16,7 +16,7 @@ loop-done-init g c = record {
   counted = refl;
   covers = levels_first c.args.edge.now c.requires.widths g.H.TreeHash.digest (g.S.Source.may_answer c.args.source.now)
       (g.S.Source.asked c.args.source.now) c.requires.small;
-  read = read_none (g.S.Source.may_answer c.args.source.now) (g.S.Source.asked c.args.source.now)
+  read = read_none g.H.TreeHash.digest (HasEdge g.H.TreeHash.digest c.args.edge.now) (g.S.Source.may_answer c.args.source.now) (g.S.Source.asked c.args.source.now)
       (levels_order c.args.edge.now.size 0) (each_none (level_order c.args.edge.now.size) 0);
 }
 
@@ -68,9 +68,20 @@ loop-done-preserved g c = record {
       c.edge_index-index.ensures ∙ ap (λ k. edge_index_of k level) c.size.ensures in
       let wide : length c.row.result.now ≡ width_of n level =
       ap length c.row.ensures ∙ c.requires.widths level (omega arith) in
-      read_then a b d x y z (levels_order n done) (row_order level (edge_index_of n level) (width_of n level))
-      (levels_order n (done + 1)) (next_level n done) c.loop-done.invariant.read
-      (read_as b d y z (row_order level c.edge_index-index.result (length c.row.result.now))
+      let digest = g.H.TreeHash.digest in
+      let edge = c.args.edge.now in
+      let index = c.edge_index-index.result in
+      let row = c.row.result.now in
+      let inner = HasRow digest level index row in
+      read_then a b d x y z digest (HasEdge digest edge) inner (levels_order n done)
+      (row_order level (edge_index_of n level) (width_of n level)) (levels_order n (done + 1)) (next_level n done)
+      c.loop-done.invariant.read
+      (λ entries h t. record {
+        short = h.short;
+        is_row = edge_row_true digest entries edge level index row h.size_is (h.rows level (omega arith)) c.row.ensures
+            (c.requires.widths level (omega arith)) at;
+      })
+      (read_as b d y z digest inner (row_order level index (length row))
       (row_order level (edge_index_of n level) (width_of n level)) (λ j. row_order level (at j) (wide j))
       c.in_ok-audit_row.ensures.read);
 }

@@ -1,7 +1,7 @@
 use Rattle.std.proofs.Common.{◌≡◌, ◌-◌}
 use Rattle.mirror_audit.specs.Edges.{CoversLevels}
 use Rattle.mirror_audit.specs.Order.{levels_order}
-use Rattle.mirror_audit.specs.Stops.{AreRead}
+use Rattle.mirror_audit.specs.Stops.{AreRead, HasEdge}
 use Rattle.mirror_audit.proofs.edge.audit_levels.Given as goal
 
 abbrev pub invariant-loop-done : goal.invariant-loop-done
@@ -9,6 +9,6 @@ invariant-loop-done g l = record {
   counted : g.S.Source.failed l.source ≡ g.S.Source.failed l.fn.source;
   covers : CoversLevels g.H.TreeHash.digest l.edge (8 - l.done) (g.S.Source.may_answer l.fn.source)
       (g.S.Source.may_answer l.source) (g.S.Source.asked l.fn.source) (g.S.Source.asked l.source);
-  read : AreRead (levels_order l.edge.size l.done) (g.S.Source.may_answer l.fn.source)
+  read : AreRead g.H.TreeHash.digest (HasEdge g.H.TreeHash.digest l.edge) (levels_order l.edge.size l.done) (g.S.Source.may_answer l.fn.source)
       (g.S.Source.may_answer l.source) (g.S.Source.asked l.fn.source) (g.S.Source.asked l.source);
 }

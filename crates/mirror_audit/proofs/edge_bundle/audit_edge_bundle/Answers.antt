@@ -10,7 +10,7 @@ use Rattle.log_reader.specs.EdgeRows.{row_at}
 use Rattle.log_reader.specs.Verified.{HasLeaves}
 use Rattle.mirror_audit.specs.Edges.{IsGivenAt}
 use Rattle.mirror_audit.proofs.Levels.{bundle_none, bundle_some}
-use Rattle.mirror_audit.specs.Found.{IsAbsent, IsPresent, NotInFull}
+use Rattle.mirror_audit.specs.Found.{EndBundle, IsAbsent, IsPresent, NotInFull}
 use Rattle.mirror_audit.specs.Order.{bundle_of_width, edge_bundle}
 use Rattle.mirror_audit.specs.Stops.{HasEdge, IsPartRead}
 use Rattle.mirror_audit.proofs.Orders.{no_bundle, some_bundle}
@@ -110,7 +110,7 @@ returns-then-is_empty-clause-read g c =
     let none : length c.row-row.result.now ≡ 0 = search rules in
     let width : width_of n 0 ≡ 0 =
     sym (c.requires 0 (omega arith)) ∙ subst (λ (r : List (List ℕ)). length r ≡ 0) c.row-row.ensures none in
-    read_none (g.S.Source.may_answer c.args.source.now) (g.S.Source.asked c.args.source.now) (edge_bundle n)
+    read_none g.H.TreeHash.digest (HasEdge g.H.TreeHash.digest c.args.edge.now) (g.S.Source.may_answer c.args.source.now) (g.S.Source.asked c.args.source.now) (edge_bundle n)
     (no_bundle (edge_index_of n 0) (width_of n 0) width)
 
 pub returns-clause-read : goal.returns-clause-read
@@ -134,7 +134,16 @@ returns-clause-read g c =
     (λ j. bundle_of_width (sym at j) (sym wide j)) ∙ some_bundle index (length row) some in
     let r = subst (λ o. IfSome o (λ (w : Vec ℕ Global). IsPartRead path w.items a b x y)) c.in-Some.is
     c.in_ok-bytes.ensures.read in
-    read_as a b x y (path ∷ []) (edge_bundle n) (sym is) (read_one a b x y path r.found r.given)
+    let bytes = c.in-Some.bytes.items in
+    let leaves : HasLeaves digest (length row) c.deref.result.now row = search rules in
+    let v = subst (λ t. HasLeaves digest (length row) t row) c.deref.ensures.value leaves in
+    read_as a b x y digest (HasEdge digest edge) (path ∷ []) (edge_bundle n) (sym is)
+    (read_one a b x y digest (HasEdge digest edge) path r.found r.given
+    (λ entries h.
+    let row_is : row ≡ level_row digest entries 0 (256 * index) (length row) =
+    c.row-row.ensures ∙ (h.rows 0 (omega arith)
+    ∙ (λ j. level_row digest entries 0 (256 * sym at j) (sym wide j))) in
+    EndBundle index (length row) r.found bytes r.begins (subst (HasLeaves digest (length row) bytes) row_is v)))
 
 pub returns-in_err-bytes-clause-first : goal.returns-in_err-bytes-clause-first
 returns-in_err-bytes-clause-first g c =

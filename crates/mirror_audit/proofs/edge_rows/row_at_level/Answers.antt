@@ -9,7 +9,8 @@ use Rattle.log_reader.proofs.TrueReads.{edge_row, edge_tile_file, one_row}
 use Rattle.mirror_sources.specs.Files.{width_named}
 use Rattle.tlog_tiles.specs.declared.paths.Path.{Path}
 use Rattle.mirror_audit.specs.Answering.{AreGiven}
-use Rattle.mirror_audit.specs.Found.{IsAbsentEdge, IsPresent, NotInFull, file_read, replies_of}
+use Rattle.mirror_audit.specs.Found.{EdgeRow, IsAbsentEdge, IsPresent, IsVerified, NotInFull, file_read, replies_of}
+use Rattle.tlog_tiles.specs.Row.{IsRow}
 use Rattle.mirror_audit.specs.Order.{edge_file}
 use Rattle.mirror_audit.specs.Stops.{HasSize, IsPartRead}
 use Rattle.mirror_audit.proofs.Given.{given_none}
@@ -81,6 +82,7 @@ returns-then-width-eq0-clause-read g c =
       reads = [];
       given = given_none (g.S.Source.may_answer c.args.source.now) (g.S.Source.asked c.args.source.now);
       paths_are = sym (no_tile level (edge_index_of size level) (width_of size level) none);
+      verified = λ digest entries. tt;
       is_true = λ digest entries hash short same t.
           no_row_is_true digest entries size level entries c.new.result.items none c.new.ensures.items;
     }
@@ -151,6 +153,13 @@ returns-in-Ok-clause-read g c =
       reads = file_read path r.found ∷ [];
       given = given_one_file a b x y path r.found r.given;
       paths_are = sym is;
+      verified = λ digest entries. (
+        subst (λ p. IsVerified digest entries p r.found) (sym c.edge_path-path.ensures)
+            (EdgeRow level index width r.found c.in-Some.bytes.items c.in-Ok.row.items r.begins
+            (subst (λ w. IsRow w c.in-Some.bytes.items c.in-Ok.row.items) c.edge_width-width.ensures
+            (subst (λ t. IsRow c.edge_width-width.result t c.in-Ok.row.items) c.deref.ensures.value c.in-Ok.ensures))),
+        λ t. tt,
+      );
       is_true = λ digest entries hash short same t.
           let true = r.is_true digest entries hash short
           (subst (IsTreeFile (length entries)) (sym c.edge_path-path.ensures)

@@ -92,7 +92,7 @@ returns-in_err-row-clause-first g c = λ digest hash.
     let y = asked c.loop-level.source in
     let z = asked c.row_at_level.new.source in
     let parts = file_parts size n c.loop-level-test.true in
-    let read = rows_paths size (λ k. get_or (items_of c.loop-level.rows.items) k []) n a b x y c.loop-level.invariant.read in
+    let read = rows_paths digest (HasSize digest size) size (λ k. get_or (items_of c.loop-level.rows.items) k []) n a b x y c.loop-level.invariant.read in
     let stop = stops_in digest (edge_order size n) (edge_file size n) parts.rest (edge_order size 8) (HasSize digest size)
     (HasSize digest size) a b d x y z read (λ entries h t. h) parts.files_are _ (c.in_err-row.ensures.first digest hash) in
     search (rules, stop)

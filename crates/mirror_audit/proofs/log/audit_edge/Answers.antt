@@ -4,6 +4,8 @@ use Rattle.tlog_tiles.specs.declared.paths.Path.{Path}
 use Rattle.log_reader.proofs.TrueReads.{source_later}
 use Rattle.mirror_audit.proofs.Given.{on_ok}
 use Rattle.mirror_audit.proofs.Levels.{log_covers}
+use Rattle.mirror_audit.specs.Faults.{IsForAbsence}
+use Rattle.mirror_audit.proofs.LogStops.{absence_before}
 use Rattle.mirror_audit.specs.Order.{below_edge, edge_bundle, levels_order}
 use Rattle.mirror_audit.specs.Stops.{HasEdge, StopsIn}
 use Rattle.mirror_audit.proofs.Stops.{on_err, read_none, read_then, stops_in}
@@ -37,8 +39,9 @@ returns-clause-read g c =
     let n = c.args.edge.now.size in
     on_ok c.audit_edge_bundle.result c.audit_edge_bundle.ensures.read
     (λ last. read_then (may c.args.source.now) (may c.audit_levels.new.source) (may c.audit_edge_bundle.new.source)
-    (asked c.args.source.now) (asked c.audit_levels.new.source) (asked c.audit_edge_bundle.new.source) (levels_order n 7)
-    (edge_bundle n) (below_edge n) refl c.in_ok-audit_levels.ensures.read last)
+    (asked c.args.source.now) (asked c.audit_levels.new.source) (asked c.audit_edge_bundle.new.source) g.H.TreeHash.digest
+    (HasEdge g.H.TreeHash.digest c.args.edge.now) (HasEdge g.H.TreeHash.digest c.args.edge.now) (levels_order n 7)
+    (edge_bundle n) (below_edge n) refl c.in_ok-audit_levels.ensures.read (λ entries h t. h) last)
 
 pub returns-in_err-audit_levels-clause-first : goal.returns-in_err-audit_levels-clause-first
 returns-in_err-audit_levels-clause-first g c =
@@ -50,7 +53,7 @@ returns-in_err-audit_levels-clause-first g c =
     let n = c.args.edge.now.size in
     let has = HasEdge digest c.args.edge.now in
     let stop = stops_in digest [] (levels_order n 7) (edge_bundle n) (below_edge n) has has a a b x x y
-    (read_none a x [] refl) (λ entries h t. h) refl _ c.in_err-audit_levels.ensures.first in
+    (read_none digest has a x [] refl) (λ entries h t. h) refl _ c.in_err-audit_levels.ensures.first in
     search (rules, stop)
 
 pub returns-clause-first : goal.returns-clause-first
@@ -68,3 +71,10 @@ returns-clause-first g c =
     (stops_in digest (levels_order n 7) (edge_bundle n) [] (below_edge n) has has a b d x y z c.in_ok-audit_levels.ensures.read
     (λ entries h t. h) (ap (λ (l : List Path). levels_order n 7 ++ l) (sym (append-nil (edge_bundle n)))))
     c.audit_edge_bundle.ensures.first
+
+pub returns-clause-absent : goal.returns-clause-absent
+returns-clause-absent g c =
+    let a = g.S.Source.may_answer c.args.source.now in
+    let b = g.S.Source.may_answer c.audit_levels.new.source in
+    on_err (IsForAbsence b) (IsForAbsence a) c.audit_edge_bundle.result
+    (absence_before a b c.in_ok-audit_levels.ensures.covers.given.stays) c.audit_edge_bundle.ensures.absent

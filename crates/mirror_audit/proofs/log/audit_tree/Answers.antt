@@ -51,10 +51,20 @@ returns-clause-read g c =
     let x = asked c.args.source.now in
     let y = asked c.read_edge.new.source in
     let z = asked c.audit_edge-done.new.source in
+    let digest = g.H.TreeHash.digest in
+    let r = c.in_ok-edge.ensures.read in
+    let size_is : edge.size ≡ size = c.in_ok-edge.ensures.leads.is_edge.size_is in
+    let has = HasEdge digest edge in
+    let log = IsLogOf digest size c.args.root.now in
     on_ok c.audit_edge-done.result c.audit_edge-done.ensures.read
-    (λ below. read_then a b d x y z (edge_order size 8) (below_edge size) (file_order size) refl
-    (rows_paths size (row_at edge) 8 a b x y c.in_ok-edge.ensures.read)
-    (subst (λ n. AreRead (below_edge n) b d y z) c.in_ok-edge.ensures.leads.is_edge.size_is below))
+    (λ below. read_then a b d x y z digest log has (edge_order size 8) (below_edge size) (file_order size) refl
+    (rows_paths digest log size (row_at edge) 8 a b x y r)
+    (λ entries l t. record {
+      short = l.short;
+      size_is = size_is ∙ sym l.size_is;
+      rows = edge_is_true digest g.met.H.TreeHash.digest_length edge size size_is a b x y r entries l.short l.size_is t;
+    })
+    (subst (λ n. AreRead digest has (below_edge n) b d y z) size_is below))
 
 pub returns-in_err-edge-clause-first : goal.returns-in_err-edge-clause-first
 returns-in_err-edge-clause-first g c =
@@ -86,7 +96,7 @@ returns-clause-first g c =
     c.audit_edge-done.result
     (λ fault stop. stops_as_edge digest (file_order size) size root log (λ entries l. l) a d x z fault
     (stops_in digest (edge_order size 8) (below_edge edge.size) [] (file_order size) log has a b d x y z
-    (rows_paths size (row_at edge) 8 a b x y r)
+    (rows_paths digest log size (row_at edge) 8 a b x y r)
     (λ entries l t. record {
       short = l.short;
       size_is = size_is ∙ sym l.size_is;

@@ -1,4 +1,5 @@
-use Rattle.std.proofs.Common.{[], ◌∷◌, None, Some, take, refl, sym, subst, ◌≡◌, ◌∙◌, ap}
+use Rattle.std.proofs.Common.{List, ℕ, ◌++◌, drop, [], ◌∷◌, None, Some, take, refl, sym, subst, ◌≡◌, ◌∙◌, ap}
+use Rattle.std.proofs.lemmas.List.{take-append-drop}
 use Rattle.mirror_sources.specs.Honest.{true_bytes}
 use Rattle.log_reader.specs.Holding.{GoesOn}
 use Rattle.mirror_audit.proofs.Given.{cut_full, given_one, may_none, may_some}
@@ -94,6 +95,11 @@ returns-clause-read g c =
           (given_one a b x y full (Some whole) c.in_ok-full.ensures.later
           (may_some a full c.in_ok-full.field-0 c.in-Some.full c.in-Some.is c.in_ok-full.ensures.answer)
           c.in_ok-full.ensures.recorded);
+      begins = record {
+        rest = drop c.in-Some-len_of_part.len whole;
+        bytes_are = sym (take-append-drop c.in-Some-len_of_part.len whole)
+            ∙ ap (λ (l : List ℕ). l ++ drop c.in-Some-len_of_part.len whole) (sym c.truncate.ensures.items);
+      };
       is_true = λ digest entries hash short file partial goes.
           let there = c.len_of_part.ensures.honest digest entries hash short file partial
           (subst (GoesOn c.args.path (true_bytes digest entries c.args.path)) (sym c.deref.ensures.value) goes) in

@@ -1,4 +1,4 @@
-use Rattle.std.proofs.Common.{[], ◌∷◌, Some, None, Vec, Global, ℕ}
+use Rattle.std.proofs.Common.{[], ◌∷◌, refl, Some, None, Vec, Global, ℕ}
 use Rattle.mirror_sources.specs.Files.{full_of}
 use Rattle.mirror_audit.specs.Edges.{IsFullGiven, IsGivenAt}
 use Rattle.mirror_audit.proofs.Given.{given_one, if_found, if_none, in_its_place, may_none, may_some, there}
@@ -72,6 +72,7 @@ returns-in-Some-clause-read g c = record {
       c.in_ok-bytes.ensures.answer)
       c.in_ok-bytes.ensures.recorded;
   present = tt;
+  begins = refl;
   is_true = λ digest entries hash short file is. is;
 }
 

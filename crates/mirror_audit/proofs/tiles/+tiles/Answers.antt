@@ -14,7 +14,7 @@ use Rattle.mirror_audit.specs.Found.{Here}
 use Rattle.mirror_audit.specs.Order.{row_order, tile_order}
 use Rattle.mirror_audit.specs.Stops.{AreRead, HasRow, HasTile, StopsIn}
 use Rattle.mirror_audit.proofs.Orders.{each_next, each_none, each_parts, tile_then}
-use Rattle.mirror_audit.proofs.ShortLogs.{row_of_tile}
+use Rattle.mirror_audit.proofs.ShortLogs.{row_of_tile, tile_verified}
 use Rattle.mirror_audit.proofs.Stops.{on_err, read_hinted, read_none, read_one, read_then, stops_in}
 use Rattle.mirror_audit.proofs.tiles.+tiles.Goals as goal
 
@@ -23,7 +23,7 @@ audit_row-loop-i-init g t c = record {
   counted = refl;
   covers = row_first g.H.TreeHash.digest c.args.level c.args.index c.args.row.now (g.S.Source.may_answer c.args.source.now)
       (g.S.Source.asked c.args.source.now);
-  read = read_none (g.S.Source.may_answer c.args.source.now) (g.S.Source.asked c.args.source.now)
+  read = read_none g.H.TreeHash.digest (HasRow g.H.TreeHash.digest c.args.level c.args.index c.args.row.now) (g.S.Source.may_answer c.args.source.now) (g.S.Source.asked c.args.source.now)
       (row_order c.args.level c.args.index 0) (each_none (tile_order (c.args.level - 1)) (256 * c.args.index));
 }
 
@@ -67,12 +67,21 @@ audit_row-loop-i-preserved g t c = record {
       let first = 256 * c.args.index in
       let i = c.loop-i.i in
       let hinted = c.expect_bundles.new.source in
+      let digest = g.H.TreeHash.digest in
+      let row = c.args.row.now in
+      let about = HasRow digest level c.args.index row in
       read_then (may c.args.source.now) (may hinted) (may c.audit_tile.new.source) (asked c.args.source.now) (asked hinted)
-      (asked c.audit_tile.new.source) (row_order level c.args.index i) (tile_order (level - 1) (first + i))
+      (asked c.audit_tile.new.source) digest about (HasTile digest (level - 1) (first + i) (get_or row i []))
+      (row_order level c.args.index i) (tile_order (level - 1) (first + i))
       (row_order level c.args.index (i + 1)) (each_next (tile_order (level - 1)) first i)
-      (read_hinted (may c.args.source.now) (may c.loop-i.source) (asked c.args.source.now) (asked c.loop-i.source) (may hinted)
-      (asked hinted) (row_order level c.args.index i) c.expect_bundles.ensures.later c.expect_bundles.ensures.recorded
-      c.loop-i.invariant.read)
+      (read_hinted (may c.args.source.now) (may c.loop-i.source) (asked c.args.source.now) (asked c.loop-i.source) digest about
+      (may hinted) (asked hinted) (row_order level c.args.index i) c.expect_bundles.ensures.later
+      c.expect_bundles.ensures.recorded c.loop-i.invariant.read)
+      (λ entries r t. record {
+        short = r.short;
+        is_hash = child_hash digest entries level c.args.index row r.is_row c.requires.above c.requires.level i
+            c.loop-i-test.true;
+      })
       c.in_ok-audit_tile.ensures.read;
 }
 
@@ -146,7 +155,8 @@ audit_tile-returns-then-level-eq0-clause-read g t c =
     let may = g.S.Source.may_answer in
     let asked = g.S.Source.asked in
     let zero : 0 ≡ c.args.level = omega arith in
-    subst (λ l. OnOk c.audit_bundle.result (AreRead (tile_order l c.args.index) (may c.args.source.now)
+    subst (λ l. OnOk c.audit_bundle.result (AreRead g.H.TreeHash.digest
+    (HasTile g.H.TreeHash.digest l c.args.index c.args.hash.now) (tile_order l c.args.index) (may c.args.source.now)
     (may c.audit_bundle.new.source) (asked c.args.source.now) (asked c.audit_bundle.new.source)))
     zero c.audit_bundle.ensures.read
 
@@ -174,27 +184,35 @@ audit_tile-returns-in_err-row-clause-first g t c =
     let some : 1 ≤ level = omega arith in
     let has = HasTile digest level index c.args.hash.now in
     let stop = stops_in digest [] (path ∷ []) (row_order level index 256) (tile_order level index) has has a a b x x y
-    (read_none a x [] refl) (λ entries h t. h) (tile_then level index some) _ (c.in_err-row.ensures.first level index refl) in
+    (read_none digest has a x [] refl) (λ entries h t. h) (tile_then level index some) _ (c.in_err-row.ensures.first level index refl) in
     search (rules, stop)
 
 pub audit_tile-returns-clause-read : goal.audit_tile-returns-clause-read
 audit_tile-returns-clause-read g t c =
+    let digest = g.H.TreeHash.digest in
+    let hash = g.met.H.TreeHash.digest_length in
     let may = g.S.Source.may_answer in
     let asked = g.S.Source.asked in
     let level = c.args.level in
     let index = c.args.index in
+    let h = c.args.hash.now in
     let path = Tile level index 256 in
     let row = c.in_ok-row.row.items in
+    let found = c.in_ok-row.ensures.found in
+    let low = c.deref.result.now in
     let m = c.row_of.new.source in
     let n = c.audit_row.new.source in
     let some : 1 ≤ level = omega arith in
-    let long : length c.deref.result.now ≡ 256 = ap length c.deref.ensures.value ∙ c.in_ok-row.ensures.found.is_row.count in
+    let long : length low ≡ 256 = ap length c.deref.ensures.value ∙ found.is_row.count in
+    let about = HasTile digest level index h in
     on_ok c.audit_row.result c.audit_row.ensures.read
-    (λ below. read_then (may c.args.source.now) (may m) (may n) (asked c.args.source.now) (asked m) (asked n) (path ∷ [])
-    (row_order level index (length c.deref.result.now)) (tile_order level index)
+    (λ below. read_then (may c.args.source.now) (may m) (may n) (asked c.args.source.now) (asked m) (asked n) digest about
+    (HasRow digest level index low) (path ∷ []) (row_order level index (length low)) (tile_order level index)
     (tile_then level index some ∙ ap (λ w. path ∷ row_order level index w) (sym long))
-    (read_one (may c.args.source.now) (may m) (asked c.args.source.now) (asked m) path (Here (row_text row))
-    c.in_ok-row.ensures.found.given) below)
+    (read_one (may c.args.source.now) (may m) (asked c.args.source.now) (asked m) digest about path (Here (row_text row))
+    found.given (λ entries t. tile_verified digest hash entries level index h row t found.is_row found.folds))
+    (λ entries t is. subst (λ r. HasRow digest level index r entries) (sym c.deref.ensures.value)
+    (row_of_tile digest hash entries level index h row t found.is_row is.0)) below)
 
 pub audit_tile-returns-clause-first : goal.audit_tile-returns-clause-first
 audit_tile-returns-clause-first g t c =
@@ -220,7 +238,8 @@ audit_tile-returns-clause-first g t c =
     (StopsIn digest (tile_order level index) (HasTile digest level index hash) a d x z) c.audit_row.result
     (stops_in digest (path ∷ []) (row_order level index (length low)) [] (tile_order level index)
     (HasTile digest level index hash) (HasRow digest level index low) a b d x y z
-    (read_one a b x y path (Here (row_text row)) found.given)
+    (read_one a b x y digest (HasTile digest level index hash) path (Here (row_text row)) found.given
+    (λ entries h. tile_verified digest g.met.H.TreeHash.digest_length entries level index hash row h found.is_row found.folds))
     (λ entries h t. subst (λ r. HasRow digest level index r entries) (sym c.deref.ensures.value)
     (row_of_tile digest g.met.H.TreeHash.digest_length entries level index hash row h found.is_row t.0))
     (tile_then level index some ∙ ((λ j. path ∷ row_order level index (sym long j))
@@ -244,8 +263,8 @@ audit_row-returns-in_err-audit_tile-clause-first g t c =
     let stop = stops_in digest (row_order level index i) (order (first + i)) parts.rest (row_order level index (length row))
     (HasRow digest level index row) (HasTile digest (level - 1) (first + i) h) (may c.args.source.now) (may hinted)
     (may c.audit_tile.new.source) (asked c.args.source.now) (asked hinted) (asked c.audit_tile.new.source)
-    (read_hinted (may c.args.source.now) (may c.loop-i.source) (asked c.args.source.now) (asked c.loop-i.source) (may hinted)
-    (asked hinted) (row_order level index i) c.expect_bundles.ensures.later c.expect_bundles.ensures.recorded
+    (read_hinted (may c.args.source.now) (may c.loop-i.source) (asked c.args.source.now) (asked c.loop-i.source) digest
+    (HasRow digest level index row) (may hinted) (asked hinted) (row_order level index i) c.expect_bundles.ensures.later c.expect_bundles.ensures.recorded
     c.loop-i.invariant.read)
     (λ entries r t. record {
       short = r.short;

@@ -1,7 +1,7 @@
 use Rattle.std.proofs.Common.{◌≡◌, ◌+◌, ◌*◌}
 use Rattle.mirror_audit.specs.Covering.{CoversRow}
 use Rattle.mirror_audit.specs.Order.{row_order}
-use Rattle.mirror_audit.specs.Stops.{AreRead}
+use Rattle.mirror_audit.specs.Stops.{AreRead, HasRow}
 use Rattle.mirror_audit.proofs.tiles.+tiles.Given as goal
 
 abbrev pub decreases-audit_tile : goal.decreases-audit_tile
@@ -15,6 +15,6 @@ invariant-audit_row-loop-i g l = record {
   counted : g.S.Source.failed l.source ≡ g.S.Source.failed l.fn.source;
   covers : CoversRow g.H.TreeHash.digest l.level l.index l.row l.i (g.S.Source.may_answer l.fn.source)
       (g.S.Source.may_answer l.source) (g.S.Source.asked l.fn.source) (g.S.Source.asked l.source);
-  read : AreRead (row_order l.level l.index l.i) (g.S.Source.may_answer l.fn.source)
+  read : AreRead g.H.TreeHash.digest (HasRow g.H.TreeHash.digest l.level l.index l.row) (row_order l.level l.index l.i) (g.S.Source.may_answer l.fn.source)
       (g.S.Source.may_answer l.source) (g.S.Source.asked l.fn.source) (g.S.Source.asked l.source);
 }
