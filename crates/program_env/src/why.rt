@@ -104,13 +104,14 @@ impl Why {
 
 // A named file that was not read or not written, or whose bytes are refused.
 fn of_name(alloc: Global, failed: FailedName) -> Option<Why> {
-    if failed.name.is_empty() {
+    let FailedName { name, cause } = failed;
+    if name.is_empty() {
         return Why::of_thing(alloc, "an empty name");
     }
-    match failed.cause {
-        Cause::System(error) => Why::of_error(alloc, Ok(failed.name), &error),
+    match cause {
+        Cause::System(error) => Why::of_error(alloc, Ok(name), &error),
         Cause::Bytes(reason) => Some(Why::Thing {
-            thing: failed.name,
+            thing: name,
             reason,
         }),
     }
