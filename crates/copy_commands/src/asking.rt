@@ -5,7 +5,7 @@ ghost use Rattle.std.specs.Result.{result_map_both};
 use mirror_model::TakeFault;
 use program_copies::{CopyAskFault, CopyFault};
 use program_env::served::{copy_size, of_heads, of_note, of_proof};
-use program_env::why::{Why, of_folder, of_origin, of_output};
+use program_env::why::{Why, of_folder, of_origin};
 use program_env::{Env, Error, RunFault, RunFiles, RunFolders};
 use program_reports::{AskFault, ReportFault};
 use program_words::CopyArgs;
@@ -42,7 +42,7 @@ fn why_of<R, F: RunFiles, D: RunFolders, I, O, E>(
     match fault {
         CopyAskFault::Copy(fault) => why_of_copy(env, copy.folder, fault),
         CopyAskFault::Heads(fault) => of_heads(alloc, &env.files, fault),
-        CopyAskFault::Ask(AskFault::WriteFault) => of_output(alloc),
+        CopyAskFault::Ask(AskFault::WriteFault) => Some(Why::Output),
         CopyAskFault::Ask(AskFault::Report(ReportFault::NothingComplete)) => Why::of_thing(
             alloc,
             copy.folder,

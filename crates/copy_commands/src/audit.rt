@@ -6,14 +6,15 @@ ghost use Rattle.program_env.specs.Envs.{IsSameEnv, moment};
 ghost use Rattle.program_env.specs.Performing.{Performs};
 ghost use Rattle.program_monitor.specs.Audits.{RunsAudit};
 
-use crate::places::{name_of, source_of};
+use crate::places::server_of;
 use mirror_audit::AuditFault;
+use mirror_folders::DirSource;
 use mirror_progress::{CountingSource, Progress, StandardError, Task};
 use mirror_sources::Source;
 use program_commands::check_origin;
-use program_env::places::{of_edge, of_refused};
-use program_env::why::{Why, of_origin, of_output};
-use program_env::{Env, Error, RunFault, RunFiles, RunFolders};
+use program_env::places::{of_edge, of_file, of_refused, of_source};
+use program_env::why::{Why, of_origin};
+use program_env::{AnySource, Env, Error, Failing, RunFault, RunFiles, RunFolders, WatchedSource};
 use program_monitor::{AuditRunFault, run_audit};
 use program_words::commands::audit::Audit;
 use program_words::{Command, Place};
@@ -69,19 +70,66 @@ where
         (moment F.puts D.held D.puts I.remaining O.contents env.new)
         (Command.Audit audit.now) result }
 {
-    let Ok(source) = source_of(env.rt, env.alloc, &audit.place, audit.ahead as usize) else {
-        return Err(Error::no_memory());
-    };
+    match &audit.place {
+        Place::Folder(folder) => {
+            let source = DirSource::new(env.rt, env.alloc, folder);
+            audit_any(env, key_bytes, keys, audit, source)
+        }
+        Place::Server {
+            host,
+            prefix,
+            address,
+            port,
+        } => {
+            let site = (*host, *prefix);
+            match server_of(
+                env.rt,
+                env.alloc,
+                site,
+                (*address, *port),
+                audit.ahead as usize,
+            ) {
+                Ok(source) => audit_any(env, key_bytes, keys, audit, source),
+                Err(_) => Err(Error::no_memory()),
+            }
+        }
+    }
+}
+
+// The same, at this source.
+fn audit_any<
+    R,
+    F: RunFiles,
+    D: RunFolders,
+    I: Read,
+    O: Write,
+    E: Write,
+    S: Source + Failing + Drop,
+>(
+    env: &mut Env<'_, '_, '_, '_, R, F, D, I, O, E>,
+    key_bytes: &[u8],
+    keys: &[Box<dyn Verifier>],
+    audit: &Audit<'_>,
+    source: S,
+) -> Result<u8, Error>
+where
+    R: Clock + Eprint,
+    ensures same { IsSameEnv env.old env.new }
+    ensures does { Performs sha256 (map (λ k. key k) keys.now) key_bytes.now
+        (moment F.puts D.held D.puts I.remaining O.contents env.old)
+        (moment F.puts D.held D.puts I.remaining O.contents env.new)
+        (Command.Audit audit.now) result }
+{
+    let source = WatchedSource::new(env.alloc, AnySource::new(source));
     let (answer, source) = audit_source(env.rt, env.alloc, audit, keys, source, env.output);
-    drop(source);
-    audited(env.rt, env.alloc, audit, answer)
+    audited(env.alloc, audit, source, answer)
 }
 
 // The answer of the command, of what the audit answered.
-fn audited<R: Files>(
-    rt: &R,
+fn audited<S: Source + Failing + Drop>(
     alloc: Global,
     words: &Audit<'_>,
+    source: WatchedSource<S>,
     answer: Result<u8, AuditRunFault>,
 ) -> Result<u8, Error>
     ensures { result ≡ result_map_both (λ status. status) (λ fault. RunFault.Audit fault) answer }
@@ -89,7 +137,7 @@ fn audited<R: Files>(
     match answer {
         Ok(status) => Ok(status),
         Err(fault) => {
-            let why = why_of(rt, alloc, words, fault);
+            let why = why_of(alloc, &words.place, &source, fault);
             Err(Error::new(RunFault::Audit(fault), why))
         }
     }
@@ -154,36 +202,23 @@ fn audit_counted<S: Source + Drop, R: Clock + Eprint, W: Write>(
     (answer, source.into_source())
 }
 
-// What the fault is about: the file of the place.
-fn why_of<R: Files>(rt: &R, alloc: Global, words: &Audit<'_>, fault: AuditRunFault) -> Option<Why> {
-    let fault = match fault {
-        AuditRunFault::Audit(fault) => fault,
-        AuditRunFault::WriteFault => return of_output(alloc),
-    };
-    let Ok(name) = name_of(alloc, &words.place) else {
-        return None;
-    };
+// What the fault is about: a file of the place.
+fn why_of<S: Failing + Drop>(
+    alloc: Global,
+    place: &Place<'_>,
+    source: &WatchedSource<S>,
+    fault: AuditRunFault,
+) -> Option<Why> {
     match fault {
-        AuditFault::NoFile(path) => of_file(alloc, &name, &path, "not found"),
-        AuditFault::FalseFile(path) => of_file(alloc, &name, &path, "false"),
-        AuditFault::NoCheckpoint => of_file(alloc, &name, &Path::Checkpoint, "not found"),
-        AuditFault::Head(fault) => match &words.place {
-            Place::Folder(folder) => of_refused(rt, alloc, folder, fault),
-            Place::Server { .. } => of_file(alloc, &name, &Path::Checkpoint, ""),
+        AuditRunFault::WriteFault => Some(Why::Output),
+        AuditRunFault::Audit(fault) => match fault {
+            AuditFault::NoFile(path) => of_file(alloc, place, &path, "not found"),
+            AuditFault::FalseFile(path) => of_file(alloc, place, &path, "false"),
+            AuditFault::NoCheckpoint => of_file(alloc, place, &Path::Checkpoint, "not found"),
+            AuditFault::Head(fault) => of_refused(alloc, place, source, fault),
+            AuditFault::NoEdge => of_edge(alloc, place, source),
+            AuditFault::Source => of_source(alloc, place, source),
+            AuditFault::OutOfMemory => None,
         },
-        AuditFault::NoEdge => match &words.place {
-            Place::Folder(folder) => of_edge(rt, alloc, folder),
-            Place::Server { .. } => Why::of_thing(alloc, &name),
-        },
-        AuditFault::OutOfMemory => None,
-        AuditFault::Source => Why::of_thing(alloc, &name),
     }
-}
-
-// A file of a place, and what is wrong with it.
-fn of_file(alloc: Global, place: &str, path: &Path, reason: &str) -> Option<Why> {
-    let Ok(thing) = format!(in alloc; "{place}/{path}") else {
-        return None;
-    };
-    Why::of_reason(alloc, &thing, reason)
 }

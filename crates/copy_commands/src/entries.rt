@@ -7,8 +7,8 @@ ghost use Rattle.program_env.specs.Performing.{Performs};
 
 use crate::asking::{of_file, of_head};
 use program_commands::check_origin;
-use program_env::served::{copy_size, of_size};
-use program_env::why::{Why, of_folder, of_origin, of_output};
+use program_env::served::{copy_size, of_backwards, of_size};
+use program_env::why::{Why, of_folder, of_origin};
 use program_env::{Env, Error, RunFault, RunFiles, RunFolders};
 use program_monitor::{CopyEntriesFault, EntryRange, entries_of_copy};
 use program_words::Command;
@@ -106,8 +106,11 @@ fn why_of<R, F: RunFiles, D: RunFolders, I, O, E>(
             let served = copy_size(alloc, &env.files, folder);
             of_size(alloc, folder, entries.range.to, served)
         }
+        CopyEntriesFault::Backwards => {
+            of_backwards(alloc, folder, entries.range.from, entries.range.to)
+        }
         CopyEntriesFault::ShelfFault => of_folder(alloc, &env.folders, folder),
-        CopyEntriesFault::WriteFault => of_output(alloc),
-        _ => None,
+        CopyEntriesFault::WriteFault => Some(Why::Output),
+        CopyEntriesFault::OutOfMemory => None,
     }
 }

@@ -10,7 +10,8 @@ use mirror_copy::Places;
 use mirror_follow::FollowFault;
 use mirror_sources::Source;
 use program_commands::check_origin;
-use program_env::why::{Why, of_folder, of_named, of_origin, of_output};
+use program_env::served::of_note;
+use program_env::why::{Why, of_folder, of_named, of_origin};
 use program_env::{Env, Error, RunFault, RunFiles, RunFolders, write_front};
 use program_follow::{FollowRunFault, Following, places_why, run_follow};
 use program_words::Command;
@@ -124,7 +125,7 @@ fn followed<R, F: RunFiles, D: RunFolders, I, O, E>(
     }
 }
 
-// What the fault is about: a named file, a file of the folder, or the folder.
+// What the fault is about: a named file, the note that was given, a file of the folder, or the folder.
 fn why_of<R, F: RunFiles, D: RunFolders, I, O, E>(
     env: &Env<'_, '_, '_, '_, R, F, D, I, O, E>,
     follow: &Follow<'_>,
@@ -135,8 +136,11 @@ fn why_of<R, F: RunFiles, D: RunFolders, I, O, E>(
         FollowRunFault::File(fault) | FollowRunFault::Evidence(fault) => {
             of_named(env.alloc, &env.files, fault)
         }
-        FollowRunFault::WriteFault => of_output(env.alloc),
+        FollowRunFault::WriteFault => Some(Why::Output),
         FollowRunFault::OutOfMemory => None,
+        FollowRunFault::Follow(FollowFault::Head(fault)) => {
+            of_note(env.alloc, &env.files, follow.checkpoint?, fault)
+        }
         FollowRunFault::Follow(fault) => why_of_copy(env, follow.copy.folder, lacked, fault),
     }
 }
@@ -151,6 +155,9 @@ fn why_of_copy<R, F: RunFiles, D: RunFolders, I, O, E>(
     match fault {
         FollowFault::CopyDamaged | FollowFault::CopyInUse => Why::of_thing(env.alloc, folder),
         FollowFault::ShelfFault => of_folder(env.alloc, &env.folders, folder),
+        FollowFault::Contradiction => {
+            Why::of_reason(env.alloc, "checkpoint", "no entries, and not the empty list's root")
+        }
         FollowFault::NoFile | FollowFault::Source => {
             let path = lacked?;
             Why::of_made(env.alloc, format!(in env.alloc; "{path}"))

@@ -9,9 +9,10 @@ use Rattle.mirror_sources.specs.Source.{StaysWithin}
 use Rattle.mirror_sources.specs.Recorded.{KeepsRecord}
 use Rattle.mirror_folders.specs.Shelf.{Put, RecordsRead, RecordsSome}
 use Rattle.mirror_model.specs.Heads.{IsHead}
-use Rattle.log_reader.specs.Holding.{IsReaderOf, ReadsLog, ReadsOf}
+use Rattle.log_reader.specs.Holding.{IsReaderOf, ReadsLog, ReadsTilesOf}
 use Rattle.log_reader.specs.Ways.{Reader}
 use Rattle.log_reader.specs.declared.fault.ReadFault.{ReadFault}
+use Rattle.log_reader.proofs.FullTiles.{source_tiles}
 use Rattle.log_reader.proofs.TrueReads.{source_later}
 use Rattle.copy_reader.specs.Faults.{CountsRead}
 use Rattle.copy_reader.specs.WholeCopies.{HasFilesOf, IsShelfFailure, IsWholeCopy, ReadsCopyLog, ReadsCopyOf}
@@ -77,10 +78,11 @@ module _ (T U : Type 0) (digest : List ℕ → List ℕ) (size : ℕ) (root : Li
 
   -- of a source
   pub read_log : (may later : Path → Option (List ℕ) → Type 0) → StaysWithin may later → (e : ReadFault) →
-      ReadsLog digest size root may (Ok reader) Opened → ReadsOf digest reader new later (Err e) claim →
+      ReadsLog digest size root may (Ok reader) Opened → ReadsTilesOf digest reader new later (Err e) claim →
       ReadsLog {T = U} digest size root may (Err e) (λ _ _. ⊤)
   read_log may later stays e opened reads entries size_is root_is source =
-      (reads entries (opened entries size_is root_is source) (source_later digest entries may later stays source)).answer
+      (reads entries (opened entries size_is root_is source)
+      (source_tiles digest entries later (source_later digest entries may later stays source))).answer
 
   -- of a shelf
   pub read_copy : (x y : Option (List Put)) → KeepsRecord x y → (e : CopyFault) →

@@ -4,6 +4,7 @@ ghost use Rattle.tlog_text.specs.Answers.{seen};
 ghost use Rattle.program_commands.specs.HeadFiles.{ChecksHeads, ReadsHeads};
 
 use crate::fault::HeadFilesFault;
+use crate::note_size::checkpoint_origin;
 use crate::take::read_files;
 use program_files::NamedFiles;
 use signed_note::Verifier;
@@ -21,7 +22,7 @@ use tlog_mirror::{Mirror, TakeFault};
 /// # Errors
 ///
 /// In this order: `File`, where one of the files is not read; `Head`, with the fault of `Mirror::check_head` at the first
-/// note that has one, whose file's name the files are given.
+/// note that has one. The files are given the name of that file, and the origin at `OtherOrigin`.
 pub fn read_heads<H: TreeHash, F: NamedFiles>(
     files: &F,
     alloc: Global,
@@ -45,7 +46,7 @@ pub fn read_heads<H: TreeHash, F: NamedFiles>(
     }
 }
 
-// DecidesFork the files the name of the first whose note is refused.
+// Gives the files the name of the first whose note is refused, and of one of another origin that origin.
 fn keep_name<H: TreeHash, F: NamedFiles>(
     files: &F,
     alloc: Global,
@@ -55,13 +56,23 @@ fn keep_name<H: TreeHash, F: NamedFiles>(
     notes: &[Vec<u8>],
 ) {
     for (name, note) in names.iter().zip(notes) {
-        if mirror.check_head(alloc, keys, note.as_slice()).is_err() {
-            if let Ok(name) = String::from_str(alloc, name) {
-                files.keep_reason(name);
+        if let Err(fault) = mirror.check_head(alloc, keys, note.as_slice()) {
+            match origin_reason(alloc, note.as_slice(), fault) {
+                Some(reason) => files.keep_reason(name, reason),
+                None => files.keep_reason(name, String::new(alloc)),
             }
             return;
         }
     }
+}
+
+// Of which origin a note is, where it is refused for that.
+fn origin_reason(alloc: Global, note: &[u8], fault: TakeFault) -> Option<String> {
+    if fault != TakeFault::OtherOrigin {
+        return None;
+    }
+    let origin = checkpoint_origin(alloc, note)?;
+    format!(in alloc; "its origin is {origin}").ok()
 }
 
 // The size and root of each of the notes.

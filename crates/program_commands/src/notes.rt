@@ -200,7 +200,7 @@ fn put_note<F: NamedFiles>(
     let Ok(place) = note_path(alloc, folder, &note.name) else {
         return Err(NamedFault::OutOfMemory);
     };
-    put_once(files, &place, note.bytes)
+    put_once(files, alloc, &place, note.bytes)
 }
 
 // Where the note of that name lies.
@@ -211,7 +211,12 @@ fn note_path(alloc: Global, folder: &str, name: &str) -> Result<String, AllocErr
 }
 
 // Puts a file that is not there yet. One that is there with these bytes is left as it is.
-fn put_once<F: NamedFiles>(files: &mut F, name: &str, bytes: &[u8]) -> Result<(), NamedFault>
+fn put_once<F: NamedFiles>(
+    files: &mut F,
+    alloc: Global,
+    name: &str,
+    bytes: &[u8],
+) -> Result<(), NamedFault>
     ensures { PutsOne (F.puts files.old) (F.puts files.new) (name.now, bytes.now) result }
 {
     match files.find(name) {
@@ -220,9 +225,17 @@ fn put_once<F: NamedFiles>(files: &mut F, name: &str, bytes: &[u8]) -> Result<()
             if there.as_slice() == bytes {
                 Ok(())
             } else {
+                keep_other(files, alloc, name);
                 Err(NamedFault::FileFault)
             }
         }
         Err(fault) => Err(fault),
+    }
+}
+
+// Gives the files what is wrong with the one of that name, which has other bytes.
+fn keep_other<F: NamedFiles>(files: &F, alloc: Global, name: &str) {
+    if let Ok(reason) = String::from_str(alloc, "it has other bytes") {
+        files.keep_reason(name, reason);
     }
 }

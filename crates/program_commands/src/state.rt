@@ -23,8 +23,8 @@ use tlog_mirror::Mirror;
 /// # Errors
 ///
 /// The first that applies: `Origin`, as of `Mirror::new`; `File`, where the file is not read; `Load`, with the fault of
-/// `mirror_state::load_bytes`. `OutOfMemory` is told in each of them. Which note a `StateHead` or a `StateEdge` is about,
-/// and the origin at `OtherOrigin`, is told to the files.
+/// `mirror_state::load_bytes`. `OutOfMemory` comes in each of them. The files are given which note a `StateHead` or a
+/// `StateEdge` is about, and the origin at `OtherOrigin`.
 pub fn open_state<H: TreeHash, F: NamedFiles>(
     files: &F,
     alloc: Global,
@@ -66,37 +66,39 @@ fn open_as_saved<H: TreeHash, F: NamedFiles>(
     match load_bytes::<H>(alloc, origin, keys, &state) {
         Ok(mirror) => Ok((mirror, is_saved)),
         Err(fault) => {
-            print_reason::<H, F>(files, alloc, origin, keys, &state, fault);
+            keep_reason::<H, F>(files, alloc, origin, keys, (name, &state), fault);
             Err(StateFault::Load(fault))
         }
     }
 }
 
-// DecidesFork the files what of a state is wrong: its origin, or one of its notes.
-fn print_reason<H: TreeHash, F: NamedFiles>(
+// Gives the files what is wrong with a state, by its name and bytes: its origin, or one of its notes.
+fn keep_reason<H: TreeHash, F: NamedFiles>(
     files: &F,
     alloc: Global,
     origin: &str,
     keys: &[Box<dyn Verifier>],
-    state: &[u8],
+    state: (&str, &[u8]),
     fault: LoadFault,
 ) {
-    match fault {
-        LoadFault::OtherOrigin => keep_origin(files, alloc, state),
+    let (name, bytes) = state;
+    let reason = match fault {
+        LoadFault::OtherOrigin => origin_reason(alloc, bytes),
         LoadFault::StateHead | LoadFault::StateEdge => {
-            keep_note_at::<H, F>(files, alloc, origin, keys, state)
+            note_reason::<H>(alloc, origin, keys, bytes)
         }
-        _ => {}
+        _ => None,
+    };
+    match reason {
+        Some(reason) => files.keep_reason(name, reason),
+        None => files.keep_reason(name, String::new(alloc)),
     }
 }
 
-// DecidesFork the files of which origin a state is.
-fn keep_origin<F: NamedFiles>(files: &F, alloc: Global, state: &[u8]) {
-    if let Some(origin) = origin_in(state) {
-        if let Ok(reason) = format!(in alloc; "its origin is {origin}") {
-            files.keep_reason(reason);
-        }
-    }
+// Of which origin a state is.
+fn origin_reason(alloc: Global, state: &[u8]) -> Option<String> {
+    let origin = origin_in(state)?;
+    format!(in alloc; "its origin is {origin}").ok()
 }
 
 // The origin of a state: it stands behind the eight bytes that a state begins with, and its own length in two.
@@ -113,18 +115,16 @@ fn origin_in(state: &[u8]) -> Option<&str> {
     str::from_utf8(origin).ok()
 }
 
-// DecidesFork the files which note a state is refused for.
-fn keep_note_at<H: TreeHash, F: NamedFiles>(
-    files: &F,
+// Which note a state is refused for.
+fn note_reason<H: TreeHash>(
     alloc: Global,
     origin: &str,
     keys: &[Box<dyn Verifier>],
     state: &[u8],
-) {
-    if let Ok(Some(note)) = refused_note::<H>(alloc, origin, keys, state) {
-        if let Ok(name) = note.name(alloc) {
-            files.keep_reason(name);
-        }
+) -> Option<String> {
+    match refused_note::<H>(alloc, origin, keys, state) {
+        Ok(Some(note)) => note.name(alloc).ok(),
+        _ => None,
     }
 }
 

@@ -3,7 +3,7 @@ ghost use Rattle.std.specs.Prelude.{◌≡◌};
 
 use crate::failing::RunFiles;
 use crate::fault::RunFault;
-use crate::why::{Why, of_output, of_state};
+use crate::why::{Why, of_state};
 use program_commands::StateFault;
 use std::alloc::Global;
 use std::marker::Model;
@@ -40,10 +40,10 @@ impl Error {
     }
 
     /// Standard output was not written.
-    pub fn unwritten(alloc: Global) -> Error
+    pub fn unwritten() -> Error
         ensures { result ≡ RunFault.WriteFault }
     {
-        Error::new(RunFault::WriteFault, of_output(alloc))
+        Error::new(RunFault::WriteFault, Some(Why::Output))
     }
 
     /// There is no mirror of the state file of that name.

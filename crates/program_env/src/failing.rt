@@ -1,60 +1,113 @@
-//! What of a run's files and folders failed, and why.
-use mirror_folders::{DirShelf, FailedFile, MemShelf};
+//! What of a run's files, folders, sources and streams failed, and why. Contracts see nothing of it.
+use mirror_client::{Dial, FailedGet, HttpSource};
+use mirror_folders::{DirShelf, DirSource, FailedFile, MemShelf};
 use mirror_progress::{CountedFolders, CountingShelf};
-use program_files::{FailedName, MemoryFiles, NamedFiles, SystemFiles};
+use program_files::{FailedName, MemoryFiles, NamedFiles, SystemFiles, WatchedStream};
 use std::fs::Files;
+use std::io;
 use std::io::Write;
 use std::time::Clock;
 
-/// Named files that keep what failed. Contracts see nothing of it.
-pub trait RunFiles: NamedFiles {
-    /// The cause of the last `FileFault`, once; None if there was none, or it is not kept.
-    fn failed_name(&self) -> Option<FailedName>;
-
-    /// The last remark on bytes that were read, once; None if there was none, or it is not kept.
-    fn failed_reason(&self) -> Option<String>;
+/// What failed, and why.
+#[derive(Drop)]
+pub enum Failed {
+    /// A file or folder by its name.
+    Name(FailedName),
+    /// A file of a folder.
+    File(FailedFile),
+    /// A file of a server.
+    Get(FailedGet),
+    /// A stream.
+    Stream(io::Error),
 }
 
-impl<'a, R: Files> RunFiles for SystemFiles<'a, R> {
-    fn failed_name(&self) -> Option<FailedName> {
-        self.take_failed()
-    }
-
-    fn failed_reason(&self) -> Option<String> {
-        self.take_reason()
-    }
+/// What a run works on, which keeps why it failed.
+///
+/// ```text
+/// Why::of_failed(alloc, "log", folders.last_failed()?) // log/tile/0/000: No space left on device
+/// ```
+pub trait Failing {
+    /// What failed last; None if nothing did, or it is not kept.
+    fn last_failed(&self) -> Option<Failed>;
 }
 
-impl RunFiles for MemoryFiles {
-    fn failed_name(&self) -> Option<FailedName> {
-        None
-    }
-
-    fn failed_reason(&self) -> Option<String> {
-        None
-    }
-}
-
-/// Folders by their names that keep what failed. Contracts see nothing of it.
-pub trait RunFolders: CountedFolders {
-    /// The file of the last call that failed, and why; None if none has failed, or it is not kept.
-    fn failed_file(&self) -> Option<FailedFile>;
-}
-
-impl<'a, R: Files> RunFolders for DirShelf<'a, R> {
-    fn failed_file(&self) -> Option<FailedFile> {
-        self.last_failed()
+impl<'a, R: Files> Failing for SystemFiles<'a, R> {
+    fn last_failed(&self) -> Option<Failed> {
+        match SystemFiles::last_failed(self) {
+            Some(failed) => Some(Failed::Name(failed)),
+            None => None,
+        }
     }
 }
 
-impl RunFolders for MemShelf {
-    fn failed_file(&self) -> Option<FailedFile> {
+// Files in memory fail where memory is refused alone.
+impl Failing for MemoryFiles {
+    fn last_failed(&self) -> Option<Failed> {
         None
     }
 }
 
-impl<S: RunFolders + Drop, C: Clock + Drop, W: Write + Drop> RunFolders for CountingShelf<S, C, W> {
-    fn failed_file(&self) -> Option<FailedFile> {
-        self.shelf.failed_file()
+impl<'a, R: Files> Failing for DirShelf<'a, R> {
+    fn last_failed(&self) -> Option<Failed> {
+        match DirShelf::last_failed(self) {
+            Some(failed) => Some(Failed::File(failed)),
+            None => None,
+        }
     }
 }
+
+impl Failing for MemShelf {
+    fn last_failed(&self) -> Option<Failed> {
+        None
+    }
+}
+
+impl<S: RunFolders + Drop, C: Clock + Drop, W: Write + Drop> Failing for CountingShelf<S, C, W> {
+    fn last_failed(&self) -> Option<Failed> {
+        self.shelf.last_failed()
+    }
+}
+
+impl<'a, R: Files> Failing for DirSource<'a, R> {
+    fn last_failed(&self) -> Option<Failed> {
+        match DirSource::last_failed(self) {
+            Some(failed) => Some(Failed::File(failed)),
+            None => None,
+        }
+    }
+}
+
+impl<D: Dial + Drop> Failing for HttpSource<D> {
+    fn last_failed(&self) -> Option<Failed> {
+        match HttpSource::last_failed(self) {
+            Some(failed) => Some(Failed::Get(failed)),
+            None => None,
+        }
+    }
+}
+
+impl<S: Drop> Failing for WatchedStream<S> {
+    fn last_failed(&self) -> Option<Failed> {
+        match WatchedStream::last_failed(self) {
+            Some(error) => Some(Failed::Stream(error)),
+            None => None,
+        }
+    }
+}
+
+/// Named files that keep what failed.
+pub trait RunFiles: NamedFiles + Failing {}
+
+impl<'a, R: Files> RunFiles for SystemFiles<'a, R> {}
+
+impl RunFiles for MemoryFiles {}
+
+/// Folders by their names that keep what failed.
+pub trait RunFolders: CountedFolders + Failing {}
+
+impl<'a, R: Files> RunFolders for DirShelf<'a, R> {}
+
+impl RunFolders for MemShelf {}
+
+impl<S: RunFolders + Drop, C: Clock + Drop, W: Write + Drop> RunFolders
+    for CountingShelf<S, C, W> {}

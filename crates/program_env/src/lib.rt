@@ -15,12 +15,14 @@ pub mod places;
 mod port;
 mod progress;
 pub mod served;
+mod watched;
 pub mod why;
 
 pub use env::Env;
 pub use error::Error;
-pub use failing::{RunFiles, RunFolders};
+pub use failing::{Failed, Failing, RunFiles, RunFolders};
 pub use fault::RunFault;
 pub use front::write_front;
 pub use port::{port_fault, print_fault, print_port};
 pub use progress::{report_end, report_puts};
+pub use watched::{AnySource, WatchedSource};

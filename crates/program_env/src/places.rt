@@ -1,69 +1,71 @@
-//! What `--why` says of a folder that a log is read from, which is read again for it.
+//! What `--why` says of a place that a log is read from.
+use crate::failing::Failing;
 use crate::served::of_origin_in;
+use crate::watched::WatchedSource;
 use crate::why::Why;
-use mirror_folders::DirSource;
 use mirror_model::TakeFault;
-use mirror_sources::Source;
-use program_commands::checkpoint_size;
-use std::alloc::Global;
-use std::fs::Files;
-use tlog_tiles::{Path, edge_paths};
+use program_words::Place;
+use std::alloc::{AllocError, Global};
+use tlog_tiles::Path;
 
-/// The refused checkpoint of the folder, and of a checkpoint of another origin that origin.
-pub fn of_refused<R: Files>(rt: &R, alloc: Global, folder: &str, fault: TakeFault) -> Option<Why> {
-    let Ok(name) = format!(in alloc; "{folder}/checkpoint") else {
-        return None;
-    };
-    if fault == TakeFault::OtherOrigin {
-        let mut source = DirSource::new(rt, alloc, folder);
-        if let Ok(Some(note)) = source.get(&Path::Checkpoint) {
-            return of_origin_in(alloc, &name, &note);
-        }
+/// The name of a place, as the words give it.
+pub fn place_name(alloc: Global, place: &Place<'_>) -> Result<String, AllocError> {
+    match place {
+        Place::Folder(folder) => String::from_str(alloc, folder),
+        Place::Server { host, prefix, .. } => format!(in alloc; "{host}{prefix}"),
     }
-    Why::of_thing(alloc, &name)
 }
 
-/// The partial tile of the checkpoint's edge that the folder lacks.
-pub fn of_edge<R: Files>(rt: &R, alloc: Global, folder: &str) -> Option<Why> {
-    let mut source = DirSource::new(rt, alloc, folder);
-    let path = lacked_edge(alloc, &mut source)?;
-    match format!(in alloc; "{folder}/{path}") {
-        Ok(name) => Why::of_reason(alloc, &name, "not found"),
+// The name of a file of a place.
+fn file_name(alloc: Global, place: &Place<'_>, path: &Path) -> Result<String, AllocError> {
+    match place {
+        Place::Folder(folder) => format!(in alloc; "{folder}/{path}"),
+        Place::Server { host, prefix, .. } => format!(in alloc; "http://{host}{prefix}/{path}"),
+    }
+}
+
+/// The place.
+pub fn of_place(alloc: Global, place: &Place<'_>) -> Option<Why> {
+    Why::of_made(alloc, place_name(alloc, place))
+}
+
+/// A file of the place, and what is wrong with it.
+pub fn of_file(alloc: Global, place: &Place<'_>, path: &Path, reason: &str) -> Option<Why> {
+    match file_name(alloc, place, path) {
+        Ok(name) => Why::of_reason(alloc, &name, reason),
         Err(_) => None,
     }
 }
 
-// The first partial tile of the edge that is not there.
-fn lacked_edge<S: Source>(alloc: Global, source: &mut S) -> Option<Path> {
-    let Ok(Some(note)) = source.get(&Path::Checkpoint) else {
+/// The file of the place that was not had when it failed, and why.
+pub fn of_source<S: Failing>(alloc: Global, place: &Place<'_>, source: &S) -> Option<Why> {
+    let Ok(name) = place_name(alloc, place) else {
         return None;
     };
-    let size = checkpoint_size(alloc, &note)?;
-    let Ok(paths) = edge_paths(alloc, size) else {
-        return None;
-    };
-    for path in &paths {
-        if is_lacked(source, *path) {
-            return Some(*path);
-        }
-    }
-    None
+    Why::of_failed(alloc, &name, source.last_failed()?)
 }
 
-// Whether neither the partial tile is there, nor its full one.
-fn is_lacked<S: Source>(source: &mut S, path: Path) -> bool {
-    if let Ok(Some(_)) = source.get(&path) {
-        return false;
+/// The refused checkpoint of the place, and of one of another origin that origin.
+pub fn of_refused<S: Drop>(
+    alloc: Global,
+    place: &Place<'_>,
+    source: &WatchedSource<S>,
+    fault: TakeFault,
+) -> Option<Why> {
+    let Ok(name) = file_name(alloc, place, &Path::Checkpoint) else {
+        return None;
+    };
+    match (fault, source.note()) {
+        (TakeFault::OtherOrigin, Some(note)) => of_origin_in(alloc, &name, note),
+        _ => Why::of_thing(alloc, &name),
     }
-    match path {
-        Path::Tile { level, index, .. } => {
-            let full = Path::Tile {
-                level,
-                index,
-                width: 256,
-            };
-            !matches!(source.get(&full), Ok(Some(_)))
-        }
-        _ => true,
-    }
+}
+
+/// The partial tile of the checkpoint's edge that the place lacks.
+pub fn of_edge<S: Drop>(
+    alloc: Global,
+    place: &Place<'_>,
+    source: &WatchedSource<S>,
+) -> Option<Why> {
+    of_file(alloc, place, &source.lacked()?, "not found")
 }

@@ -7,7 +7,7 @@ ghost use Rattle.program_env.specs.Works.{PrintsPort, connection_fault, listenin
 use crate::error::Error;
 use crate::fault::RunFault;
 use crate::front::write_front;
-use crate::why::{Why, of_output};
+use crate::why::Why;
 use byte_streams::write_whole;
 use mirror_server::HttpFault;
 use std::alloc::{AllocError, Global};
@@ -34,7 +34,7 @@ pub fn print_port<O: Write>(alloc: Global, port: u16, output: &mut O) -> Result<
     };
     match write_whole(output, line.as_bytes()) {
         Ok(()) => Ok(()),
-        Err(_) => Err(Error::new(RunFault::WriteFault, of_output(alloc))),
+        Err(_) => Err(Error::unwritten()),
     }
 }
 

@@ -1,23 +1,46 @@
 //! What `--why` prints: the thing that a fault is about, and what is wrong with it.
 ghost use Rattle.program_env.specs.Whys.{PrintsLine, PrintsWhy};
 
-use crate::failing::{RunFiles, RunFolders};
+use crate::failing::{Failed, RunFiles, RunFolders};
 use crate::front::write_front;
 use mirror_client::{FailedGet, Reason};
 use mirror_folders::FailedFile;
 use mirror_state::LoadFault;
 use program_commands::StateFault;
-use program_files::{FailedName, NamedFault, system_reason, why_line};
+use program_files::{Cause, FailedName, NamedFault, system_reason, why_line};
 use std::alloc::{AllocError, Global};
 use std::io;
 use std::io::Write;
 use tlog_mirror::NewFault;
 
-/// What a fault is about: a thing by its name, and what is wrong with it, where more is known.
+/// What a fault is about.
 #[derive(Drop)]
-pub struct Why {
-    thing: String,
-    reason: String,
+pub enum Why {
+    /// A thing by its name, and what is wrong with it; empty where no more is known.
+    Thing { thing: String, reason: String },
+    /// Standard input, which keeps why it failed.
+    Input,
+    /// Standard output, likewise.
+    Output,
+}
+
+/// What failed of the standard streams, where it is kept.
+#[derive(Drop)]
+pub struct FailedStreams {
+    /// Of standard input.
+    pub input: Option<Failed>,
+    /// Of standard output.
+    pub output: Option<Failed>,
+}
+
+impl FailedStreams {
+    /// None is kept.
+    pub fn none() -> FailedStreams {
+        FailedStreams {
+            input: None,
+            output: None,
+        }
+    }
 }
 
 impl Why {
@@ -29,7 +52,7 @@ impl Why {
     /// The same of a thing whose name was made.
     pub fn of_made(alloc: Global, thing: Result<String, AllocError>) -> Option<Why> {
         match thing {
-            Ok(thing) => Some(Why {
+            Ok(thing) => Some(Why::Thing {
                 thing,
                 reason: String::new(alloc),
             }),
@@ -45,10 +68,10 @@ impl Why {
         let Ok(reason) = String::from_str(alloc, reason) else {
             return None;
         };
-        Some(Why { thing, reason })
+        Some(Why::Thing { thing, reason })
     }
 
-    /// A thing, and an error of the system.
+    // A thing, and an error of the system.
     fn of_error(
         alloc: Global,
         thing: Result<String, AllocError>,
@@ -60,45 +83,16 @@ impl Why {
         let Ok(reason) = system_reason(alloc, error) else {
             return None;
         };
-        Some(Why { thing, reason })
+        Some(Why::Thing { thing, reason })
     }
 
-    /// A named file that was not read or not written.
-    pub fn of_name(alloc: Global, failed: FailedName) -> Option<Why> {
-        if failed.name.is_empty() {
-            return Why::of_thing(alloc, "an empty name");
-        }
-        Why::of_error(alloc, Ok(failed.name), &failed.error)
-    }
-
-    /// A file of a log in this folder.
-    pub fn of_file(alloc: Global, folder: &str, failed: &FailedFile) -> Option<Why> {
-        let path = failed.path;
-        let thing = format!(in alloc; "{folder}/{path}");
-        Why::of_error(alloc, thing, &failed.error)
-    }
-
-    /// A file of a log at this host and prefix.
-    pub fn of_get(alloc: Global, host: &str, prefix: &str, failed: &FailedGet) -> Option<Why> {
-        let path = failed.path;
-        match &failed.reason {
-            Reason::Connection(error) => {
-                let thing = format!(in alloc; "no connection to {host}");
-                Why::of_error(alloc, thing, error)
-            }
-            Reason::Stream(error) => {
-                let thing = format!(in alloc; "GET http://{host}{prefix}/{path}");
-                Why::of_error(alloc, thing, error)
-            }
-            reason => {
-                let Ok(thing) = format!(in alloc; "GET http://{host}{prefix}/{path}") else {
-                    return None;
-                };
-                let Ok(reason) = reason.to_string(alloc) else {
-                    return None;
-                };
-                Some(Why { thing, reason })
-            }
+    /// What failed, and why. `whole` names the folder, the place or the stream that it is of; a named file has its own name.
+    pub fn of_failed(alloc: Global, whole: &str, failed: Failed) -> Option<Why> {
+        match failed {
+            Failed::Name(failed) => of_name(alloc, failed),
+            Failed::File(failed) => of_file(alloc, whole, &failed),
+            Failed::Get(failed) => of_get(alloc, whole, &failed),
+            Failed::Stream(error) => Why::of_error(alloc, String::from_str(alloc, whole), &error),
         }
     }
 
@@ -108,24 +102,107 @@ impl Why {
     }
 }
 
-/// Writes the line of what is known, if it is asked for.
+// A named file that was not read or not written, or whose bytes are refused.
+fn of_name(alloc: Global, failed: FailedName) -> Option<Why> {
+    let FailedName { name, cause } = failed;
+    if name.is_empty() {
+        return Why::of_thing(alloc, "an empty name");
+    }
+    match cause {
+        Cause::System(error) => Why::of_error(alloc, Ok(name), &error),
+        Cause::Bytes(reason) => Some(Why::Thing {
+            thing: name,
+            reason,
+        }),
+    }
+}
+
+// A file of a log in this folder.
+fn of_file(alloc: Global, folder: &str, failed: &FailedFile) -> Option<Why> {
+    let path = failed.path;
+    Why::of_error(alloc, format!(in alloc; "{folder}/{path}"), &failed.error)
+}
+
+// A file of a log at this host, with what stands before its path.
+fn of_get(alloc: Global, place: &str, failed: &FailedGet) -> Option<Why> {
+    let path = failed.path;
+    match &failed.reason {
+        Reason::Connection(error) => {
+            let host = host_of(place);
+            Why::of_error(alloc, format!(in alloc; "no connection to {host}"), error)
+        }
+        Reason::Stream(error) => {
+            Why::of_error(alloc, format!(in alloc; "GET http://{place}/{path}"), error)
+        }
+        reason => {
+            let Ok(thing) = format!(in alloc; "GET http://{place}/{path}") else {
+                return None;
+            };
+            let Ok(reason) = reason.to_string(alloc) else {
+                return None;
+            };
+            Some(Why::Thing { thing, reason })
+        }
+    }
+}
+
+// The host of a place.
+fn host_of(place: &str) -> &str {
+    match place.split_once('/') {
+        Some((host, _)) => host,
+        None => place,
+    }
+}
+
+/// Writes the line of what is known, if it is asked for. Of a standard stream what failed is given.
 #[tactic(auto, using(crate::proofs::Whys::nothing_recorded, crate::proofs::Whys::asked_recorded))]
-pub fn print_why<E: Write>(alloc: Global, asked: bool, why: Option<Why>, errors: &mut E)
+pub fn print_why<E: Write>(
+    alloc: Global,
+    asked: bool,
+    why: Option<Why>,
+    streams: FailedStreams,
+    errors: &mut E,
+)
     ensures { PrintsWhy asked (E.contents errors.old) (E.contents errors.new) }
 {
     if asked {
         if let Some(why) = why {
-            write_why(alloc, &why, errors);
+            print_line(alloc, why, streams, errors);
         }
+    }
+}
+
+// Writes that line.
+#[tactic(auto, using(crate::proofs::Whys::no_line))]
+fn print_line<E: Write>(alloc: Global, why: Why, streams: FailedStreams, errors: &mut E)
+    ensures { PrintsLine (E.contents errors.old) (E.contents errors.new) }
+{
+    match why {
+        Why::Thing { thing, reason } => write_why(alloc, &thing, &reason, errors),
+        Why::Input => write_stream(alloc, "standard input", streams.input, errors),
+        Why::Output => write_stream(alloc, "standard output", streams.output, errors),
+    }
+}
+
+// Writes the line of a standard stream.
+fn write_stream<E: Write>(alloc: Global, name: &str, failed: Option<Failed>, errors: &mut E)
+    ensures { PrintsLine (E.contents errors.old) (E.contents errors.new) }
+{
+    match failed {
+        Some(Failed::Stream(error)) => match system_reason(alloc, &error) {
+            Ok(reason) => write_why(alloc, name, &reason, errors),
+            Err(_) => write_why(alloc, name, "", errors),
+        },
+        _ => write_why(alloc, name, "", errors),
     }
 }
 
 // Writes the line, as far as the stream takes it; none without memory for it.
 #[tactic(auto, using(crate::proofs::Whys::no_line, crate::proofs::Whys::one_line))]
-fn write_why<E: Write>(alloc: Global, why: &Why, errors: &mut E)
+fn write_why<E: Write>(alloc: Global, thing: &str, reason: &str, errors: &mut E)
     ensures { PrintsLine (E.contents errors.old) (E.contents errors.new) }
 {
-    if let Ok(line) = why_line(alloc, &why.thing, &why.reason) {
+    if let Ok(line) = why_line(alloc, thing, reason) {
         write_front(errors, line.as_bytes());
     }
 }
@@ -133,14 +210,14 @@ fn write_why<E: Write>(alloc: Global, why: &Why, errors: &mut E)
 /// What a fault at a named file is about: the file that was not had, and what the system said.
 pub fn of_named<F: RunFiles>(alloc: Global, files: &F, fault: NamedFault) -> Option<Why> {
     match fault {
-        NamedFault::FileFault => Why::of_name(alloc, files.failed_name()?),
+        NamedFault::FileFault => Why::of_failed(alloc, "", files.last_failed()?),
         NamedFault::OutOfMemory => None,
     }
 }
 
 /// What a fault at a folder of a log is about: the file that was not had, and what the system said.
 pub fn of_folder<D: RunFolders>(alloc: Global, folders: &D, folder: &str) -> Option<Why> {
-    Why::of_file(alloc, folder, &folders.failed_file()?)
+    Why::of_failed(alloc, folder, folders.last_failed()?)
 }
 
 /// What a fault at a state file is about: the origin, the file that was not had, or the file whose bytes are no state, and
@@ -155,8 +232,8 @@ pub fn of_state<F: RunFiles>(
         StateFault::Origin(fault) => of_origin(alloc, fault),
         StateFault::File(fault) => of_named(alloc, files, fault),
         StateFault::Load(LoadFault::OutOfMemory) => None,
-        StateFault::Load(_) => match files.failed_reason() {
-            Some(reason) => Why::of_reason(alloc, name?, &reason),
+        StateFault::Load(_) => match files.last_failed() {
+            Some(failed) => Why::of_failed(alloc, "", failed),
             None => Why::of_thing(alloc, name?),
         },
     }
@@ -168,9 +245,4 @@ pub fn of_origin(alloc: Global, fault: NewFault) -> Option<Why> {
         NewFault::BadOrigin => Why::of_thing(alloc, "--origin"),
         NewFault::OutOfMemory => None,
     }
-}
-
-/// What a write that failed is about.
-pub fn of_output(alloc: Global) -> Option<Why> {
-    Why::of_thing(alloc, "standard output")
 }

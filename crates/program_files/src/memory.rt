@@ -140,5 +140,5 @@ impl NamedFiles for MemoryFiles {
         Ok(())
     }
 
-    fn keep_reason(&self, _reason: String) {}
+    fn keep_reason(&self, _name: &str, _reason: String) {}
 }

@@ -81,7 +81,7 @@ pub trait NamedFiles {
         ensures flushed { RecordsFolder (puts self.old) result }
         ensures same { puts self.new ≡ puts self.old };
 
-    /// Is told what is wrong with the bytes of a file that was read. Files that tell people of it keep it; contracts see
-    /// nothing of it.
-    fn keep_reason(&self, reason: String);
+    /// What is wrong with the bytes of the file of that name, which was read; empty where no more is known. Files that say it to
+    /// people keep it. Contracts see nothing of it.
+    fn keep_reason(&self, name: &str, reason: String);
 }

@@ -6,6 +6,7 @@ ghost use Rattle.program_files.specs.declared.named.TheConstants.{MAX_FILE_LEN};
 
 use crate::fault::NamedFault;
 use crate::named::{MAX_FILE_LEN, NamedFiles};
+use crate::watched::WatchedStream;
 use byte_streams::{StreamFault, read_all};
 use mirror_folders::{FolderFiles, replace_file};
 use std::alloc::Global;
@@ -17,26 +18,35 @@ use std::{fs, io};
 // How often the file of a state is read at most, for at most 65,536 bytes each time.
 const MOST_READS: u64 = 16_777_216;
 
-/// A named file or folder that was not read, not written or not made, and what the system said.
+/// What is wrong with a named file or folder.
+#[derive(Debug, Drop)]
+pub enum Cause {
+    /// It was not read, not written or not made, and the system said this.
+    System(io::Error),
+    /// It was read, and this is wrong with its bytes; empty where no more is known.
+    Bytes(String),
+}
+
+/// A named file or folder, and what is wrong with it.
 ///
 /// ```text
-/// if let Some(failed) = files.take_failed() {
-///     println!(rt; "{}: {}", failed.name, failed.error)?; // log.state: No space left on device (os error 28)
+/// if let Some(failed) = files.last_failed() {
+///     println!(rt; "{}", failed.name)?; // log.state
 /// }
 /// ```
 #[derive(Debug, Drop)]
 pub struct FailedName {
     /// The name.
     pub name: String,
-    /// What the system said.
-    pub error: io::Error,
+    /// What is wrong with it.
+    pub cause: Cause,
 }
 
 /// The files of the system. What they have no contract says.
 ///
 /// A file is replaced as `mirror_folders::replace_file` does. What is there and is no plain file, as a device, is
 /// written to as it is. A folder cannot be read or written, and an empty name is one of no file and of no folder.
-/// `take_failed` has the cause of the last `FileFault`, and `take_reason` what is wrong with bytes that were read.
+/// `last_failed` says which file was meant last, and what is wrong with it.
 ///
 /// ```text
 /// let files = SystemFiles::new(&rt, alloc);
@@ -49,7 +59,6 @@ pub struct SystemFiles<'a, R: Files> {
     // The folder that was made last.
     folder: Option<FolderFiles<'a, R>>,
     failed: Cell<Option<FailedName>>,
-    reason: Cell<Option<String>>,
 }
 
 impl<'a, R: Files> SystemFiles<'a, R> {
@@ -60,25 +69,25 @@ impl<'a, R: Files> SystemFiles<'a, R> {
             alloc,
             folder: None,
             failed: Cell::new(None),
-            reason: Cell::new(None),
         }
     }
 
-    /// What the last `FileFault` came of, once; None where there was none, or where memory for the name was refused.
-    pub fn take_failed(&self) -> Option<FailedName> {
+    /// What came last: the cause of a `FileFault`, or what `keep_reason` was given. It is given once; None where nothing came, or
+    /// where memory for the name was refused.
+    pub fn last_failed(&self) -> Option<FailedName> {
         self.failed.take()
     }
 
-    /// What was told last of bytes that were read, once.
-    pub fn take_reason(&self) -> Option<String> {
-        self.reason.take()
+    // Keeps what is wrong with the file of that name.
+    fn keep(&self, name: &str, cause: Cause) {
+        if let Ok(name) = String::from_str(self.alloc, name) {
+            self.failed.set(Some(FailedName { name, cause }));
+        }
     }
 
     // Keeps what a file that is not had came of, and says that it is not had.
     fn refuse(&self, name: &str, error: io::Error) -> NamedFault {
-        if let Ok(name) = String::from_str(self.alloc, name) {
-            self.failed.set(Some(FailedName { name, error }));
-        }
+        self.keep(name, Cause::System(error));
         NamedFault::FileFault
     }
 
@@ -188,8 +197,8 @@ impl<'a, R: Files> NamedFiles for SystemFiles<'a, R> {
         }
     }
 
-    fn keep_reason(&self, reason: String) {
-        self.reason.set(Some(reason));
+    fn keep_reason(&self, name: &str, reason: String) {
+        self.keep(name, Cause::Bytes(reason));
     }
 }
 
@@ -197,10 +206,10 @@ impl<'a, R: Files> NamedFiles for SystemFiles<'a, R> {
 fn read_short<R: Files>(files: &R, alloc: Global, name: &str) -> io::Result<Vec<u8>>
     ensures { IfOk result (λ bytes. vec_len bytes ≤ MAX_FILE_LEN) }
 {
-    let mut file = fs::open(files, name)?;
+    let mut file = WatchedStream::new(fs::open(files, name)?);
     match read_all(alloc, &mut file, MAX_FILE_LEN + 1, u64::MAX) {
         Ok(bytes) => not_long(bytes),
-        Err(fault) => Err(read_error(files, name, fault)),
+        Err(fault) => Err(read_error(fault, file.last_failed())),
     }
 }
 
@@ -238,20 +247,21 @@ fn not_long(bytes: Vec<u8>) -> io::Result<Vec<u8>>
 
 // All the bytes of a file that ends.
 fn read_long<R: Files>(files: &R, alloc: Global, name: &str) -> io::Result<Vec<u8>> {
-    let mut file = fs::open(files, name)?;
+    let mut file = WatchedStream::new(fs::open(files, name)?);
     match read_all(alloc, &mut file, usize::MAX, MOST_READS) {
         Ok(bytes) => Ok(bytes),
-        Err(fault) => Err(read_error(files, name, fault)),
+        Err(fault) => Err(read_error(fault, file.last_failed())),
     }
 }
 
-// Why a file that was opened was not read: a folder opens, and does not read.
-fn read_error<R: Files>(files: &R, name: &str, fault: StreamFault) -> io::Error {
+// Why a file that was opened was not read: what the system said. Memory that the system lacks for a read is no memory that was
+// refused.
+fn read_error(fault: StreamFault, said: Option<io::Error>) -> io::Error {
     if fault == StreamFault::OutOfMemory {
         return io::Error::from(ErrorKind::OutOfMemory);
     }
-    match fs::metadata(files, name) {
-        Ok(about) if about.is_dir() => io::Error::from(ErrorKind::IsADirectory),
+    match said {
+        Some(error) if error.kind() != ErrorKind::OutOfMemory => error,
         _ => io::Error::other("a read failed"),
     }
 }

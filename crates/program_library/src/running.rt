@@ -14,8 +14,8 @@ use crate::commands::run_command;
 use crate::keys::{Keys, joined_lines, key_bytes, why_of_lines};
 use mirror_folders::DirShelf;
 use mirror_progress::{CountingShelf, Progress, StandardError};
-use program_env::why::{Why, print_why};
-use program_env::{Env, Error, RunFault, RunFiles, RunFolders};
+use program_env::why::{FailedStreams, Why, print_why};
+use program_env::{Env, Error, Failing, RunFault, RunFiles, RunFolders};
 use program_files::SystemFiles;
 use program_words::{BadWord, CommandFault, Line, read_line};
 use signed_note::{KeyFileFault, KeyLine, Verifier};
@@ -32,8 +32,8 @@ use std::rt::Clock;
 ///
 /// In this order: what `clap` finds, the key file, `BadArgument`, and those of the command. Nothing was written to the
 /// output, except where a write failed, and by `serve`, whose line comes before its connections. Where the words ask for
-/// it (`--why`), what a fault is about is written to `errors` as one line.
-pub fn run<R, I: Read, O: Write, E: Write>(
+/// it (`--why`), what a fault is about is written to `errors` as one line, with what the system said of the streams.
+pub fn run<R, I: Read + Failing, O: Write + Failing, E: Write>(
     rt: &R,
     alloc: Global,
     words: &[String],
@@ -57,7 +57,14 @@ where
 
 // Executes the same over these files and folders, which are let go.
 #[allow(clippy::too_many_arguments)]
-fn run_on<R, F: RunFiles + Drop, D: RunFolders + Drop, I: Read, O: Write, E: Write>(
+fn run_on<
+    R,
+    F: RunFiles + Drop,
+    D: RunFolders + Drop,
+    I: Read + Failing,
+    O: Write + Failing,
+    E: Write,
+>(
     rt: &R,
     alloc: Global,
     files: F,
@@ -106,7 +113,7 @@ fn folders_of<'a, R: Files + Clock + Eprint>(
 /// # Errors
 ///
 /// Those of `run`.
-pub fn run_over<R, F: RunFiles, D: RunFolders, I: Read, O: Write, E: Write>(
+pub fn run_over<R, F: RunFiles, D: RunFolders, I: Read + Failing, O: Write + Failing, E: Write>(
     env: &mut Env<'_, '_, '_, '_, R, F, D, I, O, E>,
     words: &[String],
 ) -> Result<u8, RunFault>
@@ -124,7 +131,11 @@ where
         Ok(line) => {
             let asked = line.why;
             let answer = run_line(env, line);
-            printed(env.alloc, asked, answer, env.errors)
+            let streams = FailedStreams {
+                input: env.input.last_failed(),
+                output: env.output.last_failed(),
+            };
+            printed(env.alloc, asked, answer, streams, env.errors)
         }
         Err(fault) => Err(RunFault::Command(fault)),
     }
@@ -135,6 +146,7 @@ fn printed<E: Write>(
     alloc: Global,
     asked: bool,
     answer: Result<u8, Error>,
+    streams: FailedStreams,
     errors: &mut E,
 ) -> Result<u8, RunFault>
     ensures { result ≡ answer }
@@ -143,7 +155,7 @@ fn printed<E: Write>(
         Ok(status) => Ok(status),
         Err(error) => {
             let (fault, why) = error.into_parts();
-            print_why(alloc, asked, why, errors);
+            print_why(alloc, asked, why, streams, errors);
             Err(fault)
         }
     }
@@ -384,7 +396,7 @@ where
         Ok(line) => {
             let asked = line.why;
             let answer = obey(env, keys, line);
-            printed(env.alloc, asked, answer, env.errors)
+            printed(env.alloc, asked, answer, FailedStreams::none(), env.errors)
         }
         Err(fault) => Err(RunFault::Command(fault)),
     }

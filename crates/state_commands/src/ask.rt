@@ -7,8 +7,8 @@ ghost use Rattle.program_env.specs.Done.{IsWriteFault};
 ghost use Rattle.program_env.specs.Works.{AsksState, IsStatus};
 
 use program_commands::open_state;
-use program_env::served::of_proof;
-use program_env::why::{Why, of_output, of_state};
+use program_env::served::{of_proof, of_unheld};
+use program_env::why::{Why, of_state};
 use program_env::{Error, RunFault, RunFiles};
 use program_reports::{AskFault, Question, ReportFault, print_report};
 use program_words::StateArgs;
@@ -71,7 +71,7 @@ pub(crate) fn why_of_report(
     answer: &Result<u8, AskFault>,
 ) -> Option<Why> {
     match answer {
-        Err(AskFault::WriteFault) => of_output(alloc),
+        Err(AskFault::WriteFault) => Some(Why::Output),
         Err(AskFault::Report(ReportFault::NothingComplete)) => Why::of_thing(alloc, state),
         _ => None,
     }
@@ -91,6 +91,12 @@ fn why_of<H: TreeHash>(
                 return None;
             };
             of_proof(alloc, state, *ask, *fault, served_size(mirror))
+        }
+        Err(AskFault::Report(ReportFault::NoSuchHead)) => {
+            let Question::Missing { size, .. } = question else {
+                return None;
+            };
+            of_unheld(alloc, state, *size)
         }
         _ => why_of_report(alloc, state, answer),
     }

@@ -78,7 +78,7 @@ fn build_into<D: RunFolders, I: Read>(
     }
     let entries = match read_entries(alloc, input) {
         Ok(entries) => entries,
-        Err(fault) => return Err(Error::new(RunFault::Entries(fault), of_input(alloc, fault))),
+        Err(fault) => return Err(Error::new(RunFault::Entries(fault), of_input(fault))),
     };
     match folders.open(build.folder) {
         Ok(()) => {}
@@ -105,14 +105,14 @@ fn not_built<D: RunFolders>(alloc: Global, folders: &D, folder: &str, fault: Bui
 }
 
 // What a fault at the input is about.
-fn of_input(alloc: Global, fault: EntriesFault) -> Option<Why> {
+fn of_input(fault: EntriesFault) -> Option<Why> {
     match fault {
         EntriesFault::OutOfMemory => None,
-        _ => Why::of_thing(alloc, "standard input"),
+        _ => Some(Why::Input),
     }
 }
 
-// What a fault at the folder is about.
+// What a fault at the work is about: the entries, or the folder.
 fn why_of<D: RunFolders>(
     alloc: Global,
     folders: &D,
@@ -121,6 +121,7 @@ fn why_of<D: RunFolders>(
 ) -> Option<Why> {
     match fault {
         BuildFault::BadOrigin => Why::of_thing(alloc, "--origin"),
+        BuildFault::Pull(_) => Some(Why::Input),
         BuildFault::Export(ExportFault::ShelfInUse) => Why::of_thing(alloc, folder),
         BuildFault::Export(ExportFault::ShelfFault) => of_folder(alloc, folders, folder),
         _ => None,

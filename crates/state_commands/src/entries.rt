@@ -7,8 +7,8 @@ ghost use Rattle.program_env.specs.Performing.{Performs};
 
 use crate::ask::served_size;
 use program_commands::open_state;
-use program_env::served::of_size;
-use program_env::why::{Why, of_output, of_state};
+use program_env::served::{of_backwards, of_size};
+use program_env::why::{Why, of_state};
 use program_env::{Env, Error, RunFault, RunFiles, RunFolders};
 use program_monitor::{EntryRange, StateEntriesFault, entries_of_state};
 use program_words::Command;
@@ -56,7 +56,7 @@ pub fn run<R, F: RunFiles, D: RunFolders, I: Read, O: Write, E: Write>(
                 &range,
                 env.output,
             );
-            let why = why_of(env.alloc, mirror.state, &opened, range.to, &answer);
+            let why = why_of(env.alloc, mirror.state, &opened, &range, &answer);
             drop(opened);
             written(answer, why)
         }
@@ -77,18 +77,21 @@ fn written(answer: Result<(), StateEntriesFault>, why: Option<Why>) -> Result<u8
     }
 }
 
-// What a fault at entries up to that number is about, of the mirror in that state file.
+// What a fault at these entries is about, of the mirror in that state file.
 fn why_of<H: TreeHash>(
     alloc: Global,
     state: &str,
     mirror: &Mirror<H>,
-    to: u64,
+    range: &EntryRange,
     answer: &Result<(), StateEntriesFault>,
 ) -> Option<Why> {
     match answer {
         Err(StateEntriesFault::NothingComplete) => Why::of_thing(alloc, state),
-        Err(StateEntriesFault::NoSuchSize) => of_size(alloc, state, to, served_size(mirror)),
-        Err(StateEntriesFault::WriteFault) => of_output(alloc),
+        Err(StateEntriesFault::NoSuchSize) => {
+            of_size(alloc, state, range.to, served_size(mirror))
+        }
+        Err(StateEntriesFault::Backwards) => of_backwards(alloc, state, range.from, range.to),
+        Err(StateEntriesFault::WriteFault) => Some(Why::Output),
         _ => None,
     }
 }

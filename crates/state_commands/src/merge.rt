@@ -13,6 +13,7 @@ use signed_note::Verifier;
 use std::alloc::Global;
 use std::io::{Read, Write};
 use tlog_hash::Sha256Tree;
+use tlog_mirror::MergeFault;
 
 /// Merges the mirrors in both state files, and writes the state of what comes of it.
 ///
@@ -58,7 +59,8 @@ fn why_of<F: RunFiles>(
     match fault {
         MergeFilesFault::First(fault) => of_state(alloc, files, Some(merge.first), fault),
         MergeFilesFault::Second(fault) => of_state(alloc, files, Some(merge.second), fault),
-        MergeFilesFault::Merge(_) => None,
+        MergeFilesFault::Merge(MergeFault::OutOfMemory) => None,
+        MergeFilesFault::Merge(_) => Why::of_thing(alloc, merge.second),
         MergeFilesFault::Out(fault) => of_named(alloc, files, fault),
     }
 }

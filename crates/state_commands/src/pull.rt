@@ -17,13 +17,14 @@ ghost use Rattle.program_env.specs.Works.{IsStatus};
 
 use crate::pulling::pull_from;
 use byte_streams::write_whole;
-use mirror_client::{FailedGet, HttpSource, Site, TcpDial};
-use mirror_folders::{DirSource, FailedFile};
+use mirror_client::{HttpSource, Site, TcpDial};
+use mirror_folders::DirSource;
 use mirror_pull::{PullFault, Pulled};
+use mirror_sources::Source;
 use program_commands::{HeldCounts, has_gained, holding_of, open_to_save, write_state};
-use program_env::places::{of_edge, of_refused};
+use program_env::places::{of_edge, of_file, of_place, of_refused, of_source};
 use program_env::why::{Why, of_named};
-use program_env::{Env, Error, RunFault, RunFiles, RunFolders};
+use program_env::{Env, Error, Failing, RunFault, RunFiles, RunFolders, WatchedSource};
 use program_files::NamedFault;
 use program_reports::{pulled_status, pulled_text};
 use program_words::commands::pull::Pull;
@@ -37,6 +38,7 @@ use std::net::{Net, TcpStream};
 use std::rt::Clock;
 use tlog_hash::{Sha256Tree, TreeHash};
 use tlog_mirror::Mirror;
+use tlog_tiles::Path;
 
 /// Fetches what is missing into the mirror in the state file, or into one that holds nothing, writes its state, and
 /// then prints what the pull came to. The status is 3 where the pull is partial.
@@ -209,7 +211,7 @@ fn report_pulled<H: TreeHash, F: RunFiles, W: Write>(
     };
     match write_whole(output, text.as_bytes()) {
         Ok(()) => Ok(pulled_status(pulled)),
-        Err(_) => Err(Error::unwritten(alloc)),
+        Err(_) => Err(Error::unwritten()),
     }
 }
 
@@ -304,9 +306,9 @@ fn from_place<'a, H: TreeHash, R: Files + Clock + Eprint + Net<Stream = TcpStrea
 {
     match &words.place {
         Place::Folder(folder) => {
-            let source = DirSource::new(rt, alloc, folder);
+            let source = WatchedSource::new(alloc, DirSource::new(rt, alloc, folder));
             let (pulled, source) = pull_from(rt, alloc, mirror, keys, source, words.progress);
-            let why = why_of_folder(rt, alloc, folder, &pulled, source.last_failed());
+            let why = why_of(alloc, &words.place, &pulled, &source);
             (pulled, why)
         }
         Place::Server {
@@ -323,63 +325,44 @@ fn from_place<'a, H: TreeHash, R: Files + Clock + Eprint + Net<Stream = TcpStrea
                 return (Err(PullFault::OutOfMemory), None);
             };
             let source = HttpSource::new(alloc, site, dial, words.ahead as usize);
-            let (pulled, failed) = from_server(rt, alloc, mirror, keys, source, words.progress);
-            let why = why_of_server(alloc, host, prefix, &pulled, failed);
-            (pulled, why)
+            from_server(rt, alloc, mirror, keys, source, words)
         }
     }
 }
 
-// Pulls from a server into the mirror; and the get that failed, if one did.
+// Pulls from a server into the mirror, and says what a fault is about.
 fn from_server<H: TreeHash, R: Clock + Eprint, N: Net<Stream = TcpStream> + Clock + Clone + Drop>(
     rt: &R,
     alloc: Global,
     mirror: &mut Mirror<H>,
     keys: &[Box<dyn Verifier>],
     source: HttpSource<TcpDial<N>>,
-    progress: bool,
-) -> (Result<Pulled, PullFault>, Option<FailedGet>)
+    words: &Pull<'_>,
+) -> (Result<Pulled, PullFault>, Option<Why>)
     ensures pulls { PullsTo H.digest (map (λ k. key k) keys.now) mirror.old.view mirror.new.view
         result.0 }
     ensures follows { FollowsShortReplies H.digest (map (λ k. key k) keys.now) MAX_REPLY_LEN
         mirror.old.view mirror.new.view result.0 }
 {
-    let (pulled, source) = pull_from(rt, alloc, mirror, keys, source, progress);
-    (pulled, source.last_failed())
+    let source = WatchedSource::new(alloc, source);
+    let (pulled, source) = pull_from(rt, alloc, mirror, keys, source, words.progress);
+    let why = why_of(alloc, &words.place, &pulled, &source);
+    (pulled, why)
 }
 
-// What a pull from a folder failed by is about: the file that was not had, or the checkpoint.
-fn why_of_folder<R: Files>(
-    rt: &R,
+// What a pull that ended early is about: a file of the place, or the place.
+fn why_of<S: Source + Failing + Drop>(
     alloc: Global,
-    folder: &str,
+    place: &Place<'_>,
     pulled: &Result<Pulled, PullFault>,
-    failed: Option<FailedFile>,
+    source: &WatchedSource<S>,
 ) -> Option<Why> {
     match pulled {
-        Err(PullFault::Source) => Why::of_file(alloc, folder, &failed?),
-        Err(PullFault::NoCheckpoint) => {
-            Why::of_made(alloc, format!(in alloc; "{folder}/checkpoint"))
-        }
-        Err(PullFault::Head(fault)) => of_refused(rt, alloc, folder, *fault),
-        Err(PullFault::NoEdge) => of_edge(rt, alloc, folder),
-        _ => None,
-    }
-}
-
-// What a pull from a server failed by is about: the get that failed, or the checkpoint.
-fn why_of_server(
-    alloc: Global,
-    host: &str,
-    prefix: &str,
-    pulled: &Result<Pulled, PullFault>,
-    failed: Option<FailedGet>,
-) -> Option<Why> {
-    match pulled {
-        Err(PullFault::Source) => Why::of_get(alloc, host, prefix, &failed?),
-        Err(PullFault::NoCheckpoint | PullFault::Head(_)) => {
-            Why::of_made(alloc, format!(in alloc; "http://{host}{prefix}/checkpoint"))
-        }
-        _ => None,
+        Err(PullFault::Source) => of_source(alloc, place, source),
+        Err(PullFault::NoCheckpoint) => of_file(alloc, place, &Path::Checkpoint, "not found"),
+        Err(PullFault::Head(fault)) => of_refused(alloc, place, source, *fault),
+        Err(PullFault::NoEdge) => of_edge(alloc, place, source),
+        Err(PullFault::Collision) => of_place(alloc, place),
+        Err(PullFault::OutOfMemory) | Ok(_) => None,
     }
 }

@@ -7,7 +7,7 @@ ghost use Rattle.program_env.specs.Envs.{IsSameEnv, moment};
 ghost use Rattle.program_env.specs.Performing.{Performs};
 
 use program_commands::{ItemFiles, TakeFilesFault, run_take};
-use program_env::served::of_note;
+use program_env::served::{of_edge_count, of_edge_length, of_note};
 use program_env::why::{Why, of_named, of_state};
 use program_env::{Env, Error, RunFault, RunFiles, RunFolders};
 use program_words::Command;
@@ -78,7 +78,7 @@ fn item_of<'a>(kind: Kind, width: u32, first: &'a str, rest: &'a [&'a str]) -> I
     }
 }
 
-// What the fault is about: of an item the file, where there is one alone.
+// What the fault is about.
 fn why_of<F: RunFiles>(
     alloc: Global,
     files: &F,
@@ -89,9 +89,23 @@ fn why_of<F: RunFiles>(
         TakeFilesFault::State(fault) => of_state(alloc, files, take.state, fault),
         TakeFilesFault::Item(fault) | TakeFilesFault::Out(fault) => of_named(alloc, files, fault),
         TakeFilesFault::Take(fault) => match take.files.as_slice() {
-            [file] => of_note(alloc, files, file, fault),
-            [note, ..] if fault == TakeFault::OtherOrigin => of_note(alloc, files, note, fault),
-            _ => None,
+            [note, rows @ ..] => of_item(alloc, files, note, rows, fault),
+            [] => None,
         },
+    }
+}
+
+// What a fault of an item is about: its first file, or the row that has not as many hashes as its tile.
+fn of_item<F: RunFiles>(
+    alloc: Global,
+    files: &F,
+    note: &str,
+    rows: &[&str],
+    fault: TakeFault,
+) -> Option<Why> {
+    match fault {
+        TakeFault::EdgeCount => of_edge_count(alloc, files, note, rows.len()),
+        TakeFault::EdgeLength => of_edge_length(alloc, files, note, rows),
+        _ => of_note(alloc, files, note, fault),
     }
 }

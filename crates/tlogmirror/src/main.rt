@@ -5,6 +5,7 @@
 //! that can be done, 3 a no.
 #![tactic(auto)]
 
+use program_files::WatchedStream;
 use program_library::{RunFault, ending_of, print_ending, run};
 use program_words::CommandFault;
 use std::fs::File;
@@ -14,13 +15,15 @@ use std::{env, io};
 
 fn main(rt: HostRuntime) -> ExitCode {
     let streams = [directory(&rt), directory(&rt), directory(&rt)];
+    let mut input = WatchedStream::new(rt.reader());
+    let mut output = WatchedStream::new(io::writer(&rt));
     let answer = match words_of(&rt) {
         Ok(words) => run(
             &rt,
             rt.alloc(),
             &words,
-            &mut rt.reader(),
-            &mut io::writer(&rt),
+            &mut input,
+            &mut output,
             &mut rt.stderr(),
         ),
         Err(fault) => Err(RunFault::Command(fault)),

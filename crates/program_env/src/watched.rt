@@ -1,0 +1,131 @@
+//! Sources that keep what `--why` says of them.
+ghost use Rattle.std.specs.Prelude.{◌≡◌};
+
+use crate::failing::{Failed, Failing};
+use mirror_sources::{Source, SourceFault};
+use std::alloc::Global;
+use tlog_tiles::Path;
+
+/// A source that gives what another gives, and keeps its checkpoint, and which partial tile it lacked last. To contracts it is
+/// that source.
+///
+/// ```text
+/// let mut source = WatchedSource::new(alloc, DirSource::new(&rt, alloc, "log"));
+/// let pulled = pull(alloc, &mut mirror, &keys, &mut source);
+/// source.lacked() // Some(tile/0/000.p/3) after a NoEdge
+/// ```
+#[derive(Drop)]
+pub struct WatchedSource<S: Drop> {
+    /// The source that is watched.
+    pub source: S,
+    alloc: Global,
+    note: Option<Vec<u8>>,
+    lacked: Option<Path>,
+}
+
+impl<S: Drop> WatchedSource<S> {
+    /// That source, of which nothing was asked yet. It takes no memory.
+    pub fn new(alloc: Global, source: S) -> WatchedSource<S>
+        ensures { result.source ≡ source }
+    {
+        WatchedSource {
+            source,
+            alloc,
+            note: None,
+            lacked: None,
+        }
+    }
+
+    /// The checkpoint that it gave last; None where it gave none, or memory to keep it was refused.
+    pub fn note(&self) -> Option<&[u8]> {
+        match &self.note {
+            Some(note) => Some(note.as_slice()),
+            None => None,
+        }
+    }
+
+    /// The partial tile that it lacked last.
+    pub fn lacked(&self) -> Option<Path> {
+        self.lacked
+    }
+
+    // Keeps what an answer says.
+    fn keep(&mut self, path: &Path, found: &Option<Vec<u8>>)
+        ensures { self.new.source ≡ self.old.source }
+    {
+        match (path, found) {
+            (Path::Checkpoint, Some(note)) => self.note = Vec::from_slice(self.alloc, note).ok(),
+            (Path::Tile { width, .. }, None) if *width < 256 => self.lacked = Some(*path),
+            _ => {}
+        }
+    }
+}
+
+impl<S: Source + Drop> Source for WatchedSource<S> {
+    ghost may_answer = { λ s. S.may_answer s.source };
+
+    ghost asked = { λ s. S.asked s.source };
+
+    ghost files = { λ s. S.files s.source };
+
+    ghost failed = { λ s. S.failed s.source };
+
+    fn get(&mut self, path: &Path) -> Result<Option<Vec<u8>>, SourceFault> {
+        match self.source.get(path) {
+            Ok(found) => {
+                self.keep(path, &found);
+                Ok(found)
+            }
+            Err(fault) => Err(fault),
+        }
+    }
+
+    fn expect(&mut self, paths: &[Path]) {
+        self.source.expect(paths);
+    }
+
+    fn failures(&self) -> u64 {
+        self.source.failures()
+    }
+}
+
+impl<S: Failing + Drop> Failing for WatchedSource<S> {
+    fn last_failed(&self) -> Option<Failed> {
+        self.source.last_failed()
+    }
+}
+
+/// A source of which nothing is known, whatever is known of the one whose answers it gives.
+#[derive(Drop)]
+pub struct AnySource<S: Drop> {
+    source: S,
+}
+
+impl<S: Drop> AnySource<S> {
+    /// The answers of that source.
+    pub fn new(source: S) -> AnySource<S> {
+        AnySource { source }
+    }
+}
+
+impl<S: Source + Drop> Source for AnySource<S> {
+    ghost failed = { λ s. S.failed s.source };
+
+    fn get(&mut self, path: &Path) -> Result<Option<Vec<u8>>, SourceFault> {
+        self.source.get(path)
+    }
+
+    fn expect(&mut self, paths: &[Path]) {
+        self.source.expect(paths);
+    }
+
+    fn failures(&self) -> u64 {
+        self.source.failures()
+    }
+}
+
+impl<S: Failing + Drop> Failing for AnySource<S> {
+    fn last_failed(&self) -> Option<Failed> {
+        self.source.last_failed()
+    }
+}
