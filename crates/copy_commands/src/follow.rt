@@ -156,7 +156,11 @@ fn why_of_copy<R, F: RunFiles, D: RunFolders, I, O, E>(
         FollowFault::CopyDamaged | FollowFault::CopyInUse => Why::of_thing(env.alloc, folder),
         FollowFault::ShelfFault => of_folder(env.alloc, &env.folders, folder),
         FollowFault::Contradiction => {
-            Why::of_reason(env.alloc, "checkpoint", "no entries, and not the empty list's root")
+            Why::of_reason(
+                env.alloc,
+                "checkpoint",
+                "no entries, and not the empty list's root",
+            )
         }
         FollowFault::NoFile | FollowFault::Source => {
             let path = lacked?;
