@@ -21,51 +21,15 @@ pub enum Failed {
     Stream(io::Error),
 }
 
-/// What a run works on, which keeps why it failed.
+/// A source or a stream that keeps why it failed. Files and folders have a method of the same name in `RunFiles` and `RunFolders`: with
+/// this trait above those, the checker runs out of steps at `run`.
 ///
 /// ```text
-/// Why::of_failed(alloc, "log", folders.last_failed()?) // log/tile/0/000: No space left on device
+/// Why::of_failed(alloc, "log", source.last_failed()?) // log/tile/0/000: Input/output error
 /// ```
 pub trait Failing {
     /// What failed last; None if nothing did, or it is not kept.
     fn last_failed(&self) -> Option<Failed>;
-}
-
-impl<'a, R: Files> Failing for SystemFiles<'a, R> {
-    fn last_failed(&self) -> Option<Failed> {
-        match SystemFiles::last_failed(self) {
-            Some(failed) => Some(Failed::Name(failed)),
-            None => None,
-        }
-    }
-}
-
-// Files in memory fail where memory is refused alone.
-impl Failing for MemoryFiles {
-    fn last_failed(&self) -> Option<Failed> {
-        None
-    }
-}
-
-impl<'a, R: Files> Failing for DirShelf<'a, R> {
-    fn last_failed(&self) -> Option<Failed> {
-        match DirShelf::last_failed(self) {
-            Some(failed) => Some(Failed::File(failed)),
-            None => None,
-        }
-    }
-}
-
-impl Failing for MemShelf {
-    fn last_failed(&self) -> Option<Failed> {
-        None
-    }
-}
-
-impl<S: RunFolders + Drop, C: Clock + Drop, W: Write + Drop> Failing for CountingShelf<S, C, W> {
-    fn last_failed(&self) -> Option<Failed> {
-        self.shelf.last_failed()
-    }
 }
 
 impl<'a, R: Files> Failing for DirSource<'a, R> {
@@ -96,18 +60,50 @@ impl<S: Drop> Failing for WatchedStream<S> {
 }
 
 /// Named files that keep what failed.
-pub trait RunFiles: NamedFiles + Failing {}
+pub trait RunFiles: NamedFiles {
+    /// What failed last; None if nothing did, or it is not kept.
+    fn last_failed(&self) -> Option<Failed>;
+}
 
-impl<'a, R: Files> RunFiles for SystemFiles<'a, R> {}
+impl<'a, R: Files> RunFiles for SystemFiles<'a, R> {
+    fn last_failed(&self) -> Option<Failed> {
+        match SystemFiles::last_failed(self) {
+            Some(failed) => Some(Failed::Name(failed)),
+            None => None,
+        }
+    }
+}
 
-impl RunFiles for MemoryFiles {}
+// Files in memory fail only if memory is refused.
+impl RunFiles for MemoryFiles {
+    fn last_failed(&self) -> Option<Failed> {
+        None
+    }
+}
 
 /// Folders by their names that keep what failed.
-pub trait RunFolders: CountedFolders + Failing {}
+pub trait RunFolders: CountedFolders {
+    /// What failed last; None if nothing did, or it is not kept.
+    fn last_failed(&self) -> Option<Failed>;
+}
 
-impl<'a, R: Files> RunFolders for DirShelf<'a, R> {}
+impl<'a, R: Files> RunFolders for DirShelf<'a, R> {
+    fn last_failed(&self) -> Option<Failed> {
+        match DirShelf::last_failed(self) {
+            Some(failed) => Some(Failed::File(failed)),
+            None => None,
+        }
+    }
+}
 
-impl RunFolders for MemShelf {}
+impl RunFolders for MemShelf {
+    fn last_failed(&self) -> Option<Failed> {
+        None
+    }
+}
 
-impl<S: RunFolders + Drop, C: Clock + Drop, W: Write + Drop> RunFolders
-    for CountingShelf<S, C, W> {}
+impl<S: RunFolders + Drop, C: Clock + Drop, W: Write + Drop> RunFolders for CountingShelf<S, C, W> {
+    fn last_failed(&self) -> Option<Failed> {
+        self.shelf.last_failed()
+    }
+}
