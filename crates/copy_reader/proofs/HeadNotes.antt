@@ -1,4 +1,4 @@
--- A checkpoint that was read of a note that opens.
+-- The checkpoint of a note that opens.
 use Rattle.std.proofs.Common.{ℕ, List, refl}
 use Rattle.signed_note.specs.Keys.{Key}
 use Rattle.tlog_checkpoint.specs.declared.Checkpoint.{Checkpoint}
@@ -6,7 +6,7 @@ use Rattle.mirror_model.specs.Heads.{IsOpenHead}
 use Rattle.mirror_model.specs.Refusals.{IsOpenCheckpoint}
 use Rattle.mirror_model.proofs.RefusedHeads.{open_heads_are_read}
 
--- it is a head of its size and root
+-- the note opens as a checkpoint of this size and root
 pub opened_head : (note origin : List ℕ) (keys : List Key) (checkpoint : Checkpoint) →
     IsOpenCheckpoint note origin keys checkpoint → IsOpenHead note origin keys checkpoint.size checkpoint.root
 opened_head note origin keys checkpoint is =

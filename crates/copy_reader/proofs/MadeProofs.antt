@@ -1,4 +1,5 @@
--- What is made of a list of entries: it can be written, and that of the first ones is what is asked for of all at that size.
+-- Proofs made from a list of entries: they can be written. A proof in the tree of the first entries is one of all
+-- entries at that size.
 use Rattle.std.proofs.Common.{◌≡◌, ℕ, ◌≤◌, List, [], ◌∷◌, length, take, Result, Ok, Err, refl, sym, ap, ◌∙◌, subst, arith}
 use Rattle.std.specs.Prelude.{slice_index_or, ◌<◌}
 use Rattle.std.proofs.lemmas.List.{length-take-le}
@@ -37,7 +38,7 @@ made_writable digest entries (AskConsistency first second) proof small e =
 
 -- ---- the tree of the proof
 
--- what the reader of all entries makes is what is asked for
+-- the proof that the reader of all entries makes is the requested one
 module _ (ask : Ask) (n : ℕ) (whole : size_asked ask ≡ n) where
   module _ (size index : ℕ) (is : ask ≡ AskInclusion size index) where
     size_is : size ≡ n
@@ -93,12 +94,12 @@ pub within_size : (ask : Ask) (n : ℕ) → IsWithin ask n → size_asked ask �
 within_size (AskInclusion size index) n within = within.0
 within_size (AskConsistency first second) n within = within.0
 
--- what a tree of the first entries has
+-- the requested entry or sizes are within the tree of the first entries
 pub within_first : (ask : Ask) (n : ℕ) → IsWithin ask n → IsWithin ask (size_asked ask)
 within_first (AskInclusion size index) n within = (omega arith, within.1)
 within_first (AskConsistency first second) n within = (omega arith, within.1, within.2)
 
--- a proof in the tree of a root of that size is the one that was asked for
+-- a proof in the tree of a root of that size is the requested one
 pub in_tree_asked : (digest : List ℕ → List ℕ) (size : ℕ) (root first_root : List ℕ) (ask : Ask) (proof : Proof) →
     size_asked ask ≤ size → IsRootOf digest size root (size_asked ask) first_root → IsInTree first_root ask proof →
     IsAsked digest size root ask proof

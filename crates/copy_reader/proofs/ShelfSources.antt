@@ -1,4 +1,4 @@
--- What a source over a shelf may answer, while what was put is kept.
+-- The possible answers of a source over a shelf, while the puts are kept.
 use Rattle.std.proofs.Common.{◌≡◌, ℕ, ◌+◌, ◌<◌, List, [], ◌∷◌, Option, Some, None, subst, inl, inr, refl, arith}
 use Rattle.std.proofs.lemmas.List.Elements.{All-head}
 use Rattle.tlog_tiles.specs.declared.paths.Path.{Path}
@@ -8,7 +8,7 @@ use Rattle.mirror_sources.specs.Recorded.{KeepsRecord}
 use Rattle.mirror_folders.specs.Shelf.{Put, RecordsRead}
 use Rattle.copy_reader.specs.ShelfSources.{MayGive}
 
--- what is read of a shelf that kept what was put was there before
+-- an answer that is read after the puts were kept could be read before
 pub recorded_before : (x y : Option (List Put)) (path : Path) (answer : Option (List ℕ)) → KeepsRecord x y →
     RecordsRead y path answer → RecordsRead x path answer
 recorded_before None y path None k recorded = tt
@@ -16,7 +16,7 @@ recorded_before None y path (Some bytes) k recorded = tt
 recorded_before (Some xs) None path answer k recorded = absurd k
 recorded_before (Some xs) (Some ys) path answer k recorded = subst (λ puts. RecordsRead (Some puts) path answer) k recorded
 
--- what may be answered later might have been answered before
+-- a possible answer later was a possible answer before
 pub stays_within : (name : ℕ) (x y : Option (List Put)) → KeepsRecord x y → StaysWithin (MayGive name x) (MayGive name y)
 stays_within name x y k = record {
   stays = λ path answer may.
@@ -26,7 +26,7 @@ stays_within name x y k = record {
 one_name : (m n : ℕ) → Some ((256 + n) ∷ []) ≡ Some ((256 + m) ∷ []) → n ≡ m
 one_name m n e = let same : 256 + n ≡ 256 + m = cc in omega (arith, same)
 
--- where no answer may come that might not have come before, the same shelf is read
+-- if each possible answer was possible before, the same shelf is read
 pub same_shelf : (m n : ℕ) (x y : Option (List Put)) → StaysWithin (MayGive m x) (MayGive n y) → n ≡ m
 same_shelf m n x y within =
     elim (within.stays (Tile 0 0 0) (Some ((256 + n) ∷ [])) (inr (refl, refl))) [

@@ -1,4 +1,4 @@
--- What is read of a whole copy is true, and its files are not called damaged.
+-- Reads of a whole copy are true, and never end by CopyDamaged.
 use Rattle.std.proofs.Common.{◌≡◌, ℕ, List, length, Option, Some, None, Result, Ok, Err, inl, inr, sym, ap, subst, arith}
 use Rattle.std.specs.Result.{IsErr, IsErrAnd}
 use Rattle.std.proofs.lemmas.Bool.{false≢true}
@@ -59,7 +59,7 @@ module _ (digest : List ℕ → List ℕ) (entries : List (List ℕ)) (name : �
   held_answer path None file h =
       record { partial = h.partial; full = λ answer may. h.full answer (full_recorded path answer file may) }
 
-  -- it holds the files of the log that the shelf has
+  -- the source has the files of the log that the shelf has
   pub shelf_is_source : HasFilesOf digest entries held → IsSourceOf digest entries (MayGive name held)
   shelf_is_source s = record {
     short = s.short;
@@ -99,7 +99,7 @@ module _ {T : Type 0} (digest : List ℕ → List ℕ) (name : ℕ) (before held
       let r = reads entries reader (source_is entries files) in
       record { reader_is = r.reader_is; answer = err_given fault result entries r.answer is }
 
-  -- so is the opening of a log
+  -- the opening of a log from the source is one from the shelf
   pub log_ok : (size : ℕ) (root : List ℕ) (x : T) → ReadsLog digest size root (MayGive name before) (Ok x) claim →
       ReadsCopyLog digest size root held (Ok x) claim
   log_ok size root x reads entries size_is root_is files = reads entries size_is root_is (source_is entries files)
@@ -111,17 +111,17 @@ of_shelf T a b (copy.CopyDamaged path) counts = tt
 of_shelf T a b copy.ShelfFault counts = tt
 of_shelf T a b copy.OutOfMemory counts = tt
 
--- ---- later
+-- ---- after later calls
 
 module _ (digest : List ℕ → List ℕ) (x y : Option (List Put)) (kept : KeepsRecord x y) where
-  -- while what was put is kept, the files stay
+  -- while the puts are kept, the files stay on the shelf
   pub files_later : (entries : List (List ℕ)) → HasFilesOf digest entries x → HasFilesOf digest entries y
   files_later entries =
       let within : StaysWithin (RecordsRead x) (RecordsRead y) =
       record { stays = λ path answer. recorded_before x y path answer kept } in
       source_later digest entries (RecordsRead x) (RecordsRead y) within
 
-  -- so does a whole copy
+  -- while the puts are kept, a whole copy stays whole
   pub whole_later : (origin note : List ℕ) (entries : List (List ℕ)) → IsWholeCopy digest origin note entries x →
       IsWholeCopy digest origin note entries y
   whole_later origin note entries w = record {
@@ -133,12 +133,12 @@ module _ (digest : List ℕ → List ℕ) (x y : Option (List Put)) (kept : Keep
   pub damaged_before : (origin : List ℕ) → IsDamaged digest origin y → IsDamaged digest origin x
   damaged_before origin d note entries w = d note entries (whole_later origin note entries w)
 
--- ---- the checkpoint that was opened
+-- ---- the opened checkpoint
 
 module _ (digest : List ℕ → List ℕ) (origin : List ℕ) (held after : Option (List Put)) (kept : KeepsRecord held after)
     (found : List ℕ) (size : ℕ) (root : List ℕ) (stands : RecordsRead held Checkpoint (Some found))
     (head : IsHead found origin size root) where
-  -- of each whole copy the log was opened, unless the shelf failed or memory was refused
+  -- the log of each whole copy was opened, unless the shelf failed or memory was refused
   pub whole_read : {T : Type 0} (result : Result T CopyFault) (claim : List (List ℕ) → T → Type 0) →
       ReadsCopyLog digest size root after result claim → (note : List ℕ) (entries : List (List ℕ)) →
       IsWholeCopy digest origin note entries held → GivesOr IsShelfFailure result (claim entries)
@@ -149,7 +149,7 @@ module _ (digest : List ℕ → List ℕ) (origin : List ℕ) (held after : Opti
       (subst (λ b. IsHead b origin size root) one head) whole.is_head in
       reads entries (sym once.size_is) (sym once.root_is) (files_later digest held after kept entries whole.files)
 
-  -- where it was not opened, that is for its reason
+  -- if the log was not opened, the reason is one of these
   pub whole_refused : {T : Type 0} (keys : List Key) (claim : List (List ℕ) → T → Type 0) (a b : ℕ) (fault : CopyFault) →
       CountsRead {T = T} a b (Err fault) → ReadsCopyLog digest size root after (Err fault) claim →
       IsRefused digest origin keys held fault
@@ -160,7 +160,7 @@ module _ (digest : List ℕ → List ℕ) (origin : List ℕ) (held after : Opti
   whole_refused keys claim a b copy.ShelfFault counts reads = tt
   whole_refused keys claim a b copy.OutOfMemory counts reads = tt
 
--- where opening it ended by that fault, that is why
+-- if the opening ended by that fault, this is the reason
 pub opens_refused : (digest : List ℕ → List ℕ) (origin : List ℕ) (keys : List Key) (held : Option (List Put)) (fault : CopyFault)
     (result : Result (Option Reader) CopyFault) → IsErr result × IsErrAnd result (λ f. f ≡ fault) →
     IsRefused digest origin keys held fault → OpensCopy digest origin keys held result

@@ -1,4 +1,4 @@
--- A copy in which every file stands is whole, also where partial files have given way.
+-- A copy with all its files is whole, also if partial files were replaced by full ones.
 use Rattle.std.proofs.Common.{◌≡◌, ◌≢◌, ◌⊎◌, ℕ, ◌+◌, ◌*◌, ◌/◌, ◌^◌, ◌<◌, ◌≤◌, List, length, Option, Some, None, sym, subst, arith}
 use Rattle.std.proofs.Common.{inl, inr}
 use Rattle.std.proofs.Math.Nat.{le-div_iff_mul-le}
@@ -55,7 +55,7 @@ module _ (digest : List ℕ → List ℕ) (note : List ℕ) (entries : List (Lis
   note_stands : Stands puts Checkpoint note
   note_stands = holds Checkpoint ((files_are_all n Checkpoint).1 tt)
 
--- ---- what is read of files that stand
+-- ---- reads of files on the shelf
 
 module _ (digest : List ℕ → List ℕ) (entries : List (List ℕ)) (puts : List Put) where
   full_answer : (path : Path) (answer : Option (List ℕ)) → HasGivenWay digest entries puts path →

@@ -1,4 +1,4 @@
--- A copy of a log on a shelf, as far as its checkpoint says: what opening it answers.
+-- A copy of a log on a shelf, and the answers of opening it by its checkpoint.
 use Rattle.std.specs.Prelude.{◌≡◌, ◌⊎◌, ℕ, List, Option, Some, None, Result, Ok, Err, ⊤}
 use Rattle.signed_note.specs.Keys.{Key}
 use Rattle.tlog_tiles.specs.declared.paths.Path.TheVariants.{Checkpoint}
@@ -13,7 +13,7 @@ use Rattle.copy_reader.specs.WholeCopies.{IsDamaged}
 use Rattle.copy_reader.specs.declared.fault.CopyFault.{CopyFault}
 use Rattle.copy_reader.specs.declared.fault.CopyFault.TheVariants.{Origin, Head, CopyDamaged, ShelfFault, OutOfMemory}
 
--- nothing was put: the folder was not opened, or what was put into it stayed
+-- nothing was put: the folder was not opened, or its puts were kept
 abbrev pub LeavesPuts : (held old new : Option (List Put)) → Type 0
 LeavesPuts held old new = (new ≡ old) ⊎ KeepsRecord held new
 
@@ -24,7 +24,7 @@ module _ (origin : List ℕ) (keys : List Key) (held : Option (List Put)) where
     pub stands : RecordsRead held Checkpoint (Some note)
     pub opens : IsOpenHead note origin keys size root
 
-  -- the checkpoint is refused, for that reason
+  -- the checkpoint is refused for that reason
   pub record RefusesCheckpoint (fault : TakeFault) : Type 0 where
     pub note : List ℕ
     pub stands : RecordsRead held Checkpoint (Some note)
@@ -35,7 +35,7 @@ module _ (origin : List ℕ) (keys : List Key) (held : Option (List Put)) where
   IsEmptyCopy = RecordsRead held Checkpoint None
 
 module _ (digest : List ℕ → List ℕ) (origin : List ℕ) (keys : List Key) (held : Option (List Put)) where
-  -- why a copy is not read
+  -- the reason why a copy is not read
   abbrev pub IsRefused : CopyFault → Type 0
   IsRefused (Origin fault) = ¬ IsOrigin origin
   IsRefused (Head fault) = RefusesCheckpoint origin keys held fault
@@ -43,7 +43,7 @@ module _ (digest : List ℕ → List ℕ) (origin : List ℕ) (keys : List Key) 
   IsRefused ShelfFault = ⊤
   IsRefused OutOfMemory = ⊤
 
-  -- what each answer of opening a copy says of the shelf
+  -- the fact about the shelf at each answer of opening a copy
   abbrev pub OpensCopy : Result (Option Reader) CopyFault → Type 0
   OpensCopy (Ok (Some reader)) = HasCheckpoint origin keys held reader.edge.size reader.root
   OpensCopy (Ok None) = IsEmptyCopy origin keys held

@@ -1,4 +1,4 @@
--- What faults of a shelf and of a read are to a copy, and how a shelf counts them.
+-- The faults of a copy for the faults of a shelf and of a read, and how a shelf counts them.
 use Rattle.std.specs.Prelude.{◌≡◌, ℕ, Result, Ok, Err, ⊤}
 use Rattle.mirror_sources.specs.Recorded.{one_more}
 use Rattle.mirror_folders.specs.declared.shelf.ShelfError.{ShelfError}
@@ -20,7 +20,7 @@ by_read reading.Collision = CopyDamaged Checkpoint
 by_read reading.Source = ShelfFault
 by_read reading.OutOfMemory = OutOfMemory
 
--- the shelf's count of failures rises by one at a ShelfFault, and stays at any other fault
+-- the shelf's number of failures rises by one at a ShelfFault, and does not change at any other fault
 abbrev pub CountsFault : ℕ → ℕ → CopyFault → Type 0
 CountsFault old new (Origin fault) = new ≡ old
 CountsFault old new (Head fault) = new ≡ old
@@ -28,12 +28,12 @@ CountsFault old new (CopyDamaged path) = new ≡ old
 CountsFault old new ShelfFault = new ≡ one_more old
 CountsFault old new OutOfMemory = new ≡ old
 
--- likewise of an answer
+-- the same for an answer
 abbrev pub CountsCopy : {T : Type 0} → ℕ → ℕ → Result T CopyFault → Type 0
 CountsCopy old new (Ok x) = new ≡ old
 CountsCopy old new (Err fault) = CountsFault old new fault
 
--- likewise of an answer that reads files of a log whose checkpoint was read
+-- the same for an answer of reading files of a log whose checkpoint was read
 abbrev pub CountsRead : {T : Type 0} → ℕ → ℕ → Result T CopyFault → Type 0
 CountsRead old new (Ok x) = new ≡ old
 CountsRead old new (Err (Origin fault)) = ⊥

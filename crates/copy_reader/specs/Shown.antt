@@ -1,12 +1,12 @@
--- Earlier roots of a copy: those that verified rows show.
+-- The roots of a copy at smaller sizes, shown by verified rows.
 use Rattle.std.specs.Prelude.{◌≡◌, ◌⊎◌, ℕ, List}
 use Rattle.log_reader.specs.EdgeRows.{Edge, hash_of_edge}
 use Rattle.log_reader.specs.Ways.{HasEdgeHashes, IsShownEdge}
 
 module _ (digest : List ℕ → List ℕ) (size : ℕ) (root : List ℕ) where
-  -- an edge of that size leads to the root, the edge of the first entries is shown by it, and leads to their root. By
-  -- `shown_prefixes_law` of log_reader this is the tree hash of the first entries of each list of that size and root, where
-  -- nothing clashes
+  -- an edge of that size leads to the root. It shows the edge of the first entries, which leads to their root. By
+  -- `shown_prefixes_law` of log_reader this is the tree hash of the first entries of each list of that size and root, if nothing
+  -- clashes
   pub record IsShownRoot (first : ℕ) (first_root : List ℕ) : Type 0 where
     pub edge : Edge
     pub hashes : HasEdgeHashes edge

@@ -14,16 +14,16 @@ use mirror_folders::ReadableShelf;
 use std::alloc::Global;
 use tlog_hash::TreeHash;
 
-/// The bytes of a bundle, of the files of the shelf: those of `LogReader::bundle`, verified up to the root.
+/// The bytes of a bundle, from the files of the shelf. They are those of `LogReader::bundle`, verified up to the root.
 ///
 /// ```text
-/// read_bundle(alloc, &mut shelf, &mut reader, 1)?   // of 257 entries the last one, after its length
+/// read_bundle(alloc, &mut shelf, &mut reader, 1)?   // with 257 entries: the last entry, after its length
 /// ```
 ///
 /// # Errors
 ///
-/// `CopyDamaged`, where the bundle, or a tile on the way to it, is missing or false. `ShelfFault`, where a file is not to be read,
-/// which the shelf counts. `OutOfMemory`, where memory was refused.
+/// `CopyDamaged`: the bundle, or a tile between it and the root, is missing or false. `ShelfFault`: a file cannot be read; the shelf
+/// counts it. `OutOfMemory`: memory was refused.
 #[tactic(auto, using(crate::proofs::ShelfSources::same_shelf))]
 pub fn read_bundle<H: TreeHash, D: ReadableShelf>(
     alloc: Global,

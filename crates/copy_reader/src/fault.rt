@@ -1,4 +1,4 @@
-//! Why a copy is not read.
+//! The reasons why a copy is not read.
 ghost use Rattle.std.specs.Prelude.{◌≡◌};
 ghost use Rattle.copy_reader.specs.Faults.{by_read, by_shelf};
 ghost use Rattle.copy_reader.specs.declared.fault.CopyFault.TheVariants as copy;
@@ -11,21 +11,21 @@ use thiserror::Error;
 use tlog_mirror::NewFault;
 use tlog_tiles::Path;
 
-/// Why a copy is not read. It prints its variant's name, or that of the fault that it carries.
-/// `CopyDamaged(Path::Tile { level: 0, index: 1, width: 256 })` says that `tile/0/001` is missing or false.
+/// The reason why a copy is not read. It prints as its variant's name, or as the name of the fault inside.
+/// For example, `CopyDamaged(Path::Tile { level: 0, index: 1, width: 256 })` means that `tile/0/001` is missing or false.
 #[derive(Debug, Drop, PartialEq, Eq, Clone, Copy, Error)]
 pub enum CopyFault {
-    /// No log may have that origin.
+    /// No log can have that origin.
     #[error(transparent)]
     Origin(NewFault),
-    /// The copy's checkpoint is none of the origin that opens under the keys.
+    /// The copy's checkpoint does not open under the keys, or is not one of the origin.
     #[error(transparent)]
     Head(TakeFault),
-    /// The file at the path is not there, or it does not lead to the root of the copy's checkpoint. The path is that of the
-    /// checkpoint where the rows lead to the root, and a proof made of them does not hold.
+    /// The file at the path is missing, or it does not lead to the root of the copy's checkpoint. The path is the checkpoint's if the
+    /// rows lead to the root, but a proof made of them does not hold.
     #[error("CopyDamaged")]
     CopyDamaged(Path),
-    /// A file of the copy is not to be read.
+    /// A file of the copy cannot be read.
     #[error("ShelfFault")]
     ShelfFault,
     /// Memory was refused.

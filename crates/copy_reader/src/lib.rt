@@ -1,7 +1,7 @@
-//! What is read of a copy: a log's files on a shelf, each verified up to the root of the checkpoint.
+//! Reads a copy: a log's files on a shelf, each verified up to the root of the checkpoint.
 //!
 //! ```text
-//! let opened = open_shelf::<Sha256Tree, _>(alloc, &mut shelf, "example.com/log", &keys)?;    // Some(reader), or None: no checkpoint
+//! let opened = open_shelf::<Sha256Tree, _>(alloc, &mut shelf, "example.com/log", &keys)?;    // Some(reader). None: no checkpoint
 //! read_root(alloc, &mut shelf, &mut reader, 257)?                                            // the root of the first 257 entries
 //! read_bundle(alloc, &mut shelf, &mut reader, 1)?                                            // the bytes of tile/entries/001
 //! read_proof_text(alloc, &mut shelf, &mut reader, Ask::Inclusion { size: 257, index: 2 })?   // a proof, which holds

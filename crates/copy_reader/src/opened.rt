@@ -1,4 +1,4 @@
-//! A copy opened: its checkpoint, and a reader of its log.
+//! A copy is opened: its checkpoint, and a reader of its log.
 ghost use Rattle.std.specs.Prelude.{◌≡◌, IfErr, IfOk, map};
 ghost use Rattle.mirror_sources.specs.Recorded.{KeepsRecord};
 ghost use Rattle.copy_reader.specs.Copies.{OpensCopy};
@@ -16,7 +16,7 @@ use std::alloc::Global;
 use tlog_hash::{Hash, TreeHash};
 use tlog_tiles::Path;
 
-/// A reader of a log of that size and root, whose edge is on the shelf.
+/// A reader of a log of that size and root. The edge has to be on the shelf.
 ///
 /// ```text
 /// let mut reader = open_reader::<Sha256Tree, _>(alloc, &mut shelf, 257, &root)?;   // reads tile/0/001.p/1 and tile/1/000.p/1
@@ -24,8 +24,8 @@ use tlog_tiles::Path;
 ///
 /// # Errors
 ///
-/// `CopyDamaged`, where a partial tile of the edge, and the full one, is missing, or the rows do not lead to the root. `ShelfFault`,
-/// where a file is not to be read, which the shelf counts. `OutOfMemory`, where memory was refused.
+/// `CopyDamaged`: a partial tile of the right edge and its full tile are missing, or the rows do not lead to the root. `ShelfFault`: a file
+/// cannot be read; the shelf counts it. `OutOfMemory`: memory was refused.
 #[tactic(auto, using(crate::proofs::ShelfSources::same_shelf))]
 pub fn open_reader<H: TreeHash, D: ReadableShelf>(
     alloc: Global,
@@ -44,8 +44,8 @@ pub fn open_reader<H: TreeHash, D: ReadableShelf>(
     Ok(LogReader::open(alloc, &mut files, size, root)?)
 }
 
-/// The log whose checkpoint is on the shelf: it opens under the keys, and the rows of its edge lead to its root. None where there is
-/// no checkpoint: then the copy is empty.
+/// The log whose checkpoint is on the shelf. The checkpoint opens under the keys, and the rows of its edge lead to its root. None: the
+/// shelf has no checkpoint, so the copy is empty.
 ///
 /// ```text
 /// let opened = open_shelf::<Sha256Tree, _>(alloc, &mut shelf, "example.com/log", &keys)?;
@@ -54,8 +54,8 @@ pub fn open_reader<H: TreeHash, D: ReadableShelf>(
 ///
 /// # Errors
 ///
-/// The first that applies: `ShelfFault`, where a file is not to be read; `Head`, with the fault of `check_head`, where the checkpoint
-/// does not open; those of `open_reader`. `Origin` never comes.
+/// The first that applies. `ShelfFault`: a file cannot be read. `Head`, with the fault of `check_head`: the checkpoint does not open. Then
+/// the faults of `open_reader`. `Origin` never comes.
 #[tactic(auto, using(log_reader::proofs::Kept::kept_twice, crate::proofs::HeadNotes::opened_head))]
 pub fn open_shelf<H: TreeHash, D: ReadableShelf>(
     alloc: Global,

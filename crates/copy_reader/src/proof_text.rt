@@ -37,7 +37,7 @@ fn is_writable(proof: &Proof) -> bool
     }
 }
 
-// The text of a proof; None where it cannot be written.
+// The text of a proof. None: it cannot be written.
 fn proof_text(alloc: Global, proof: &Proof) -> Result<Option<String>, AllocError>
     ensures text { IfOk result
         (λ o. IfSome o (λ text. IsProofText (string_bytes text) proof.now)) }
@@ -50,8 +50,8 @@ fn proof_text(alloc: Global, proof: &Proof) -> Result<Option<String>, AllocError
     Ok(Some(text))
 }
 
-/// The text of the proof that is asked for, of the files of the shelf. It is made of verified rows, and accepted before it is given:
-/// against the root of the checkpoint, or where a smaller size is asked for against the root of as many entries.
+/// The text of the requested proof, from the files of the shelf. It is made of verified rows. Before it is returned, it is checked against
+/// the root of the checkpoint, or against the root of the requested smaller size.
 ///
 /// ```text
 /// let ask = Ask::Inclusion { size: 257, index: 2 };
@@ -60,8 +60,8 @@ fn proof_text(alloc: Global, proof: &Proof) -> Result<Option<String>, AllocError
 ///
 /// # Errors
 ///
-/// `CopyDamaged`, where a tile of the proof is missing or false. `ShelfFault`, where a file is not to be read, which the shelf
-/// counts. `OutOfMemory`, where memory was refused.
+/// `CopyDamaged`: a tile of the proof is missing or false. `ShelfFault`: a file cannot be read; the shelf counts it. `OutOfMemory`:
+/// memory was refused.
 pub fn read_proof_text<H: TreeHash, D: ReadableShelf>(
     alloc: Global,
     shelf: &mut D,

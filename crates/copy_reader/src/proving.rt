@@ -18,7 +18,7 @@ use std::alloc::Global;
 use tlog_hash::TreeHash;
 use tlog_proof::{Ask, Proof};
 
-// How many entries the tree of the proof has: the greater one of two sizes.
+// The size of the tree of the proof: the greater one of two sizes.
 fn tree_size(ask: Ask) -> u64
     ensures { result ≡ size_asked ask }
 {
@@ -28,7 +28,7 @@ fn tree_size(ask: Ask) -> u64
     }
 }
 
-// The proof that is asked for, in the tree of all entries.
+// The requested proof, in the tree of all entries.
 fn whole_proof<H: TreeHash, S: Source>(
     alloc: Global,
     reader: &mut LogReader<H>,
@@ -51,7 +51,7 @@ fn whole_proof<H: TreeHash, S: Source>(
     }
 }
 
-// The proof that is asked for: in the tree of all entries, or of the first ones.
+// The requested proof, in the tree of all entries or of the first ones.
 #[tactic(auto, using(log_reader::proofs::Kept::kept_twice))]
 fn proof_of<H: TreeHash, S: Source>(
     alloc: Global,
@@ -78,7 +78,7 @@ fn proof_of<H: TreeHash, S: Source>(
     whole_proof(alloc, &mut first, files, ask)
 }
 
-/// The proof that is asked for, of the files of the shelf.
+/// The requested proof, from the files of the shelf.
 #[tactic(auto, using(crate::proofs::ShelfSources::same_shelf))]
 pub(crate) fn read_proof<H: TreeHash, D: ReadableShelf>(
     alloc: Global,

@@ -1,4 +1,4 @@
-//! Earlier roots of a copy.
+//! The roots of a copy at smaller sizes.
 ghost use Rattle.std.specs.Prelude.{◌≡◌, ◌≤◌, IfOk, take};
 ghost use Rattle.tlog_hash.specs.Tree.{mth};
 ghost use Rattle.mirror_sources.specs.Source.{StaysWithin};
@@ -43,7 +43,7 @@ fn root_of<H: TreeHash, S: Source>(
     Ok(first.root())
 }
 
-/// The root of the first entries, as many as `size`, of the files of the shelf: verified rows show it.
+/// The root of the first `size` entries, from verified rows of the files of the shelf.
 ///
 /// ```text
 /// read_root(alloc, &mut shelf, &mut reader, 257)?
@@ -51,8 +51,8 @@ fn root_of<H: TreeHash, S: Source>(
 ///
 /// # Errors
 ///
-/// `CopyDamaged`, where a tile that the root is made of is missing or false. `ShelfFault`, where a file is not to be read, which the
-/// shelf counts. `OutOfMemory`, where memory was refused.
+/// `CopyDamaged`: a tile that the root needs is missing or false. `ShelfFault`: a file cannot be read; the shelf counts it. `OutOfMemory`:
+/// memory was refused.
 #[tactic(auto, using(crate::proofs::ShelfSources::same_shelf))]
 pub fn read_root<H: TreeHash, D: ReadableShelf>(
     alloc: Global,

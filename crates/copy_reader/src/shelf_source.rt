@@ -7,25 +7,25 @@ use tlog_tiles::Path;
 
 /// A source that gives the files of a shelf.
 ///
-/// Contracts see what was put onto the shelf (`files`), and that it stays. What a call that takes any source ensures of this one
-/// holds of the shelf once the call is over.
+/// Contracts see the puts of the shelf (`files`), and that they are kept. A postcondition of a call that takes any source holds for the
+/// shelf after the call.
 ///
 /// ```text
 /// let mut source = ShelfSource::new(&mut shelf);
-/// source.get(&Path::Checkpoint)?   // what shelf.read gives
+/// source.get(&Path::Checkpoint)?   // the answer of shelf.read
 /// ```
 #[derive(Drop)]
 pub struct ShelfSource<'a, D: ReadableShelf> {
     shelf: &'a mut D,
 }
 
-// The elements are bytes. It does nothing, and its contract is what the type says.
+// Each element is a byte. The body does nothing: the contract states what follows from the type.
 fn see_bytes(bytes: &[u8])
     ensures { All (λ byte. byte < 256) bytes.now }
 {}
 
 impl<'a, D: ReadableShelf> ShelfSource<'a, D> {
-    /// That shelf.
+    /// A source over that shelf.
     pub fn new(shelf: &'a mut D) -> ShelfSource<'a, D>
         ensures same_reference { result.shelf.ghost_name ≡ shelf.entry.ghost_name }
         ensures now { result.shelf.now ≡ shelf.old }

@@ -19,7 +19,7 @@ fn push_point(text: &mut String, size: u64, root: &Hash) -> Result<(), AllocErro
     push_hash(text, root)
 }
 
-// Adds the line of a head that is complete, if there is one.
+// Adds the line of a complete tree head, if there is one.
 fn push_head(text: &mut String, point: &Option<(u64, Hash)>) -> Result<(), AllocError>
     ensures { OnOk result (string_bytes text.new ≡ string_bytes text.old
         ++ flat_map head_line (copy_heads (option_map point_of point.now))) }
@@ -34,7 +34,7 @@ fn push_head(text: &mut String, point: &Option<(u64, Hash)>) -> Result<(), Alloc
     }
 }
 
-// Adds the line of what is served.
+// Adds the line of the served tree head.
 fn push_served(text: &mut String, point: &Option<(u64, Hash)>) -> Result<(), AllocError>
     ensures { OnOk result (string_bytes text.new ≡ string_bytes text.old
         ++ served_line (option_map point_of point.now)) }
@@ -49,8 +49,8 @@ fn push_served(text: &mut String, point: &Option<(u64, Hash)>) -> Result<(), All
     }
 }
 
-/// The text of the status of a copy of that size and root, or of an empty one: that of a mirror that holds the checkpoint, complete,
-/// and no other.
+/// The text of the status of a copy of that size and root, or of an empty copy. It is that of a mirror with only the checkpoint's tree
+/// head, which is complete.
 ///
 /// ```text
 /// status_text(alloc, "example.com/log", &None)?
@@ -60,7 +60,7 @@ fn push_served(text: &mut String, point: &Option<(u64, Hash)>) -> Result<(), All
 ///
 /// # Errors
 ///
-/// Memory was refused.
+/// `AllocError`: memory was refused.
 pub fn status_text(
     alloc: Global,
     origin: &str,

@@ -1,4 +1,4 @@
--- From the bytes of what is asked for to what is answered.
+-- From the bytes of the requested resource to the reply.
 use Rattle.std.proofs.Common.{◌≡◌, ◌⊎◌, ℕ, List, Option, Some, None, Result, Ok, Err, IfErr, refl, sym, subst, inl, inr, ◌∙◌}
 use Rattle.std.specs.Prelude.{IfNone, IfOk, IfSome, option_map}
 use Rattle.std.specs.Io.KnownBytes.{Keeps}
@@ -26,7 +26,7 @@ use Rattle.copy_server.specs.declared.fault.CopyAnswerFault.TheVariants.{Http, C
 use Rattle.copy_server.proofs.Blaming.{blamed}
 use Rattle.copy_server.proofs.CopyBodies.{one_copy_head}
 
--- the bytes under the checkpoint that was read, or that there are none, are those of the copy, while what was put is kept
+-- the bytes under the checkpoint that was read, or None, are those of the copy, while the puts are kept
 module _ {V E : Type 0} (items : V → List ℕ) (digest : List ℕ → List ℕ) (origin : List ℕ) (head : Option CopyHead)
     (r : Resource) where
   pub copy_body_at : (before after : Option (List Put)) (answer : Result (Option V) E) → KeepsRecord before after →
@@ -50,7 +50,7 @@ module _ {V E : Type 0} (items : V → List ℕ) (digest : List ℕ → List ℕ
       (subst (λ h. IsBodyAt digest origin (Some xs) h r body)
       (one_copy_head origin xs has.head head has.is_head is) has.is_body))
 
--- the same of bytes that an empty copy has
+-- the same for the bytes of an empty copy
 pub copy_body_empty : {V : Type 0} (found : Option V) (items : V → List ℕ) (digest : List ℕ → List ℕ) (origin : List ℕ)
     (r : Resource) (held : Option (List Put)) → IsCopyHead origin held None →
     IfSome found (λ body. IsBodyAt digest origin held None r (items body)) →
@@ -64,7 +64,7 @@ copy_body_empty None items digest origin r (Some puts) is some none =
     (subst (λ h. IsBodyAt digest origin (Some puts) h r body)
     (one_copy_head origin puts has.head None has.is_head is) has.is_body)
 
--- the reply to what was asked for
+-- the reply to the request
 pub copy_reply_of : (digest : List ℕ → List ℕ) (origin : List ℕ) (held : Option (List Put)) (request : Request)
     (found : Option (List ℕ)) (reply : List ℕ) →
     IfSome held (λ puts. IsBodyFor (IsCopyBody digest origin (Some puts)) request found) →
@@ -75,7 +75,7 @@ copy_reply_of digest origin (Some puts) request found reply has e =
     λ bytes asks. subst (λ r. IsCopyReply digest origin puts bytes r) (sym e)
     (responds (IsCopyBody digest origin (Some puts)) bytes request found asks has)
 
--- ---- what is written
+-- ---- the bytes that are written
 
 module _ {X : Type 0} (old new : Option (List ℕ)) (digest : List ℕ → List ℕ) (origin : List ℕ) where
   whole : (puts : List Put) (bytes reply : List ℕ) (r : Result X CopyAnswerFault) →
@@ -198,7 +198,7 @@ module _ {X : Type 0} (old new : Option (List ℕ)) where
     counts_error T fault answer (Err (CopyDamaged path)) e c w = counts_damaged T a b fault path c (sym e ∙ w.0)
     counts_error T fault answer (Err ShelfFault) e c w = counts_failed T a b fault c (sym e ∙ w.0)
 
--- where the reply was not written whole, the fault is that of writing it
+-- if the reply was not written whole, the fault is that of writing it
 pub wrote_error : (X : Type 0) (fault error : CopyAnswerFault) (old new : Option (List ℕ)) →
     WritesServerError {X = X} old new (Err error) → WritesError {X = X} fault old new (Err error)
 wrote_error X fault (Http ReadFault) old new w = absurd w

@@ -1,4 +1,4 @@
--- A whole copy is not called damaged.
+-- CopyDamaged never comes for a whole copy.
 use Rattle.std.proofs.Common.{◌≡◌, ℕ, List, length, Option, Some, Result, Ok, Err, sym, subst}
 use Rattle.std.specs.Prelude.{IfErr}
 use Rattle.std.specs.Result.{IsErr, IsErrAnd}
@@ -19,7 +19,7 @@ use Rattle.copy_server.specs.Faults.{BlamesCopy, by_body}
 use Rattle.copy_server.specs.GivenProofs.{HasLogOf}
 use Rattle.copy_server.specs.declared.fault.CopyAnswerFault.TheVariants as answering
 
--- a checkpoint that is none of the origin is that of no whole copy
+-- no whole copy has a checkpoint that is not one of the origin
 pub bad_head : (digest : List ℕ → List ℕ) (origin : List ℕ) (held : Option (List Put)) (found : List ℕ) →
     RecordsRead held Checkpoint (Some found) → ((size : ℕ) (root : List ℕ) → IsHead found origin size root → ⊥) →
     IsDamaged digest origin held
@@ -30,7 +30,7 @@ bad_head digest origin held found stands none note entries w =
     (subst (λ b. IsHead b origin (length entries) (mth digest entries)) one w.is_head)
 
 module _ (digest : List ℕ → List ℕ) (origin : List ℕ) where
-  -- what is wanted of a whole copy is there, unless the shelf failed or memory was refused
+  -- a whole copy has each needed file, unless the shelf failed or memory was refused
   pub body_blames : {T : Type 0} (held after : Option (List Put)) (head : CopyHead) (a b : ℕ) (result : Result T CopyFault) →
       KeepsRecord held after → IsCopyHead origin held (Some head) → CountsRead a b result →
       ((entries : List (List ℕ)) → HasLogOf digest after head.size head.root entries → IfErr result IsShelfFailure) →

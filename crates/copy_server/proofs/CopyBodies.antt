@@ -1,4 +1,4 @@
--- What a copy has of each resource that is no proof is what the mirror of its view has.
+-- The bytes of a copy for each resource except proofs are those of a mirror with its view.
 use Rattle.std.proofs.Common.{◌≡◌, ℕ, ◌≤◌, ◌^◌, List, [], length, Option, Some, None, refl, sym, subst, inl, inr, arith}
 use Rattle.std.specs.FinSet as set
 use Rattle.tlog_hash.specs.Tree.{mth, strings}
@@ -32,7 +32,7 @@ use Rattle.copy_server.proofs.ShelfFiles.{stands_has, stands_one}
 use Rattle.copy_server.proofs.TrueFiles.{bundle_taken, first_bundle, first_tile, tile_taken}
 use Rattle.copy_server.proofs.Widths.{widest_there, within_upto}
 
--- what stands at the checkpoint's path is one head at most
+-- at most one checkpoint is at its path
 pub one_copy_head : (origin : List ℕ) (puts : List Put) (a b : Option CopyHead) → IsCopyHead origin (Some puts) a →
     IsCopyHead origin (Some puts) b → a ≡ b
 one_copy_head origin puts None None p q = refl
@@ -64,7 +64,7 @@ module _ (digest : List ℕ → List ℕ) (hash : IsDigest digest) (origin note 
   pub copy_has_head : IsCopyHead origin (Some puts) (Some head)
   copy_has_head = (stands_there Checkpoint tt, is_head)
 
-  -- the file that is read is the widest of its place, with its true bytes
+  -- the file that is read is the widest with its level and index, and has its true bytes
   true_file : (path : Path) (widest width : ℕ) (file : List ℕ) → IsFileOf n (of_width path widest) →
       IsFileRead (Some puts) path widest width file →
       (width ≡ widest) × (file ≡ served_bytes digest note entries (of_width path widest))
@@ -141,7 +141,7 @@ module _ (digest : List ℕ → List ℕ) (hash : IsDigest digest) (origin note 
         taken = inr (first_bundle digest hash entries short index width wide within le);
       }
 
-  -- what the copy has, the mirror has
+  -- the mirror has the bytes that the copy has
   copy_has : (clear : NoClash digest (set.from_list (strings digest entries))) (r : Resource) (body : List ℕ) →
       IsNoProof r → IsBodyAt digest origin (Some puts) (Some head) r body → IsBody digest v r body
   copy_has clear (File Checkpoint) body fine is = record {
@@ -160,7 +160,7 @@ module _ (digest : List ℕ → List ℕ) (hash : IsDigest digest) (origin note 
       one_missing digest origin note entries is_head hash clear small size root body is.0 is.1 is.2
   copy_has clear (Proof ask) body fine is = absurd fine
 
-  -- what the mirror has, the copy has
+  -- the copy has the bytes that the mirror has
   mirror_has : (r : Resource) (body : List ℕ) → IsNoProof r → IsBody digest v r body →
       (b : List ℕ) × IsBodyAt digest origin (Some puts) (Some head) r b
   mirror_has (File Checkpoint) body fine is = (note, refl)

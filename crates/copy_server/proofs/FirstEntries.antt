@@ -1,4 +1,4 @@
--- Entries read from the start of a bundle, one after the other.
+-- Entries read from the start of a bundle, one after another.
 use Rattle.std.proofs.Common.{◌≡◌, ℕ, ◌+◌, ◌-◌, ◌*◌, ◌^◌, ◌<◌, ◌≤◌, List, [], ◌∷◌, ◌++◌, length, take, drop, All, refl, sym, ap, ◌∙◌, arith}
 use Rattle.std.specs.List.{flat_map}
 use Rattle.std.proofs.lemmas.List.{length-append, take_at}
@@ -9,7 +9,7 @@ use Rattle.log_reader.proofs.TrueBundles.{none_split, one_split}
 use Rattle.tlog_tiles.proofs.BundleLemmas.{joined_push}
 use Rattle.copy_server.specs.GivenFiles.{IsFirstEntries, IsFirstHashes}
 
--- that many entries were read, and the rest is left
+-- "count" entries were read, and the rest is left
 pub record HasRead (count : ℕ) (file rest : List ℕ) : Type 0 where
   pub entries : List (List ℕ)
   pub count_is : length entries ≡ count
@@ -51,7 +51,7 @@ pub no_hashes : (width : ℕ) (file : List ℕ) → length file < 32 * width →
 no_hashes width file less part h =
     omega (arith, less, ap length h.parts, length-append part h.rest, h.size)
 
--- where the file begins with that many entries, those behind the ones that were read are left
+-- if the file begins with "width" entries, those after the entries that were read are left
 pub record LeavesOthers (width count : ℕ) (file rest : List ℕ) : Type 0 where
   pub left : (entries : List (List ℕ)) (after : List ℕ) → length entries ≡ width → AreShort entries →
       file ≡ bundle_text entries ++ after → rest ≡ bundle_text (drop count entries) ++ after

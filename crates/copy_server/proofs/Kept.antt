@@ -1,10 +1,10 @@
--- Reads of a shelf that kept what was put.
+-- Reads of a shelf whose puts were kept.
 use Rattle.std.proofs.Common.{ℕ, List, Option, Some, None, sym, subst}
 use Rattle.tlog_tiles.specs.declared.paths.Path.{Path}
 use Rattle.mirror_sources.specs.Recorded.{KeepsRecord}
 use Rattle.mirror_folders.specs.Shelf.{HasPut, Put, Stands, RecordsRead}
 
--- what is read of a shelf that kept what was put was there before
+-- an answer that is read after the puts were kept could be read before
 pub read_before : (x y : Option (List Put)) (path : Path) (answer : Option (List ℕ)) → KeepsRecord x y →
     RecordsRead y path answer → RecordsRead x path answer
 read_before None y path (Some bytes) k h = tt

@@ -1,4 +1,4 @@
--- What is answered from a copy is what a mirror of its view answers.
+-- The reply from a copy is that of a mirror with its view.
 use Rattle.std.proofs.Common.{ℕ, List, Some, refl}
 use Rattle.httparse.specs.Grammar.{RequestHead}
 use Rattle.tlog_proof.specs.declared.proof.Ask.{Ask}
@@ -12,7 +12,7 @@ use Rattle.copy_server.specs.CopyLaws.{CopiesAnswerAsMirrors, empty, whole}
 use Rattle.copy_server.specs.Asking.{AsksNoProof}
 use Rattle.copy_server.proofs.CopyBodies.{from_copy, from_empty, to_copy, to_empty}
 
--- a target that names no proof names something else
+-- a target that does not name a proof names something else
 pub no_proof : (target : List ℕ) (r : Resource) → Names target r → ((ask : Ask) → Names target (Proof ask) → ⊥) → IsNoProof r
 no_proof target (File path) names none = tt
 no_proof target Status names none = tt

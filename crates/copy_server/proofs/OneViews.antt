@@ -1,4 +1,4 @@
--- What a view of one note serves, and one of none.
+-- The served log of a view with one note, and of a view without notes.
 use Rattle.std.proofs.Common.{◌≡◌, ℕ, ◌^◌, ◌≤◌, List, [], ◌∷◌, length, Some, None, true, refl, sym, ap, subst, arith}
 use Rattle.std.proofs.Common.{◌∙◌}
 use Rattle.std.specs.FinSet as set
@@ -36,7 +36,7 @@ itself s = ap is_le (tied_itself nat_list_cmp_total s)
 first_listed : {X : Type 0} (x : X) → Contains (x ∷ []) x
 first_listed x = (0, omega arith, refl)
 
--- the one item of a list is that item
+-- an element of a list with one element is that element
 one_item : {X : Type 0} (x y : X) → Contains (x ∷ []) y → y ≡ x
 one_item {X} x y h = All-contains (λ z. z ≡ x) (x ∷ []) y (All-cons (λ z. z ≡ x) x [] refl (All-nil (λ z. z ≡ x))) h
 
@@ -51,14 +51,14 @@ one_order : {K : Type 0} (cmp : K → K → Ordering) (x : K) → IsStrictlySort
 unfolding IsStrictlySortedBy
 one_order cmp x = (tt, tt)
 
--- a set of strings has those of the list that it is made of
+-- the set of a list has all strings of the list
 holds_all : (all : List (List ℕ)) → HasAll (set.from_list all) all
 holds_all all =
     held_from_all (set.from_list all) all
     (recursion_from_All (Has (set.from_list all)) all
     (All-weaker (Contains all) (Has (set.from_list all)) (λ s c. has_from_listed all s c) all (All-contains_itself all)))
 
--- ---- one note, whose head is complete
+-- ---- one note, whose tree head is complete
 
 module _ (digest : List ℕ → List ℕ) (origin note : List ℕ) (entries : List (List ℕ))
     (head : IsHead note origin (length entries) (mth digest entries)) where
@@ -96,7 +96,7 @@ module _ (digest : List ℕ → List ℕ) (origin note : List ℕ) (entries : Li
   pub one_list : IsServedList digest v entries
   one_list = record { note = note; size = n; root = root; served = one_served }
 
-  -- what is served has as many entries
+  -- the served list has the note's number of entries
   pub one_size : (others : List (List ℕ)) → IsServedList digest v others → length others ≡ n
   one_size others is =
       let s = once_held is.note is.size is.root is.served.holds in is.served.tree.size_is ∙ sym s.size_is
@@ -104,7 +104,7 @@ module _ (digest : List ℕ → List ℕ) (origin note : List ℕ) (entries : Li
   abbrev the_point : Point
   the_point = record { size = n; root = root }
 
-  -- the one head
+  -- the only tree head
   pub one_head : (m : ℕ) (r : List ℕ) → HasHead v m r → (m ≡ n) × (r ≡ root)
   one_head m r is = let s = once_held is.note m r is.holds in (sym s.size_is, sym s.root_is)
 

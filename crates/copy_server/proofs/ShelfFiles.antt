@@ -1,4 +1,4 @@
--- What stands on a shelf: one file at a path.
+-- The content of a shelf: one file at a path.
 use Rattle.std.proofs.Common.{◌≡◌, ℕ, suc, ◌+◌, ◌-◌, ◌<◌, List, ◌∷◌, ◌++◌, length, get_or, refl, sym, ap, ◌∙◌, inl, inr, arith}
 use Rattle.std.specs.List.{Contains}
 use Rattle.std.proofs.Math.Seq.{get_or-append_seam}
@@ -46,7 +46,7 @@ stands_one puts path a b p q = elim (cases_lt (length p.before) (length q.before
   ]
 ]
 
--- what stands there was put there
+-- a file on the shelf was put there
 pub stands_has : (puts : List Put) (path : Path) (bytes : List ℕ) → Stands puts path bytes → HasPut puts path
 stands_has puts path bytes s = put_has puts path bytes (
   length s.before,

@@ -1,4 +1,4 @@
--- Files of a list of entries: the narrower one of a place begins the wider one.
+-- Files of a list of entries: at one level and index, the wider file begins with the narrower one.
 use Rattle.std.proofs.Common.{◌≡◌, ℕ, zero, suc, ◌+◌, ◌-◌, ◌*◌, ◌^◌, ◌≤◌, List, ◌∷◌, ◌++◌, length, take, drop, map}
 use Rattle.std.proofs.Common.{sym, ap, ◌∙◌, inl, inr, arith}
 use Rattle.std.specs.List.{flat_map}
@@ -38,7 +38,7 @@ module _ (digest : List ℕ → List ℕ) (hash : IsDigest digest) (entries : Li
   read : IsRead digest entries
   read = served_is_read digest hash entries short
 
-  -- the bytes of a tile begin those of a wider one
+  -- a wider tile begins with the bytes of a narrower one
   pub first_tile : (level index w wide : ℕ) → w ≤ wide →
       IsFirstHashes w (tile_bytes digest entries level index wide) (tile_bytes digest entries level index w)
   first_tile level index w wide le =
@@ -58,7 +58,7 @@ module _ (digest : List ℕ → List ℕ) (hash : IsDigest digest) (entries : Li
             ∙ ap (λ k. 32 * k) (read.tile level index w).count;
       }
 
-  -- so what is taken of a wider tile is the tile
+  -- so the bytes that are taken from a wider tile are the tile
   pub tile_taken : (level index w wide : ℕ) (body : List ℕ) → w ≤ wide →
       IsTaken (Tile level index w) wide (tile_bytes digest entries level index wide) body →
       body ≡ tile_bytes digest entries level index w
@@ -70,7 +70,7 @@ module _ (digest : List ℕ → List ℕ) (hash : IsDigest digest) (entries : Li
       sym (take_at body first.rest (32 * w) first.size)
       ∙ (ap (take (32 * w)) (sym first.parts ∙ true_one.parts) ∙ take_at t true_one.rest (32 * w) true_one.size)
 
-  -- the bytes of a bundle begin those of a wider one
+  -- a wider bundle begins with the bytes of a narrower one
   pub first_bundle : (index w wide : ℕ) → IsTileWithin (length entries) 0 index w → w ≤ wide →
       IsFirstEntries w (bundle_bytes entries index wide) (bundle_bytes entries index w)
   first_bundle index w wide within le =
@@ -85,7 +85,7 @@ module _ (digest : List ℕ → List ℕ) (hash : IsDigest digest) (entries : Li
         is_bundle = read.bundle index w within;
       }
 
-  -- so what is taken of a wider bundle is the bundle
+  -- so the bytes that are taken from a wider bundle are the bundle
   pub bundle_taken : (index w wide : ℕ) (body : List ℕ) → IsTileWithin (length entries) 0 index w → w ≤ wide →
       IsTaken (Entries index w) wide (bundle_bytes entries index wide) body → body ≡ bundle_bytes entries index w
   bundle_taken index w wide body within le (inl own) =

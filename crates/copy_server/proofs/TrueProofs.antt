@@ -1,4 +1,4 @@
--- What is read of a log that was opened is a proof of the definitions.
+-- A proof from an opened log is that of the definitions.
 use Rattle.std.proofs.Common.{◌≡◌, ℕ, ◌≤◌, List, Option, Result, Ok, Err, sym, subst}
 use Rattle.std.specs.Prelude.{IfErr}
 use Rattle.std.specs.Result.{IsErr, IsErrAnd}
@@ -26,7 +26,7 @@ module _ {T : Type 0} (view : T → List ℕ) (digest : List ℕ → List ℕ) (
       (reads (subst (λ n. n ≤ MAX_SIZE) (sym size_is) log.small) entries (opens entries log.size_is log.root_is log.files)
       (files_later digest before after kept entries log.files)).answer
 
--- a fault that was passed on
+-- a fault that was returned unchanged
 pub passed_on : {T : Type 0} (P : CopyFault → Type 0) (fault : CopyFault) (result : Result T CopyFault) →
     IsErr result × IsErrAnd result (λ f. f ≡ fault) → P fault → IfErr result P
 passed_on P fault (Ok x) is h = tt

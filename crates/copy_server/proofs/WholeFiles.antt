@@ -1,4 +1,4 @@
--- Files of a log that the shelf has whole: what is wanted stands, or the full file of its place does.
+-- Files of a log on a shelf that has all of it: the needed file is there, or its full file is.
 use Rattle.std.proofs.Common.{◌≡◌, ◌≢◌, ◌⊎◌, ℕ, List, [], ◌++◌, length, Option, Some, None, sym, ap, subst, ◌∙◌, inl, inr, arith}
 use Rattle.std.proofs.Common.{append_assoc}
 use Rattle.std.proofs.lemmas.Bool.{cases_lt}
@@ -20,7 +20,7 @@ use Rattle.copy_server.specs.GivenFiles.{IsFileRead, IsFirstOf, of_width, path_w
 use Rattle.copy_server.proofs.TrueFiles.{first_bundle, first_tile}
 use Rattle.copy_server.proofs.Widths.{widest_there, within_upto}
 
--- the widest file of a place is one of the tree
+-- the widest file of a level and index is one of the tree
 tile_file : (n level index width : ℕ) → IsTileWithin n level index width →
     IsTreeFile n (Tile level index (width_at n level index))
 tile_file n level index width h = elim (cases_lt index (edge_index_of n level)) [
@@ -50,7 +50,7 @@ module _ (digest : List ℕ → List ℕ) (hash : IsDigest digest) (entries : Li
   widest_file (Tile level index width) within = tile_file n level index width within
   widest_file (Entries index width) within = (tile_file n 0 index width within).1
 
-  -- a file that goes on behind the true bytes of the widest begins with the path's own
+  -- a file that begins with the true bytes of the widest file begins with the path's own bytes
   begins : (path : Path) → IsWithin n path → (file rest : List ℕ) →
       file ≡ true_bytes digest entries (of_width path (widest_of n path)) ++ rest → (part : List ℕ) × IsFirstOf path file part
   begins Checkpoint within file rest is = absurd within
@@ -78,14 +78,14 @@ module _ (digest : List ℕ → List ℕ) (hash : IsDigest digest) (entries : Li
         },
       )
 
-  -- so does the widest itself
+  -- the widest file begins with the path's own bytes
   widest_begins : (path : Path) → IsWithin n path → (file : List ℕ) →
       RecordsRead held (of_width path (widest_of n path)) (Some file) → (part : List ℕ) × IsFirstOf path file part
   widest_begins path within file recorded =
       let is = files.files (of_width path (widest_of n path)) (widest_file path within) (Some file) recorded in
       begins path within file [] (is ∙ sym (append-nil (true_bytes digest entries (of_width path (widest_of n path)))))
 
-  -- and the full one, where the widest has given way
+  -- so does the full file, if it replaced the widest one
   full_begins : (path : Path) → IsWithin n path → (file : List ℕ) →
       RecordsRead held (of_width path (widest_of n path)) None → RecordsRead held (of_width path 256) (Some file) →
       (part : List ℕ) × IsFirstOf path file part
@@ -99,7 +99,7 @@ module _ (digest : List ℕ → List ℕ) (hash : IsDigest digest) (entries : Li
       let way = files.files (of_width path (widest_of n path)) (widest_file path within) None gone in
       let on = way.full (Some file) recorded in begins path within file on.rest on.bytes_are
 
-  -- one of the two stands
+  -- the shelf has one of the two
   pub some_stands : (path : Path) → IsWithin n path → RecordsRead held (of_width path (widest_of n path)) None →
       RecordsRead held (of_width path 256) None → ⊥
   some_stands Checkpoint within gone none = within
@@ -110,7 +110,7 @@ module _ (digest : List ℕ → List ℕ) (hash : IsDigest digest) (entries : Li
       let path = Entries index width in
       (files.files (of_width path (widest_of n path)) (widest_file path within) None gone).full None none
 
-  -- and it has what is wanted
+  -- and it has the needed part
   pub has_part : (path : Path) → IsWithin n path → (width : ℕ) (file : List ℕ) → RecordsRead held (of_width path width) (Some file) →
       (width ≡ widest_of n path) ⊎ (RecordsRead held (of_width path (widest_of n path)) None × (width ≡ 256)) →
       (part : List ℕ) × IsFirstOf path file part
@@ -126,7 +126,7 @@ module _ (digest : List ℕ → List ℕ) (hash : IsDigest digest) (entries : Li
     widest_is : widest ≡ widest_of n path
     widest_is = is ∙ ap (λ m. widest_of m path) (sym len)
 
-    -- a file of the place is found
+    -- a file of that level and index is found
     pub not_gone : RecordsRead held (of_width path widest) None × RecordsRead held (of_width path 256) None → ⊥
     not_gone gone =
         some_stands path within (subst (λ w. RecordsRead held (of_width path w) None) widest_is gone.0) gone.1
@@ -141,7 +141,7 @@ module _ (digest : List ℕ → List ℕ) (hash : IsDigest digest) (entries : Li
         has_part path within width file stands
         (inr (subst (λ w. RecordsRead held (of_width path w) None) widest_is gone, full))
 
-    -- and it is not too short
+    -- the file is not too short
     pub not_short : (width : ℕ) (file : List ℕ) → IsFileRead held path widest width file → width ≢ path_width path →
         ((part : List ℕ) → IsFirstOf path file part → ⊥) → ⊥
     not_short width file read other none =

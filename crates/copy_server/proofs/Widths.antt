@@ -1,4 +1,4 @@
--- Which tiles are within a tree, by the widest of their place.
+-- The tiles within a tree, by the widest of their level and index.
 use Rattle.std.proofs.Common.{◌≡◌, ℕ, ◌<◌, ◌≤◌, Option, inl, inr, arith}
 use Rattle.std.specs.Option.{unwrap_or}
 use Rattle.std.specs.Prelude.{IfSome, IfNone}
@@ -51,7 +51,7 @@ within_from n level index width fits some upto =
       ]
     ]
 
--- the widest of a place that has a tile
+-- the widest width of a level and index that has a tile
 pub widest_there : (n level index width : ℕ) → IsTileWithin n level index width →
     IsWidestIn n level index (width_at n level index)
 widest_there n level index width h =
@@ -61,7 +61,7 @@ widest_there n level index width h =
       widest = λ wider more is. absurd (omega (arith, within_upto n level index wider is, more));
     }
 
--- what the search for a width answers
+-- the answer of the search for a width
 pub widest_found : (n level index : ℕ) (found : Option ℕ) → IfSome found (λ width. IsTile n level index width) →
     IfNone found ((width : ℕ) → IsTile n level index width → ⊥) → unwrap_or found 0 ≡ width_at n level index
 widest_found n level index found some none = width_found n level index found some none

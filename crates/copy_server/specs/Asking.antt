@@ -1,4 +1,4 @@
--- What the bytes of a client ask for.
+-- The requests of a client.
 use Rattle.std.specs.Prelude.{ℕ, List}
 use Rattle.httparse.specs.Grammar.{RequestHead}
 use Rattle.tlog_proof.specs.declared.proof.Ask.{Ask}
@@ -6,6 +6,6 @@ use Rattle.mirror_server.specs.Resource.{Names}
 use Rattle.mirror_server.specs.Response.{HasRequest}
 use Rattle.mirror_server.specs.declared.resource.Resource.TheVariants.{Proof}
 
--- the bytes ask for no proof
+-- the bytes are not a request for a proof
 abbrev pub AsksNoProof : List ℕ → Type 0
 AsksNoProof bytes = (h : RequestHead) → HasRequest bytes h → (ask : Ask) → ¬ Names h.target (Proof ask)

@@ -1,4 +1,4 @@
--- The bytes that a copy has of each resource: what a mirror has that holds the copy's checkpoint, complete, and no other.
+-- The bytes of a copy for each resource. They are those of a mirror with only the checkpoint's tree head, which is complete.
 use Rattle.std.specs.Prelude.{◌≡◌, ℕ, List, [], Option, Some, None, ⊤}
 use Rattle.tlog_tiles.specs.declared.paths.Path.TheVariants.{Checkpoint, Tile, Entries}
 use Rattle.mirror_folders.specs.Shelf.{Put}
@@ -23,7 +23,7 @@ abbrev pub head_point : CopyHead → Point
 head_point head = record { size = head.size; root = head.root }
 
 module _ (digest : List ℕ → List ℕ) (origin : List ℕ) (held : Option (List Put)) where
-  -- the bytes of a resource, under that checkpoint or, of an empty copy, under none
+  -- the bytes of a resource under that checkpoint. None: the copy is empty
   abbrev pub IsBodyAt : Option CopyHead → Resource → List ℕ → Type 0
   IsBodyAt None (File path) body = ⊥
   IsBodyAt None Status body = body ≡ copy_status origin None
@@ -39,7 +39,7 @@ module _ (digest : List ℕ → List ℕ) (origin : List ℕ) (held : Option (Li
   IsBodyAt (Some head) (Missing size root) body = (size ≡ head.size) × (root ≡ head.root) × (body ≡ [])
   IsBodyAt (Some head) (Proof ask) body = IsProofGiven digest held head.size head.root ask body
 
-  -- the bytes of a resource of the copy that stands on the shelf
+  -- the bytes of a resource of the copy on the shelf
   pub record IsCopyBody (resource : Resource) (body : List ℕ) : Type 0 where
     pub head : Option CopyHead
     pub is_head : IsCopyHead origin held head

@@ -1,4 +1,4 @@
--- What the call that answers a client from a copy does.
+-- The effects of a call that answers a client from a copy.
 use Rattle.std.specs.Prelude.{◌≡◌, ◌⊎◌, ℕ, List, Option, Some, Result, Ok, Err, ⊤}
 use Rattle.std.specs.Io.KnownBytes.{Appends, Keeps}
 use Rattle.byte_streams.specs.Streams.{AppendsPrefix}
@@ -12,13 +12,12 @@ use Rattle.copy_server.specs.declared.fault.CopyAnswerFault.{CopyAnswerFault}
 use Rattle.copy_server.specs.declared.fault.CopyAnswerFault.TheVariants.{Http, CopyDamaged, ShelfFault}
 
 module _ (digest : List ℕ → List ℕ) (origin : List ℕ) (puts : List Put) (bytes : List ℕ) where
-  -- what is replied to these bytes of a client: what the copy has of what they ask for
+  -- the reply to these bytes of a client: the copy's bytes of the requested resource
   abbrev pub IsCopyReply : List ℕ → Type 0
   IsCopyReply reply = ResponseBy (IsCopyBody digest origin (Some puts)) bytes reply
 
-  -- what each answer says of what was written: the whole reply, a prefix of it, or nothing; where a file of the copy is
-  -- damaged or cannot be read, the whole reply that says so, or a prefix of it where the write failed. A whole copy is never
-  -- damaged
+  -- the bytes that were written, by the answer: the whole reply, a prefix of it, or nothing. If a file of the copy is damaged or
+  -- cannot be read, the whole reply 500, or a prefix of it if the write failed. CopyDamaged never comes for a whole copy
   abbrev pub AnswersFromCopy : {X : Type 0} → Option (List ℕ) → Option (List ℕ) → Result X CopyAnswerFault →
       Type 0
   AnswersFromCopy old new (Ok x) = (reply : List ℕ) × IsCopyReply reply × Appends old new reply
@@ -30,7 +29,7 @@ module _ (digest : List ℕ → List ℕ) (origin : List ℕ) (puts : List Put) 
       Appends old new server_error × IsDamaged digest origin (Some puts)
   AnswersFromCopy old new (Err ShelfFault) = Appends old new server_error
 
--- what writing a reply did
+-- the effect of writing a reply
 abbrev pub WritesReply : {X : Type 0} → Option (List ℕ) → Option (List ℕ) → List ℕ →
     Result X CopyAnswerFault → Type 0
 WritesReply old new reply (Ok x) = Appends old new reply
@@ -40,7 +39,7 @@ WritesReply old new reply (Err (Http OutOfMemory)) = ⊥
 WritesReply old new reply (Err (CopyDamaged path)) = ⊥
 WritesReply old new reply (Err ShelfFault) = ⊥
 
--- what writing the reply that a file is damaged, or cannot be read, did
+-- the effect of writing the reply for a file that is damaged or cannot be read
 abbrev pub WritesServerError : {X : Type 0} → Option (List ℕ) → Option (List ℕ) → Result X CopyAnswerFault → Type 0
 WritesServerError old new (Ok x) = Appends old new server_error
 WritesServerError old new (Err (Http ReadFault)) = ⊥
@@ -49,7 +48,7 @@ WritesServerError old new (Err (Http OutOfMemory)) = Keeps old new
 WritesServerError old new (Err (CopyDamaged path)) = ⊥
 WritesServerError old new (Err ShelfFault) = ⊥
 
--- what writing the reply to a fault did, and which fault is answered then
+-- the effect of writing the reply to a fault, and the fault that is returned then
 abbrev pub WritesError : {X : Type 0} → CopyAnswerFault → Option (List ℕ) → Option (List ℕ) →
     Result X CopyAnswerFault → Type 0
 WritesError fault old new (Ok x) = ⊥
@@ -67,8 +66,8 @@ IsQuiet (Http OutOfMemory) = ⊤
 IsQuiet (CopyDamaged path) = ⊥
 IsQuiet ShelfFault = ⊥
 
--- the shelf's count of failures rises by one at a ShelfFault, and stays at any other answer; where a write failed, it may
--- have been the reply to a ShelfFault
+-- the shelf's number of failures rises by one at a ShelfFault, and does not change at other answers. If a write failed, the reply
+-- may have been that to a ShelfFault
 abbrev pub CountsAnswer : {X : Type 0} → ℕ → ℕ → Result X CopyAnswerFault → Type 0
 CountsAnswer old new (Ok x) = new ≡ old
 CountsAnswer old new (Err (Http ReadFault)) = new ≡ old

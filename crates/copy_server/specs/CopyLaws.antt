@@ -1,4 +1,4 @@
--- What is answered from a copy is what a mirror answers that holds the copy's checkpoint, complete, and no other.
+-- The reply from a copy is that of a mirror with only the checkpoint's tree head, which is complete.
 use Rattle.std.specs.Prelude.{ℕ, List, [], ◌∷◌, length, Some}
 use Rattle.std.specs.FinSet as set
 use Rattle.tlog_hash.specs.Tree.{mth, strings}
@@ -14,7 +14,7 @@ use Rattle.mirror_server.specs.Response.{Response, ResponseBy}
 use Rattle.copy_server.specs.Asking.{AsksNoProof}
 use Rattle.copy_server.specs.Bodies.{IsCopyBody}
 
--- the view of a mirror that holds one note, and the strings of the tree of those entries
+-- the view of a mirror that has one note, and the strings of the tree of those entries
 abbrev pub copy_view : (List ℕ → List ℕ) → List ℕ → List ℕ → List (List ℕ) → View
 copy_view digest origin note entries =
     record {
@@ -23,8 +23,8 @@ copy_view digest origin note entries =
       strings = set.from_list (strings digest entries);
     }
 
--- the view is that of what was put: of a copy, no two strings of whose tree share a digest, or of an empty one. What makes a
--- copy is said as by `IsCopy` of mirror_copy
+-- the view of the puts: an empty copy, or a copy in whose tree no two different strings share a digest. The conditions of a copy are those
+-- of `IsCopy` of mirror_copy
 pub data IsViewOf (digest : List ℕ → List ℕ) (origin : List ℕ) (puts : List Put) : View → Type 0 where
   empty : ¬ HasPut puts Checkpoint → IsViewOf digest origin puts (nothing origin)
   whole : {note : List ℕ} {entries : List (List ℕ)} → AreShort entries →
@@ -32,7 +32,7 @@ pub data IsViewOf (digest : List ℕ → List ℕ) (origin : List ℕ) (puts : L
       NoClash digest (set.from_list (strings digest entries)) →
       IsViewOf digest origin puts (copy_view digest origin note entries)
 
--- what is answered from a copy to bytes that ask for no proof is what a mirror of its view answers
+-- the reply from a copy to bytes that request no proof is the reply of a mirror with its view
 abbrev pub CopiesAnswerAsMirrors : Type 0
 CopiesAnswerAsMirrors =
     (digest : List ℕ → List ℕ) → IsDigest digest → (origin : List ℕ) (puts : List Put) (v : View) →

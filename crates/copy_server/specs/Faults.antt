@@ -1,4 +1,4 @@
--- What the faults of a body are to a client's call.
+-- The client's faults for the faults of a body.
 use Rattle.mirror_server.specs.declared.fault.HttpFault.TheVariants as http
 use Rattle.tlog_tiles.specs.declared.paths.Path.TheVariants.{Checkpoint}
 use Rattle.copy_reader.specs.declared.fault.CopyFault.{CopyFault}
@@ -16,7 +16,7 @@ by_body (CopyDamaged path) = answering.CopyDamaged path
 by_body ShelfFault = answering.ShelfFault
 by_body OutOfMemory = answering.Http http.OutOfMemory
 
--- the fault is one of reading files; CopyDamaged says that there is no whole copy
+-- the fault is one of reading files. At CopyDamaged there is no whole copy
 abbrev pub BlamesCopy : (List ℕ → List ℕ) → List ℕ → Option (List Put) → CopyFault → Type 0
 BlamesCopy digest origin held (Origin fault) = ⊥
 BlamesCopy digest origin held (Head fault) = ⊥

@@ -1,4 +1,4 @@
--- Which proofs a copy gives: those that are asked for, which hold against the root of its checkpoint.
+-- The proofs of a copy are the requested ones, and hold against the root of its checkpoint.
 use Rattle.std.specs.Prelude.{◌≡◌, ℕ, ◌≤◌, List, length, Option}
 use Rattle.tlog_shape.specs.declared.TheConstants.{MAX_SIZE}
 use Rattle.tlog_hash.specs.Tree.{mth}
@@ -15,8 +15,8 @@ module _ (digest : List ℕ → List ℕ) (held : Option (List Put)) (size : ℕ
     pub small : size ≤ MAX_SIZE
     pub files : HasFilesOf digest entries held
 
-  -- the text is that of a proof that was asked for, and that is accepted. The copy has what is asked for. Where the shelf has
-  -- the files of such a log, it is the proof that the definitions make of its entries
+  -- the text is that of a requested and accepted proof. The copy has the requested entry or sizes. If the shelf has the files of such
+  -- a log, it is the proof of the definitions for its entries
   pub record IsProofGiven (ask : Ask) (text : List ℕ) : Type 0 where
     pub within : IsWithin ask size
     pub is : IsProofOf digest size root ask text

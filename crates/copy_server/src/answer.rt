@@ -1,4 +1,4 @@
-//! One client answered from a copy.
+//! One client is answered from a copy.
 ghost use Rattle.std.specs.Prelude.{◌≡◌, ℕ, List, IfErr, IfOk, IfSome};
 ghost use Rattle.std.specs.Io.KnownBytes.{Keeps};
 ghost use Rattle.byte_streams.specs.Streams.{TakesAtMost};
@@ -18,7 +18,7 @@ use std::alloc::Global;
 use std::io::{Read, Write};
 use tlog_hash::TreeHash;
 
-// The reply to what is asked for.
+// The reply to the request.
 #[tactic(auto, using(crate::proofs::Answering::copy_reply_of))]
 fn reply_from_copy<H: TreeHash, D: ReadableShelf>(
     alloc: Global,
@@ -47,7 +47,7 @@ fn write_reply<W: Write>(writer: &mut W, reply: &[u8]) -> Result<(), CopyAnswerF
     }
 }
 
-// Writes the reply where a file of the copy is damaged or cannot be read.
+// Writes the reply for a file of the copy that is damaged or cannot be read.
 fn write_server_error<W: Write>(alloc: Global, writer: &mut W) -> Result<(), CopyAnswerFault>
     ensures { WritesServerError (W.contents writer.old) (W.contents writer.new) result }
 {
@@ -58,7 +58,7 @@ fn write_server_error<W: Write>(alloc: Global, writer: &mut W) -> Result<(), Cop
     Ok(())
 }
 
-// Writes that reply, and answers the fault. Where memory was refused nothing is written.
+// Writes that reply, and returns the fault. If memory was refused, nothing is written.
 #[tactic(auto, using(crate::proofs::Answering::wrote_error))]
 fn write_error<W: Write>(
     alloc: Global,
@@ -80,23 +80,23 @@ fn write_error<W: Write>(
     }
 }
 
-/// Answers the first request that the reader gives from the copy that stands on the shelf, and writes the reply (RFC 9112): what
-/// `answer` of `mirror_server` replies from a mirror that holds the copy's checkpoint, complete, and nothing else. Requests and
-/// replies are those of `answer`, with its limits.
+/// Reads the first request of a client, and writes the reply from the copy on the shelf (RFC 9112). The reply is that of `answer` of
+/// `mirror_server` for a mirror with only the checkpoint's tree head, which is complete. Requests and replies have the limits
+/// of `answer`.
 ///
-/// The checkpoint is read at each call, and no signature is looked at: nothing is kept between calls, and memory does not grow with
-/// the log. A tile or a bundle is given as its file stands, or the first of a wider one. A proof is made of verified files, and
-/// checked. A copy without a checkpoint is answered as an empty mirror.
+/// The checkpoint is read at each call, and no signature is verified. Nothing is kept between calls, and memory does not grow with the log.
+/// The bytes of a tile or a bundle are those of its file, or come from the start of a wider file. A proof is made of verified files, and
+/// checked. A copy without a checkpoint answers like an empty mirror.
 ///
 /// # Errors
 ///
-/// `Http` of `ReadFault`, `WriteFault` and `OutOfMemory`, as of `answer`. `CopyDamaged` where a file that is wanted is missing, or
-/// does not verify up to the checkpoint's root, and `ShelfFault` where one cannot be read: `500 Internal Server Error` was written.
+/// `Http` of `ReadFault`, `WriteFault` and `OutOfMemory`, as for `answer`. `CopyDamaged`: a needed file is missing, or does not verify up
+/// to the checkpoint's root. `ShelfFault`: a needed file cannot be read. At both, `500 Internal Server Error` was written.
 ///
 /// # Examples
 ///
-/// `GET /tile/0/000.p/3 HTTP/1.1`, with the empty line behind it, is answered by 96 bytes where the checkpoint is of three entries
-/// or more, by 404 where it is of fewer, and by 500 where it is of three, and the file is gone.
+/// `GET /tile/0/000.p/3 HTTP/1.1`, followed by an empty line, gets 96 bytes if the checkpoint has at least three entries, and 404 if it has
+/// fewer. It gets 500 if the checkpoint has three entries and the file is missing.
 #[tactic(auto, using(crate::proofs::Answering::answers_whole, crate::proofs::Answering::answers_error, crate::proofs::Answering::counts_whole, crate::proofs::Answering::counts_error, crate::proofs::Answering::quiet_whole, crate::proofs::Answering::quiet_error, crate::proofs::Answering::no_read_whole, crate::proofs::Answering::no_read_error))]
 pub fn answer_from_copy<H: TreeHash, D: ReadableShelf, R: Read, W: Write>(
     alloc: Global,

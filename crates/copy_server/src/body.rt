@@ -1,4 +1,4 @@
-//! The bytes of what is asked for.
+//! The bytes of the reply to a request.
 ghost use Rattle.std.specs.Prelude.{◌≡◌, ◌↔◌, ℕ, List, [], IfErr, IfNone, IfOk, IfSome, IsTrue, None, Option, Some, option_map};
 ghost use Rattle.mirror_folders.specs.Shelf.{Put};
 ghost use Rattle.mirror_server.specs.Answered.{IsBodyFor};
@@ -84,7 +84,7 @@ fn is_same(first: &Hash, second: &Hash) -> bool
     first == second
 }
 
-// What is missing of a head: nothing of that of the copy; None where it is another.
+// The bytes that list the missing paths of a tree head: empty for the copy's tree head. None: it is another tree head.
 fn missing_body(alloc: Global, size: u64, root: &Hash, asked: u64, hash: &Hash) -> Option<Vec<u8>>
     ensures found { IfSome result (λ body. (asked ≡ size) × (hash.now ≡ root.now)
         × (body.items ≡ [])) }
@@ -97,13 +97,12 @@ fn missing_body(alloc: Global, size: u64, root: &Hash, asked: u64, hash: &Hash) 
     }
 }
 
-/// The bytes of a resource of the copy that stands on the shelf; None where a mirror that holds its checkpoint, complete, would not
-/// serve it.
+/// The bytes of a resource of the copy on the shelf. None: a mirror with only the checkpoint's tree head, which is complete, would not
+/// serve the resource.
 ///
 /// # Errors
 ///
-/// `CopyDamaged` where a file that is wanted is missing or false. `ShelfFault` where the shelf failed, which it counts.
-/// `OutOfMemory` where memory was refused.
+/// `CopyDamaged`: a needed file is missing or false. `ShelfFault`: the shelf failed, and counts it. `OutOfMemory`: memory was refused.
 #[tactic(auto, using(crate::proofs::Answering::copy_body_at, crate::proofs::Blaming::body_blames, log_reader::proofs::Kept::kept_twice))]
 fn copy_body<H: TreeHash, D: ReadableShelf>(
     alloc: Global,
@@ -124,11 +123,11 @@ fn copy_body<H: TreeHash, D: ReadableShelf>(
     }
 }
 
-/// The bytes of what is asked for, where the copy has it.
+/// The bytes of the requested resource, if the copy has it.
 ///
 /// # Errors
 ///
-/// Those of the copy's files.
+/// The faults of `copy_body`.
 pub(crate) fn requested_body<H: TreeHash, D: ReadableShelf>(
     alloc: Global,
     shelf: &mut D,

@@ -12,7 +12,7 @@ use std::alloc::Global;
 use tlog_hash::Hash;
 use tlog_tiles::Path;
 
-/// The checkpoint that stands on the shelf: its note, its size and its root. None where the copy is empty.
+/// The checkpoint on the shelf: its note, its size and its root. None: the copy is empty.
 #[tactic(auto, using(crate::proofs::Blaming::bad_head))]
 pub(crate) fn read_checkpoint<D: ReadableShelf>(
     alloc: Global,

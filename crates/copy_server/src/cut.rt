@@ -6,7 +6,7 @@ use crate::width::own_width;
 use std::alloc::{AllocError, Global};
 use tlog_tiles::{Path, split_entry};
 
-// The first hashes of a tile.
+// The first `width` hashes of a tile.
 #[tactic(auto, using(crate::proofs::FirstEntries::no_hashes))]
 fn first_hashes(file: &[u8], width: u32) -> Option<&[u8]>
     ensures some { IfSome result (λ part. IsFirstHashes width file.now part.now) }
@@ -20,7 +20,7 @@ fn first_hashes(file: &[u8], width: u32) -> Option<&[u8]>
     Some(part)
 }
 
-// The first entries of a bundle.
+// The first `width` entries of a bundle.
 #[tactic(auto, using(crate::proofs::FirstEntries::none_read, crate::proofs::FirstEntries::one_read, crate::proofs::FirstEntries::left_within, crate::proofs::FirstEntries::first_read, crate::proofs::FirstEntries::all_left, crate::proofs::FirstEntries::one_less, crate::proofs::FirstEntries::no_entries))]
 fn first_entries(file: &[u8], width: u32) -> Option<&[u8]>
     ensures some { IfSome result (λ part. IsFirstEntries width file.now part.now) }
@@ -37,7 +37,7 @@ fn first_entries(file: &[u8], width: u32) -> Option<&[u8]>
     Some(part)
 }
 
-// The first part of a file that is wider than that of the path.
+// The first part of a file that is wider than the file of the path.
 fn first_part<'a>(path: &Path, file: &'a [u8]) -> Option<&'a [u8]>
     ensures some { IfSome result (λ part. IsFirstOf path.now file.now part.now) }
     ensures none { IfNone result ((part : List ℕ) → ¬ IsFirstOf path.now file.now part) }
@@ -49,7 +49,7 @@ fn first_part<'a>(path: &Path, file: &'a [u8]) -> Option<&'a [u8]>
     }
 }
 
-/// What the path has of a file of that width at its place; None where the file is too short.
+/// The bytes of the path, from a file of that width with its level and index. None: the file is too short.
 pub(crate) fn take_part(
     alloc: Global,
     path: &Path,

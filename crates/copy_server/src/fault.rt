@@ -1,4 +1,4 @@
-//! Why a client was not answered from a copy.
+//! The reasons why a client was not answered from a copy.
 ghost use Rattle.std.specs.Prelude.{◌≡◌};
 ghost use Rattle.copy_server.specs.Faults.{by_body};
 
@@ -7,23 +7,23 @@ use mirror_server::HttpFault;
 use thiserror::Error;
 use tlog_tiles::Path;
 
-/// Why a client was not answered from a copy, or was answered by `500 Internal Server Error`. It prints its variant's name, or that
-/// of the fault that it carries.
+/// The reason why a client was not answered from a copy, or was answered by `500 Internal Server Error`. It prints as its variant's name,
+/// or as the name of the fault inside.
 #[derive(Debug, Drop, PartialEq, Eq, Clone, Copy, Error)]
 pub enum CopyAnswerFault {
-    /// A read or a write failed, or memory was refused, as where a mirror answers.
+    /// A read or a write failed, or memory was refused, as for a mirror.
     #[error(transparent)]
     Http(HttpFault),
-    /// The file at the path is missing, or it does not verify up to the checkpoint's root; of the checkpoint, that it is none of the
-    /// origin. The client got the reply 500.
+    /// The file at the path is missing, or does not verify up to the checkpoint's root. For the checkpoint's path: it is not a checkpoint
+    /// of the origin. The client got the reply 500.
     #[error("CopyDamaged")]
     CopyDamaged(Path),
-    /// A file of the copy is not to be read. The client got the reply 500.
+    /// A file of the copy cannot be read. The client got the reply 500.
     #[error("ShelfFault")]
     ShelfFault,
 }
 
-/// What a fault of a body is to the client's call. A body has no fault of an origin, nor of keys.
+/// The client's fault for a fault of a body. The body itself never has `Origin` or `Head`.
 pub(crate) fn answer_fault(fault: CopyFault) -> CopyAnswerFault
     ensures { result ≡ by_body fault }
 {

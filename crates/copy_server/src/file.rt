@@ -15,7 +15,7 @@ use std::alloc::Global;
 use tlog_hash::TreeHash;
 use tlog_tiles::Path;
 
-// The file of that width at a path's place.
+// The file of that width, with the path's level and index.
 fn read_width<D: ReadableShelf>(
     shelf: &mut D,
     path: &Path,
@@ -34,7 +34,7 @@ fn read_width<D: ReadableShelf>(
     }
 }
 
-// The path's own file or, where that does not stand, the full one of its place.
+// The path's own file, or else the full file with its level and index.
 #[tactic(auto, using(log_reader::proofs::Kept::kept_twice, crate::proofs::Kept::read_before))]
 fn read_other<D: ReadableShelf>(
     shelf: &mut D,
@@ -56,7 +56,7 @@ fn read_other<D: ReadableShelf>(
     }
 }
 
-// The widest file of a path's place that a log has or, where that does not stand, the path's own or the full one.
+// The widest file that a log has with the path's level and index. If the shelf lacks it, the path's own file or the full one.
 fn read_widest<D: ReadableShelf>(
     shelf: &mut D,
     path: &Path,
@@ -77,12 +77,12 @@ fn read_widest<D: ReadableShelf>(
     }
 }
 
-/// The bytes of a tile or of a bundle, in a copy of that size: those of a file as they stand, or the first of a wider one. None
-/// where it is not within the copy.
+/// The bytes of a tile or of a bundle, in a copy of that size. They are those of its file, or come from the start of a wider file. None:
+/// the copy does not have the path.
 ///
 /// # Errors
 ///
-/// `CopyDamaged` where neither its file nor a wider one stands, or the wider one has too few hashes or entries.
+/// `CopyDamaged`: the shelf has neither the file nor a wider one, or the wider one has too few hashes or entries.
 pub(crate) fn read_file<H: TreeHash, D: ReadableShelf>(
     alloc: Global,
     shelf: &mut D,

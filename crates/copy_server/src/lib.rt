@@ -1,4 +1,4 @@
-//! A copy of a log, as it stands on a shelf, served over HTTP (RFC 9112): one request is read, and one reply is written.
+//! Serves a copy of a log, on a shelf, over HTTP (RFC 9112): each call reads one request and writes one reply.
 //!
 //! ```text
 //! let mut shelf = DirShelf::new(&rt, alloc, "log");

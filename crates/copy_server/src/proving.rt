@@ -1,4 +1,4 @@
-//! Proofs of a copy's entries, made of its files.
+//! Proofs of a copy's entries, made from its files.
 ghost use Rattle.std.specs.Prelude.{◌↔◌, List, ℕ, IfErr, IfNone, IfOk, IfSome, IsTrue};
 ghost use Rattle.mirror_sources.specs.Recorded.{KeepsRecord};
 ghost use Rattle.copy_reader.specs.Faults.{CountsRead};
@@ -12,7 +12,7 @@ use std::alloc::Global;
 use tlog_hash::{Hash, TreeHash};
 use tlog_proof::Ask;
 
-// Whether a log of that size has what is asked for.
+// Whether a log of that size has the requested entry or sizes.
 fn is_within(ask: Ask, size: u64) -> bool
     ensures { IsTrue result ↔ IsWithin ask size }
 {
@@ -22,12 +22,12 @@ fn is_within(ask: Ask, size: u64) -> bool
     }
 }
 
-/// The text of the proof that is asked for, in the tree of that size and root, of verified files of the shelf. It is checked before
-/// it is given. None where the log has no such entry, or no such sizes.
+/// The text of the requested proof in the tree of that size and root, from verified files of the shelf. It is checked before it is
+/// returned. None: the log does not have the entry or the sizes.
 ///
 /// # Errors
 ///
-/// `CopyDamaged` where a file that is wanted is missing or false.
+/// `CopyDamaged`: a needed file is missing or false.
 #[tactic(auto, using(log_reader::proofs::Kept::kept_once, log_reader::proofs::Kept::kept_twice))]
 pub(crate) fn asked_proof<H: TreeHash, D: ReadableShelf>(
     alloc: Global,

@@ -7,7 +7,7 @@ ghost use Rattle.copy_server.specs.GivenFiles.{of_width, path_width, widest_of};
 use tlog_shape::width_in;
 use tlog_tiles::Path;
 
-/// How many hashes or entries the file at the path has.
+/// The number of hashes or entries in the file at the path.
 pub(crate) fn own_width(path: &Path) -> u32
     ensures { result ≡ path_width path.now }
 {
@@ -18,7 +18,7 @@ pub(crate) fn own_width(path: &Path) -> u32
     }
 }
 
-/// The path of the file of that width at the same place.
+/// The path of the file of that width, with the same level and index.
 pub(crate) fn with_width(path: &Path, width: u32) -> Path
     ensures { result ≡ of_width path.now width }
 {
@@ -33,7 +33,7 @@ pub(crate) fn with_width(path: &Path, width: u32) -> Path
     }
 }
 
-// The width of the widest file of a place, where one of that width is within a log of that size.
+// The width of the widest file at a level and index, if a log of that size has a file of width `width` there.
 #[tactic(auto, using(crate::proofs::Widths::widest_found, crate::proofs::Widths::within_upto, crate::proofs::Widths::within_from))]
 fn widest_around(size: u64, level: u32, index: u64, width: u32) -> Option<u32>
     ensures some { IfSome result (λ widest. IsTileWithin size level index width) }
@@ -50,7 +50,7 @@ fn widest_around(size: u64, level: u32, index: u64, width: u32) -> Option<u32>
     Some(widest)
 }
 
-/// The width of the widest file of a path's place, where the path is within a log of that size.
+/// The width of the widest file with the path's level and index, if a log of that size has the path.
 pub(crate) fn widest_if_within(size: u64, path: &Path) -> Option<u32>
     ensures some { IfSome result (λ widest. IsWithin size path.now) }
     ensures widest { IfSome result (λ widest. widest ≡ widest_of size path.now) }

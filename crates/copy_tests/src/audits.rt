@@ -1,5 +1,4 @@
-//! An audit of a small log: which files are read, and in which order. Files that are false, missing or unavailable are in
-//! transcripts.
+//! An audit of a small log: the files that it reads, and their order. Transcripts have the cases of false, missing and unavailable files.
 use crate::logs::{lines_of, log_of};
 use mirror_audit::{Audited, audit};
 use mirror_sources::ListSource;
@@ -22,7 +21,7 @@ fn keys(alloc: Global) -> Result<Vec<Box<dyn Verifier>>, Fail> {
     Ok(keys)
 }
 
-// The files of C(600) in the order in which they are read.
+// The files of C(600), in the order in which they are read.
 const PATHS: &str =
     "checkpoint\ntile/0/002.p/88\ntile/1/000.p/2\ntile/entries/000\ntile/0/000\ntile/entries/001\ntile/0/001\ntile/entries/002.p/88\n";
 

@@ -1,6 +1,6 @@
-//! Logs in memory that places serve, and what a shelf holds.
+//! Logs in memory that places serve, and the content of a shelf.
 //!
-//! C(n) is the log of the numbers from 0 on, n of them, each in two bytes, big-endian, of the origin `ex`.
+//! C(n) is the log of the n numbers from 0 on, each in two bytes, big-endian, with origin `ex`.
 ghost use Rattle.std.specs.Prelude.{◌<◌, ◌^◌, map, IfOk, length};
 ghost use Rattle.mirror_model.specs.TrueLaws.{AreShort};
 
@@ -21,7 +21,7 @@ fn entry(alloc: Global, number: u32) -> Result<Vec<u8>, AllocError>
     Vec::from_slice(alloc, &number.to_be_bytes())
 }
 
-// The first entries, as a list.
+// The first entries of a log.
 fn entries(alloc: Global, count: u32) -> Result<Vec<Vec<u8>>, AllocError>
     ensures { IfOk result (λ entries. AreShort (map (λ e. e.items) entries.items)) }
 {
@@ -57,7 +57,7 @@ pub(crate) fn bring<D: ReadableShelf, S: Source + Drop>(
     bring_copy::<Sha256Tree, D, S>(alloc, "ex", shelf, places, note)
 }
 
-/// Brings the shelf's copy to C(n) from one place that serves it, and answers what it was asked for, a path a line.
+/// Brings the shelf's copy to C(n) from one place that serves it. Returns the paths of the requests, one a line.
 pub(crate) fn bring_log(
     alloc: Global,
     shelf: &mut MemShelf,
@@ -79,7 +79,7 @@ pub(crate) fn bring_log(
     Ok(asked)
 }
 
-/// The paths, each in a line.
+/// The paths, one a line.
 pub(crate) fn lines_of(alloc: Global, paths: &[Path]) -> Result<String, Fail> {
     let mut text = String::new(alloc);
     for path in paths {
@@ -89,7 +89,7 @@ pub(crate) fn lines_of(alloc: Global, paths: &[Path]) -> Result<String, Fail> {
     Ok(text)
 }
 
-/// The paths of what was put from that number on, each in a line.
+/// The paths of the puts from that number on, one a line.
 pub(crate) fn put_lines(alloc: Global, shelf: &MemShelf, from: usize) -> Result<String, Fail> {
     let mut paths = Vec::new(alloc);
     for (i, put) in shelf.puts().iter().enumerate() {
@@ -100,7 +100,7 @@ pub(crate) fn put_lines(alloc: Global, shelf: &MemShelf, from: usize) -> Result<
     lines_of(alloc, &paths)
 }
 
-/// What stands at a path.
+/// The shelf's content at a path.
 pub(crate) fn standing<'a>(shelf: &'a MemShelf, path: &Path) -> Option<&'a [u8]> {
     let mut found = None;
     for put in shelf.puts() {

@@ -1,16 +1,16 @@
-//! Places that lie.
+//! Places that give false files.
 use mirror_sources::{ListSource, Source, SourceFault};
 use std::alloc::Global;
 use tlog_hash::Sha256Tree;
 use tlog_tiles::Path;
 
-/// A place over a log, which gives 512 zero bytes for one path, if any.
+/// A place over a log. For one path, if any, it gives 512 zero bytes.
 #[derive(Drop)]
 pub(crate) struct LyingPlace {
     pub(crate) log: ListSource<Sha256Tree>,
     alloc: Global,
     path: Option<Path>,
-    /// How often it lied.
+    /// The number of false files that it gave.
     pub(crate) lies: u32,
 }
 
@@ -25,7 +25,7 @@ impl LyingPlace {
     }
 }
 
-// A list does not fail, but where memory is refused.
+// A list fails only if memory is refused.
 impl Source for LyingPlace {
     ghost failed = { λ _. 0 };
 

@@ -1,5 +1,5 @@
-//! Copies of small logs, brought step by step: what is asked for, what is put, and in which order. What else the rows of copies
-//! say is in transcripts and in `scripts/cut-runs`.
+//! Copies of small logs, brought step by step: the requests, the puts, and their order. The other cases of copies are in transcripts and in
+//! `scripts/cut-runs`.
 use crate::logs::{bring, bring_log, lines_of, log_of, note_of, put_lines, standing};
 use crate::places::LyingPlace;
 use mirror_copy::{Place, Places};
@@ -20,7 +20,7 @@ fn has_line(shelf: &MemShelf, line: &str) -> bool {
     }
 }
 
-// A size, that of the copy before, what is asked for, what is put, and the root.
+// A size, the size of the copy before, the requests, the puts, and the root.
 const STEPS: [(u32, u64, &str, &str, &str); 3] = [
     (
         3,
@@ -45,7 +45,7 @@ const STEPS: [(u32, u64, &str, &str, &str); 3] = [
     ),
 ];
 
-// The rows copy-3 and copy-grows: what is new is asked for, and put, the checkpoint last.
+// The cases copy-3 and copy-grows: only new files are requested and put, the checkpoint last.
 #[test]
 fn copy_grows(rt: HostRuntime) -> Result<(), Fail> {
     let mut shelf = MemShelf::new(rt.alloc());
@@ -70,7 +70,7 @@ fn assert_step(
     Ok(())
 }
 
-// What a place over C(257) is asked for beside one that lies at the edge.
+// The requests to a place over C(257), if the place before it gives a false file at the right edge.
 const REST: &str = "tile/0/001.p/1\ntile/1/000.p/1\ntile/entries/000\ntile/entries/001.p/1\n";
 
 const EDGE_TILE: Path = Path::Tile {
@@ -79,7 +79,7 @@ const EDGE_TILE: Path = Path::Tile {
     width: 1,
 };
 
-// The place whose bytes verified last is asked first: a place that lies at the edge is asked for nothing else.
+// The place whose bytes verified last is asked first: a place that gives a false file at the right edge gets no other request.
 #[test]
 fn the_last_place_is_first(rt: HostRuntime) -> Result<(), Fail> {
     let mut shelf = MemShelf::new(rt.alloc());
@@ -92,7 +92,7 @@ fn the_last_place_is_first(rt: HostRuntime) -> Result<(), Fail> {
     Ok(())
 }
 
-// Two places over C(257): the first lies at the edge.
+// Two places over C(257): the first gives a false file at the right edge.
 fn two_places(alloc: Global) -> Result<Places<LyingPlace>, Fail> {
     let mut places = Places::new(alloc);
     places.add(LyingPlace::new(alloc, log_of(alloc, 257)?, Some(EDGE_TILE)))?;
@@ -112,7 +112,7 @@ fn bring_from(
     Ok(())
 }
 
-// A place that lied gave nothing else, and one that did not gave all.
+// A place that gave a false file gave no other file. The other place gave all.
 fn assert_place(
     rt: &impl Abort,
     alloc: Global,

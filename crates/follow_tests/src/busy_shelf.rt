@@ -2,7 +2,7 @@
 use mirror_folders::{MemShelf, ReadableShelf, Shelf, ShelfError};
 use tlog_tiles::Path;
 
-/// A shelf in memory whose checkpoint is another one from the read of that number on.
+/// A shelf in memory. Just before read number `from` of its checkpoint, another run puts the checkpoint `other`.
 #[derive(Drop)]
 pub(crate) struct BusyShelf {
     pub(crate) shelf: MemShelf,
@@ -11,7 +11,7 @@ pub(crate) struct BusyShelf {
     pub(crate) reads: u32,
 }
 
-// A shelf in memory does not fail, but where memory is refused.
+// A shelf in memory fails only if memory is refused.
 impl Shelf for BusyShelf {
     ghost failed = { λ _. 0 };
 
@@ -41,7 +41,7 @@ impl Shelf for BusyShelf {
 }
 
 impl BusyShelf {
-    // Another run puts its checkpoint, if its time has come.
+    // Counts a read of the checkpoint. Before read number `from`, puts the other checkpoint.
     fn count_read(&mut self) -> Result<(), ShelfError> {
         self.reads = self.reads.saturating_add(1);
         if self.reads != self.from {

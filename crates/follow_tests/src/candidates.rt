@@ -1,11 +1,11 @@
-//! Why there is no candidate.
+//! The reasons why there is no candidate.
 use crate::logs::{Place, bare_place, failing_place, keys, place_of};
 use mirror_follow::{CandidateFault, ask_candidates};
 use mirror_model::TakeFault;
 use std::alloc::Global;
 use std::test::Fail;
 
-// Why there is no candidate at two places.
+// The reason why two places give no candidate.
 fn reason(alloc: Global, first: Place, second: Place) -> Result<Option<CandidateFault>, Fail> {
     let mut places = Vec::new(alloc);
     places.push(first)?;
@@ -14,7 +14,7 @@ fn reason(alloc: Global, first: Place, second: Place) -> Result<Option<Candidate
     Ok(found.err())
 }
 
-// Where no place gives a candidate, the reason of the first place is answered.
+// If no place gives a candidate, the fault is the reason of the first place.
 #[test]
 fn the_first_reason(rt: HostRuntime) -> Result<(), Fail> {
     let alloc = rt.alloc();

@@ -1,7 +1,7 @@
-//! Places over logs in memory, and places that have nothing, or fail.
+//! Places over logs in memory, and places that have no file, or fail.
 //!
-//! C(n) is the log of the numbers from 0 on, n of them, each in two bytes, big-endian, of the origin `ex`. F(n) is C(n) but
-//! for entry 2, which is the byte 78.
+//! C(n) is the log of the n numbers from 0 on, each in two bytes, big-endian, with origin `ex`. F(n) is C(n) except entry 2, which is the
+//! byte 78.
 ghost use Rattle.std.specs.Prelude.{◌<◌, ◌^◌, map, IfOk, length};
 ghost use Rattle.mirror_model.specs.TrueLaws.{AreShort};
 
@@ -12,7 +12,7 @@ use std::test::Fail;
 use tlog_hash::Sha256Tree;
 use tlog_tiles::Path;
 
-// An entry: its number in two bytes, or in a forked log the byte 78 as entry 2.
+// An entry: its number in two bytes. In a forked log, entry 2 is the byte 78.
 fn entry(alloc: Global, number: u32, forked: bool) -> Result<Vec<u8>, AllocError>
     ensures { IfOk result (λ e. length e.items < 2 ^ 16) }
 {
@@ -23,7 +23,7 @@ fn entry(alloc: Global, number: u32, forked: bool) -> Result<Vec<u8>, AllocError
     Vec::from_slice(alloc, &number.to_be_bytes())
 }
 
-// The first entries, as a list.
+// The first entries of a log.
 fn entries(alloc: Global, count: u32, forked: bool) -> Result<Vec<Vec<u8>>, AllocError>
     ensures { IfOk result (λ entries. AreShort (map (λ e. e.items) entries.items)) }
 {
@@ -65,7 +65,7 @@ impl Source for Place {
 }
 
 impl Place {
-    /// What it was asked for, a path a line.
+    /// The paths that were requested, one a line.
     pub(crate) fn asked(&self, alloc: Global) -> Result<String, Fail> {
         let mut text = String::new(alloc);
         if let Some(log) = &self.log {
@@ -78,7 +78,7 @@ impl Place {
     }
 }
 
-/// A place over C(n), or F(n), whose checkpoint is signed by the key of that secret.
+/// A place over C(n) or F(n). Its checkpoint is signed with the key of that secret.
 pub(crate) fn place_of(alloc: Global, count: u32, forked: bool, secret: u8) -> Result<Place, Fail> {
     let entries = entries(alloc, count, forked)?;
     let key = HmacKey::new(alloc, "ex", 1, &[secret])?;
@@ -89,7 +89,7 @@ pub(crate) fn place_of(alloc: Global, count: u32, forked: bool, secret: u8) -> R
     })
 }
 
-/// A place that has no file.
+/// A place without files.
 pub(crate) fn bare_place() -> Place {
     Place {
         log: None,
@@ -107,7 +107,7 @@ pub(crate) fn failing_place() -> Place {
     }
 }
 
-/// The keys under which the logs open: that of the secret 0.
+/// The keys under which the logs open: the key of the secret 0.
 pub(crate) fn keys(alloc: Global) -> Result<Vec<Box<dyn Verifier>>, Fail> {
     let mut keys: Vec<Box<dyn Verifier>> = Vec::new(alloc);
     let key = HmacKey::new(alloc, "ex", 1, &[0])?;

@@ -1,4 +1,4 @@
-//! The note of a copy: which of several it has, and what comes of another run's.
+//! The note of a copy: the choice among several, and the effect of another run.
 use crate::busy_shelf::BusyShelf;
 use crate::logs::{Place, keys, place_of};
 use mirror_copy::Places;
@@ -19,7 +19,7 @@ fn note_of(alloc: Global, count: u32) -> Result<Vec<u8>, Fail> {
     }
 }
 
-// The note of C(n) with one more signature, of a key that nobody knows. It is the greater by its bytes.
+// The note of C(n) with one more signature, of an unknown key. Its bytes are greater.
 fn longer_note(alloc: Global, count: u32) -> Result<Vec<u8>, Fail> {
     let mut note = note_of(alloc, count)?;
     note.extend_from_slice("— other AAAAAAAA\n".as_bytes())?;
@@ -33,7 +33,7 @@ fn places_of(alloc: Global, count: u32) -> Result<Places<Place>, Fail> {
     Ok(places)
 }
 
-// Follows that note onto a shelf, from a place over C(n).
+// Follows a place over C(n) onto a shelf, with that note as the given one.
 fn follow_note(
     alloc: Global,
     shelf: &mut MemShelf,
@@ -55,7 +55,7 @@ fn follow_note(
     }
 }
 
-// Whether that note stands on the shelf.
+// Whether the shelf has that note.
 fn has_note(shelf: &mut MemShelf, note: &[u8]) -> bool {
     match shelf.read(&Path::Checkpoint) {
         Ok(Some(there)) => there.as_slice() == note,
@@ -63,7 +63,7 @@ fn has_note(shelf: &mut MemShelf, note: &[u8]) -> bool {
     }
 }
 
-// A note of the copy's size and root that is less by its bytes is put in place of the copy's, and a greater one is not.
+// A note of the copy's size and root replaces the copy's note if its bytes are less, but not if they are greater.
 #[test]
 fn the_least_note_stands(rt: HostRuntime) -> Result<(), Fail> {
     let alloc = rt.alloc();
@@ -84,8 +84,8 @@ fn the_least_note_stands(rt: HostRuntime) -> Result<(), Fail> {
     Ok(())
 }
 
-// What comes of following C(n) onto a copy of C(3) whose note is the greater one, where another run puts C(257)'s checkpoint just before
-// the read of that number. Whether that one stands in the end.
+// Follows C(n) onto a copy of C(3) with the greater note. Just before read number `from` of the checkpoint, another run puts
+// that of C(257). Returns the result, and whether that checkpoint is there at the end.
 fn meet_another(alloc: Global, count: u32, from: u32) -> Result<(Option<FollowFault>, bool), Fail> {
     let mut shelf = MemShelf::new(alloc);
     let _first = follow_note(alloc, &mut shelf, 3, longer_note(alloc, 3)?)?;
@@ -110,7 +110,7 @@ fn meet_another(alloc: Global, count: u32, from: u32) -> Result<(Option<FollowFa
     Ok((done.err(), stands))
 }
 
-// Where another run put a checkpoint since the copy was read, none is put over it.
+// If another run put a checkpoint after the copy was read, `follow` does not overwrite it.
 #[test]
 fn another_run_was_there(rt: HostRuntime) -> Result<(), Fail> {
     let alloc = rt.alloc();

@@ -1,4 +1,4 @@
-//! A copy that follows a place: what is reported, asked for and put. The other rows of copies are in transcripts.
+//! A copy that follows a place: its report, its requests and its puts. The other cases of copies are in transcripts.
 use crate::logs::{Place, keys, place_of};
 use mirror_copy::Places;
 use mirror_folders::MemShelf;
@@ -9,7 +9,7 @@ use std::process::Abort;
 use std::test::Fail;
 use tlog_hash::Sha256Tree;
 
-// Follows C(n).
+// Follows a place over C(n).
 fn follow_log(
     alloc: Global,
     shelf: &mut MemShelf,
@@ -32,7 +32,7 @@ fn follow_log(
     Ok((text, asked, put))
 }
 
-// The sizes of the logs that are followed, what is reported, what the place is asked for, and how many files are put.
+// The sizes of the logs, and for each one the report, the requests to the place, and the number of files that are put.
 const STEPS: [(u32, &str, &str, usize); 5] = [
     (
         3,
@@ -66,7 +66,7 @@ const STEPS: [(u32, &str, &str, usize); 5] = [
     ),
 ];
 
-// Rows copy-3, copy-grows and copy-place-behind, on one shelf.
+// The cases copy-3, copy-grows and copy-place-behind, on one shelf.
 #[test]
 fn copy_grows(rt: HostRuntime) -> Result<(), Fail> {
     let mut shelf = MemShelf::new(rt.alloc());

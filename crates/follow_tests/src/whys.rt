@@ -1,4 +1,4 @@
-//! What is said of the places at which something was wrong.
+//! The lines about places at which something was wrong.
 use crate::logs::{keys, place_of};
 use mirror_client::{Dial, HttpSource, Site};
 use mirror_copy::Places;
@@ -14,7 +14,7 @@ use std::test::Fail;
 use tlog_hash::Sha256Tree;
 use tlog_tiles::Path;
 
-// A connection on which these bytes come one at a read, whatever is asked.
+// A connection with these bytes, one a read, for each request.
 #[derive(Drop)]
 struct Reply {
     bytes: Vec<u8>,
@@ -45,7 +45,7 @@ impl Write for Reply {
     }
 }
 
-// A server that gives these bytes to each request.
+// A server that answers each request with these bytes.
 #[derive(Drop)]
 struct Canned {
     alloc: Global,
@@ -73,7 +73,7 @@ fn server<'a, R: Files>(
     Ok(PlaceSource::of_server(alloc, name, source)?)
 }
 
-// A reply of the checkpoint of C(3), which the key of that secret signed.
+// A reply with the checkpoint of C(3), signed with the key of that secret.
 fn signed(alloc: Global, secret: u8) -> Result<Vec<u8>, Fail> {
     let mut log = place_of(alloc, 3, false, secret)?;
     let Ok(Some(note)) = log.get(&Path::Checkpoint) else {
@@ -84,7 +84,7 @@ fn signed(alloc: Global, secret: u8) -> Result<Vec<u8>, Fail> {
     Ok(reply)
 }
 
-// The lines of four servers: one that fails, one that has nothing, one whose checkpoint another key signed, and one that has a
+// The lines of four servers. One fails, one has no file, and one has a checkpoint that is signed with another key. The fourth has a
 // checkpoint of the log, and the same bytes for each other file.
 fn lines<R: Files>(alloc: Global, _rt: &R) -> Result<String, Fail> {
     let mut places: Places<PlaceSource<'_, R, Canned>> = Places::new(alloc);
@@ -109,7 +109,7 @@ fn lines<R: Files>(alloc: Global, _rt: &R) -> Result<String, Fail> {
     Ok(places_why(alloc, "ex", &keys, &places)?)
 }
 
-// Each place has one line, of the first thing that was wrong. A control character of a name is escaped.
+// Each place has one line, about the first thing that was wrong. A control character in a name is escaped.
 #[test]
 fn a_line_of_each_place(rt: HostRuntime) -> Result<(), Fail> {
     let text = lines(rt.alloc(), &rt)?;

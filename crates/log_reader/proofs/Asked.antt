@@ -1,4 +1,4 @@
--- The proofs that the definitions make of a list, where nothing is refused.
+-- The proofs of the definitions for a list, if nothing is refused.
 use Rattle.std.proofs.Common.{◌≡◌, ℕ, ◌<◌, ◌≤◌, false, List, [], length, get_or, take, Ok, sym, subst, ◌∙◌, arith}
 use Rattle.std.specs.Prelude.{nat_eq}
 use Rattle.std.proofs.lemmas.Bool.{le-ltb, lt-leb}
@@ -71,7 +71,7 @@ module _ (digest : List ℕ → List ℕ) (entries : List (List ℕ)) where
         subst (Holds digest) consistency_same
         (made_consistency_holds digest entries first some (omega (arith, second_is, upto))).1
 
--- what is asked of the first entries alone is what is asked of all at that size
+-- a proof in the tree of the first entries is one of all entries at that size
 module _ (digest : List ℕ → List ℕ) (entries : List (List ℕ)) (size : ℕ) (within : size ≤ length entries) where
   abbrev firsts : List (List ℕ)
   firsts = take size entries

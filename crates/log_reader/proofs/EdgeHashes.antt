@@ -1,4 +1,4 @@
--- The hash that the rows of an edge lead to, row by row.
+-- The hash that the rows of an edge lead to, row after row.
 use Rattle.std.proofs.Common.{◌≡◌, ◌≢◌, ℕ, zero, suc, ◌+◌, ◌<◌, Bool, true, false, cond, List, [], ◌∷◌, ◌++◌, map}
 use Rattle.std.proofs.Common.{Some, None, refl, sym, ap, ◌∙◌, arith, if◌then◌else◌}
 use Rattle.std.specs.Prelude.{not, ◌==◌}
@@ -92,7 +92,7 @@ module _ (edge : Edge) where
       ap (rows_below edge) (add-one level)
       ∙ ap (λ (b : Bool). rows_below edge level ++ cond b [] (row_at edge level ∷ [])) (some_is (width_of edge.size level) some)
 
--- what the rows of all levels lead to
+-- the hash that the rows of all levels lead to
 pub all_rows : (digest : List ℕ → List ℕ) (edge : Edge) (level : ℕ) (hash : List ℕ) → level ≡ 8 →
     IsHashOfRows digest (rows_below edge level) (Some hash) → hash ≡ hash_of_edge digest edge
 all_rows digest edge level hash all is =

@@ -1,4 +1,4 @@
--- The tree hash of the first entries of a node, and the path from them to all of it, from those of its parts.
+-- The tree hash of the first entries of a node, and the path from them to all its entries, from those of its parts.
 use Rattle.std.proofs.Common.{Bool, false, ◌≡◌, ℕ, ◌+◌, ◌-◌, ◌*◌, ◌<◌, ◌≤◌, List, [], ◌∷◌, ◌++◌, length, take, drop, sym, ap, subst, ◌∙◌, arith}
 use Rattle.std.specs.Prelude.{if◌then◌else◌}
 use Rattle.std.proofs.Math.Seq.{take-add}
@@ -12,7 +12,7 @@ use Rattle.tlog_proof.specs.Consistency.{subproof_of}
 use Rattle.tlog_proof.proofs.Parts.{length-part, subproof_of-all, subproof_of-left, subproof_of-right, take-part, then_push}
 use Rattle.log_reader.specs.Nodes.{IsSubproofAdded}
 
--- the first entries of a node that go on behind its left part
+-- the first entries of a node, if there are more than its left part has
 pub first_join : (digest : List ℕ → List ℕ) (es : List (List ℕ)) (start len k first : ℕ) → 2 ≤ len → k ≡ split_of len →
     start + len ≤ length es → k < first → first ≤ len →
     mth digest (part start first es)
@@ -43,7 +43,7 @@ module _ (digest : List ℕ → List ℕ) (es : List (List ℕ)) (start n first 
   begins : take first (part start n es) ≡ part start first es
   begins = take-part start n first es upto
 
-  -- where all of the node is the first tree
+  -- the first tree is the whole node
   pub whole_added : first ≡ n → hash ≡ mth digest (part start n es) → new ≡ old ++ (if held then [] else hash ∷ []) →
       IsSubproofAdded digest (part start n es) first held old new hash
   whole_added all hash_is added = record {
@@ -53,7 +53,7 @@ module _ (digest : List ℕ → List ℕ) (es : List (List ℕ)) (start n first 
   }
 
   module _ (k : ℕ) (two : 2 ≤ n) (k_is : k ≡ split_of n) (mid : List (List ℕ)) where
-    -- where its left part has the first entries
+    -- the left part has all of the first entries
     pub left_added : first ≤ k → IsSubproofAdded digest (part start k es) first held old mid hash →
         new ≡ mid ++ mth digest (part (start + k) (n - k) es) ∷ [] →
         IsSubproofAdded digest (part start n es) first held old new hash
@@ -64,7 +64,7 @@ module _ (digest : List ℕ → List ℕ) (es : List (List ℕ)) (start n first 
       hash_is = low.hash_is ∙ ap (mth digest) (take-part start k first es inside ∙ sym begins);
     }
 
-    -- where they go on behind it
+    -- the first entries are the left part and more
     pub right_added : first < n → k < first → (end left : List ℕ) →
         IsSubproofAdded digest (part (start + k) (n - k) es) (first - k) false old mid end →
         left ≡ mth digest (part start k es) → new ≡ mid ++ left ∷ [] → hash ≡ digest (1 ∷ left ++ end) →

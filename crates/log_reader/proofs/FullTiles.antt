@@ -1,4 +1,4 @@
--- The full tiles of a log are there in a source that holds its files, and so are those of its first entries.
+-- A source that has the files of a log has its full tiles, and those of its first entries.
 use Rattle.std.proofs.Common.{◌≡◌, ℕ, ◌+◌, ◌*◌, ◌^◌, ◌≤◌, List, length, map, take, Option, Some, None, Result, sym, ap, ◌∙◌, arith}
 use Rattle.std.proofs.lemmas.List.{length-take-le}
 use Rattle.tlog_hash.specs.Tree.{mth}
@@ -26,7 +26,7 @@ module _ (digest : List ℕ → List ℕ) (entries : List (List ℕ)) (may : Pat
         (s.files (Tile level index 256) (full_tile (length entries) level index low fits) answer m);
   }
 
-  -- a full tile of the first entries is one of all
+  -- a full tile of the first entries is a full tile of all entries
   first_tile : (size level index : ℕ) → (index + 1) * 256 ^ (level + 1) ≤ size →
       tile_bytes digest (take size entries) level index 256 ≡ tile_bytes digest entries level index 256
   first_tile size level index fits =
@@ -48,7 +48,7 @@ pub has_first_tiles : (digest : List ℕ → List ℕ) (may : Path → Option (L
 has_first_tiles digest may entries s size within =
     first_tiles digest entries may size within (source_tiles digest entries may s)
 
--- what is true where the full tiles are there is true where all files are
+-- a read that is true if the source has the full tiles is true if it has all files
 pub reads_of_source : {T : Type 0} (digest : List ℕ → List ℕ) (old new : Reader) (may : Path → Option (List ℕ) → Type 0)
     (result : Result T ReadFault) (claim : List (List ℕ) → T → Type 0) → ReadsTilesOf digest old new may result claim →
     ReadsOf digest old new may result claim

@@ -1,4 +1,4 @@
--- Bytes that are no checkpoint's note.
+-- Bytes that are not a checkpoint's note.
 use Rattle.std.proofs.Common.{◌≡◌, ◌≢◌, ℕ, List, Result, Ok, Err, refl, sym, subst}
 use Rattle.signed_note.specs.Notes.{NoteParts, IsNote}
 use Rattle.signed_note.specs.Reading.{ReadsNote}

@@ -1,4 +1,4 @@
--- What is known of a source's files, call after call.
+-- The facts about a source's files, call after call.
 use Rattle.std.proofs.Common.{List, Option, Some, None, refl, ◌∙◌}
 use Rattle.mirror_sources.specs.Recorded.{KeepsRecord}
 

@@ -18,7 +18,7 @@ use Rattle.log_reader.specs.Nodes.{IsHashFrom, hash_on_top}
 use Rattle.log_reader.proofs.Prefixes.{first_ranges}
 
 module _ {A : Type 0} (b : ℕ) where
-  -- the ranges of a list without its first ones
+  -- the ranges of a list without its first k
   ranges_behind : (k first count : ℕ) (es : List A) → ranges b first count (drop (k * b) es) ≡ ranges b (k + first) count es
   ranges_behind k first zero es = refl
   ranges_behind k first (suc count) es =
@@ -37,7 +37,7 @@ module _ (digest : List ℕ → List ℕ) (entries : List (List ℕ)) (level : �
   abbrev n : ℕ
   n = length entries
 
-  -- the hashes of a row behind its first
+  -- the hashes of a row after its first ones
   pub row_behind : (first base wide count : ℕ) → wide ≡ first + count →
       drop first (level_row digest entries level base wide) ≡ level_row digest entries level (base + first) count
   row_behind zero base wide count sum =
@@ -61,7 +61,7 @@ module _ (digest : List ℕ → List ℕ) (entries : List (List ℕ)) (level : �
   pub row_count : (base wide : ℕ) → length (level_row digest entries level base wide) ≡ wide
   row_count base wide = length-map (ranges b base wide entries) (mth digest) ∙ length-ranges b base wide entries
 
-  -- the hash of the node whose hashes are some of a true row
+  -- the hash of the node of some hashes of a true row
   pub part_folds : (start len index first count wide : ℕ) (row : List (List ℕ)) →
       row ≡ level_row digest entries level (256 * index) wide → first + count ≤ wide → 0 < count →
       (256 * index + first) * b ≡ start → count * b ≡ len → start + len ≤ n →
@@ -73,7 +73,7 @@ module _ (digest : List ℕ → List ℕ) (entries : List (List ℕ)) (level : �
       ∙ (row_folds digest entries level (256 * index + first) count some (omega (arith, apart, start_is, len_is, within))
       ∙ (λ i. mth digest (part (start_is i) (len_is i) entries))))
 
-  -- ---- the last hashes of a level, from number k on, with what lies behind them
+  -- ---- the last hashes of a level, from number k on, with the entries after them
 
   module _ (k w q : ℕ) (sum : q ≡ k + w) (upto : q * b ≤ n) (above : n < q * b + b) where
     abbrev es : List (List ℕ)
@@ -171,7 +171,7 @@ pub no_level : (digest : List ℕ → List ℕ) (entries : List (List ℕ)) →
     IsHashFrom digest entries (length entries / 256 ^ 0 * 256 ^ 0) None
 no_level digest entries = omega arith
 
--- what folding a row with the hash below it gives
+-- the fold of a row, with the hash of the entries after those of the row at its end
 module _ (digest : List ℕ → List ℕ) where
   pub hash_on : (below : Option (List ℕ)) (row : List (List ℕ)) (hash : List ℕ) → 0 < length row →
       ((rows : List (List (List ℕ))) → IsHashOfRows digest rows below → IsHashOfRows digest (rows ++ row ∷ []) (Some hash)) →

@@ -1,4 +1,4 @@
--- Where the hashes of the nodes of a tree stand.
+-- The levels and indices of the hashes of a tree's nodes.
 use Rattle.std.proofs.Common.{◌≡◌, ℕ, zero, suc, ◌+◌, ◌-◌, ◌*◌, ◌/◌, ◌%◌, ◌^◌, ◌<◌, ◌≤◌, inl, inr, refl, sym, ap, subst, ◌∙◌, arith}
 use Rattle.std.proofs.Math.Nat.{div-mul-le_self, lt-div-mul-add}
 use Rattle.std.proofs.lemmas.Bool.{cases_lt}
@@ -41,7 +41,7 @@ multiple_aligned size whole some m =
 aligned_multiple : (size start : ℕ) → start % size ≡ 0 → IsMultiple size start
 aligned_multiple size start aligned = record { times = start / size; is = omega (arith, div-add-mod' start size, aligned) }
 
--- what begins at a multiple of a power of two begins at one of each smaller power
+-- a multiple of a power of two is a multiple of each smaller power of two
 aligned_smaller : (low high start : ℕ) → IsPowerOfTwo low → IsPowerOfTwo high → low ≤ high → start % high ≡ 0 →
     start % low ≡ 0
 aligned_smaller low high start p q le aligned =
@@ -213,7 +213,7 @@ module _ (n start len level : ℕ) (small : len < 2 ^ 64) (within : start + len 
       ] in
       omega (arith, reached, narrow)
 
--- a node of a power of two of entries begins at a multiple of their number
+-- a node whose number of entries is a power of two begins at a multiple of this number
 pub perfect_aligned : (n start len : ℕ) → IsNodeRange n start len → IsPowerOfTwo len → start % len ≡ 0
 perfect_aligned n start len node power = aligned_smaller len node.block start power node.power node.upto node.aligned
 

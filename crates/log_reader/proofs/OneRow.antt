@@ -1,4 +1,4 @@
--- Rows of one fold are one, where the strings of both do not clash.
+-- Two rows with one fold are equal, if the strings of both do not clash.
 use Rattle.std.proofs.Common.{◌≡◌, ℕ, ◌≤◌, All, List, [], ◌∷◌, ◌++◌, length, take, drop, inl, inr, sym, ap, subst, ◌∙◌, arith}
 use Rattle.std.proofs.Common.{length-take, length-drop, take-append-drop}
 use Rattle.std.proofs.lemmas.List.{nil_from_length}

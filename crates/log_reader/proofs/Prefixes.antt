@@ -1,4 +1,4 @@
--- The edge of the first entries is true, where the rows that it begins are.
+-- The edge of the first entries is true, if it begins with true rows.
 use Rattle.std.proofs.Common.{◌≡◌, ℕ, zero, suc, ◌+◌, ◌-◌, ◌*◌, ◌^◌, ◌<◌, ◌≤◌, List, [], ◌∷◌, length, map, take, drop}
 use Rattle.std.proofs.Common.{inl, inr, refl, sym, ap, subst, ◌∙◌, arith, length-take}
 use Rattle.std.proofs.Math.Nat.{div-mul-le_self}
@@ -20,7 +20,7 @@ maps_from : (f g : ℕ → List (List ℕ)) (ls : List ℕ) → ((level : ℕ) �
 maps_from f g [] each = refl
 maps_from f g (l ∷ ls) each = λ i. each l (inl refl) i ∷ maps_from f g ls (λ level m. each level (inr m)) i
 
--- where all rows of an edge are true, they lead to the tree hash
+-- if all rows of an edge are true, they lead to the tree hash
 pub true_rows_lead : (digest : List ℕ → List ℕ) (edge : Edge) (es : List (List ℕ)) → length es ≡ edge.size →
     length es < 256 ^ 8 → ((level : ℕ) → level ≤ 7 → RowIsTrue digest edge es level) →
     hash_of_edge digest edge ≡ mth digest es
@@ -34,7 +34,7 @@ true_rows_lead digest edge es long small each =
     ∙ edge_root_is digest es small
 
 module _ {A : Type 0} (b : ℕ) where
-  -- the first of some ranges
+  -- the first w of some ranges
   pub first_ranges : (w first count : ℕ) (es : List A) → w ≤ count → take w (ranges b first count es) ≡ ranges b first w es
   first_ranges zero first count es le = refl
   first_ranges (suc w) first zero es le = absurd (omega arith)

@@ -44,7 +44,7 @@ module _ (digest : List ℕ → List ℕ) where
   row_long Tile bytes row p = p.count
   row_long Bundle bytes row p = ap length p.row_is ∙ (length-map p.entries (leaf_hash digest) ∙ p.is_bundle.count)
 
-  -- a row that is not the hash's is the only one
+  -- if the row of a file does not fold to the hash, the file does not verify
   pub other_fold : (kind : FullFile) (hash bytes : List ℕ) (row : List (List ℕ)) → IsRowOf digest kind bytes row →
       (fold_of digest row ≡ hash → ⊥) → (other : List (List ℕ)) → Verifies digest kind hash bytes other → ⊥
   other_fold kind hash bytes row is not other v =

@@ -1,4 +1,4 @@
--- Lists of rows that are read one after the other.
+-- Lists of rows that are read one after another.
 use Rattle.std.proofs.Common.{◌≡◌, ℕ, ◌+◌, ◌<◌, List, [], ◌∷◌, ◌++◌, length, map, get_or, Vec, Global}
 use Rattle.std.proofs.Common.{sym, ap, subst, ◌∙◌, arith, inl, inr}
 use Rattle.std.proofs.Math.Seq.{get_or-append_seam}
@@ -8,7 +8,7 @@ use Rattle.std.proofs.lemmas.List.{get_or_append_left, length-append, length-map
 abbrev pub items_of : List (Vec (List ℕ) Global) → List (List (List ℕ))
 items_of rows = map (λ row. row.items) rows
 
--- what holds of the rows so far and of the next one
+-- a fact about the rows so far and about the next one
 pub rows_more : (P : ℕ → List (List ℕ) → Type 0) (vs more : List (Vec (List ℕ) Global)) (v : Vec (List ℕ) Global)
     (n : ℕ) → more ≡ vs ++ v ∷ [] → length vs ≡ n → ((k : ℕ) → k < n → P k (get_or (items_of vs) k [])) →
     P n v.items → (k : ℕ) → k < n + 1 → P k (get_or (items_of more) k [])

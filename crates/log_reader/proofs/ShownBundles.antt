@@ -1,4 +1,4 @@
--- Bundles that are shown are true.
+-- Shown bundles are true.
 use Rattle.std.proofs.Common.{◌≡◌, ℕ, ◌+◌, ◌*◌, ◌%◌, ◌^◌, ◌<◌, ◌≤◌, List, [], ◌∷◌, ◌++◌, length, map, drop, get_or}
 use Rattle.std.proofs.Common.{All, inl, inr, refl, sym, ap, subst, ◌∙◌, arith}
 use Rattle.std.specs.FinSet as set
@@ -23,7 +23,7 @@ use Rattle.log_reader.proofs.TrueReads.{width_at_edge, width_full}
 use Rattle.log_reader.proofs.Truths.{of_way, true_way}
 
 module _ (digest : List ℕ → List ℕ) where
-  -- ---- entries of one leaf hash are one
+  -- ---- two entries with one leaf hash are equal
 
   leaves_of_tree : (es : List (List ℕ)) → All (λ e. Contains (strings digest es) (0 ∷ e)) es
   unfolding strings
@@ -57,7 +57,7 @@ module _ (digest : List ℕ → List ℕ) where
         let rest : xs ≡ ys = same_entries xs ys (All-tail P x xs p) (All-tail P y ys q) (ap (drop 1) e) in
         λ i. first i ∷ rest i
 
-  -- ---- a bundle whose leaf hashes are true
+  -- ---- a bundle with true leaf hashes
 
   module _ (edge : Edge) (way : List (List (List ℕ))) (found entries : List (List ℕ))
       (c : IsBundleClear digest edge way found entries) where
@@ -83,7 +83,7 @@ module _ (digest : List ℕ → List ℕ) where
         has_from_listed all y (Contains-append_right tree (read_strings digest edge way ++ own) y
         (Contains-append_right (read_strings digest edge way) own y m))
 
-    -- the bundle's own joins may stand for the lowest row of a way
+    -- the joins of the bundle itself may replace the lowest row of a way
     fewer : (rest : List (List (List ℕ))) →
         ((y : List ℕ) → Contains (way_strings digest rest) y → Has (set.from_list all) y) → IsListClear digest edge rest entries
     fewer rest each =

@@ -1,4 +1,4 @@
--- Bundles of a source that holds the files of a log.
+-- Bundles of a source that has the files of a log.
 use Rattle.std.proofs.Common.{◌≡◌, ℕ, suc, ◌+◌, ◌-◌, ◌*◌, ◌^◌, ◌<◌, ◌≤◌, List, [], ◌++◌, length, take, drop, get_or}
 use Rattle.std.proofs.Common.{Option, Some, None, inl, inr, refl, sym, ap, subst, ◌∙◌, arith}
 use Rattle.std.proofs.Common.{Bor, IsSomeAnd, slice_range, ◌⊎◌}
@@ -54,7 +54,7 @@ module _ (entries : List (List ℕ)) (rest : List ℕ) (short : AreShort entries
       (entry_one entry (get_or entries k []) after (bundle_text (drop (k + 1) entries) ++ rest) fits (short_at k lt)
       (sym split ∙ (is ∙ left_from k lt))).1
 
-  -- where no entry is split off, none is left
+  -- if no entry can be split off, none is left
   pub none_split : (k : ℕ) → k < length entries → (text : List ℕ) → text ≡ bundle_text (drop k entries) ++ rest →
       ((entry after : List ℕ) → IsShort entry → text ≡ entry_text entry ++ after → ⊥) → ⊥
   none_split k lt text is none = none (get_or entries k []) _ (short_at k lt) (is ∙ left_from k lt)
@@ -126,7 +126,7 @@ module _ (digest : List ℕ → List ℕ) (hash : IsDigest digest) (entries : Li
       subst (HasLeaves digest (length row) bytes) (sym e.row_is)
       (bundle_leaves index (length row) bytes (omega (arith, e.end.sum)) short is)
 
-  -- the first entries of a full bundle, in the place of a partial one
+  -- the first entries of a full bundle that replaces a partial one
   pub part_short : (index width : ℕ) → AreShort entries → AreShort (part (256 * index) width entries)
   part_short index width short = All-take IsShort width (drop (256 * index) entries) (All-drop IsShort (256 * index) entries short)
 
@@ -147,7 +147,7 @@ module _ (digest : List ℕ → List ℕ) (hash : IsDigest digest) (entries : Li
         row_is = is ∙ (λ i. level_row digest entries 0 (256 * sym at i) (sym wide i));
       }
 
--- what is lent of a slice from its start on
+-- the part of a slice from its start on
 pub start_lent : (text : List ℕ) (k : ℕ) (r : Option (Bor (List ℕ))) →
     MatchOption r ((k < 0) ⊎ (length text < k))
     (λ x. (0 ≤ k) × (k ≤ length text) × (x.now ≡ slice_range text 0 k) × (length x.now + 0 ≡ k))

@@ -1,4 +1,4 @@
--- What is read of a source that holds the files of a log.
+-- Reads of a source that has the files of a log.
 use Rattle.std.proofs.Common.{◌≡◌, ◌≢◌, ℕ, ◌+◌, ◌-◌, ◌*◌, ◌/◌, ◌%◌, ◌^◌, ◌<◌, ◌≤◌, List, [], ◌∷◌, ◌++◌, length, take, drop}
 use Rattle.std.proofs.Common.{Global, Vec, get_or, slice_range, Option, Some, None, Result, Ok, Err, inl, inr, refl, sym, ap, subst, ◌∙◌, arith}
 use Rattle.std.proofs.Math.Nat.{div-mul-le_self}
@@ -42,21 +42,21 @@ module _ (digest : List ℕ → List ℕ) (entries : List (List ℕ)) (old new :
   held_later path (Some bytes) h = h
   held_later path None h = way_later path h
 
-  -- a source still holds the files later
+  -- the source still has the files later
   pub source_later : IsSourceOf digest entries old → IsSourceOf digest entries new
   source_later s = record {
     short = s.short;
     files = λ path file answer may. held_later path answer (s.files path file answer (stays.stays path answer may));
   }
 
-  -- so does one that has the full tiles
+  -- the source still has the full tiles later
   pub tiles_later : HasFullTiles digest entries old → HasFullTiles digest entries new
   tiles_later s = record {
     tiles = λ level index low fits answer may.
         s.tiles level index low fits answer (stays.stays (Tile level index 256) answer may);
   }
 
--- a read that is true is true in other words
+-- a true read, and a consequence of its claim
 pub reads_more : {T : Type 0} (r : Result T ReadFault) (P Q : T → Type 0) → ((x : T) → P x → Q x) → ReadsTrue r P →
     ReadsTrue r Q
 reads_more (Ok x) P Q f p = f x p
@@ -78,7 +78,7 @@ full_fits n level index full =
     let most : (index + 1) * c ≤ n / c * c = mul-le _ _ _ _ (omega (arith, full)) (omega arith) in
     omega (arith, most, div-mul-le_self n c)
 
--- where a reader went to the tile above a full one
+-- the reader after it went to the tile above a full one
 pub is_below : (reader : Reader) (level index end size : ℕ) → level ≤ 7 → reader.level ≡ level + 1 →
     reader.index ≡ index / 256 → end ≡ edge_index_of size level → reader.edge.size ≡ size → index < end →
     IsBelow reader level index
@@ -89,7 +89,7 @@ is_below reader level index end size low at above end_is same lt = record {
   full = subst (λ m. index < edge_index_of m level) (sym same) (subst (λ e. index < e) end_is lt);
 }
 
--- ---- how wide rows are
+-- ---- the widths of rows
 
 pub width_at_edge : (n level : ℕ) → row_width n level (edge_index_of n level) ≡ width_of n level
 width_at_edge n level = let whole = hashes_of n level in omega arith
@@ -109,7 +109,7 @@ module _ (digest : List ℕ → List ℕ) (hash : IsDigest digest) (entries : Li
       let h = true_hashes digest hash entries level (256 * index) width in
       record { count = h.count; sizes = h.sizes; text = refl }
 
-  -- the true bytes have the true row alone
+  -- the true bytes have only the true row
   pub row_is_true : (level index width : ℕ) (bytes : List ℕ) (row : List (List ℕ)) →
       bytes ≡ tile_bytes digest entries level index width → IsRow width bytes row →
       row ≡ level_row digest entries level (256 * index) width
@@ -205,7 +205,7 @@ module _ (digest : List ℕ → List ℕ) (hash : IsDigest digest) (entries : Li
         subst (λ k. IsRow k text (level_row digest entries level (256 * at) wide)) (sym same)
         (true_bytes_are_row level at wide text is)
 
-    -- the full tile in the place of the partial one
+    -- the full tile that replaces the partial one
     module _ (may : Path → Option (List ℕ) → Type 0) (way : GivesWay digest entries may (Tile level at wide)) (i : ℕ) (is : i ≡ at)
       where
         pub part_there : may (Tile level i 256) None → ⊥
@@ -228,7 +228,7 @@ module _ (digest : List ℕ → List ℕ) (hash : IsDigest digest) (entries : Li
                 (cut_row level at wide bytes part (part_goes bytes m)
                 (cut ∙ ((λ j. take (whole j) text) ∙ ap (take (32 * wide)) text_is)))
 
-  -- rows that were read one after the other
+  -- rows that were read one after another
   pub rows_true : (size : ℕ) (vs : List (Vec (List ℕ) Global)) (edge : Edge) → edge.size ≡ size → edge.rows ≡ items_of vs →
       ((k : ℕ) → k < 8 → IsEdgeRowOf digest size k entries (get_or (items_of vs) k [])) → (level : ℕ) → level ≤ 7 →
       RowIsTrue digest edge entries level

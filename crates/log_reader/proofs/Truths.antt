@@ -1,4 +1,4 @@
--- Rows that are shown are true.
+-- Shown rows are true.
 use Rattle.std.proofs.Common.{◌≡◌, ◌⊎◌, ℕ, zero, suc, ◌+◌, ◌*◌, ◌/◌, ◌%◌, ◌^◌, ◌<◌, ◌≤◌, Bool, true, false, cond, not, ◌==◌}
 use Rattle.std.proofs.Common.{List, [], ◌∷◌, ◌++◌, length, map, drop, get_or, inl, inr, refl, sym, ap, subst, ◌∙◌, arith}
 use Rattle.std.specs.FinSet as set
@@ -77,7 +77,7 @@ from_maps f g level [] e m = absurd m
 from_maps f g level (l ∷ ls) e (inl i) = ap f i ∙ (ap (λ rows. get_or rows 0 []) e ∙ ap g (sym i))
 from_maps f g level (l ∷ ls) e (inr m) = from_maps f g level ls (ap (drop 1) e) m
 
--- what holds of each level up to 7 holds of those of an edge
+-- a fact about each level up to 7 holds for the levels of an edge
 all_within : (P : ℕ → Type 0) → ((level : ℕ) → level ≤ 7 → P level) → (ls : List ℕ) →
     ((level : ℕ) → IsIn level ls → level ≤ 7) → AllByRecursion P ls
 all_within P each [] low = tt

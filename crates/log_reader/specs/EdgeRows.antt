@@ -1,4 +1,4 @@
--- The edge of a tree that was read: its rows by their levels, and the root that they lead to (C2SP tlog-tiles).
+-- The edge of a tree that was read: its rows by level, and the root that they lead to (C2SP tlog-tiles).
 use Rattle.std.specs.Prelude.{◌≡◌, ◌≢◌, ℕ, ◌*◌, ◌≤◌, List, [], length, get_or, map, Option, Some, None}
 use Rattle.tlog_shape.specs.Edge.{width_of, edge_index_of}
 use Rattle.tlog_hash.specs.Rows.{level_row}
@@ -7,7 +7,7 @@ use Rattle.tlog_tiles.specs.declared.paths.Path.TheVariants.{Tile}
 use Rattle.tlog_tiles.specs.Row.{IsRow}
 use Rattle.mirror_model.specs.Edge.{edge_levels, edge_root}
 
--- the edge of a tree: its size, and the rows of its partial tiles by their levels
+-- the edge of a tree: its size, and the rows of its partial tiles by level
 pub record Edge : Type 0 where
   pub size : ℕ
   pub rows : List (List (List ℕ))
@@ -29,7 +29,7 @@ pub record IsEdgeOf (n : ℕ) (edge : Edge) : Type 0 where
 abbrev pub edge_tile : Edge → ℕ → Path
 edge_tile edge level = Tile level (edge_index_of edge.size level) (width_of edge.size level)
 
--- bytes that were given are a row of that width
+-- the bytes from the source are a row of that width
 abbrev pub IsRowGiven : ℕ → Option (List ℕ) → List (List ℕ) → Type 0
 IsRowGiven width None row = ⊥
 IsRowGiven width (Some bytes) row = IsRow width bytes row
@@ -44,7 +44,7 @@ module _ (digest : List ℕ → List ℕ) where
   abbrev pub hash_of_edge : Edge → List ℕ
   hash_of_edge edge = edge_root digest (map (row_at edge) (edge_levels edge.size))
 
-  -- the hash that some rows lead to, the lowest level first, and None where there are no rows
+  -- the hash that some rows lead to, the lowest level first. None if there are no rows
   abbrev pub IsHashOfRows : List (List (List ℕ)) → Option (List ℕ) → Type 0
   IsHashOfRows rows None = rows ≡ []
   IsHashOfRows rows (Some hash) = (rows ≢ []) × (edge_root digest rows ≡ hash)

@@ -1,4 +1,4 @@
--- What faults of a source are to a read.
+-- The faults of a read for the faults of a source.
 use Rattle.std.specs.Prelude.{◌≡◌, ℕ, Result, Ok, Err, ⊤}
 use Rattle.mirror_sources.specs.Recorded.{one_more}
 use Rattle.mirror_sources.specs.declared.source.SourceFault.{SourceFault}
@@ -10,7 +10,7 @@ abbrev pub by_source : SourceFault → ReadFault
 by_source source.Failed = Source
 by_source source.OutOfMemory = OutOfMemory
 
--- a read's fault says that the source failed exactly where its count of failures rose, by one
+-- the fault of a read is Source exactly if the source's number of failures rose, by one
 abbrev pub CountsFailure : {T : Type 0} → ℕ → ℕ → Result T ReadFault → Type 0
 CountsFailure old new (Ok x) = new ≡ old
 CountsFailure old new (Err (NoFile path)) = new ≡ old

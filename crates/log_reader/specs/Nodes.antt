@@ -1,11 +1,11 @@
--- The nodes of a tree whose hashes a proof has (RFC 6962, section 2.1). Contracts of private functions alone cite these.
+-- The nodes of a tree whose hashes are in a proof (RFC 6962, section 2.1). Only the contracts of private functions cite these.
 use Rattle.std.specs.Prelude.{◌≡◌, ◌⊎◌, ℕ, ◌+◌, ◌%◌, ◌<◌, ◌≤◌, List, [], ◌∷◌, ◌++◌, length, take, drop, Bool, Option, Some, None}
 use Rattle.tlog_shape.specs.Split.{IsPowerOfTwo}
 use Rattle.tlog_hash.specs.Tree.{fold_of, mth}
 use Rattle.tlog_proof.specs.Consistency.{subproof_of}
 
--- the entries of a node of a tree of n entries, as many as len from start on: they begin at a multiple of a power of two that is
--- no less than len, and are a power of two, or the last of the tree
+-- the "len" entries from start on are those of a node of a tree of n entries. They begin at a multiple of a power of two that is at
+-- least len. They are a power of two of entries, or the last ones of the tree
 pub record IsNodeRange (n start len : ℕ) : Type 0 where
   pub block : ℕ
   pub power : IsPowerOfTwo block
@@ -16,18 +16,19 @@ pub record IsNodeRange (n start len : ℕ) : Type 0 where
   pub kind : IsPowerOfTwo len ⊎ (start + len ≡ n)
 
 module _ (digest : List ℕ → List ℕ) where
-  -- the hash that a row leads to, with the hash of what lies below the levels of the row behind it
+  -- the hash that a row leads to, with "below" as one more hash at its end. "below" is the hash of the entries after those of the
+  -- row, if there are any
   abbrev pub hash_on_top : Option (List ℕ) → List (List ℕ) → Option (List ℕ)
   hash_on_top below [] = below
   hash_on_top None (hash ∷ row) = Some (fold_of digest (hash ∷ row))
   hash_on_top (Some value) (hash ∷ row) = Some (fold_of digest ((hash ∷ row) ++ value ∷ []))
 
-  -- the tree hash of the entries from that number on; None where there are none
+  -- the tree hash of the entries from "start" on. None if there are none
   abbrev pub IsHashFrom : List (List ℕ) → ℕ → Option (List ℕ) → Type 0
   IsHashFrom entries start None = start ≡ length entries
   IsHashFrom entries start (Some hash) = (start < length entries) × (hash ≡ mth digest (drop start entries))
 
-  -- the path from the first entries of a node to all of it was added, and the hash is that of these first entries
+  -- the path from the first entries of a node to all its entries was added, and the hash is that of these first entries
   pub record IsSubproofAdded (node : List (List ℕ)) (first : ℕ) (held : Bool) (old new : List (List ℕ)) (hash : List ℕ)
       : Type 0 where
     pub path_is : new ≡ old ++ subproof_of digest first node held

@@ -1,4 +1,4 @@
--- What is read of a tree is true of each list of entries of its size and root, where nothing that is hashed clashes.
+-- The reads of a tree are true of each list of entries of its size and root, if no hashed strings clash.
 use Rattle.std.specs.Prelude.{◌≡◌, ℕ, ◌*◌, ◌^◌, ◌<◌, ◌≤◌, List, [], ◌++◌, length, map, take}
 use Rattle.std.specs.FinSet as set
 use Rattle.tlog_shape.specs.Edge.{width_of}
@@ -13,25 +13,25 @@ use Rattle.log_reader.specs.Holding.{row_width}
 use Rattle.log_reader.specs.Ways.{HasEdgeHashes, IsEndBundle, IsFullBundle, IsShownEdge, IsWay, row_of_way, way_strings}
 
 module _ (digest : List ℕ → List ℕ) where
-  -- the strings that folding the rows of an edge and of a way hashes
+  -- the strings that are hashed in the folding of the rows of an edge and of a way
   abbrev pub read_strings : Edge → List (List (List ℕ)) → List (List ℕ)
   read_strings edge way = edge_strings digest (map (row_at edge) (edge_levels edge.size)) ++ way_strings digest way
 
-  -- the entries have the size and the root to which the edge leads, and no two different strings of their tree and of
-  -- what was read share a digest
+  -- the entries have the edge's size, and the root to which it leads. No two different strings of their tree and of the rows that
+  -- were read share a digest
   pub record IsListClear (edge : Edge) (way : List (List (List ℕ))) (entries : List (List ℕ)) : Type 0 where
     pub size_is : length entries ≡ edge.size
     pub root_is : mth digest entries ≡ hash_of_edge digest edge
     pub clear : NoClash digest (set.from_list (strings digest entries ++ read_strings edge way))
 
-  -- likewise, with the strings of the tree of the entries that a bundle has
+  -- the same, also with the strings of the tree of the bundle's entries
   pub record IsBundleClear (edge : Edge) (way : List (List (List ℕ))) (found entries : List (List ℕ)) : Type 0 where
     pub size_is : length entries ≡ edge.size
     pub root_is : mth digest entries ≡ hash_of_edge digest edge
     pub clear : NoClash digest (set.from_list
         (strings digest entries ++ (read_strings edge way ++ strings digest found)))
 
--- a row that a way leads from up to the edge is the true one
+-- a row from which a way leads up to the edge is the true row
 abbrev pub ShownRowsAreTrue : Type 0
 ShownRowsAreTrue =
     (digest : List ℕ → List ℕ) → IsDigest digest → (edge : Edge) → HasEdgeHashes edge → edge.size < 2 ^ 64 →
@@ -45,7 +45,7 @@ IsTrueBundle entries index bytes =
     IsBundle (row_width (length entries) 0 index) bytes
     (part (256 * index) (row_width (length entries) 0 index) entries)
 
--- a bundle that is shown, be it at the end of the tree or full, is the true one
+-- a shown bundle, at the end of the tree or full, is the true bundle
 abbrev pub ShownBundlesAreTrue : Type 0
 ShownBundlesAreTrue =
     (digest : List ℕ → List ℕ) → IsDigest digest → (edge : Edge) → HasEdgeHashes edge → edge.size < 2 ^ 64 →

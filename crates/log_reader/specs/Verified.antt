@@ -1,4 +1,4 @@
--- What a full file of a place has to be: a row, or the leaf hashes of a bundle, that folds to a hash.
+-- The conditions on a full file: its row, or the leaf hashes of its bundle, folds to a hash.
 use Rattle.std.specs.Prelude.{◌≡◌, ℕ, List, map}
 use Rattle.tlog_hash.specs.Tree.{fold_of, leaf_hash}
 use Rattle.tlog_tiles.specs.Bundle.{IsBundle}
@@ -7,7 +7,7 @@ use Rattle.log_reader.specs.declared.verify.FullFile.{FullFile}
 use Rattle.log_reader.specs.declared.verify.FullFile.TheVariants.{Tile, Bundle}
 
 module _ (digest : List ℕ → List ℕ) where
-  -- the bytes are a bundle of that width, whose leaf hashes these are
+  -- the bytes are a bundle of that width with these leaf hashes
   pub record HasLeaves (width : ℕ) (bytes : List ℕ) (row : List (List ℕ)) : Type 0 where
     pub entries : List (List ℕ)
     pub is_bundle : IsBundle width bytes entries

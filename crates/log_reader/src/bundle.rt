@@ -1,4 +1,4 @@
-//! Bundles of a log, verified.
+//! Verified bundles of a log.
 ghost use Rattle.std.specs.Prelude.{◌≡◌, ◌↔◌, ◌+◌, ◌*◌, ◌<◌, ◌≤◌, ◌++◌, ℕ, IfOk, IsSomeAnd, IsTrue, List, length};
 ghost use Rattle.tlog_tiles.specs.Bundle.{bundle_text};
 ghost use Rattle.tlog_tiles.specs.Tiles.{bundle_bytes};
@@ -65,7 +65,7 @@ fn has_leaves<H: TreeHash>(alloc: Global, row: &[Hash], bytes: &[u8]) -> Result<
     }
 }
 
-// The first entries of a bundle; None where it has fewer.
+// The first `count` entries of a bundle. None: it has fewer.
 fn first_entries(bundle: &[u8], count: usize) -> Option<&[u8]>
     ensures { (entries : List (List ℕ)) (rest : List ℕ) → length entries ≡ count → AreShort entries
         → bundle.now ≡ bundle_text entries ++ rest
@@ -79,7 +79,7 @@ fn first_entries(bundle: &[u8], count: usize) -> Option<&[u8]>
     bundle.get(..bundle.len().saturating_sub(rest.len()))
 }
 
-// The first entries of the full bundle, as many as the partial one has that a log may have deleted.
+// The entries of a partial bundle, from the start of its full bundle. A log may have deleted the partial one.
 fn read_part<H: TreeHash, S: Source>(
     alloc: Global,
     source: &mut S,
@@ -105,7 +105,7 @@ fn read_part<H: TreeHash, S: Source>(
     }
 }
 
-// The bytes of a partial bundle of the log; the first of the full one where it is gone.
+// The bytes of a partial bundle of the log. If the source lacks it, they come from the start of the full bundle.
 #[tactic(auto, using(crate::proofs::Kept::kept_twice))]
 fn get_end<H: TreeHash, S: Source>(
     alloc: Global,
@@ -131,7 +131,7 @@ fn get_end<H: TreeHash, S: Source>(
     }
 }
 
-// The bytes of the bundle at the end of the log, which has the leaf hashes of the edge.
+// The bytes of the bundle at the end of the log, which has to have the leaf hashes of the edge.
 fn read_end<H: TreeHash, S: Source>(
     alloc: Global,
     source: &mut S,
@@ -159,16 +159,16 @@ fn read_end<H: TreeHash, S: Source>(
 }
 
 impl<H: TreeHash> LogReader<H> {
-    /// The bytes of a bundle (C2SP tlog-tiles, "Log Entries"): 256 entries from number `256 * index` on, or those that the log has
-    /// from there on. `read_bundle` of `tlog_tiles` parts them.
+    /// The bytes of a bundle (C2SP tlog-tiles, "Log Entries"): the 256 entries from number `256 * index` on, or fewer at the end of the
+    /// log. `read_bundle` of `tlog_tiles` splits them.
     ///
     /// ```text
-    /// reader.bundle(alloc, &mut source, 1)?   // of 257 entries the last one, after its length
+    /// reader.bundle(alloc, &mut source, 1)?   // with 257 entries: the last entry, after its length
     /// ```
     ///
     /// # Errors
     ///
-    /// Those of `row`, also of the bundle.
+    /// Those of `row`, and `NoFile` and `FalseFile` for the bundle.
     #[tactic(auto, using(crate::proofs::Kept::kept_twice, crate::proofs::Kept::kept_once))]
     pub fn bundle<S: Source>(
         &mut self,

@@ -1,4 +1,4 @@
-//! Consistency proofs of a log, made of verified rows.
+//! Consistency proofs of a log, made from verified rows.
 ghost use Rattle.std.specs.Prelude.{◌≡◌, ◌+◌, ◌++◌, ◌∷◌, ◌^◌, ◌<◌, ◌≤◌, [], IfOk, Ok, if◌then◌else◌, length};
 ghost use Rattle.tlog_hash.specs.Rows.{part};
 ghost use Rattle.tlog_hash.specs.Tree.{mth};
@@ -20,7 +20,7 @@ use tlog_hash::{Hash, TreeHash};
 use tlog_proof::{HashPath, Proof, holds};
 use tlog_shape::split;
 
-// Adds the hash of a node to a path, unless the checker has it, and answers it.
+// Adds the hash of a node to a path, unless the checker has it. Returns the hash.
 #[tactic(auto, using(crate::proofs::Kept::kept_once))]
 fn add_whole<H: TreeHash, S: Source>(
     alloc: Global,
@@ -47,8 +47,9 @@ fn add_whole<H: TreeHash, S: Source>(
     Ok(hash)
 }
 
-// Adds the path from the first entries of a node to all of it: SUBPROOF of RFC 6962, section 2.1.2. Where all of it is the first
-// tree, `held` says that the checker knows its root. Answers the hash of these first entries, which the nodes of the path lead to.
+// Adds the path from the first entries of a node to all its entries: SUBPROOF of RFC 6962, section 2.1.2. If the first
+// tree is the whole node, `held` is true if the checker knows its root. Returns the hash of these first entries, to which the nodes of
+// the path lead.
 #[tactic(auto, using(crate::proofs::Kept::kept_twice, crate::proofs::Kept::kept_once))]
 fn add_subproof<H: TreeHash, S: Source>(
     alloc: Global,
@@ -89,8 +90,8 @@ fn add_subproof<H: TreeHash, S: Source>(
 }
 
 impl<H: TreeHash> LogReader<H> {
-    /// The proof that the tree of the first entries is a prefix of that of all (RFC 6962, section 2.1.2). It is checked before it is
-    /// handed out, so it holds, whatever the source gave. A proof to a smaller size is one of `prefix`.
+    /// The proof that the tree of the first entries is a prefix of the tree of all (RFC 6962, section 2.1.2). It is checked before it is
+    /// returned, so it holds for all answers of the source. For a proof to a smaller size, use `prefix`.
     ///
     /// ```text
     /// reader.consistency(alloc, &mut source, 257)?                                     // from 257 entries to all
@@ -99,8 +100,8 @@ impl<H: TreeHash> LogReader<H> {
     ///
     /// # Errors
     ///
-    /// Those of `row`; and `Collision`: the rows lead to the root, and the proof made of them does not hold. Of a source that has
-    /// the log's full tiles it never comes.
+    /// Those of `row`, and `Collision`: the rows lead to the root, but the proof made from them does not hold. If the source has the
+    /// log's full tiles, `Collision` never comes.
     #[tactic(auto, using(crate::proofs::Kept::kept_twice))]
     pub fn consistency<S: Source>(
         &mut self,

@@ -1,4 +1,4 @@
-//! The rows of an edge, as a source has them.
+//! The edge rows from the files of a source.
 ghost use Rattle.std.specs.Prelude.{◌≡◌, ◌≤◌, ℕ, List, IfNone, IfOk, IfSome, length};
 ghost use Rattle.tlog_shape.specs.Edge.{edge_index_of, width_of};
 ghost use Rattle.tlog_tiles.specs.Row.{IsRow};
@@ -20,7 +20,7 @@ use tlog_hash::{Hash, TreeHash};
 use tlog_shape::{edge_index, edge_width};
 use tlog_tiles::{Path, RowFault, read_row};
 
-// The row of that width that some bytes are; None where they are none.
+// The row of that width in some bytes. None: they are not such a row.
 fn row_in(alloc: Global, width: u32, bytes: &[u8]) -> Result<Option<Vec<Hash>>, AllocError>
     ensures row { IfOk result (λ found. IfSome found (λ row. IsRow width bytes.now row.items)) }
     ensures none { IfOk result (λ found. IfNone found ((row : List (List ℕ))
@@ -33,7 +33,7 @@ fn row_in(alloc: Global, width: u32, bytes: &[u8]) -> Result<Option<Vec<Hash>>, 
     }
 }
 
-// The first hashes of the full tile, as many as the partial one has that a log may have deleted.
+// The hashes of a partial tile, from the start of its full tile. A log may have deleted the partial one.
 fn read_part<H: TreeHash, S: Source>(
     alloc: Global,
     source: &mut S,
@@ -67,7 +67,7 @@ fn read_part<H: TreeHash, S: Source>(
     }
 }
 
-// The row of a level of the edge, empty where the level has none.
+// The row of a level of the edge, empty if the level has none.
 #[tactic(auto, using(crate::proofs::Kept::kept_twice, crate::proofs::Kept::kept_once))]
 fn read_edge_row<H: TreeHash, S: Source>(
     alloc: Global,
@@ -98,7 +98,7 @@ fn read_edge_row<H: TreeHash, S: Source>(
     }
 }
 
-// The path of the lowest partial tile, and of the checkpoint where there is none.
+// The path of the lowest partial tile. If there is none, the checkpoint's path.
 fn lowest_path(size: u64) -> Path {
     for level in 0..8u32 {
         if edge_width(size, level) > 0 {
@@ -108,7 +108,7 @@ fn lowest_path(size: u64) -> Path {
     Path::Checkpoint
 }
 
-// The edge rows, asked for lowest level first.
+// The edge rows, requested from the lowest level up.
 #[tactic(auto, using(crate::proofs::Kept::kept_twice, crate::proofs::Kept::kept_once))]
 fn read_rows<H: TreeHash, S: Source>(
     alloc: Global,
@@ -131,7 +131,7 @@ fn read_rows<H: TreeHash, S: Source>(
     Ok(EdgeRows::new(size, rows))
 }
 
-/// The edge of a log of that size, whose rows lead to the root.
+/// The edge of a log of that size. Its rows have to lead to the root.
 pub(crate) fn read_edge<H: TreeHash, S: Source>(
     alloc: Global,
     source: &mut S,

@@ -6,7 +6,7 @@ use crate::edge_rows::EdgeRows;
 use std::alloc::{AllocError, Global};
 use tlog_hash::{Hash, TreeHash, fold};
 
-/// The hash of the rows so far, the lowest first, with one more above them.
+/// The hash of the rows so far, the lowest first, with one more row above them.
 pub(crate) fn with_row<H: TreeHash>(
     alloc: Global,
     below: Option<Hash>,
@@ -24,15 +24,15 @@ pub(crate) fn with_row<H: TreeHash>(
     Ok(fold::<H>(whole.as_slice()))
 }
 
-/// The hash that the rows of an edge lead to: the tree hash of the entries, if each row is true of them.
+/// The hash that the rows of an edge lead to. If each row is true of some entries, it is their tree hash.
 ///
 /// ```text
-/// edge_hash::<Sha256Tree>(alloc, &edge)?   // of no entries the digest of no bytes
+/// edge_hash::<Sha256Tree>(alloc, &edge)?   // for no entries: the digest of no bytes
 /// ```
 ///
 /// # Errors
 ///
-/// Memory was refused.
+/// `AllocError`: memory was refused.
 pub fn edge_hash<H: TreeHash>(alloc: Global, edge: &EdgeRows) -> Result<Hash, AllocError>
     requires { HasWidths edge.now }
     ensures { IfOk result (λ hash. hash ≡ hash_of_edge H.digest edge.now) }
@@ -59,12 +59,12 @@ fn is_same(first: &Hash, second: &Hash) -> bool
 /// Whether the rows of an edge lead to the root.
 ///
 /// ```text
-/// leads_to::<Sha256Tree>(alloc, &edge, &root)?   // false where any of its hashes was changed
+/// leads_to::<Sha256Tree>(alloc, &edge, &root)?   // false if any of its hashes was changed
 /// ```
 ///
 /// # Errors
 ///
-/// Memory was refused.
+/// `AllocError`: memory was refused.
 pub fn leads_to<H: TreeHash>(
     alloc: Global,
     edge: &EdgeRows,

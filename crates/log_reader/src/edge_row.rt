@@ -1,4 +1,4 @@
-//! The row of one level of an edge: where it is, and what its bytes are.
+//! The row of one level of an edge: its path and its bytes.
 ghost use Rattle.std.specs.Prelude.{◌≡◌, ◌≤◌, IfOk, IfSome, option_map};
 ghost use Rattle.tlog_shape.specs.Edge.{edge_index_of, width_of};
 ghost use Rattle.log_reader.specs.EdgeRows.{IsRowGiven};
@@ -24,7 +24,7 @@ pub fn edge_path(size: u64, level: u32) -> Path
     }
 }
 
-/// The row of a tile of that width; None where no such bytes were given.
+/// The row of a tile of that width. None: the bytes are missing, or not such a row.
 ///
 /// ```text
 /// row_given(alloc, 2, source.get(&path)?)?   // Some(row) of two hashes, if the source gave 64 bytes
@@ -32,7 +32,7 @@ pub fn edge_path(size: u64, level: u32) -> Path
 ///
 /// # Errors
 ///
-/// Memory was refused.
+/// `AllocError`: memory was refused.
 pub fn row_given(
     alloc: Global,
     width: u32,

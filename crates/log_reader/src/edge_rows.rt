@@ -5,8 +5,8 @@ ghost use Rattle.log_reader.specs.EdgeRows.{row_at};
 use std::marker::Model;
 use tlog_hash::Hash;
 
-/// The right edge of a tree: its size, and the rows of its partial tiles by their levels (C2SP tlog-tiles, "Merkle Tree"). A level
-/// that has none has an empty row.
+/// The right edge of a tree: its size, and the rows of its partial tiles by level (C2SP tlog-tiles, "Merkle Tree"). A level without a
+/// partial tile has an empty row.
 ///
 /// ```text
 /// let edge = EdgeRows::new(257, rows);   // rows[0] has one leaf hash, rows[1] the hash of the first 256 entries
@@ -28,10 +28,10 @@ impl Model for EdgeRows {
 }
 
 impl EdgeRows {
-    /// The edge of a tree of that size with these rows, the lowest level first. The rows are taken as they are.
+    /// The edge of a tree of that size with these rows, the lowest level first. The rows are not checked.
     ///
     /// ```text
-    /// EdgeRows::new(1, rows)   // of one entry: one row of one leaf hash
+    /// EdgeRows::new(1, rows)   // for one entry: one row of one leaf hash
     /// ```
     pub fn new(size: u64, rows: Vec<Vec<Hash>>) -> EdgeRows
         ensures size { result.size ≡ size }
@@ -40,14 +40,14 @@ impl EdgeRows {
         EdgeRows { size, rows }
     }
 
-    /// How many entries the tree has.
+    /// The number of entries of the tree.
     pub fn size(&self) -> u64
         ensures { result ≡ self.now.size }
     {
         self.size
     }
 
-    /// The row of a level, empty where the level has none.
+    /// The row of a level, empty if the level has none.
     pub fn row(&self, level: u32) -> &[Hash]
         ensures { result.now ≡ row_at self.now level }
     {

@@ -1,4 +1,4 @@
-//! Why a read of a log ends early.
+//! The reasons why a read of a log ends early.
 ghost use Rattle.std.specs.Prelude.{◌≡◌};
 ghost use Rattle.log_reader.specs.Faults.{by_source};
 ghost use Rattle.log_reader.specs.declared.fault.ReadFault.TheVariants.{OutOfMemory};
@@ -8,17 +8,18 @@ use std::alloc::{AllocError, AllocFailed};
 use thiserror::Error;
 use tlog_tiles::Path;
 
-/// Why a read gave nothing. It prints its variant's name.
-/// `NoFile(Path::Entries { index: 1, width: 256 })` says that the source has no `tile/entries/001`.
+/// The reason why a read gave nothing. It prints as its variant's name.
+/// For example, `NoFile(Path::Entries { index: 1, width: 256 })` means that the source lacks `tile/entries/001`.
 #[derive(Debug, Drop, PartialEq, Eq, Clone, Copy, Error)]
 pub enum ReadFault {
-    /// The source has no file there, and of a partial file no full one either.
+    /// The source lacks the file. If it is a partial file, the source lacks its full file too.
     #[error("NoFile")]
     NoFile(Path),
-    /// The file that the source gave does not lead to the root. Of edge rows it is the lowest, and the checkpoint where there are none.
+    /// The file from the source does not lead to the root. For edge rows, the path is that of the lowest row, or the checkpoint's if
+    /// there are none.
     #[error("FalseFile")]
     FalseFile(Path),
-    /// A proof made of rows that lead to the root does not hold: two strings of them share a digest.
+    /// A proof made from rows that lead to the root does not hold: two different strings of them share a digest.
     #[error("Collision")]
     Collision,
     /// The source failed.

@@ -13,7 +13,7 @@ fn is_of(checkpoint: &Checkpoint, origin: &str) -> bool
     checkpoint.origin.as_str() == origin
 }
 
-// The checkpoint that a note's text is; None where the bytes are no such note.
+// The checkpoint in a note's text. None: the bytes are not a note of a checkpoint.
 fn checkpoint_of(alloc: Global, bytes: &[u8]) -> Result<Option<Checkpoint>, AllocError>
     ensures found { IfOk result (λ o. IfSome o (λ c. IsHead bytes.now c.origin c.size c.root)) }
     ensures none { IfOk result (λ o. IfNone o ((origin : List ℕ) (size : ℕ) (root : List ℕ)
@@ -31,7 +31,7 @@ fn checkpoint_of(alloc: Global, bytes: &[u8]) -> Result<Option<Checkpoint>, Allo
     }
 }
 
-/// The size and root of a checkpoint of that origin; None where the bytes are no note whose text is one. No signature is looked at.
+/// The size and root of a checkpoint of that origin. None: the bytes are not a note whose text is one. This call verifies no signature.
 ///
 /// ```text
 /// head_of(alloc, "ex", note)?   // Some((257, root))
@@ -39,7 +39,7 @@ fn checkpoint_of(alloc: Global, bytes: &[u8]) -> Result<Option<Checkpoint>, Allo
 ///
 /// # Errors
 ///
-/// Memory was refused.
+/// `AllocError`: memory was refused.
 pub fn head_of(alloc: Global, origin: &str, bytes: &[u8]) -> Result<Option<(u64, Hash)>, AllocError>
     ensures found { IfOk result (λ o. IfSome o
         (λ head. IsHead bytes.now origin.now head.0 head.1)) }

@@ -1,4 +1,4 @@
-//! Inclusion proofs of a log, made of verified rows.
+//! Inclusion proofs of a log, made from verified rows.
 ghost use Rattle.std.specs.Prelude.{◌≡◌, ◌+◌, ◌++◌, ◌^◌, ◌<◌, ◌≤◌, [], IfOk, Ok, get_or, length};
 ghost use Rattle.tlog_hash.specs.Rows.{part};
 ghost use Rattle.tlog_hash.specs.Tree.{leaf_hash};
@@ -23,7 +23,7 @@ use tlog_proof::{HashPath, Proof, holds};
 use tlog_shape::split;
 use tlog_tiles::Path;
 
-// Adds the path for an index, counted from the start of a node, within that node: PATH of RFC 6962, section 2.1.1.
+// Adds the path for an index within a node, counted from the start of the node: PATH of RFC 6962, section 2.1.1.
 #[tactic(auto, using(crate::proofs::Kept::kept_twice, crate::proofs::Kept::kept_once))]
 fn add_path<H: TreeHash, S: Source>(
     alloc: Global,
@@ -98,18 +98,18 @@ impl<H: TreeHash> LogReader<H> {
         }
     }
 
-    /// The proof that an entry is in the tree of all (RFC 6962, section 2.1.1). It is checked before it is handed out, so it holds,
-    /// whatever the source gave. A proof in a smaller tree is one of `prefix`.
+    /// The proof that an entry is in the tree of all (RFC 6962, section 2.1.1). It is checked before it is returned, so it holds for all
+    /// answers of the source. For a proof in a smaller tree, use `prefix`.
     ///
     /// ```text
-    /// reader.inclusion(alloc, &mut source, 2)?                                     // of entry 2 among all
+    /// reader.inclusion(alloc, &mut source, 2)?                                     // entry 2 among all
     /// reader.prefix(alloc, &mut source, 3)?.inclusion(alloc, &mut source, 2)?      // among the first three
     /// ```
     ///
     /// # Errors
     ///
-    /// Those of `row`; and `Collision`: the rows lead to the root, and the proof made of them does not hold. Of a source that has
-    /// the log's full tiles it never comes.
+    /// Those of `row`, and `Collision`: the rows lead to the root, but the proof made from them does not hold. If the source has the
+    /// log's full tiles, `Collision` never comes.
     #[tactic(auto, using(crate::proofs::Kept::kept_twice))]
     pub fn inclusion<S: Source>(
         &mut self,

@@ -5,26 +5,26 @@ ghost use Rattle.log_reader.specs.Truth.{ShownBundlesAreTrue, ShownPrefixesAreTr
 use mirror_sources::Source;
 use tlog_hash::TreeHash;
 
-/// A row that is shown is the true one of each list of entries of the tree's size and root, where no two different strings of the
-/// list's tree, of the edge and of the way share a digest.
+/// A shown row is the true row of each list of entries of the tree's size and root. Premise: no two different strings of the list's tree,
+/// of the edge and of the way share a digest.
 pub fn shown_rows_law()
     ensures { ShownRowsAreTrue }
 {}
 
-/// The root of a prefix is the tree hash of the first entries of each list of entries of the tree's size and root, where no two
+/// The root of a prefix is the tree hash of the first entries of each list of entries of the tree's size and root. Premise: no two
 /// different strings of the list's tree, of the edge and of a way to one of the prefix's rows share a digest.
 pub fn shown_prefixes_law()
     ensures { ShownPrefixesAreTrue }
 {}
 
-/// A bundle that is shown has the true entries of each list of entries of the tree's size and root, where no two different strings
-/// of the list's tree, of the edge, of the way up from the bundle and of the tree of the bundle's own entries share a digest.
+/// A shown bundle has the true entries of each list of entries of the tree's size and root. Premise: no two different strings of the list's
+/// tree, of the edge, of the way up from the bundle and of the tree of the bundle's own entries share a digest.
 pub fn shown_bundles_law()
     ensures { ShownBundlesAreTrue }
 {}
 
-/// A source that holds the files of a log has the full tiles of its first entries. So the reader that `prefix` makes gets true rows and
-/// proofs of that source.
+/// A source that has the files of a log has the full tiles of its first entries. So with that source, the reader of `prefix` gives true
+/// rows and proofs.
 pub fn first_tiles_law<H: TreeHash, S: Source>(_source: &S)
     ensures { HasFirstTiles H.digest (S.may_answer _source.now) }
 {}

@@ -1,10 +1,10 @@
-//! Verified reads of a transparency log (C2SP tlog-tiles) of which the size and the root are known.
+//! Verified reads of a transparency log (C2SP tlog-tiles) whose size and root are known.
 //!
-//! What is read counts only where it leads up to the root: the rows of the edge (`EdgeRows`, `leads_to`), a full tile or a bundle
-//! under its hash (`verified`), and the partial bundle by its leaf hashes (`leaves_of`).
+//! A file is used only if it leads up to the root. The rows of the edge have to lead to the root (`EdgeRows`, `leads_to`). A full tile or a
+//! bundle has to fold to its hash (`verified`). The partial bundle has to have its leaf hashes (`leaves_of`).
 //!
 //! ```text
-//! let head = head_of(alloc, "ex", note)?;                        // Some((size, root)) of a checkpoint
+//! let head = head_of(alloc, "ex", note)?;                        // Some((size, root)) of the checkpoint
 //! leads_to::<Sha256Tree>(alloc, &edge, &root)?                   // whether the edge's rows are those of the root
 //! verified::<Sha256Tree>(alloc, FullFile::Tile, &hash, &bytes)?  // Some(row), whose fold is the hash
 //! ```

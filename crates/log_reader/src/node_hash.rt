@@ -20,7 +20,7 @@ use std::alloc::{AllocError, Global};
 use tlog_hash::{Hash, TreeHash, fold};
 use tlog_shape::{edge_index, edge_width, is_perfect, top_level};
 
-// The fold of some hashes of a row; None where it does not have them.
+// The fold of some hashes of a row. None: the row does not have them.
 fn fold_part<H: TreeHash>(row: &[Hash], first: u32, count: u32) -> Option<Hash>
     ensures { 0 < count → first + count ≤ length row.now → IsSomeAnd result
         (λ hash. hash ≡ fold_of H.digest (take count (drop first row.now))) }
@@ -33,7 +33,7 @@ fn fold_part<H: TreeHash>(row: &[Hash], first: u32, count: u32) -> Option<Hash>
     Some(fold::<H>(part))
 }
 
-// The hash of a node of a power of two of entries: some hashes of the row of its tile lead to it.
+// The hash of a node whose number of entries is a power of two: some hashes of a tile's row lead to it.
 #[tactic(auto, using(crate::proofs::Kept::kept_once))]
 fn perfect_hash<H: TreeHash, S: Source>(
     alloc: Global,
@@ -61,7 +61,7 @@ fn perfect_hash<H: TreeHash, S: Source>(
     }
 }
 
-// The hash of the rows so far with one more above them, which may be empty.
+// The hash of the rows so far with one more row above them, which may be empty.
 fn on_top<H: TreeHash>(
     alloc: Global,
     below: Option<Hash>,
@@ -75,7 +75,7 @@ fn on_top<H: TreeHash>(
     Ok(Some(with_row::<H>(alloc, below, row)?))
 }
 
-// The hash of the last entries, of which the row of that level of the edge has the hashes from the first on.
+// The hash of the last entries: those from hash `first` on in the edge row of that level, and all after that row.
 fn end_hash<H: TreeHash>(
     alloc: Global,
     edge: &EdgeRows,
@@ -98,8 +98,8 @@ fn end_hash<H: TreeHash>(
     }
 }
 
-/// The hash of a node of the tree: of as many entries as `len`, from `start` on. Where they are not a power of two, they are the
-/// last ones.
+/// The hash of a node of the tree: of the `len` entries from `start` on. If `len` is not a power of two, they are the last entries of the
+/// tree.
 #[tactic(auto, using(crate::proofs::Kept::kept_once))]
 pub(crate) fn node_hash<H: TreeHash, S: Source>(
     alloc: Global,

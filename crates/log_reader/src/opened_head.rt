@@ -1,4 +1,4 @@
-//! The checkpoint that a note's text is, where the note opens.
+//! The checkpoint of a note that opens.
 ghost use Rattle.std.specs.Prelude.{map};
 ghost use Rattle.mirror_model.specs.Refusals.{ReadsHead};
 
@@ -15,8 +15,8 @@ use tlog_checkpoint::Checkpoint;
 ///
 /// # Errors
 ///
-/// The first that applies: `Note` where the bytes are no signed note, `Checkpoint` where its text is none, `OtherOrigin`, and
-/// `NoTrustedSignature` where no line is of a key. `OutOfMemory` where memory was refused.
+/// The first that applies. `Note`: the bytes are not a signed note. `Checkpoint`: its text is not a checkpoint. `OtherOrigin`: it has
+/// another origin. `NoTrustedSignature`: no signature line is one of a key. `OutOfMemory`: memory was refused.
 pub fn open_head(
     alloc: Global,
     origin: &str,

@@ -1,4 +1,4 @@
-//! A log as it was when it had fewer entries.
+//! A log at a smaller size.
 ghost use Rattle.std.specs.Prelude.{◌≡◌, ◌≤◌, ℕ, All, IfOk, length, take};
 ghost use Rattle.tlog_shape.specs.Edge.{edge_index_of, width_of};
 ghost use Rattle.mirror_sources.specs.Source.{StaysWithin};
@@ -29,7 +29,7 @@ fn copy_start(alloc: Global, row: &[Hash], width: usize) -> Result<Vec<Hash>, Al
     copy_row(alloc, &row[..width])
 }
 
-// The row of a level of the edge of the first entries, which has one there.
+// The row of a level of the edge of the first entries. The level has a row.
 fn first_row<H: TreeHash, S: Source>(
     alloc: Global,
     reader: &mut LogReader<H>,
@@ -60,7 +60,7 @@ fn first_row<H: TreeHash, S: Source>(
     Ok(copy_start(alloc, &row, width as usize)?)
 }
 
-// That row, empty where the level has none.
+// The row of a level of the edge of the first entries, empty if the level has none.
 #[tactic(auto, using(crate::proofs::Kept::kept_once))]
 fn first_row_if_any<H: TreeHash, S: Source>(
     alloc: Global,
@@ -115,8 +115,8 @@ fn first_edge<H: TreeHash, S: Source>(
 }
 
 impl<H: TreeHash> LogReader<H> {
-    /// A reader of the log as it was when it had that many entries. Its root is the tree hash of these: `MTH(E[0..size])` of RFC
-    /// 6962, section 2.1.
+    /// A reader of the log at that smaller size. Its root is the tree hash of the first `size` entries: `MTH(E[0..size])` of RFC 6962,
+    /// section 2.1.
     ///
     /// ```text
     /// reader.prefix(alloc, &mut source, 257)?.root()

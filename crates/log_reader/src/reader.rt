@@ -1,4 +1,4 @@
-//! Where a reader stands in the tree of a log.
+//! The state of a reader of a log.
 ghost use Rattle.std.specs.Prelude.{◌≡◌, ◌≢◌, ◌↔◌, ◌+◌, ◌-◌, ◌/◌, ◌%◌, ◌<◌, ◌≤◌, [], ◌∷◌, IfOk, IfErr, IsTrue, OnOk, drop, map};
 ghost use Rattle.tlog_shape.specs.Edge.{edge_index_of};
 ghost use Rattle.mirror_sources.specs.Source.{StaysWithin};
@@ -19,11 +19,11 @@ use tlog_shape::edge_index;
 
 /// Reads the files of a log of known size and root from a source that is not trusted.
 ///
-/// What it gives leads up to the root: a full tile folds to its hash in the row above it, and so on up to the edge. It keeps the
-/// edge and the rows of the tiles above the last one that was read, so a read of what lies beside costs one file, and a read
-/// from left to right meets each file once. It holds at most one row a level beside the edge, whatever the size of the log.
+/// All that it returns leads up to the root: a full tile folds to its hash in the row above it, and so on up to the edge. It keeps the
+/// edge, and the rows of the last tile and of those above it. So a read of a neighbour gets one file, and a read from left to right
+/// gets each file once. It holds at most one row a level beside the edge, for all sizes of the log.
 ///
-/// Any source may serve any read: what one gave is as good as what another gave.
+/// Any source may serve any read: files that verify are equally good from each source.
 ///
 /// ```text
 /// let mut reader: LogReader<Sha256Tree> = LogReader::open(alloc, &mut source, size, &root)?;
@@ -36,7 +36,7 @@ use tlog_shape::edge_index;
 pub struct LogReader<H: TreeHash> {
     edge: EdgeRows,
     root: Hash,
-    // The tile that was read last, and the rows from its own up to below the edge's, the lowest first; none for a tile of the edge.
+    // The tile that was read last, and the rows from its own up to below the edge, the lowest first. No rows for a tile of the edge.
     level: u32,
     index: u64,
     rows: Vec<Vec<Hash>>,
@@ -67,16 +67,16 @@ impl<H: TreeHash> Model for LogReader<H> {
 }
 
 impl<H: TreeHash> LogReader<H> {
-    /// Opens a log of that size and root, as those of a checkpoint. The rows of the edge are read, the lowest level first, the
-    /// full tile where a partial one is gone.
+    /// Opens a log of the size and root of a checkpoint. Reads the rows of the edge, the lowest level first. If the source lacks a partial
+    /// tile, reads the full tile.
     ///
     /// ```text
-    /// LogReader::<Sha256Tree>::open(alloc, &mut source, 257, &root)?   // asks for tile/0/001.p/1 and tile/1/000.p/1
+    /// LogReader::<Sha256Tree>::open(alloc, &mut source, 257, &root)?   // gets tile/0/001.p/1 and tile/1/000.p/1
     /// ```
     ///
     /// # Errors
     ///
-    /// - `NoFile`: the source has neither a partial tile of the edge nor the full one.
+    /// - `NoFile`: the source lacks a partial tile of the edge and its full tile.
     /// - `FalseFile`: such a tile has another length, or the rows do not lead to the root.
     /// - `Source`: the source failed. `OutOfMemory`: memory was refused.
     pub fn open<S: Source>(
@@ -117,7 +117,7 @@ impl<H: TreeHash> LogReader<H> {
         }
     }
 
-    /// How many entries the log has.
+    /// The number of entries of the log.
     pub fn size(&self) -> u64
         ensures { result ≡ self.now.edge.size }
     {
@@ -133,7 +133,7 @@ impl<H: TreeHash> LogReader<H> {
         self.root
     }
 
-    /// The edge.
+    /// The edge of the log.
     pub(crate) fn edge(&self) -> &EdgeRows
         ensures edge { result.now ≡ self.now.edge }
         ensures hashes { HasEdgeHashes self.now.edge }
@@ -141,21 +141,21 @@ impl<H: TreeHash> LogReader<H> {
         &self.edge
     }
 
-    /// Whether it stands at that tile.
+    /// Whether the reader is at that tile.
     pub(crate) fn is_at(&self, level: u32, index: u64) -> bool
         ensures { IsTrue result ↔ ((self.now.level ≡ level) × (self.now.index ≡ index)) }
     {
         self.level == level && self.index == index
     }
 
-    /// Whether it stands at a full tile below that level.
+    /// Whether the reader is at a full tile below that level.
     pub(crate) fn is_below(&self, level: u32) -> bool
         ensures { IsTrue result ↔ ((self.now.level < level) × (self.now.way ≢ [])) }
     {
         self.level < level && !self.rows.is_empty()
     }
 
-    /// The row of the tile where it stands.
+    /// The row of the reader's tile.
     pub(crate) fn here(&self) -> &[Hash]
         ensures row { result.now ≡ row_of_way self.now.edge self.now.level self.now.way }
         ensures shown { IsShownRow H.digest self.now.edge self.now.level self.now.index result.now }
@@ -180,7 +180,7 @@ impl<H: TreeHash> LogReader<H> {
         self.index /= 256;
     }
 
-    /// Goes to the tile of the edge.
+    /// Goes to the tile of the edge at that level.
     pub(crate) fn to_edge(&mut self, level: u32)
         requires { level ≤ 7 }
         ensures { self.new ≡ record self.old {

@@ -1,4 +1,4 @@
-//! The row of a full tile, as a source has it.
+//! The row of a full tile, from a source.
 ghost use Rattle.std.specs.Prelude.{◌≡◌, ◌*◌, ℕ, IfOk, List};
 ghost use Rattle.tlog_hash.specs.Rows.{level_row};
 ghost use Rattle.mirror_sources.specs.Source.{StaysWithin};
@@ -14,7 +14,7 @@ use std::alloc::Global;
 use tlog_hash::{Hash, TreeHash};
 use tlog_tiles::Path;
 
-/// The row of a full tile, which folds to the hash.
+/// The row of a full tile, which has to fold to the hash.
 pub(crate) fn read_tile<H: TreeHash, S: Source>(
     alloc: Global,
     source: &mut S,

@@ -1,4 +1,4 @@
-//! What a full file has to be.
+//! The conditions on a full file.
 ghost use Rattle.std.specs.Prelude.{◌≡◌, ◌↔◌, IsTrue, ◌≤◌, ℕ, List, IfNone, IfOk, IfSome, map, length};
 ghost use Rattle.tlog_hash.specs.Tree.{leaf_hash};
 ghost use Rattle.log_reader.specs.Verified.{IsRowOf, HasLeaves, Verifies};
@@ -29,7 +29,7 @@ fn leaf_hashes<H: TreeHash>(alloc: Global, entries: &[&[u8]]) -> Result<Vec<Hash
     Ok(row)
 }
 
-/// The leaf hashes of a bundle of that width (C2SP tlog-tiles, "Log Entries"); None where the bytes are none.
+/// The leaf hashes of a bundle of that width (C2SP tlog-tiles, "Log Entries"). None: the bytes are not such a bundle.
 ///
 /// ```text
 /// leaves_of::<Sha256Tree>(alloc, 3, &bytes)?   // Some(row) of three hashes
@@ -37,7 +37,7 @@ fn leaf_hashes<H: TreeHash>(alloc: Global, entries: &[&[u8]]) -> Result<Vec<Hash
 ///
 /// # Errors
 ///
-/// Memory was refused.
+/// `AllocError`: memory was refused.
 pub fn leaves_of<H: TreeHash>(
     alloc: Global,
     width: u32,
@@ -60,7 +60,7 @@ pub fn leaves_of<H: TreeHash>(
     }
 }
 
-// The row of a full file; None where the bytes are none.
+// The row of a full file. None: the bytes are not a full file.
 fn row_of<H: TreeHash>(
     alloc: Global,
     kind: FullFile,
@@ -87,15 +87,15 @@ fn is_same(first: &Hash, second: &Hash) -> bool
     first == second
 }
 
-/// The row of a full file whose fold is the hash; None where the bytes are no such file.
+/// The row of a full file whose fold is the hash. None: the bytes are not such a file.
 ///
 /// ```text
-/// verified::<Sha256Tree>(alloc, FullFile::Bundle, &row[0], &bytes)?   // Some(leaf hashes), the row being that of level 1
+/// verified::<Sha256Tree>(alloc, FullFile::Bundle, &row[0], &bytes)?   // Some(leaf hashes), if row is that of level 1
 /// ```
 ///
 /// # Errors
 ///
-/// Memory was refused.
+/// `AllocError`: memory was refused.
 pub fn verified<H: TreeHash>(
     alloc: Global,
     kind: FullFile,

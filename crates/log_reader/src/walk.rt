@@ -1,4 +1,4 @@
-//! Rows read one below the other.
+//! Rows that are read one below the other.
 ghost use Rattle.std.specs.Prelude.{◌≡◌, ◌*◌, ◌%◌, ◌≤◌, ⊤, ℕ, All, IfOk, List, OnOk, length};
 ghost use Rattle.tlog_shape.specs.Edge.{edge_index_of};
 ghost use Rattle.tlog_hash.specs.Rows.{level_row};
@@ -29,7 +29,7 @@ fn climb<H: TreeHash>(reader: &mut LogReader<H>, level: u32)
     }
 }
 
-// The row of the full tile of that index, one level below the one where the reader stands.
+// The row of the full tile of that index, one level below the reader's tile.
 #[tactic(auto, using(crate::proofs::Kept::kept_once))]
 fn read_below<H: TreeHash, S: Source>(
     alloc: Global,
@@ -103,16 +103,16 @@ pub(crate) fn copy_row(alloc: Global, row: &[Hash]) -> Result<Vec<Hash>, AllocEr
 }
 
 impl<H: TreeHash> LogReader<H> {
-    /// The row of a tile of that level: of a full one 256 hashes, each of `256^level` entries, and of the partial one at the right
-    /// end as many as it has (C2SP tlog-tiles, "Merkle Tree"). The index is at most that of the edge, `edge_index(size, level)`.
+    /// The row of a tile of that level. A full tile has 256 hashes, each of `256^level` entries. The partial tile at the right edge has
+    /// fewer (C2SP tlog-tiles, "Merkle Tree"). The index is at most that of the edge, `edge_index(size, level)`.
     ///
     /// ```text
-    /// reader.row(alloc, &mut source, 0, 1)?   // of 300 entries the leaf hashes of the last 44
+    /// reader.row(alloc, &mut source, 0, 1)?   // with 300 entries: the leaf hashes of the last 44
     /// ```
     ///
     /// # Errors
     ///
-    /// - `NoFile`, `FalseFile`: a tile on the way down from the edge is not there, or does not fold to its hash in the row above it.
+    /// - `NoFile`, `FalseFile`: a tile between the edge and this tile is missing, or does not fold to its hash in the row above it.
     /// - `Source`: the source failed. `OutOfMemory`: memory was refused.
     pub fn row<S: Source>(
         &mut self,

@@ -19,7 +19,7 @@ use Rattle.mirror_audit.proofs.Given.{first_of, given_then, had_left, had_right}
 use Rattle.mirror_audit.proofs.Covered.{has_part, has_within}
 use Rattle.mirror_audit.proofs.Ranges.{full_bundle}
 
--- a list that has the bundle's entries at its place
+-- a list that has the bundle's entries at their index
 module _ (digest : List ℕ → List ℕ) (index width : ℕ) (bytes : List ℕ) (row : List (List ℕ))
     (v : HasLeaves digest width bytes row) (entries : List (List ℕ)) (h : HasAt (256 * index) v.entries entries) where
   within : 256 * index + width ≤ length entries

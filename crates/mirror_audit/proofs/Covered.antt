@@ -1,4 +1,4 @@
--- Ranges of entries that were read, one after the other.
+-- Ranges of entries that were read, one after another.
 use Rattle.std.proofs.Common.{◌≡◌, ◌⊎◌, inl, inr, ℕ, ◌+◌, ◌^◌, ◌≤◌, ◌<◌, List, [], ◌++◌, length, take, Option}
 use Rattle.std.proofs.Common.{refl, sym, ap, subst, ◌∙◌, arith, append_assoc, length-append}
 use Rattle.std.proofs.lemmas.List.{append-nil, take_at, drop_at}
@@ -61,7 +61,7 @@ module _ (digest : List ℕ → List ℕ) where
     holds = λ entries h path file. absurd (none path file);
   }
 
-  -- the same range said in other words
+  -- the same range in equal terms
   pub covers_as : (F G : Path → Type 0) (from to from' to' : ℕ) (may later : Path → Option (List ℕ) → Type 0)
       (x y : Option (List Path)) (P Q : List (List ℕ) → Type 0) → from ≡ from' → to ≡ to' →
       ((path : Path) → G path → F path) → ((entries : List (List ℕ)) → to ≤ length entries → P entries → Q entries) →

@@ -1,4 +1,4 @@
--- Replies, one after the other.
+-- Replies, one after another.
 use Rattle.std.proofs.Common.{◌≡◌, inl, inr, ℕ, ◌<◌, List, [], ◌∷◌, ◌++◌, Option, Some, None}
 use Rattle.std.proofs.Common.{refl, sym, ap, subst, ◌∙◌, arith, append_assoc, take, drop, option_map, Vec, Global}
 use Rattle.std.proofs.Common.{Result, Ok, Err, OnOk, IfNone, IfOk, IfSome}
@@ -13,7 +13,7 @@ use Rattle.mirror_sources.specs.Recorded.{AddsToRecord}
 use Rattle.mirror_audit.specs.Answering.{AreGiven, IsHad}
 use Rattle.mirror_audit.specs.Edges.{IsFullGiven, IsGivenAt}
 
--- ---- what may be given
+-- ---- possible replies
 
 may_append : (may : Path → Option (List ℕ) → Type 0) (xs ys : List Reply) → MayReply may xs → MayReply may ys →
     MayReply may (xs ++ ys)
@@ -57,7 +57,7 @@ given_then a b c x y z p q f g = record {
       (adds_then x y z (asked_paths p) (asked_paths q) f.recorded g.recorded);
 }
 
--- ---- what was given
+-- ---- replies that were given
 
 pub first_of : {X : Type 0} (x : X) (xs : List X) → Contains (x ∷ xs) x
 first_of x xs = (0, omega arith, refl)

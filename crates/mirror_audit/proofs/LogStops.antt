@@ -1,4 +1,4 @@
--- Where the audit of a whole log stops.
+-- The file at which the audit of a whole log stops.
 use Rattle.std.proofs.Common.{◌≡◌, inl, inr, ℕ, List, [], ◌∷◌, ◌++◌, Option, Some, refl, None}
 use Rattle.signed_note.specs.Keys.{Key}
 use Rattle.tlog_tiles.specs.declared.paths.Path.{Path}
@@ -18,7 +18,7 @@ use Rattle.mirror_audit.proofs.Given.{given_then}
 use Rattle.mirror_audit.proofs.Stops.{read_none, stops_later}
 
 module _ (digest : List ℕ → List ℕ) (paths : List Path) (size : ℕ) (root : List ℕ) where
-  -- a reading of lists of entries of another kind
+  -- a reading for lists of entries of another kind
   module _ (about : List (List ℕ) → Type 0) (is : (entries : List (List ℕ)) → IsLogOf digest size root entries → about entries)
       (a b : Path → Option (List ℕ) → Type 0) (x y : Option (List Path)) where
     as_log : (kind : Path → Found → Type 0) (path : Path) → StopsAt digest paths about kind path a b x y →
@@ -44,7 +44,7 @@ module _ (digest : List ℕ → List ℕ) (paths : List Path) (size : ℕ) (root
     stops_as_edge Source h = tt
     stops_as_edge OutOfMemory h = tt
 
-  -- more paths come behind
+  -- more paths come after
   module _ (rest whole : List Path) (is : whole ≡ paths ++ rest) (a b : Path → Option (List ℕ) → Type 0)
       (x y : Option (List Path)) where
     longer : (kind : Path → Found → Type 0) (path : Path) →
@@ -77,7 +77,7 @@ module _ (digest : List ℕ → List ℕ) (origin : List ℕ) (keys : List Key) 
   names_head a b x y Source h = tt
   names_head a b x y OutOfMemory h = tt
 
-  -- behind the checkpoint
+  -- after the checkpoint
   module _ (size : ℕ) (root : List ℕ) (a b c : Path → Option (List ℕ) → Type 0) (x y z : Option (List Path))
       (head : IsHeadGiven origin keys size root a b x y) where
     abbrev first : List Reply
@@ -133,7 +133,7 @@ module _ (digest : List ℕ → List ℕ) (origin : List ℕ) (keys : List Key) 
       order = r.paths_are;
     }
 
--- what a source lacks now it lacked before
+-- a file that a source may lack now is one that it might have lacked before
 pub absence_before : (old new : Path → Option (List ℕ) → Type 0) → StaysWithin old new → (fault : AuditFault) →
     IsForAbsence new fault → IsForAbsence old fault
 absence_before old new s NoCheckpoint h = s.stays Checkpoint None h

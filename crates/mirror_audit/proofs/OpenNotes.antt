@@ -1,4 +1,4 @@
--- A checkpoint's note that opens is read, and in one way.
+-- A checkpoint's note that opens is not refused.
 use Rattle.std.proofs.Common.{◌≡◌, ◌≢◌, ℕ, List, [], ◌∷◌, Option, Some, Result, Ok, Err, refl, sym, subst}
 use Rattle.signed_note.specs.Keys.{Key}
 use Rattle.tlog_checkpoint.specs.declared.Checkpoint.{Checkpoint as Read}
@@ -58,7 +58,7 @@ module _ (bytes origin : List ℕ) (keys : List Key) (size : ℕ) (root : List �
       head_notes_are_read_once bytes origin keys one other is_open is (λ e. cc e) (λ e. cc e) in
       (cc same, cc same)
 
--- likewise of the same bytes by another name
+-- the same for equal bytes
 pub given_not_refused : (bytes note origin : List ℕ) (keys : List Key) (size : ℕ) (root : List ℕ) → bytes ≡ note →
     IsOpenHead note origin keys size root → (fault : TakeFault) → ReadsHead bytes origin keys (Err fault) →
     IsFailure (fault_of_head fault)
@@ -71,7 +71,7 @@ pub given_same_head : (bytes note origin : List ℕ) (keys : List Key) (size : �
 given_same_head bytes note origin keys size root is head =
     same_head bytes origin keys size root (subst (λ b. IsOpenHead b origin keys size root) (sym is) head)
 
--- bytes that were given and are refused
+-- the source gave bytes, and they are refused
 module _ (bytes origin : List ℕ) (keys : List Key) (a b : Path → Option (List ℕ) → Type 0) (x y : Option (List Path))
     (given : AreGiven a b x y (reply Checkpoint (Some bytes) ∷ [])) where
   pub refused_head : (fault : TakeFault) → ReadsHead bytes origin keys (Err fault) →

@@ -1,4 +1,4 @@
--- Lists of paths in their order.
+-- Lists of paths in order.
 use Rattle.std.proofs.Common.{◌≡◌, inl, inr, ℕ, zero, suc, ◌+◌, ◌-◌, ◌*◌, ◌<◌, ◌≤◌, List, [], ◌∷◌, ◌++◌}
 use Rattle.std.proofs.Common.{refl, sym, ap, ◌∙◌, arith, append_assoc}
 use Rattle.std.proofs.lemmas.Bool.{cases_lt}
@@ -90,7 +90,7 @@ next_level n done =
     let none : 0 + done ≡ done = omega arith in
     each_next (level_order n) 0 done ∙ ap (λ k. levels_order n done ++ level_order n k) none
 
--- the levels above one, that one, and the rest
+-- the levels above one, that level, and the rest
 pub record LevelParts (n done level index width : ℕ) : Type 0 where
   pub rest : List Path
   pub levels_are : levels_order n 7 ≡ levels_order n done ++ (row_order level index width ++ rest)
@@ -109,14 +109,14 @@ level_parts n done level index width lt is at wide =
           ∙ (λ j. before ++ (row_order level (sym at j) (sym wide j) ++ parts.rest))));
     }
 
--- where no level has a row so far, and the next has none
+-- if no level so far has a row, and the next has none, no level up to it has one
 pub still_none : (n level : ℕ) → edge_order n level ≡ [] → width_of n level ≡ 0 → edge_order n (level + 1) ≡ []
 still_none n level none empty =
     let at : 0 + level ≡ level = omega arith in
     each_next (edge_file n) 0 level
     ∙ ((λ j. none j ++ edge_file n (at j)) ∙ no_tile level (edge_index_of n level) (width_of n level) empty)
 
--- the lowest row, where no level below it has one
+-- the lowest row, if no level below it has one
 pub lowest_is : (n level : ℕ) → level < 8 → edge_order n level ≡ [] → 0 < width_of n level →
     first_path (edge_order n 8) ≡ Tile level (edge_index_of n level) (width_of n level)
 lowest_is n level lt none some =

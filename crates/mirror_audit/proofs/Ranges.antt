@@ -8,11 +8,11 @@ use Rattle.tlog_tiles.specs.declared.paths.Path.{Path}
 use Rattle.tlog_tiles.specs.declared.paths.Path.TheVariants.{Checkpoint, Tile, Entries}
 use Rattle.mirror_audit.specs.Covering.{IsBlock, IsFullIn}
 
--- a tile of that level and index begins where its first hash does
+-- a tile of that level and index begins where its first hash begins
 pub place_of : (level index : ℕ) → index * 256 ^ (level + 1) ≡ 256 * index * 256 ^ level
 place_of level index = ap (λ n. index * n) (level_next level) ∙ omega arith
 
--- two blocks of one size, the one within the other
+-- two blocks of one size are one, if the first is within the second
 pub same_block : (s i index : ℕ) → 0 < s → index * s ≤ i * s → (i + 1) * s ≤ (index + 1) * s → i ≡ index
 same_block s i index some from to = elim (cases_lt i index) [
   | inl lt ↦
@@ -28,7 +28,7 @@ same_block s i index some from to = elim (cases_lt i index) [
   ]
 ]
 
--- a block of a lower level lies on one side of the end of a block
+-- a block of a lower level is on one side of the end of a block
 pub block_split : (most from mid to q level index width : ℕ) → mid ≡ q * 256 ^ (most + 1) →
     IsBlock most from to level index width →
     (IsBlock most from mid level index width) ⊎ (IsBlock most mid to level index width)
@@ -68,7 +68,7 @@ none_in most from to (Entries index width) le h =
     let ends : (index + 1) * 256 ≤ to = h.ends in
     omega (arith, starts, ends, le)
 
--- whole blocks of a level end no later than those of a level below
+-- the whole blocks of a level end at or before those of a level below
 pub floor_mono : (n low high : ℕ) → low ≤ high → n / 256 ^ high * 256 ^ high ≤ n / 256 ^ low * 256 ^ low
 floor_mono n low high le =
     let gap : high ≡ (high - low) + low = omega arith in
@@ -82,7 +82,7 @@ floor_mono n low high le =
     let less : t * 256 ^ low ≤ n / 256 ^ low * 256 ^ low = mul-le t (256 ^ low) (n / 256 ^ low) (256 ^ low) fewer (omega arith) in
     omega (arith, whole, less)
 
--- a block within n entries is within the whole blocks of a level that is no higher
+-- a block within n entries is within the whole blocks of each level that is not higher
 pub end_floor : (n low level index : ℕ) → low ≤ level + 1 → (index + 1) * 256 ^ (level + 1) ≤ n →
     (index + 1) * 256 ^ (level + 1) ≤ n / 256 ^ low * 256 ^ low
 end_floor n low level index le ends =
@@ -91,7 +91,7 @@ end_floor n low level index le ends =
     let less : (index + 1) * s ≤ n / s * s = mul-le (index + 1) s (n / s) s fewer (omega arith) in
     omega (arith, less, floor_mono n low (level + 1) le)
 
--- a block within the rows of a level and those above it is within those above, or below the row of that level
+-- a block within the rows of a level and of those above it: it is below the rows above, or below the row of that level
 block_levels : (n low level l index width : ℕ) → low ≡ level + 1 → 1 ≤ level → level ≤ 7 →
     IsBlock 6 0 (n / 256 ^ level * 256 ^ level) l index width →
     (IsBlock 6 0 (n / 256 ^ low * 256 ^ low) l index width)

@@ -1,4 +1,4 @@
--- The rows of the edge that were given, read one after the other.
+-- The rows of the edge that were given, read one after another.
 use Rattle.std.proofs.Common.{◌≡◌, ℕ, ◌+◌, ◌*◌, ◌≤◌, List, [], ◌∷◌, ◌++◌, length, get_or, Vec, Global, Option, ap, sym, ◌∙◌, arith}
 use Rattle.tlog_shape.specs.Edge.{edge_index_of, width_of}
 use Rattle.tlog_tiles.specs.declared.paths.Path.{Path}
@@ -89,7 +89,7 @@ rows_paths digest about size rows n a b x y r = record {
   verified = λ entries h. r.verified digest entries;
 }
 
--- where the files of an edge are true, so are its rows
+-- if the files of an edge are true, so are its rows
 pub edge_is_true : (digest : List ℕ → List ℕ) → IsDigest digest → (edge : Edge) (size : ℕ) → edge.size ≡ size →
     (a b : Path → Option (List ℕ) → Type 0) (x y : Option (List Path)) (r : AreRowsRead size (row_at edge) 8 a b x y) →
     (entries : List (List ℕ)) → AreShort entries → length entries ≡ size → AreTrue digest entries r.reads → (level : ℕ) →

@@ -1,4 +1,4 @@
--- Files of a list of entries, whatever a source answers.
+-- Files of a list of entries, for all answers of a source.
 use Rattle.std.proofs.Common.{◌≡◌, inr, ℕ, ◌*◌, ◌<◌, List, length, Option, sym, ap, ◌∙◌}
 use Rattle.tlog_shape.specs.Edge.{edge_index_of, width_of}
 use Rattle.tlog_tiles.specs.Tiles.{bundle_bytes}
@@ -41,7 +41,7 @@ module _ (digest : List ℕ → List ℕ) (hash : IsDigest digest) (entries : Li
         (row_is_true digest hash entries level index 256 (row_text row) row same is) is.count;
   }
 
-  -- a full bundle that was read verifies, and so does a full tile
+  -- a full bundle that was read verifies
   pub bundle_verified : (index : ℕ) (h bytes : List ℕ) (row : List (List ℕ)) → HasTile digest 0 index h entries →
       Verifies digest Bundle h bytes row → IsVerified digest entries (Entries index 256) (Here bytes)
   bundle_verified index h bytes row t v =

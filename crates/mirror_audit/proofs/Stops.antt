@@ -1,4 +1,4 @@
--- Files that were read one after the other, and the one at which a reading stops.
+-- Files that were read one after another, and the file at which a reading stops.
 use Rattle.std.proofs.Common.{◌≡◌, ℕ, ◌<◌, List, [], ◌∷◌, ◌++◌, length, Option, Some, None, Result, Ok, Err, IfErr}
 use Rattle.std.proofs.Common.{refl, sym, ap, subst, ◌∙◌, append_assoc}
 use Rattle.std.proofs.lemmas.List.{append-nil, map-append}
@@ -35,7 +35,7 @@ true_append digest entries (x ∷ xs) ys t =
     let r = true_append digest entries xs ys t.1 in
     ((t.0, r.0), r.1)
 
--- a hint leaves what was given
+-- a hint does not change the replies
 pub given_hinted : (a b c : Path → Option (List ℕ) → Type 0) (x y z : Option (List Path)) (replies : List Reply) →
     StaysWithin b c → z ≡ y → AreGiven a b x y replies → AreGiven a c x z replies
 given_hinted a b c x y z replies stays same g = record {
@@ -44,7 +44,7 @@ given_hinted a b c x y z replies stays same g = record {
   recorded = subst (λ w. AddsToRecord x w (asked_paths replies)) (sym same) g.recorded;
 }
 
--- ---- what was verified
+-- ---- files that were verified
 
 pub verified_append : (digest : List ℕ → List ℕ) (entries : List (List ℕ)) (xs ys : List FileRead) →
     AreVerified digest entries xs → (AreTrue digest entries xs → AreVerified digest entries ys) →
@@ -53,7 +53,7 @@ verified_append digest entries [] ys v then = then tt
 verified_append digest entries (x ∷ xs) ys v then =
     (v.0, λ t. verified_append digest entries xs ys (v.1 t) (λ ts. then (t, ts)))
 
--- ---- what was read
+-- ---- files that were read
 
 pub read_none : (digest : List ℕ → List ℕ) (about : List (List ℕ) → Type 0) (may : Path → Option (List ℕ) → Type 0)
     (x : Option (List Path)) (paths : List Path) → paths ≡ [] → AreRead digest about paths may may x x
@@ -116,7 +116,7 @@ module _ (a b c : Path → Option (List ℕ) → Type 0) (x y z : Option (List P
         (λ t. q.verified entries (then entries h t));
   }
 
--- ---- where a reading stops
+-- ---- the file at which a reading stops
 
 pub on_err : {T E : Type 0} (P Q : E → Type 0) (r : Result T E) → ((e : E) → P e → Q e) → IfErr r P → IfErr r Q
 on_err P Q (Ok x) f p = tt
@@ -152,7 +152,7 @@ module _ (digest : List ℕ → List ℕ) (paths : List Path) (about : List (Lis
   lacks_first path rest is full Source h = tt
   lacks_first path rest is full OutOfMemory h = tt
 
--- at a later file, of a part of the paths
+-- at a later file, in a part of the paths
 module _ (digest : List ℕ → List ℕ) (ps qs rest paths : List Path) (about inner : List (List ℕ) → Type 0)
     (a b c : Path → Option (List ℕ) → Type 0) (x y z : Option (List Path)) (p : AreRead digest about ps a b x y)
     (then : (entries : List (List ℕ)) → about entries → AreTrue digest entries p.reads → inner entries)
@@ -194,7 +194,7 @@ module _ (digest : List ℕ → List ℕ) (ps qs rest paths : List Path) (about 
 
 -- ---- partial files
 
--- the full file of a partial path that was answered by None
+-- the full file of a partial path, after the reply None
 module _ (path : Path) (a b c : Path → Option (List ℕ) → Type 0) (x y z : Option (List Path))
     (none : AreGiven a b x y (reply path None ∷ [])) where
   after_none : (whole : Option (List ℕ)) → AreGiven b c y z (reply (full_of path) whole ∷ []) →
@@ -226,7 +226,7 @@ module _ (path : Path) (a b c : Path → Option (List ℕ) → Type 0) (x y z : 
   false_part Source h = tt
   false_part OutOfMemory h = tt
 
--- where a partial file is false, a reading stops there
+-- at a false partial file, a reading stops
 pub part_stops : (digest : List ℕ → List ℕ) → IsDigest digest → (paths rest : List Path) (about : List (List ℕ) → Type 0)
     (a b : Path → Option (List ℕ) → Type 0) (x y : Option (List Path)) (path : Path) → paths ≡ path ∷ rest →
     width_named path < 256 →

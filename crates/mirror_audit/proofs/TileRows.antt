@@ -1,4 +1,4 @@
--- A full tile of level 1 or above: its row is covered hash by hash.
+-- A full tile of level 1 or above: its row is covered hash after hash.
 use Rattle.std.proofs.Common.{◌≡◌, inl, inr, ℕ, ◌+◌, ◌-◌, ◌*◌, ◌^◌, ◌≤◌, ◌<◌, List, [], ◌∷◌, ◌++◌, length, take, map, get_or, Option, Some}
 use Rattle.std.proofs.Common.{refl, sym, ap, subst, ◌∙◌, arith}
 use Rattle.std.proofs.lemmas.Nat.{mul-le}
@@ -21,7 +21,7 @@ use Rattle.mirror_audit.proofs.Given.{first_of, given_then, had_left, had_right}
 use Rattle.mirror_audit.proofs.Covered.{covers_as, covers_none, covers_then, has_within}
 use Rattle.mirror_audit.proofs.Ranges.{full_split, full_tile, none_in, place_of}
 
--- the numbers of a tile and of its children are small
+-- the indices of a tile and of its children are small
 pub row_small : (level index width : ℕ) → (256 * index + width) * 256 ^ level < 18446744073709551616 →
     256 * index + width < 18446744073709551616
 row_small level index width fits =
@@ -59,7 +59,7 @@ module _ (digest : List ℕ → List ℕ) (level index : ℕ) (row : List (List 
       (λ entries. take 0 row ≡ level_row digest entries level (256 * index) 0) same
       (λ path file. none_in (level - 1) from to path (omega (arith, same)) file) (λ entries. refl)
 
-  -- a hint leaves it so
+  -- a hint does not change this
   pub row_hinted : (i : ℕ) (a b c : Path → Option (List ℕ) → Type 0) (x y z : Option (List Path)) → StaysWithin b c →
       z ≡ y → CoversRow digest level index row i a b x y → CoversRow digest level index row i a c x z
   row_hinted i a b c x y z stays same p = record {
@@ -110,7 +110,7 @@ module _ (digest : List ℕ → List ℕ) (level index : ℕ) (row : List (List 
       take_more row i h lt ∙ ((λ j. first j ++ (sym at ∙ next) j ∷ []) ∙ sym grown))
       p tile
 
-  -- a full tile, and then all below its row
+  -- a full tile, and then all files below its row
   pub tile_covers : (a b c : Path → Option (List ℕ) → Type 0) (x y z : Option (List Path)) (hash : List ℕ) → 1 ≤ level →
       IsRowFound digest (Tile level index 256) hash row a b x y → CoversRow digest level index row (length row) b c y z →
       CoversTile digest level index hash a c x z

@@ -46,7 +46,7 @@ map_same f g (x ∷ xs) all same =
     λ i. same x (All-head (λ level. level ≤ 7) x xs all) i
     ∷ map_same f g xs (All-tail (λ level. level ≤ 7) x xs all) same i
 
--- rows that lead to a root, and are true, lead to the tree hash
+-- true rows that lead to a root lead to the tree hash
 pub root_of_rows : (digest : List ℕ → List ℕ) (edge : Edge) (entries : List (List ℕ)) → length entries ≡ edge.size →
     edge.size < 18446744073709551616 → ((level : ℕ) → level ≤ 7 → RowIsTrue digest edge entries level) →
     edge_root digest (map (row_at edge) (edge_levels edge.size)) ≡ mth digest entries

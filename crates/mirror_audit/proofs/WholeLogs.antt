@@ -1,4 +1,4 @@
--- True rows of a source that holds a whole log.
+-- True rows of a source that has a whole log.
 use Rattle.std.proofs.Common.{◌≡◌, ℕ, ◌+◌, ◌-◌, ◌*◌, ◌/◌, ◌^◌, ◌<◌, ◌≤◌, List, [], ◌++◌, length, take, get_or, sym, ap, subst, ◌∙◌, arith}
 use Rattle.std.proofs.Math.Nat.{div-mul-le_self}
 use Rattle.std.proofs.Math.Seq.{take-append_seam}
@@ -70,7 +70,7 @@ module _ (digest : List ℕ → List ℕ) (entries : List (List ℕ)) where
         hash_is = is ∙ ap (λ l. mth digest (part (k * 256 ^ l) (256 ^ l) entries)) (sym up);
       }
 
--- the first bytes of the full tile in the place of a partial one
+-- a partial tile, cut from the start of its full tile
 pub tile_cut : (digest : List ℕ → List ℕ) → IsDigest digest → (entries : List (List ℕ)) (level index width : ℕ) (full : List ℕ) →
     GoesOn (Tile level index width) (true_bytes digest entries (Tile level index width)) full →
     take (32 * width) full ≡ true_bytes digest entries (Tile level index width)

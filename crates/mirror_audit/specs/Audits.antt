@@ -1,5 +1,5 @@
--- What an audit says of a source: that it holds a whole log under a checkpoint (C2SP tlog-tiles). `IsHeadGiven` and `IsTreeGiven`
--- are cited by the contracts of private functions alone.
+-- The fact that an audit states of a source: it has a whole log under a checkpoint (C2SP tlog-tiles). Only the contracts of private
+-- functions cite `IsHeadGiven` and `IsTreeGiven`.
 use Rattle.std.specs.Prelude.{◌≡◌, ℕ, List, [], ◌∷◌, length, Option, Some}
 use Rattle.signed_note.specs.Keys.{Key}
 use Rattle.tlog_hash.specs.Tree.{mth}
@@ -11,7 +11,7 @@ use Rattle.mirror_sources.specs.Honest.{true_bytes}
 use Rattle.mirror_sources.specs.Replies.{Reply, reply}
 use Rattle.mirror_audit.specs.Answering.{AreGiven, IsHad, IsTreeFile}
 
--- a note was given that opens under the keys, of a checkpoint of that origin, size and root
+-- the source gave a note that opens under the keys, of a checkpoint of that origin, size and root
 pub record IsHeadGiven (origin : List ℕ) (keys : List Key) (size : ℕ) (root : List ℕ)
     (may later : Path → Option (List ℕ) → Type 0) (old new : Option (List Path)) : Type 0 where
   pub note : List ℕ
@@ -34,7 +34,7 @@ module _ (digest : List ℕ → List ℕ) where
     pub given : AreGiven may later old new replies
     pub whole : IsWholeTree size root entries replies
 
-  -- the source gave a whole log of that size and root: a note of it that opens under the keys, and each tile and bundle
+  -- the source gave a whole log of that size and root: a note that opens under the keys, and each tile and bundle
   pub record IsAudited (origin : List ℕ) (keys : List Key) (size : ℕ) (root : List ℕ)
       (may later : Path → Option (List ℕ) → Type 0) (old new : Option (List Path)) : Type 0 where
     pub note : List ℕ

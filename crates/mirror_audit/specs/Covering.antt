@@ -1,4 +1,4 @@
--- What was read of a range of a log's entries. Contracts of private functions alone cite these.
+-- The files that were read for a range of a log's entries. Only the contracts of private functions cite these.
 use Rattle.std.specs.Prelude.{◌≡◌, ℕ, ◌+◌, ◌-◌, ◌*◌, ◌^◌, ◌≤◌, List, [], ◌∷◌, ◌++◌, length, take, Option, Some}
 use Rattle.tlog_hash.specs.Tree.{fold_of, mth}
 use Rattle.tlog_hash.specs.Rows.{part, level_row}
@@ -10,29 +10,29 @@ use Rattle.mirror_sources.specs.Honest.{true_bytes}
 use Rattle.mirror_sources.specs.Replies.{Reply, reply}
 use Rattle.mirror_audit.specs.Answering.{AreGiven, IsHad}
 
--- the entries of the list from that place on begin with these
+-- from index "start" on, the list has these entries
 pub record HasAt (start : ℕ) (more entries : List (List ℕ)) : Type 0 where
   pub front : List (List ℕ)
   pub back : List (List ℕ)
   pub start_is : length front ≡ start
   pub list_is : entries ≡ front ++ (more ++ back)
 
--- the place is full, of at most that level, and its entries are from the one number up to the other
+-- the tile of that level and index is full, of level "most" or below, and its entries are within the range
 pub record IsBlock (most from to level index width : ℕ) : Type 0 where
   pub low : level ≤ most
   pub starts : from ≤ index * 256 ^ (level + 1)
   pub ends : (index + 1) * 256 ^ (level + 1) ≤ to
   pub full : width ≡ 256
 
--- the full tiles of at most that level, and the full bundles, whose entries are from the one number up to the other
+-- a full tile of level "most" or below, or a full bundle, whose entries are within the range
 abbrev pub IsFullIn : ℕ → ℕ → ℕ → Path → Type 0
 IsFullIn most from to Checkpoint = ⊥
 IsFullIn most from to (Tile level index width) = IsBlock most from to level index width
 IsFullIn most from to (Entries index width) = IsBlock most from to 0 index width
 
 module _ (digest : List ℕ → List ℕ) where
-  -- the entries from the one number up to the other were read: of each list that has them there the claim holds, and the
-  -- files were given with its true bytes
+  -- the files of the range of entries were read. For each list that has these entries there, the claim holds, and the replies for
+  -- the files were its true bytes
   pub record Covers (files : Path → Type 0) (from to : ℕ) (may later : Path → Option (List ℕ) → Type 0)
       (old new : Option (List Path)) (claim : List (List ℕ) → Type 0) : Type 0 where
     pub more : List (List ℕ)
@@ -44,7 +44,7 @@ module _ (digest : List ℕ → List ℕ) where
     pub holds : (entries : List (List ℕ)) → HasAt from more entries → (path : Path) → files path →
         IsHad replies path (true_bytes digest entries path)
 
-  -- a full tile was read, with all below it, and its hash is true
+  -- a full tile and all files below it were read, and its hash is true
   abbrev pub CoversTile : ℕ → ℕ → List ℕ → (may later : Path → Option (List ℕ) → Type 0) → Option (List Path) →
       Option (List Path) → Type 0
   CoversTile level index hash may later old new =
@@ -52,7 +52,7 @@ module _ (digest : List ℕ → List ℕ) where
       (index * 256 ^ (level + 1)) ((index + 1) * 256 ^ (level + 1)) may later old new
       (λ entries. hash ≡ mth digest (part (index * 256 ^ (level + 1)) (256 ^ (level + 1)) entries))
 
-  -- all below the first hashes of a row was read, and these hashes are true
+  -- all files below the first "count" hashes of a row were read, and these hashes are true
   abbrev pub CoversRow : ℕ → ℕ → List (List ℕ) → ℕ → (may later : Path → Option (List ℕ) → Type 0) →
       Option (List Path) → Option (List Path) → Type 0
   CoversRow level index row count may later old new =
@@ -60,7 +60,7 @@ module _ (digest : List ℕ → List ℕ) where
       (256 * index * 256 ^ level) ((256 * index + count) * 256 ^ level) may later old new
       (λ entries. take count row ≡ level_row digest entries level (256 * index) count)
 
-  -- a full tile was given, whose row folds to the hash
+  -- the source gave a full tile whose row folds to the hash
   pub record IsRowFound (path : Path) (hash : List ℕ) (row : List (List ℕ)) (may later : Path → Option (List ℕ) → Type 0)
       (old new : Option (List Path)) : Type 0 where
     pub is_row : IsRow 256 (row_text row) row

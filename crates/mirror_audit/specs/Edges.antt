@@ -1,4 +1,4 @@
--- What was read of the right edge of a log. Contracts of private functions alone cite these.
+-- The files that were read at the right edge of a log. Only the contracts of private functions cite these.
 use Rattle.std.specs.Prelude.{◌≡◌, ◌⊎◌, ℕ, ◌*◌, ◌/◌, ◌^◌, ◌<◌, ◌≤◌, List, [], ◌∷◌, ◌++◌, length, Option, Some}
 use Rattle.tlog_shape.specs.Edge.{edge_index_of, width_of}
 use Rattle.tlog_tiles.specs.declared.paths.Path.{Path}
@@ -10,20 +10,20 @@ use Rattle.mirror_sources.specs.Replies.{Reply, reply}
 use Rattle.mirror_audit.specs.Answering.{AreGiven, IsHad}
 use Rattle.mirror_audit.specs.Covering.{Covers, IsFullIn}
 
--- the full file of the path was answered by bytes that begin with these
+-- the reply to the full path begins with these bytes
 pub record IsFullGiven (path : Path) (bytes : List ℕ) (may later : Path → Option (List ℕ) → Type 0)
     (old new : Option (List Path)) : Type 0 where
   pub rest : List ℕ
   pub given : AreGiven may later old new (reply (full_of path) (Some (bytes ++ rest)) ∷ [])
 
--- the path was answered by these bytes, or by None and its full one by bytes that begin with them
+-- these bytes were the reply to the path. Or the reply was None, and the reply to its full path begins with them
 pub record IsGivenAt (path : Path) (bytes : List ℕ) (may later : Path → Option (List ℕ) → Type 0)
     (old new : Option (List Path)) : Type 0 where
   pub replies : List Reply
   pub given : AreGiven may later old new replies
   pub had : IsHad replies path bytes
 
--- the row of a level was given, which is empty where the level has none
+-- the source gave the row of a level. The row is empty if the level has none
 pub record IsRowGivenAt (size level : ℕ) (row : List (List ℕ)) (may later : Path → Option (List ℕ) → Type 0)
     (old new : Option (List Path)) : Type 0 where
   pub replies : List Reply
@@ -32,7 +32,7 @@ pub record IsRowGivenAt (size level : ℕ) (row : List (List ℕ)) (may later : 
   pub had : 1 ≤ width_of size level →
       IsHad replies (Tile level (edge_index_of size level) (width_of size level)) (row_text row)
 
--- the rows of the levels below some were given, where the size has any
+-- the source gave the rows of the levels below "below" that the size has
 pub record AreRowsGiven (size : ℕ) (rows : ℕ → List (List ℕ)) (below : ℕ) (may later : Path → Option (List ℕ) → Type 0)
     (old new : Option (List Path)) : Type 0 where
   pub replies : List Reply
@@ -40,12 +40,12 @@ pub record AreRowsGiven (size : ℕ) (rows : ℕ → List (List ℕ)) (below : �
   pub had : (level : ℕ) → level < below → 1 ≤ width_of size level →
       IsHad replies (Tile level (edge_index_of size level) (width_of size level)) (row_text (rows level))
 
--- the path of the partial bundle, where there is one
+-- the path of the partial bundle, if there is one
 abbrev pub IsEdgeBundle : ℕ → Path → Type 0
 IsEdgeBundle size path = (1 ≤ width_of size 0) × (path ≡ Entries (edge_index_of size 0) (width_of size 0))
 
 module _ (digest : List ℕ → List ℕ) where
-  -- all below the rows of the levels from low on was read, and these rows are true
+  -- all files below the rows of the levels from low on were read, and these rows are true
   abbrev pub CoversLevels : Edge → ℕ → (may later : Path → Option (List ℕ) → Type 0) → Option (List Path) →
       Option (List Path) → Type 0
   CoversLevels edge low may later old new =
@@ -59,7 +59,7 @@ module _ (digest : List ℕ → List ℕ) where
       Covers digest (IsEdgeBundle edge.size) (edge.size / 256 * 256) edge.size may later old new
       (λ entries. RowIsTrue digest edge entries 0)
 
-  -- all below the edge was read, and all rows of the edge are true
+  -- all files below the edge were read, and all rows of the edge are true
   abbrev pub CoversLog : Edge → (may later : Path → Option (List ℕ) → Type 0) → Option (List Path) →
       Option (List Path) → Type 0
   CoversLog edge may later old new =

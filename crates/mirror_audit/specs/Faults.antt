@@ -1,4 +1,4 @@
--- The faults of an audit: which fault of what it calls each is, and what each says of the source.
+-- The faults of an audit: their causes, and the facts about the source.
 use Rattle.std.specs.Prelude.{◌≡◌, ℕ, List, Option, None, Result, Ok, Err, ⊤}
 use Rattle.tlog_tiles.specs.declared.paths.Path.{Path}
 use Rattle.tlog_tiles.specs.declared.paths.Path.TheVariants.{Checkpoint}
@@ -11,7 +11,7 @@ use Rattle.mirror_sources.specs.declared.source.SourceFault.TheVariants as sourc
 use Rattle.mirror_audit.specs.declared.fault.AuditFault.{AuditFault}
 use Rattle.mirror_audit.specs.declared.fault.AuditFault.TheVariants.{NoCheckpoint, Head, NoEdge, NoFile, FalseFile, Source, OutOfMemory}
 
--- a refusal of the checkpoint among the faults of an audit
+-- the fault of an audit for a refusal of the checkpoint
 abbrev pub fault_of_head : TakeFault → AuditFault
 fault_of_head (take.Note f) = Head (take.Note f)
 fault_of_head (take.Checkpoint f) = Head (take.Checkpoint f)
@@ -26,12 +26,12 @@ fault_of_head take.BundleLong = Head take.BundleLong
 fault_of_head take.Collision = Head take.Collision
 fault_of_head take.OutOfMemory = OutOfMemory
 
--- a fault of the source among those of an audit
+-- the fault of an audit for a fault of the source
 abbrev pub fault_of_source : SourceFault → AuditFault
 fault_of_source source.Failed = Source
 fault_of_source source.OutOfMemory = OutOfMemory
 
--- an audit blames its source only where the source's count of failures rose, or stands at its last value
+-- an audit ends by Source only if the source's number of failures rose, or is at its maximum
 abbrev pub BlamesPlace : {T : Type 0} → ℕ → ℕ → Result T AuditFault → Type 0
 BlamesPlace old new (Ok x) = new ≡ old
 BlamesPlace old new (Err NoCheckpoint) = new ≡ old
@@ -42,12 +42,12 @@ BlamesPlace old new (Err (FalseFile path)) = new ≡ old
 BlamesPlace old new (Err Source) = Rose old new
 BlamesPlace old new (Err OutOfMemory) = new ≡ old
 
--- the source may have answered that neither the file nor its full one is there
+-- the source may have answered that it lacks the file and its full file
 pub record MayLack (may : Path → Option (List ℕ) → Type 0) (path : Path) : Type 0 where
   pub none : may path None
   pub full : may (full_of path) None
 
--- a fault says that something is missing only where the source may have answered so
+-- at a fault about a missing file, the source may have answered that it lacks the file
 abbrev pub IsForAbsence : (Path → Option (List ℕ) → Type 0) → AuditFault → Type 0
 IsForAbsence may NoCheckpoint = may Checkpoint None
 IsForAbsence may (Head f) = ⊤
@@ -67,7 +67,7 @@ IsFailure (FalseFile path) = ⊥
 IsFailure Source = ⊤
 IsFailure OutOfMemory = ⊤
 
--- a call gave what is claimed, unless the source failed or memory was refused
+-- a call gave a result as claimed, unless the source failed or memory was refused
 abbrev pub GivesTrue : {T : Type 0} → Result T AuditFault → (T → Type 0) → Type 0
 GivesTrue (Ok x) claim = claim x
 GivesTrue (Err fault) claim = IsFailure fault

@@ -1,4 +1,4 @@
--- What an audit found at the paths of a log, and the file at which it stopped (C2SP tlog-tiles, "Partial Tiles").
+-- The files that an audit found at the paths of a log, and the file at which it stopped (C2SP tlog-tiles, "Partial Tiles").
 use Rattle.std.specs.Prelude.{◌≡◌, ◌⊎◌, ℕ, ◌*◌, ◌<◌, List, [], ◌∷◌, ◌++◌, map, length, Option, Some, None, Err, ⊤}
 use Rattle.signed_note.specs.Keys.{Key}
 use Rattle.tlog_hash.specs.Rows.{level_row}
@@ -20,22 +20,22 @@ use Rattle.mirror_audit.specs.declared.fault.AuditFault.TheVariants.{NoCheckpoin
 use Rattle.mirror_audit.specs.Answering.{AreGiven}
 use Rattle.mirror_audit.specs.Order.{edge_order, file_order, first_path}
 
--- what was found of a file: its bytes at its path; None there, and the bytes of the full file; or None, at a partial path also
--- of the full one
+-- the replies for a path. Here: its bytes. InFull: None, and the bytes of the full file. Nowhere: None. NotInFull: None, for the path
+-- and for its full path
 pub data Found : Type 0 where
   Here : List ℕ → Found
   InFull : List ℕ → Found
   Nowhere : Found
   NotInFull : Found
 
--- the replies by which that was found
+-- these replies as a list
 abbrev pub replies_of : Path → Found → List Reply
 replies_of path (Here bytes) = reply path (Some bytes) ∷ []
 replies_of path (InFull bytes) = reply path None ∷ reply (full_of path) (Some bytes) ∷ []
 replies_of path Nowhere = reply path None ∷ []
 replies_of path NotInFull = reply path None ∷ reply (full_of path) None ∷ []
 
--- a file that was asked for
+-- a file that was requested
 pub record FileRead : Type 0 where
   pub path : Path
   pub found : Found
@@ -50,34 +50,34 @@ abbrev pub all_replies : List FileRead → List Reply
 all_replies [] = []
 all_replies (r ∷ rs) = replies_of r.path r.found ++ all_replies rs
 
--- neither the file nor its full one was there
+-- the source lacks the file and its full file
 abbrev pub IsAbsent : Path → Found → Type 0
 IsAbsent path (Here bytes) = ⊥
 IsAbsent path (InFull bytes) = ⊥
 IsAbsent path Nowhere = full_of path ≡ path
 IsAbsent path NotInFull = width_named path < 256
 
--- neither a partial tile nor its full one was there
+-- the source lacks a partial tile and its full tile
 abbrev pub IsAbsentEdge : Path → Found → Type 0
 IsAbsentEdge Checkpoint found = ⊥
 IsAbsentEdge (Tile level index width) found = (width < 256) × IsAbsent (Tile level index width) found
 IsAbsentEdge (Entries index width) found = ⊥
 
--- bytes were there, or in place of a partial file those of its full one
+-- the source has the bytes, or those of the full file of a partial path
 abbrev pub IsPresent : Path → Found → Type 0
 IsPresent path (Here bytes) = ⊤
 IsPresent path (InFull bytes) = width_named path < 256
 IsPresent path Nowhere = ⊥
 IsPresent path NotInFull = ⊥
 
--- the checkpoint alone was asked for, and its bytes are refused for that reason
+-- only the checkpoint was requested, and its bytes are refused for that reason
 pub record IsNoHead (origin : List ℕ) (keys : List Key) (fault : TakeFault)
     (may later : Path → Option (List ℕ) → Type 0) (old new : Option (List Path)) : Type 0 where
   pub bytes : List ℕ
   pub given : AreGiven may later old new (reply Checkpoint (Some bytes) ∷ [])
   pub refused : ReadsHead bytes origin keys (Err fault)
 
--- a note was given, and then each file of a log of that size, in their order
+-- the source gave a note, and then each file of a log of that size, in order
 pub record IsReadInOrder (size : ℕ) (may later : Path → Option (List ℕ) → Type 0) (old new : Option (List Path)) : Type 0
   where
     pub note : List ℕ
@@ -85,12 +85,12 @@ pub record IsReadInOrder (size : ℕ) (may later : Path → Option (List ℕ) �
     pub given : AreGiven may later old new (reply Checkpoint (Some note) ∷ all_replies reads)
     pub order : paths_read reads ≡ file_order size
 
--- the bytes that were found begin with these
+-- the found bytes begin with these
 pub record StartsWith (first bytes : List ℕ) : Type 0 where
   pub rest : List ℕ
   pub bytes_are : bytes ≡ first ++ rest
 
--- the bytes were found, or a full file that begins with them
+-- the found bytes are these, or they are a full file that begins with them
 abbrev pub Begins : List ℕ → Found → Type 0
 Begins first (Here bytes) = bytes ≡ first
 Begins first (InFull bytes) = StartsWith first bytes
@@ -110,8 +110,8 @@ module _ (digest : List ℕ → List ℕ) where
     AreTrue [] = ⊤
     AreTrue (r ∷ rs) = IsTrueFound r.path r.found × AreTrue rs
 
-    -- what was found of a file verifies: it is the true file; or a full tile or bundle whose fold is that of the true one; or a
-    -- partial bundle that has the true leaf hashes; or a row of the edge, of its width
+    -- the found file verifies, in one of these cases: it is the true file. Or it is a full tile or bundle with the fold of the true
+    -- one. Or it is a partial bundle with the true leaf hashes, or an edge row of its width
     pub data IsVerified : Path → Found → Type 0 where
       TrueFile : (path : Path) (found : Found) → IsTrueFound path found → IsVerified path found
       FullTile : (level index : ℕ) (bytes : List ℕ) (row : List (List ℕ)) → IsRow 256 bytes row →
@@ -137,8 +137,8 @@ module _ (digest : List ℕ → List ℕ) where
     pub short : AreShort entries
 
   module _ (origin : List ℕ) (keys : List Key) where
-    -- a note was given that opens, of that size and root. Then the files before the named path were read, in their order, and
-    -- then that one: of no list of entries of that size and root whose files are those found before is it the true one
+    -- the source gave a note that opens, of that size and root. Then the files before the named path were read in order, and then
+    -- that file. If a list of entries of that size and root has the files before it, the one found is not its true file
     pub record IsFileWrong (kind : Path → Found → Type 0) (path : Path) (may later : Path → Option (List ℕ) → Type 0)
         (old new : Option (List Path)) : Type 0 where
       pub note : List ℕ
@@ -155,8 +155,8 @@ module _ (digest : List ℕ → List ℕ) where
       pub wrong : (entries : List (List ℕ)) → IsLogOf size root entries → AreTrue entries before →
           IsTrueFound entries path found → ⊥
 
-    -- a note was given that opens, of that size and root, and then all rows of the edge, of which the path is the lowest: no
-    -- list of entries of that size and root has these rows
+    -- the source gave a note that opens, of that size and root, and then all rows of the edge. The path is that of the lowest row.
+    -- No list of entries of that size and root has these rows
     pub record IsEdgeWrong (path : Path) (may later : Path → Option (List ℕ) → Type 0) (old new : Option (List Path)) : Type 0
       where
         pub note : List ℕ
@@ -169,7 +169,7 @@ module _ (digest : List ℕ → List ℕ) where
         pub lowest : path ≡ first_path (edge_order size 8)
         pub wrong : (entries : List (List ℕ)) → IsLogOf size root entries → AreTrue entries reads → ⊥
 
-    -- what a fault of an audit says of the file that it names
+    -- the fact that a fault of an audit states about the named file
     abbrev pub NamesWrong : (may later : Path → Option (List ℕ) → Type 0) → Option (List Path) → Option (List Path) →
         AuditFault → Type 0
     NamesWrong may later old new NoCheckpoint = AreGiven may later old new (reply Checkpoint None ∷ [])

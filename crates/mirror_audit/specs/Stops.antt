@@ -1,4 +1,5 @@
--- How the parts of an audit end: what was read, and the file at which they stop. Contracts of private functions alone cite these.
+-- The ends of the parts of an audit: the files that were read, and the file at which they stop. Only the contracts of private
+-- functions cite these.
 use Rattle.std.specs.Prelude.{◌≡◌, ◌⊎◌, ℕ, ◌*◌, ◌<◌, ◌≤◌, List, [], ◌∷◌, ◌++◌, length, Option, Some, None, ⊤}
 use Rattle.tlog_hash.specs.Rows.{level_row}
 use Rattle.signed_note.specs.Keys.{Key}
@@ -19,7 +20,7 @@ use Rattle.mirror_audit.specs.Found.{NotInFull, StartsWith, all_replies, paths_r
 use Rattle.mirror_audit.specs.Order.{edge_file, edge_order, file_order, first_path}
 use Rattle.mirror_audit.specs.WholeLogs.{IsTrueRow}
 
--- the files of these paths were read, one after the other: of entries of that kind each verifies, if those before it are true
+-- the files of these paths were read in order. For entries of that kind each file verifies, if the files before it are true
 pub record AreRead (digest : List ℕ → List ℕ) (about : List (List ℕ) → Type 0) (paths : List Path)
     (may later : Path → Option (List ℕ) → Type 0) (old new : Option (List Path)) : Type 0 where
   pub reads : List FileRead
@@ -27,7 +28,7 @@ pub record AreRead (digest : List ℕ → List ℕ) (about : List (List ℕ) →
   pub paths_are : paths_read reads ≡ paths
   pub verified : (entries : List (List ℕ)) → about entries → AreVerified digest entries reads
 
--- a full file was asked for, and is not there
+-- a full file was requested, and the source lacks it
 abbrev pub LacksFile : Path → (may later : Path → Option (List ℕ) → Type 0) → Option (List Path) → Option (List Path) →
     AuditFault → Type 0
 LacksFile path may later old new NoCheckpoint = ⊥
@@ -38,7 +39,7 @@ LacksFile path may later old new (FalseFile p) = ⊥
 LacksFile path may later old new Source = ⊤
 LacksFile path may later old new OutOfMemory = ⊤
 
--- the full file of a partial path was given, from which these bytes come: where it begins with the true ones, they are these
+-- the source gave the full file of a partial path, and the bytes come from it. If it begins with the true bytes, they are these
 pub record IsFullRead (path : Path) (bytes : List ℕ) (may later : Path → Option (List ℕ) → Type 0)
     (old new : Option (List Path)) : Type 0 where
   pub whole : List ℕ
@@ -48,7 +49,7 @@ pub record IsFullRead (path : Path) (bytes : List ℕ) (may later : Path → Opt
       IsTreeFile (length entries) path → width_named path < 256 → GoesOn path (true_bytes digest entries path) whole →
       bytes ≡ true_bytes digest entries path
 
--- the bytes of a partial path were found, at it or in its full file
+-- the bytes of a partial path were found, at that path or in its full file
 pub record IsPartRead (path : Path) (bytes : List ℕ) (may later : Path → Option (List ℕ) → Type 0)
     (old new : Option (List Path)) : Type 0 where
   pub found : Found
@@ -58,7 +59,7 @@ pub record IsPartRead (path : Path) (bytes : List ℕ) (may later : Path → Opt
   pub is_true : (digest : List ℕ → List ℕ) (entries : List (List ℕ)) → IsDigest digest → AreShort entries →
       IsTreeFile (length entries) path → IsTrueFound digest entries path found → bytes ≡ true_bytes digest entries path
 
--- the full file of a partial path was given by these replies, and of no log is it that file
+-- the source gave the full file of a partial path by these replies, and no log has that file
 pub record IsFullFalse (path : Path) (first : List Reply) (may later : Path → Option (List ℕ) → Type 0)
     (old new : Option (List Path)) : Type 0 where
   pub whole : List ℕ
@@ -66,7 +67,7 @@ pub record IsFullFalse (path : Path) (first : List Reply) (may later : Path → 
   pub wrong : (digest : List ℕ → List ℕ) (entries : List (List ℕ)) → IsDigest digest → AreShort entries →
       IsTreeFile (length entries) path → width_named path < 256 → GoesOn path (true_bytes digest entries path) whole → ⊥
 
--- a partial file was asked for, and is false
+-- a partial file was requested, and is false
 abbrev pub FindsFalse : Path → List Reply → (may later : Path → Option (List ℕ) → Type 0) → Option (List Path) →
     Option (List Path) → AuditFault → Type 0
 FindsFalse path first may later old new NoCheckpoint = ⊥
@@ -77,7 +78,7 @@ FindsFalse path first may later old new (FalseFile p) = (p ≡ path) × IsFullFa
 FindsFalse path first may later old new Source = ⊤
 FindsFalse path first may later old new OutOfMemory = ⊤
 
--- the row of a level was read, where the level has one: where its file is true, so is the row
+-- the row of a level was read, if the level has one. If its file is true, so is the row
 pub record IsRowRead (size level : ℕ) (row : List (List ℕ)) (may later : Path → Option (List ℕ) → Type 0)
     (old new : Option (List Path)) : Type 0 where
   pub reads : List FileRead
@@ -87,7 +88,7 @@ pub record IsRowRead (size level : ℕ) (row : List (List ℕ)) (may later : Pat
   pub is_true : (digest : List ℕ → List ℕ) (entries : List (List ℕ)) → IsDigest digest → AreShort entries →
       length entries ≡ size → AreTrue digest entries reads → IsEdgeRowOf digest size level entries row
 
--- the rows of the levels below some were read: where their files are true, so are these
+-- the rows of the levels below "below" were read. If their files are true, so are they
 pub record AreRowsRead (size : ℕ) (rows : ℕ → List (List ℕ)) (below : ℕ) (may later : Path → Option (List ℕ) → Type 0)
     (old new : Option (List Path)) : Type 0 where
   pub reads : List FileRead
@@ -99,8 +100,8 @@ pub record AreRowsRead (size : ℕ) (rows : ℕ → List (List ℕ)) (below : �
       IsEdgeRowOf digest size level entries (rows level)
 
 module _ (digest : List ℕ → List ℕ) where
-  -- of the paths those before the named one were read, in their order, and then that one. Of no entries of that kind whose
-  -- files are those found before is that file the true one
+  -- the paths before the named one were read in order, and then that one. If entries of that kind have the files before it, the
+  -- one found is not their true file
   pub record StopsAt (paths : List Path) (about : List (List ℕ) → Type 0) (kind : Path → Found → Type 0) (path : Path)
       (may later : Path → Option (List ℕ) → Type 0) (old new : Option (List Path)) : Type 0 where
     pub before : List FileRead
@@ -112,7 +113,7 @@ module _ (digest : List ℕ → List ℕ) where
     pub verified : (entries : List (List ℕ)) → about entries → AreVerified digest entries before
     pub wrong : (entries : List (List ℕ)) → about entries → AreTrue digest entries before → IsTrueFound digest entries path found → ⊥
 
-  -- a part of an audit, which reads these paths, stops at the first file that is not true
+  -- a part of an audit reads these paths, and stops at the first file that is not true
   abbrev pub StopsIn : List Path → (List (List ℕ) → Type 0) → (may later : Path → Option (List ℕ) → Type 0) →
       Option (List Path) → Option (List Path) → AuditFault → Type 0
   StopsIn paths about may later old new NoCheckpoint = ⊥
@@ -127,28 +128,28 @@ module _ (digest : List ℕ → List ℕ) where
   abbrev pub HasLeavesOf : ℕ → List (List ℕ) → List (List ℕ) → Type 0
   HasLeavesOf index row entries = row ≡ level_row digest entries 0 (256 * index) 256
 
-  -- these entries are short, and the hash is that of a full tile of theirs
+  -- these entries are short, and have the full tile with that hash
   pub record HasTile (level index : ℕ) (hash : List ℕ) (entries : List (List ℕ)) : Type 0 where
     pub short : AreShort entries
     pub is_hash : IsTileHash digest entries level index hash
 
-  -- these entries are short, and the row is one of theirs
+  -- these entries are short, and have that row
   pub record HasRow (level index : ℕ) (row : List (List ℕ)) (entries : List (List ℕ)) : Type 0 where
     pub short : AreShort entries
     pub is_row : IsTrueRow digest entries level index row
 
-  -- these entries are short and have the size and the rows of the edge
+  -- these entries are short, and have the size and the rows of the edge
   pub record HasEdge (edge : Edge) (entries : List (List ℕ)) : Type 0 where
     pub short : AreShort entries
     pub size_is : edge.size ≡ length entries
     pub rows : (level : ℕ) → level ≤ 7 → RowIsTrue digest edge entries level
 
-  -- these entries are short and have the size
+  -- these entries are short, and have that size
   pub record HasSize (size : ℕ) (entries : List (List ℕ)) : Type 0 where
     pub short : AreShort entries
     pub size_is : length entries ≡ size
 
-  -- all rows of the edge were read, the named path is the lowest, and of no log of that size and root are all the true ones
+  -- all rows of the edge were read, and the named path is the lowest. No log of that size and root has all of these rows
   pub record Misleads (size : ℕ) (root : List ℕ) (path : Path) (may later : Path → Option (List ℕ) → Type 0)
       (old new : Option (List Path)) : Type 0 where
     pub reads : List FileRead
@@ -157,7 +158,7 @@ module _ (digest : List ℕ → List ℕ) where
     pub lowest : path ≡ first_path (edge_order size 8)
     pub wrong : (entries : List (List ℕ)) → IsLogOf digest size root entries → AreTrue digest entries reads → ⊥
 
-  -- the reading of the rows of the edge stops: at the first that is not true, or as they do not lead to the root
+  -- the reading of the edge rows stops at the first row that is not true, or since they do not lead to the root
   abbrev pub StopsEdge : List Path → ℕ → List ℕ → (may later : Path → Option (List ℕ) → Type 0) → Option (List Path) →
       Option (List Path) → AuditFault → Type 0
   StopsEdge paths size root may later old new NoCheckpoint = ⊥
@@ -171,7 +172,7 @@ module _ (digest : List ℕ → List ℕ) where
   StopsEdge paths size root may later old new Source = ⊤
   StopsEdge paths size root may later old new OutOfMemory = ⊤
 
--- why no checkpoint was read: there is none, or its bytes are refused
+-- the reason why no checkpoint was read: the source lacks it, or its bytes are refused
 abbrev pub NamesHead : List ℕ → List Key → (may later : Path → Option (List ℕ) → Type 0) → Option (List Path) →
     Option (List Path) → AuditFault → Type 0
 NamesHead origin keys may later old new NoCheckpoint = AreGiven may later old new (reply Checkpoint None ∷ [])

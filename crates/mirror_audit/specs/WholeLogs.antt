@@ -1,4 +1,4 @@
--- A source that holds a whole log under a checkpoint that opens (C2SP tlog-tiles). Contracts of private functions alone cite
+-- A source that has a whole log under a checkpoint that opens (C2SP tlog-tiles). Only the contracts of private functions cite
 -- `IsTrueRow`.
 use Rattle.std.specs.Prelude.{◌≡◌, ℕ, ◌+◌, ◌*◌, ◌^◌, ◌≤◌, List, length, Option, Some}
 use Rattle.signed_note.specs.Keys.{Key}
@@ -9,15 +9,15 @@ use Rattle.tlog_tiles.specs.declared.paths.Path.TheVariants.{Checkpoint}
 use Rattle.mirror_model.specs.Heads.{IsOpenHead}
 use Rattle.log_reader.specs.Holding.{IsSourceOf}
 
--- a source of which these answers may come has the whole log of these entries: its checkpoint is a note that opens under the
--- keys, and each file is there with its true bytes
+-- by its possible answers, the source has the whole log of these entries: its checkpoint is a note that opens under the keys, and
+-- it has each file with its true bytes
 pub record HasWholeLog (digest : List ℕ → List ℕ) (entries : List (List ℕ)) (origin : List ℕ) (keys : List Key)
     (note : List ℕ) (may : Path → Option (List ℕ) → Type 0) : Type 0 where
   pub is_head : IsOpenHead note origin keys (length entries) (mth digest entries)
   pub checkpoint : (answer : Option (List ℕ)) → may Checkpoint answer → answer ≡ Some note
   pub files : IsSourceOf digest entries may
 
--- the row has hashes of these entries, each of 256^level of them, from the first of the tile on
+-- the row has hashes of these entries, from the first entry of the tile on. Each hash covers 256^level entries
 pub record IsTrueRow (digest : List ℕ → List ℕ) (entries : List (List ℕ)) (level index : ℕ) (row : List (List ℕ)) : Type 0
   where
     pub within : (256 * index + length row) * 256 ^ level ≤ length entries

@@ -1,4 +1,4 @@
-//! Hints of the files that are asked for next.
+//! Hints of the next files.
 ghost use Rattle.std.specs.Prelude.{◌≡◌, ◌+◌, ◌^◌, ◌<◌};
 ghost use Rattle.mirror_sources.specs.Source.{StaysWithin};
 
@@ -6,7 +6,7 @@ use mirror_sources::Source;
 use std::alloc::{AllocError, Global};
 use tlog_tiles::Path;
 
-// How many bundles a hint names, each with its tile of level 0.
+// The number of bundles in a hint, each with its tile of level 0.
 const AHEAD: u64 = 32;
 
 // The paths of some full bundles, each before its tile of level 0.
@@ -26,8 +26,8 @@ fn bundle_paths(alloc: Global, first: u64, count: u64) -> Result<Vec<Path>, Allo
     Ok(paths)
 }
 
-/// Gives the source a hint of the next bundles below a row of level 1, at most 32 of the `left` that are left. Where memory is
-/// refused there is no hint. It comes before each bundle, since a source sends only some requests ahead.
+/// Gives the source a hint of the next bundles below a row of level 1: at most 32 of the `left` remaining ones. If memory is refused,
+/// there is no hint. The hint is repeated before each bundle, since a source sends only some requests ahead.
 pub(crate) fn expect_bundles<S: Source>(
     alloc: Global,
     source: &mut S,

@@ -1,4 +1,4 @@
-//! A full bundle, and its tile of level 0.
+//! Reads a full bundle, and its tile of level 0.
 ghost use Rattle.std.specs.Prelude.{◌≡◌, ◌↔◌, ◌∷◌, [], ◌+◌, ◌*◌, ◌≤◌, ℕ, IfErr, IfOk, IsTrue, List, OnOk, Some, length};
 ghost use Rattle.tlog_hash.specs.Rows.{level_row};
 ghost use Rattle.log_reader.specs.Holding.{IsSourceOf, IsTileHash};
@@ -25,7 +25,7 @@ fn is_same(first: &[u8], second: &[u8]) -> bool
     first == second
 }
 
-// Reads the full tile of level 0 of these leaf hashes.
+// Reads the full tile of level 0 with these leaf hashes.
 fn audit_leaves<S: Source>(
     alloc: Global,
     source: &mut S,
@@ -58,7 +58,7 @@ fn audit_leaves<S: Source>(
     }
 }
 
-/// Reads a full bundle, whose leaf hashes fold to the hash, and its tile of level 0.
+/// Reads a full bundle, whose leaf hashes have to fold to the hash, and its tile of level 0.
 pub(crate) fn audit_bundle<H: TreeHash, S: Source>(
     alloc: Global,
     source: &mut S,

@@ -1,4 +1,4 @@
-//! All that lies below the edge.
+//! All files below the right edge.
 ghost use Rattle.std.specs.Prelude.{◌≡◌, ◌^◌, ◌<◌, ◌≤◌, ℕ, IfErr, List, OnOk, length};
 ghost use Rattle.log_reader.specs.EdgeRows.{HasWidths, RowIsTrue};
 ghost use Rattle.log_reader.specs.Holding.{IsSourceOf};
@@ -15,7 +15,7 @@ use std::alloc::Global;
 use tlog_hash::TreeHash;
 use tlog_shape::edge_index;
 
-/// Reads all that lies below the edge but for the partial bundle, from left to right.
+/// Reads all files below the right edge except the partial bundle, from left to right.
 pub(crate) fn audit_levels<H: TreeHash, S: Source>(
     alloc: Global,
     source: &mut S,

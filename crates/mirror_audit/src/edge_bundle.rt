@@ -1,4 +1,4 @@
-//! The partial bundle at the edge.
+//! The partial bundle at the right edge.
 ghost use Rattle.std.specs.Prelude.{◌≡◌, ◌↔◌, ◌≤◌, ℕ, IfErr, IfOk, IsTrue, List, OnOk, length};
 ghost use Rattle.log_reader.specs.Holding.{IsSourceOf};
 ghost use Rattle.log_reader.specs.EdgeRows.{HasWidths, RowIsTrue};
@@ -34,7 +34,7 @@ fn is_bundle_of<H: TreeHash>(alloc: Global, row: &[Hash], bytes: &[u8]) -> Resul
     }
 }
 
-/// Reads the partial bundle, if there is one: its leaf hashes are the lowest row.
+/// Reads the partial bundle, if there is one. Its leaf hashes have to be the lowest row.
 pub(crate) fn audit_edge_bundle<H: TreeHash, S: Source>(
     alloc: Global,
     source: &mut S,

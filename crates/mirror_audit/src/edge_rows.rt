@@ -1,4 +1,4 @@
-//! The rows of the edge.
+//! The rows of the right edge.
 ghost use Rattle.std.specs.Prelude.{◌≡◌, ◌≤◌, [], ℕ, IfErr, IfOk, List, get_or, length};
 ghost use Rattle.tlog_hash.specs.Tree.{mth};
 ghost use Rattle.mirror_model.specs.Strings.{IsDigest};
@@ -19,7 +19,7 @@ use tlog_hash::{Hash, TreeHash};
 use tlog_shape::edge_width;
 use tlog_tiles::{Path, RowFault, read_row};
 
-// The row of a level, empty where the level has none.
+// The row of a level, empty if the level has none.
 fn row_at_level<S: Source>(
     alloc: Global,
     source: &mut S,
@@ -85,7 +85,7 @@ fn rows_of<S: Source>(alloc: Global, source: &mut S, size: u64) -> Result<EdgeRo
     Ok(EdgeRows::new(size, rows))
 }
 
-// The path of the lowest partial tile; of no entries the checkpoint's, which then has another root.
+// The path of the lowest partial tile. For an empty log it is the checkpoint's path: then the root of the checkpoint is wrong.
 fn lowest_path(size: u64) -> Path
     ensures { result ≡ first_path (edge_order size 8) }
 {
@@ -97,7 +97,7 @@ fn lowest_path(size: u64) -> Path
     Path::Checkpoint
 }
 
-/// The rows of the edge, which lead to the root.
+/// Reads the rows of the right edge, which have to lead to the root.
 pub(crate) fn read_edge<H: TreeHash, S: Source>(
     alloc: Global,
     source: &mut S,

@@ -1,4 +1,4 @@
-//! Why an audit ends early.
+//! The reasons why an audit ends early.
 ghost use Rattle.std.specs.Prelude.{◌≡◌};
 ghost use Rattle.mirror_audit.specs.Faults.{fault_of_head, fault_of_source};
 ghost use Rattle.mirror_audit.specs.declared.fault.AuditFault.TheVariants.{OutOfMemory};
@@ -9,23 +9,23 @@ use std::alloc::{AllocError, AllocFailed};
 use thiserror::Error;
 use tlog_tiles::Path;
 
-/// Why an audit ends early: the first thing that is wrong. It prints its variant's name, or that of the fault that it carries.
+/// The reason why an audit ends early: the first thing that is wrong. It prints as its variant's name, or as the name of the fault inside.
 #[derive(Debug, Drop, PartialEq, Eq, Clone, Copy, Error)]
 pub enum AuditFault {
-    /// There is no checkpoint.
+    /// The source lacks a checkpoint.
     #[error("NoCheckpoint")]
     NoCheckpoint,
-    /// The checkpoint does not open under the keys, or is none of the origin. `OutOfMemory` never comes here.
+    /// The checkpoint does not open under the keys, or is not one of the origin. `OutOfMemory` never comes here.
     #[error("{0}")]
     Head(TakeFault),
-    /// A partial tile of the edge is not there, nor its full one.
+    /// The source lacks a partial tile of the right edge, and its full tile.
     #[error("NoEdge")]
     NoEdge,
-    /// The file is not there. Of a partial bundle, neither is its full one.
+    /// The source lacks the file. If it is a partial bundle, the source lacks its full bundle too.
     #[error("NoFile")]
     NoFile(Path),
-    /// The file has other bytes than the log of that checkpoint. Where the full file replaces a partial one, the
-    /// path is that of the partial one.
+    /// The file differs from that of the log of the checkpoint. If a full file replaces a partial one, the path is that of the partial
+    /// one.
     #[error("FalseFile")]
     FalseFile(Path),
     /// The source failed.

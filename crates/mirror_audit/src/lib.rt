@@ -1,8 +1,8 @@
-//! A whole log at a source, read file by file and compared with its checkpoint (C2SP tlog-tiles), in constant memory.
+//! Reads a whole log at a source, file by file, and compares it with its checkpoint (C2SP tlog-tiles), in constant memory.
 //!
 //! ```text
 //! let audited = audit::<Sha256Tree, ListSource<Sha256Tree>>(alloc, "ex", &keys, &mut source)?;
-//! audited.size // 600: each file of a log of 600 entries is there, with its true bytes
+//! audited.size // 600: the source has each file of a log of 600 entries, with its true bytes
 //! ```
 #![tactic(auto)]
 

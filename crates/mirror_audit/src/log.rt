@@ -1,4 +1,4 @@
-//! An audit of a whole log.
+//! The audit of a whole log.
 ghost use Rattle.std.specs.Prelude.{◌≡◌, ◌^◌, ◌<◌, ◌≤◌, ℕ, IfErr, IfOk, List, OnOk, length, map};
 ghost use Rattle.tlog_hash.specs.Tree.{mth};
 ghost use Rattle.log_reader.specs.EdgeRows.{HasWidths, RowIsTrue};
@@ -25,7 +25,7 @@ use tlog_tiles::Path;
 /// The whole log at a source.
 #[derive(Debug, Drop, PartialEq, Eq, Clone, Copy)]
 pub struct Audited {
-    /// How many entries it has.
+    /// The number of its entries.
     pub size: u64,
     /// The root of its tree.
     pub root: Hash,
@@ -117,12 +117,12 @@ fn audit_tree<H: TreeHash, S: Source>(
     done
 }
 
-/// Reads a whole log at a source, file by file: each has to be there, with its true bytes (C2SP tlog-tiles, "Merkle Tree", "Log
-/// Entries" and "Partial Tiles"). Where a partial file is not there, its full one is asked for, which has to begin with it.
+/// Reads a whole log at a source, file by file. The source has to have each file with its true bytes (C2SP tlog-tiles, "Merkle Tree", "Log
+/// Entries" and "Partial Tiles"). If it lacks a partial file, the audit requests the full file, which has to begin with the partial one.
 ///
-/// First comes the checkpoint, then the rows of the edge, the lowest first, which have to lead to the root. Then all below them
-/// is read from left to right: a tile of level 1 or above, which has to fold to its hash in the row above it, before what lies
-/// below it, and a bundle before its tile of level 0. Memory holds one bundle and one row a level, whatever the size of the log.
+/// First comes the checkpoint. Then come the rows of the right edge, the lowest first; they have to lead to the root. Then come all files
+/// below them, from left to right. A tile of level 1 or above comes before the files below it, and has to fold to its hash in the row
+/// above. A bundle comes before its tile of level 0. Memory holds one bundle and one row a level, for all sizes of the log.
 ///
 /// ```text
 /// let audited = audit::<Sha256Tree, ListSource<Sha256Tree>>(alloc, "ex", &keys, &mut source)?;
@@ -131,11 +131,11 @@ fn audit_tree<H: TreeHash, S: Source>(
 ///
 /// # Errors
 ///
-/// The first that is found ends the audit.
-/// - `NoCheckpoint`: there is no checkpoint. `Head`: it does not open under the keys, or is none of the origin (`TakeFault`).
-/// - `NoEdge`: a partial tile of the edge is not there, nor its full one.
-/// - `NoFile`: another file is not there. `FalseFile`: a file has other bytes than the log of that checkpoint. Where the rows of
-///   the edge do not lead to the root it is the lowest of them, and the checkpoint where it has no entries.
+/// The first fault ends the audit.
+/// - `NoCheckpoint`: the source lacks a checkpoint. `Head`: it does not open under the keys, or is not one of the origin (`TakeFault`).
+/// - `NoEdge`: the source lacks a partial tile of the right edge, and its full tile.
+/// - `NoFile`: the source lacks another file. `FalseFile`: a file differs from that of the log of the checkpoint. If the edge rows do not
+///   lead to the root, it names the lowest of them, or the checkpoint if that has no entries.
 /// - `Source`: the source failed. `OutOfMemory`: memory was refused.
 pub fn audit<H: TreeHash, S: Source>(
     alloc: Global,

@@ -19,7 +19,7 @@ use tlog_tiles::{Path, split_entry};
 
 const FULL_TILE: usize = 8192;
 
-// The path of the full file of a place.
+// The path of the full file with the same level and index.
 fn full_path(path: Path) -> Path
     ensures { result ≡ full_of path }
 {
@@ -34,7 +34,7 @@ fn full_path(path: Path) -> Path
     }
 }
 
-// How many bytes the first entries of a bundle take; None where it has fewer.
+// The number of bytes of the first entries of a bundle. None: it has fewer entries.
 fn len_of_entries(bundle: &[u8], count: u32) -> Option<usize>
     ensures within { IfSome result (λ n. n ≤ length bundle.now) }
     ensures honest { (entries : List (List ℕ)) (rest : List ℕ) → length entries ≡ count
@@ -49,7 +49,7 @@ fn len_of_entries(bundle: &[u8], count: u32) -> Option<usize>
     Some(bundle.len().saturating_sub(rest.len()))
 }
 
-// How many bytes of a full file are the partial file of that path; None if it is no full file.
+// The length of the partial file at the start of its full file. None: the bytes are not a full file.
 fn len_of_part(path: Path, full: &[u8]) -> Option<usize>
     ensures within { IfSome result (λ n. n ≤ length full.now) }
     ensures honest { (digest : List ℕ → List ℕ) (entries : List (List ℕ)) → IsDigest digest
@@ -70,7 +70,7 @@ fn len_of_part(path: Path, full: &[u8]) -> Option<usize>
     }
 }
 
-// The first bytes of the full file in the place of a partial one. None if it is not there.
+// The bytes of a partial file, from the start of its full file. None: the source lacks the full file.
 fn get_full_part<S: Source>(source: &mut S, path: Path) -> Result<Option<Vec<u8>>, AuditFault>
     ensures none { IfOk result (λ found. IfNone found
         (S.may_answer source.old (full_of path) None)) }
@@ -103,8 +103,8 @@ fn get_full_part<S: Source>(source: &mut S, path: Path) -> Result<Option<Vec<u8>
     Ok(Some(full))
 }
 
-/// The bytes of a partial file: as they are given, or else the first of the full file, which may replace it (C2SP
-/// tlog-tiles, "Partial Tiles"). None where neither is there.
+/// The bytes of a partial file. If the source lacks it, they come from the start of the full file, which may replace it (C2SP tlog-tiles,
+/// "Partial Tiles"). None: the source lacks both.
 pub(crate) fn get_part<S: Source>(source: &mut S, path: Path) -> Result<Option<Vec<u8>>, AuditFault>
     requires { width_named path < 256 }
     ensures counted { BlamesPlace (S.failed source.old) (S.failed source.new) result }

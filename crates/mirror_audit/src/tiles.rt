@@ -1,4 +1,4 @@
-//! Full tiles, with all that lies below them.
+//! Full tiles, with all files below them.
 ghost use Rattle.std.specs.Prelude.{◌≡◌, ◌+◌, ◌*◌, ◌^◌, ◌<◌, ◌≤◌, ◌∷◌, [], ℕ, IfErr, IfOk, List, OnOk, length};
 ghost use Rattle.tlog_hash.specs.Rows.{level_row};
 ghost use Rattle.tlog_tiles.specs.declared.paths.Path.TheVariants.{Tile};
@@ -20,7 +20,7 @@ use std::alloc::Global;
 use tlog_hash::{Hash, TreeHash};
 use tlog_tiles::Path;
 
-// The row of a full tile of level 1 or above, which folds to the hash.
+// The row of a full tile of level 1 or above, which has to fold to the hash.
 fn row_of<H: TreeHash, S: Source>(
     alloc: Global,
     source: &mut S,
@@ -49,7 +49,7 @@ fn row_of<H: TreeHash, S: Source>(
     }
 }
 
-/// Reads a full tile, and then all below it, from left to right.
+/// Reads a full tile, and then all files below it, from left to right.
 #[cycle(tiles)]
 fn audit_tile<H: TreeHash, S: Source>(
     alloc: Global,
@@ -85,7 +85,7 @@ fn audit_tile<H: TreeHash, S: Source>(
     audit_row::<H, S>(alloc, source, level, index, &row)
 }
 
-/// Reads all below a row, full or at the edge, from left to right.
+/// Reads all files below a row, from left to right. The row is that of a full tile or of the right edge.
 #[cycle(tiles)]
 pub(crate) fn audit_row<H: TreeHash, S: Source>(
     alloc: Global,

@@ -1,4 +1,4 @@
--- What places are asked for, call by call.
+-- The requests to places, call after call.
 use Rattle.std.proofs.Common.{◌≡◌, ◌≢◌, inl, inr, ℕ, ◌+◌, ◌-◌, ◌^◌, ◌<◌, ◌≤◌, min, List, [], ◌++◌, length, get_or, Option, Some, None}
 use Rattle.std.proofs.Common.{IsTrue, IsFalse, IsSome, Bool, true, false, refl, sym, subst, ap, ◌∙◌, arith, append_assoc}
 use Rattle.std.proofs.Math.ListN.{set}
@@ -78,7 +78,7 @@ module _ {S : Type 0} (may : S → Path → Option (List ℕ) → Type 0) (faile
     first = p.first;
   }
 
-  -- a place whose source was given a hint
+  -- a place got a hint
   pub asked_hint : (so : Path → Type 0) (a b : Place S) → StaysWithin (may a.source) (may b.source) →
       asked b.source ≡ asked a.source → failed b.source ≡ failed a.source → b.failures ≡ a.failures →
       b.first_wrong ≡ a.first_wrong → (8 ≤ a.failures → b.source ≡ a.source) → IsAskedFor may failed asked so a b
@@ -152,7 +152,7 @@ module _ {S : Type 0} (may : S → Path → Option (List ℕ) → Type 0) (faile
     spares = p.spares;
   }
 
-  -- one place was asked
+  -- one place got a request
 
   one_at : (so : Path → Type 0) (xs : List (Place S)) (i : ℕ) (old new : Place S) → i < length xs →
       old ≡ get_or xs i old → IsAskedFor may failed asked so old new → (k : ℕ) (d : Place S) →
@@ -179,7 +179,7 @@ module _ {S : Type 0} (may : S → Path → Option (List ℕ) → Type 0) (faile
         ap (λ (p : Place S). p.failures) (get_or-set_other xs i k new d ne)
   ]
 
-  -- it failed
+  -- the get failed
   pub asks_failed : (so : Path → Type 0) (x y : Places S) (i : ℕ) (old new : Place S) → i < length x.list.items →
       y.list.items ≡ set x.list.items i new → y.has_failed ≡ true →
       old ≡ get_or x.list.items i old → IsAskedFor may failed asked so old new → old.failures < new.failures →
@@ -199,7 +199,7 @@ module _ {S : Type 0} (may : S → Path → Option (List ℕ) → Type 0) (faile
     spares = λ none k d. cc;
   }
 
-  -- it did not fail
+  -- the get did not fail
   pub asks_well : (so : Path → Type 0) (x y : Places S) (i : ℕ) (old new : Place S) → i < length x.list.items →
       y.list.items ≡ set x.list.items i new → y.has_failed ≡ x.has_failed →
       old ≡ get_or x.list.items i old → IsAskedFor may failed asked so old new → new.failures ≡ old.failures →
@@ -214,28 +214,28 @@ module _ {S : Type 0} (may : S → Path → Option (List ℕ) → Type 0) (faile
         (same_at x.list.items i old new lt is same k d);
   }
 
-  -- what was kept in mind after the call
+  -- the record after the call
   pub asks_noted : (so : Path → Type 0) (x y z : Places S) → AsksPlaces may failed asked so x y →
       AsksPlaces may failed asked (λ path. ⊥) y z → AsksPlaces may failed asked so x z
   asks_noted so x y z p q = asks_then so x y z p (asks_weaker (λ path. ⊥) so (λ path none. absurd none) y z q)
 
-  -- what lies below the edge, and then the partial bundle
+  -- the requests below the edge, and then those for the partial bundle
   pub to_edge_asks : (n m : ℕ) (x y z : Places S) → AsksPlaces may failed asked (IsNewFull m) x y →
       AsksPlaces may failed asked (IsEdgeBundle n) y z → AsksPlaces may failed asked (IsEdgeBundleOrNew n m) x z
   to_edge_asks n m x y z p q = asks_then (IsEdgeBundleOrNew n m) x y z
       (asks_weaker (IsNewFull m) (IsEdgeBundleOrNew n m) (λ path h. inr h) x y p)
       (asks_weaker (IsEdgeBundle n) (IsEdgeBundleOrNew n m) (λ path h. inl h) y z q)
 
-  -- the edge rows, and then all the rest
+  -- the requests for the edge rows, and then all others
   pub larger_asks : (n m : ℕ) (x y z : Places S) → AsksPlaces may failed asked (IsEdgeTile n) x y →
       AsksPlaces may failed asked (IsEdgeBundleOrNew n m) y z → AsksPlaces may failed asked (MayBeAsked m n) x z
   larger_asks n m x y z p q = asks_then (MayBeAsked m n) x y z
       (asks_weaker (IsEdgeTile n) (MayBeAsked m n) (λ path h. inl h) x y p)
       (asks_weaker (IsEdgeBundleOrNew n m) (MayBeAsked m n) (λ path h. inr h) y z q)
 
--- ---- asked in vain
+-- ---- places without a good answer
 
--- it was asked before the later calls, or after the earlier ones
+-- the request came before the later calls, or after the earlier ones
 pub vain_between : (before may : Path → Option (List ℕ) → Type 0) → StaysWithin before may →
     (first old new last : ℕ) → first ≤ old → old ≤ new → new ≤ last → (path : Path) (good : List ℕ → Type 0) →
     IsAskedInVain may old new path good → IsAskedInVain before first last path good
@@ -249,11 +249,11 @@ vain_between before may within first old new last a b c path good (inr (answer, 
 
 -- ---- turns
 
--- one place has a turn
+-- at most one place has a turn
 pub turn_one : (first turn j k : ℕ) → IsAskedInTurn first turn j → IsAskedInTurn first turn k → j ≡ k
 turn_one first turn j k p q = grind arith
 
--- each place has one
+-- each place has a turn
 pub turn_of : (first k n : ℕ) → k < n → first < n → (turn : ℕ) × (turn < n) × IsAskedInTurn first turn k
 turn_of first k n lt within = elim (cases_order k first) [
   | inl same ↦ (0, omega arith, inl (refl, same))

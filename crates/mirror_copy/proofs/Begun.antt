@@ -1,4 +1,4 @@
--- A bringing from its beginning.
+-- A call from its beginning.
 use Rattle.std.proofs.Common.{◌≡◌, ◌⊎◌, inl, inr, ℕ, ◌<◌, List, length, get_or, Option, IsFalse, sym, subst, ap, ◌∙◌, arith}
 use Rattle.tlog_tiles.specs.declared.paths.Path.{Path}
 use Rattle.mirror_model.specs.Heads.{IsHead}
@@ -71,7 +71,7 @@ module _ {S : Type 0} (may : S → Path → Option (List ℕ) → Type 0) (faile
   blames_none x z ShelfFault h = tt
   blames_none x z OutOfMemory h = tt
 
-  -- a fault that comes where the tip is read
+  -- a fault of reading the tip
   pub blames_tip : {P : Type 0} (x z : Places S) (e : BringFault) → ((e ≡ CopyDamaged) × P) ⊎ IsOfNoPlace e →
       BlamesFailed may failed asked x z e
   blames_tip x z e (inl h) = subst (λ (f : BringFault). BlamesFailed may failed asked x z f) (sym h.0) tt
@@ -100,7 +100,7 @@ module _ (digest : List ℕ → List ℕ) (origin note : List ℕ) (puts : Optio
   refuses_none ShelfFault h = tt
   refuses_none OutOfMemory h = tt
 
-  -- a fault that comes where the tip is read
+  -- a fault of reading the tip
   pub refuses_tip : {P : Type 0} (e : BringFault) → ((e ≡ CopyDamaged) × P) ⊎ IsOfNoPlace e → RefusesNote digest origin note puts e
   refuses_tip e (inl h) = subst (λ (f : BringFault). RefusesNote digest origin note puts f) (sym h.0) tt
   refuses_tip e (inr h) = refuses_none e h

@@ -1,4 +1,4 @@
--- The files below a tile, and what stands as more is put.
+-- The files below a tile, and the files that stay on the shelf as more is put.
 use Rattle.std.proofs.Common.{◌≡◌, ◌⊎◌, ℕ, ◌+◌, ◌-◌, ◌*◌, ◌/◌, ◌%◌, ◌^◌, ◌≤◌, ◌<◌, List, [], ◌∷◌, length}
 use Rattle.std.proofs.Common.{Option, Some, None, sym, ap, subst, ◌∙◌, arith, inl, inr}
 use Rattle.std.specs.List.{Contains}
@@ -21,7 +21,7 @@ use Rattle.mirror_copy.proofs.Prefixes.{bytes_front}
 
 -- ---- files below a tile
 
--- the end of a tile below another is within the other's
+-- a tile below another ends within the other's range
 end_within : (l level i index : ℕ) → l ≤ level → i / 256 ^ (level - l) ≡ index →
     (256 * i + 256) * 256 ^ l ≤ (index + 1) * 256 ^ (level + 1)
 end_within l level i index le is =
@@ -67,7 +67,7 @@ child_of sub index i gap is =
     let shifted = shift_level i gap in
     omega (arith, shifted, is)
 
--- the tile itself, or below one of its children
+-- the path is the tile itself, or below one of its children
 abbrev pub ChildOf : ℕ → ℕ → Path → Type 0
 ChildOf sub index path = (k : ℕ) × (k < 256) × IsBelow sub (256 * index + k) path
 
@@ -102,16 +102,16 @@ below_bundle index (Entries i width) h =
     let same : i ≡ index = sym (div-one i) ∙ h.0 in
     inr (λ j. Entries (same j) (h.1 j))
 
--- ---- what stands
+-- ---- files on the shelf
 
--- a file that is read, and kept
+-- a file is read, and kept
 pub records_read : (x y : Option (List Put)) (path : Path) (bytes : List ℕ) → KeepsRecord x y →
     RecordsRead x path (Some bytes) → RecordsStands x y path bytes
 records_read None y path bytes k h = tt
 records_read (Some xs) None path bytes k h = k
 records_read (Some xs) (Some ys) path bytes k h = subst (λ (l : List Put). Stands l path bytes) (sym k) h
 
--- a file that is put
+-- a file is put
 pub records_put : (x y z : Option (List Put)) (path : Path) (bytes : List ℕ) → KeepsRecord x y →
     AddsToRecord y z ((path, bytes) ∷ []) → RecordsStands x z path bytes
 records_put None y z path bytes k h = tt
@@ -124,7 +124,7 @@ records_put (Some xs) (Some ys) (Some zs) path bytes k h = record {
   kept = λ other has. let none = has.1 in absurd (omega arith);
 }
 
--- what stood after a later beginning
+-- the shelf had the file after a later beginning
 pub records_earlier : (x y z : Option (List Put)) (puts : List Put) (path : Path) (bytes : List ℕ) → AddsToRecord x y puts →
     RecordsStands y z path bytes → RecordsStands x z path bytes
 records_earlier None y z puts path bytes t h = tt
@@ -132,7 +132,7 @@ records_earlier (Some xs) None z puts path bytes t h = absurd t
 records_earlier (Some xs) (Some ys) None puts path bytes t h = h
 records_earlier (Some xs) (Some ys) (Some zs) puts path bytes t h = h
 
--- what stands stays, where new files are put
+-- a file stays on the shelf if new files are put
 pub records_later : (x y z : Option (List Put)) (path : Path) (bytes : List ℕ) (puts : List Put) → AddsToRecord y z puts →
     ((other : List ℕ) → Contains puts (path, other) → other ≡ bytes) → RecordsStands x y path bytes →
     RecordsStands x z path bytes
@@ -143,7 +143,7 @@ records_later (Some xs) (Some ys) (Some zs) path bytes puts t same h =
     subst (λ (l : List Put). Stands l path bytes) (sym t) (stands_more ys puts path bytes h same)
 
 module _ (digest : List ℕ → List ℕ) (m : ℕ) where
-  -- a file of the entries known stays true and stands, as more is gathered
+  -- a file of the known entries stays true and on the shelf, as more is gathered
   pub stands_gathered : (known next : List (List ℕ)) (x y z : Option (List Put)) (path : Path) →
       Obtains digest m known next y z → IsWithin (length known) path →
       RecordsStands x y path (true_bytes digest known path) → RecordsStands x z path (true_bytes digest next path)
@@ -154,7 +154,7 @@ module _ (digest : List ℕ → List ℕ) (m : ℕ) where
       (λ other has. (All-contains (IsNewFile digest m next) g.puts (path, other) g.are_new has).bytes_are)
       (subst (λ bytes. RecordsStands x y path bytes) (sym same) h)
 
-  -- the same of all files below a tile
+  -- the same for all files below a tile
   pub holds_gathered : (level index : ℕ) (known next : List (List ℕ)) (x y z : Option (List Put)) → level ≤ 7 →
       (index + 1) * 256 ^ (level + 1) ≤ length known → Obtains digest m known next y z →
       HoldsBelow digest m level index known x y → HoldsBelow digest m level index next x z

@@ -55,7 +55,7 @@ module _ (digest : List ℕ → List ℕ) (tip : Tip) (index width : ℕ) (some_
   k_below : k ≤ width
   k_below = omega (arith, front_size, below_end, from_start)
 
-  -- the bundle's bytes begin with what is known
+  -- the bundle begins with the known entries
   begins : (rest : List ℕ) × (bytes ≡ bundle_text front ++ rest)
   begins = elim (cases_lt (256 * index) (length known)) [
     | inr none ↦

@@ -1,4 +1,4 @@
--- A copy at each moment of a bringing.
+-- A copy at each moment of a call that brings it to a checkpoint.
 use Rattle.std.proofs.Common.{◌≡◌, ◌≢◌, ◌⊎◌, ℕ, ◌+◌, ◌*◌, ◌^◌, get_or, ◌<◌, ◌≤◌, List, [], ◌∷◌, ◌++◌, length, Option, Some, None, refl, sym, ap}
 use Rattle.std.proofs.Common.{subst, ◌∙◌, append_assoc, inl, inr, arith}
 use Rattle.std.specs.List.{Contains}
@@ -65,9 +65,9 @@ pub new_files_keep_copies : NewFilesKeepCopies
 new_files_keep_copies digest origin note entries next old new now copy g at =
     still digest origin note entries next old new now copy g at
 
--- ---- the whole bringing
+-- ---- the whole call
 
--- a path that is within n entries is within m, or it is not
+-- a path within n entries is within m entries, or it is not
 within_case : (m n : ℕ) (path : Path) → IsWithin n path → IsWithin m path ⊎ (IsWithin m path → ⊥)
 within_case m n Checkpoint h = absurd h
 within_case m n (Tile level index width) h = elim (cases_lt m ((256 * index + width) * 256 ^ level)) [
@@ -79,7 +79,7 @@ within_case m n (Entries index width) h = elim (cases_lt m ((256 * index + width
   | inr ge ↦ inl (record { level_fits = h.level_fits; some = h.some; upto = h.upto; within = ge })
 ]
 
--- a file of n entries that is within the first of them is a file of these
+-- a file of n entries that is within the first m is a file of these m
 first_file : (m n : ℕ) (path : Path) → m ≤ n → IsFileOf n path → IsWithin m path → IsFileOf m path
 first_file m n Checkpoint le h w = h
 first_file m n (Tile level index width) le h w = record {
@@ -98,7 +98,7 @@ module _ (digest : List ℕ → List ℕ) (origin note : List ℕ) (tip : Tip) (
   abbrev last : List Put
   last = (Checkpoint, note) ∷ []
 
-  -- what stood before the note was put stands behind it
+  -- a file that was on the shelf before the note was put is there after it
   behind : (path : Path) (bytes : List ℕ) → path ≢ Checkpoint → RecordsStands (Some old) b.before path bytes →
       Stands new path bytes
   behind path bytes other h =
@@ -107,7 +107,7 @@ module _ (digest : List ℕ → List ℕ) (origin note : List ℕ) (tip : Tip) (
       (All-cons (λ (put : Put). put.0 ≡ Checkpoint) (Checkpoint, note) [] refl (All-nil (λ (put : Put). put.0 ≡ Checkpoint)))
       has))) h
 
-  -- a file of the copy before
+  -- a file of the old copy
   of_old : (path : Path) → IsFileOf edge.size path → IsWithin tip.size path →
       Stands old path (true_bytes digest known path) → RecordsStands (Some old) b.before path (true_bytes digest b.next path)
   of_old path file within stands =
@@ -156,7 +156,7 @@ module _ (digest : List ℕ → List ℕ) (origin note : List ℕ) (tip : Tip) (
         (subst (λ k. IsFileOf k path) b.size_is ((files_are_all (length b.next) path).0 listed));
   }
 
-  -- all that was put
+  -- all puts
   all_puts : (before : Option (List Put)) (puts : List Put) → AddsToRecord (Some old) before puts →
       AddsToRecord before (Some new) last → new ≡ old ++ (puts ++ last)
   all_puts None puts recorded put = absurd recorded
@@ -211,7 +211,7 @@ pub bringing_makes_copy : BringingMakesCopy
 bringing_makes_copy digest origin note tip edge known old new short held long larger b head =
     makes digest origin note tip edge known old new short held long larger b head
 
--- the tiles and bundles of a copy stand
+-- the tiles and bundles of a copy are on the shelf
 pub copy_files : (digest : List ℕ → List ℕ) (origin note : List ℕ) (entries : List (List ℕ)) (puts : List Put) →
     IsCopy digest origin note entries puts → HoldsFiles digest entries puts
 copy_files digest origin note entries puts copy Checkpoint other listed = absurd (other refl)

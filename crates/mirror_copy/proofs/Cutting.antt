@@ -21,7 +21,7 @@ use Rattle.mirror_copy.proofs.TrueRows.{count_row, take_row}
 pub first_taken : (n : ℕ) (full : List ℕ) → IsFirstOf full (take n full)
 first_taken n full = record { rest = drop n full; full_is = sym (take-append-drop n full) }
 
--- the entry that stands next in a bundle
+-- the next entry of a bundle
 next_there : (es : List (List ℕ)) (i : ℕ) → i < length es →
     bundle_text (drop i es) ≡ entry_text (get_or es i []) ++ bundle_text (drop (i + 1) es)
 next_there es i lt =
@@ -76,7 +76,7 @@ module _ (count : ℕ) (bundle rest : List ℕ) (h : HasRead count bundle rest) 
     pub read_more : count < length es → ((entry after : List ℕ) → length entry < 2 ^ 16 → rest ≡ entry_text entry ++ after → ⊥) → ⊥
     read_more lt none = splits es count rest short lt both.1 none
 
-  -- the bundle begins with these entries, and may go on
+  -- the bundle begins with these entries, and may have more
   module _ (es : List (List ℕ)) (short : AreShort es) (tail : List ℕ) (is : bundle ≡ bundle_text es ++ tail)
       (le : count ≤ length es) where
     begun : (h.entries ≡ take count es) × (rest ≡ bundle_text (drop count es) ++ tail)
@@ -111,7 +111,7 @@ front_row row n sizes le =
     ap (take (32 * n)) whole ∙ take_at front back (32 * n) long
 
 module _ (digest : List ℕ → List ℕ) (hash : IsDigest digest) (entries : List (List ℕ)) where
-  -- a partial tile is the first of the full one
+  -- the full tile begins with the partial tile
   pub tile_cut : (level index width : ℕ) (full : List ℕ) → width ≤ 256 → full ≡ tile_bytes digest entries level index 256 →
       take (32 * width) full ≡ tile_bytes digest entries level index width
   tile_cut level index width full le is =
@@ -125,7 +125,7 @@ module _ (digest : List ℕ → List ℕ) (hash : IsDigest digest) (entries : Li
       row_sizes level first width = All-map (λ (h : List ℕ). length h ≡ 32) (mth digest) (ranges (256 ^ level) first width entries)
           (λ k d p. mth_size digest hash _)
 
--- a partial bundle is the first of the full one
+-- the full bundle begins with the partial bundle
 pub bundle_cut : (entries : List (List ℕ)) (index width : ℕ) → width ≤ 256 →
     bundle_text (take width (part (256 * index) 256 entries)) ≡ bundle_bytes entries index width
 bundle_cut entries index width le = ap bundle_text (take-take width 256 (drop (256 * index) entries) le)

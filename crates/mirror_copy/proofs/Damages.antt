@@ -1,4 +1,4 @@
--- A copy is not damaged, and neither is a shelf without a checkpoint.
+-- CopyDamaged does not come for a copy, or for a shelf without a checkpoint.
 use Rattle.std.proofs.Common.{◌≡◌, ◌⊎◌, inl, inr, ℕ, ◌+◌, ◌*◌, ◌^◌, ◌<◌, ◌≤◌, List, length, Option, Some, None, Vec, Global, sym, ap, subst, ◌∙◌, arith}
 use Rattle.std.specs.Prelude.{IfSome, option_map}
 use Rattle.tlog_shape.specs.Edge.{edge_index_of, width_of}
@@ -118,7 +118,7 @@ damaged digest hash origin puts w = record {
   not_none = λ held is none. none (wrong_has digest origin held (subst (λ p. IsTipWrong digest origin p) is w));
 }
 
--- ---- what was read after nothing was put
+-- ---- reads after a call that put nothing
 
 pub row_wrong_before : (x y : Option (List Put)) (n level : ℕ) → KeepsRecord x y → IsRowWrong y n level → IsRowWrong x n level
 row_wrong_before x y n level k w = record {
@@ -185,12 +185,12 @@ module _ (digest : List ℕ → List ℕ) (hash : IsDigest digest) (origin : Lis
 
 -- ---- faults
 
--- CopyDamaged, where the tip is read
+-- CopyDamaged at the reading of the tip
 pub tip_damaged : {P : Type 0} (e : BringFault) → ((e ≡ CopyDamaged) × P) ⊎ IsOfNoPlace e → e ≡ CopyDamaged → P
 tip_damaged e (inl h) is = h.1
 tip_damaged e (inr h) is = absurd (subst (λ (f : BringFault). IsOfNoPlace f) is h)
 
--- it does not come later
+-- CopyDamaged does not come later
 pub not_damaged_later : {P : Type 0} (digest : List ℕ → List ℕ) {S : Type 0} (places : Places S) (n : ℕ) (tip : Tip)
     (puts : Option (List Put)) (e : BringFault) → BlamesFrom digest places n tip puts e → e ≡ CopyDamaged → P
 not_damaged_later digest places n tip puts e (inl h) is = absurd (cc (h.0, is))

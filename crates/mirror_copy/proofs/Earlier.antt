@@ -1,4 +1,4 @@
--- Bringings that end before anything is put.
+-- Calls that end before anything is put.
 use Rattle.std.proofs.Common.{◌≡◌, ℕ, ◌+◌, ◌*◌, ◌^◌, ◌≤◌, List, Option, Some, None, Result, Ok, Err, IfErr, sym, subst}
 use Rattle.std.proofs.Common.{◌∙◌}
 use Rattle.std.proofs.Math.Nat.{div-mul-le_self}
@@ -22,7 +22,7 @@ kept_then (Some xs) None z p q = absurd p
 kept_then (Some xs) (Some ys) None p q = q
 kept_then (Some xs) (Some ys) (Some zs) p q = q ∙ p
 
--- what stood stands while what was put is kept
+-- a file stays on the shelf while the puts are kept
 pub stands_kept : (x y z : Option (List Put)) (path : Path) (bytes : List ℕ) → RecordsStands x y path bytes → KeepsRecord y z →
     RecordsStands x z path bytes
 stands_kept None y z path bytes h k = tt
@@ -43,13 +43,13 @@ early_other T start m x y NoFile h = tt
 early_other T start m x y ShelfFault h = tt
 early_other T start m x y OutOfMemory h = tt
 
--- an answer whose fault is another
+-- an answer with another fault
 pub early_result : {T : Type 0} (start m : ℕ) (x y : Option (List Put)) (r : Result T BringFault) → IfErr r IsNoConflict →
     ConflictPutsNothing start m x y r
 early_result {T} start m x y (Ok a) h = tt
 early_result {T} start m x y (Err e) h = early_other T start m x y e h
 
--- a fault of a later part, before which nothing was put if that part began within the m entries
+-- a fault of a later part. If that part began within the m entries, nothing was put before it
 pub early_later : (S T : Type 0) (start later m : ℕ) (x y z : Option (List Put)) (e : BringFault) →
     (later ≤ m → (start ≤ m) × KeepsRecord x y) → ConflictPutsNothing {T = S} later m y z (Err e) → ConflictPutsNothing {T = T} start m x z (Err e)
 early_later S T start later m x y z Contradiction f h = ((f h.0).0, kept_then x y z (f h.0).1 h.1)
@@ -90,7 +90,7 @@ no_conflict Source P h c = absurd c
 no_conflict ShelfFault P h c = absurd c
 no_conflict OutOfMemory P h c = absurd c
 
--- the same, where what was put before the call was kept
+-- the same if the earlier puts were kept
 pub conflict_later : {T : Type 0} (x y z : Option (List Put)) (r : Result T BringFault) → KeepsRecord x y →
     IfErr r (λ e. IsConflict e → KeepsRecord y z) → IfErr r (λ e. IsConflict e → KeepsRecord x z)
 conflict_later x y z (Ok a) k h = tt

@@ -18,7 +18,7 @@ use Rattle.mirror_copy.proofs.Prefixes.{level_row_front}
 use Rattle.mirror_copy.proofs.Growth.{gathers_none, gathers_then, kept_same, known_more}
 use Rattle.mirror_copy.proofs.Below.{holds_gathered, records_earlier}
 
--- whole blocks of a level end no later than those of a level below
+-- the whole blocks of a level end at or before those of a level below
 pub floor_mono : (n low high : ℕ) → low ≤ high → n / 256 ^ high * 256 ^ high ≤ n / 256 ^ low * 256 ^ low
 floor_mono n low high le =
     let gap : high ≡ (high - low) + low = omega arith in
@@ -39,7 +39,7 @@ module _ (edge : Edge) (widths : HasWidths edge) (level : ℕ) (upto : level ≤
   abbrev at : ℕ
   at = edge_index_of size level
 
-  -- as many hashes as the level has
+  -- the row ends with the last whole hash of its level
   pub whole_row : 256 * at + length (row_at edge level) ≡ size / 256 ^ level
   whole_row = omega (arith, hashes_of size level, widths level upto)
 

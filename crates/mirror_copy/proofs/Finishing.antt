@@ -84,7 +84,7 @@ module _ (digest : List ℕ → List ℕ) (tip : Tip) (edge : Edge) (widths : Ha
               (bundles.bundle_there digest tip index width some wide known is beyond bytes row v goes_on x y z kept puts there);
         }
 
--- the answer of the last call decides
+-- the answer of the last call is the answer
 pub brings_last : (digest : List ℕ → List ℕ) (m : ℕ) (edge : Edge) (known : List (List ℕ)) (x y : Option (List Put))
     {T E : Type 0} (r : Result T E) (P : Type 0) → OnOk r P → (P → IsEdgeBundleBrought digest m edge known x y) →
     IsCutShort digest m known x y → BringsEdgeBundle digest m edge known x y r
@@ -198,9 +198,9 @@ module _ (digest : List ℕ → List ℕ) (m : ℕ) (edge : Edge) (entries : Lis
     ];
   }
 
--- ---- where a full tile was brought
+-- ---- full tiles that were brought
 
--- the row of a level has the hash of the tile, or of one above it
+-- the row of a level has the hash of the tile, or of a tile above it
 pub record IsUnder (n level index : ℕ) : Type 0 where
   pub top : ℕ
   pub k : ℕ
@@ -249,7 +249,7 @@ full_under n level index small upto fits =
     let same : index / 256 ^ (level - level) ≡ index = ap (λ e. index / 256 ^ e) none ∙ omega arith in
     under n level index small (7 - level) level (omega arith) (omega arith) (omega (arith, upto_n, shifted, same))
 
--- a file that is not full is the partial one of its level
+-- a file that is not full is the partial file of its level
 pub partial_at : (n level index width : ℕ) → IsWidestIn n level index width → width < 256 →
     (index ≡ edge_index_of n level) × (width ≡ width_of n level)
 partial_at n level index width h part =
@@ -309,7 +309,7 @@ module _ (digest : List ℕ → List ℕ) (tip : Tip) (edge : Edge) (note : List
   longer : length e.next ≤ length l.next
   longer = omega (arith, ap length l.gathers.next_is, length-append e.next l.gathers.more)
 
-  -- the end of what lies below a hash of a row
+  -- the files below a hash of a row end within the entries
   hash_within : (top k : ℕ) → 1 ≤ top → k < width_of edge.size top →
       (256 * edge_index_of edge.size top + k + 1) * 256 ^ (top - 1 + 1) ≤ length e.next
   hash_within top k some lt =
@@ -324,7 +324,7 @@ module _ (digest : List ℕ → List ℕ) (tip : Tip) (edge : Edge) (note : List
         above_within digest tip edge known widths x y 1 top (omega arith) some e,
       )
 
-  -- a full file that was brought below the edge
+  -- a full file that was brought below the edge is on the shelf
   full_stands : (path : Path) (level index : ℕ) → (u : IsUnder edge.size level index) →
       IsBelow (u.top - 1) (256 * edge_index_of edge.size u.top + u.k) path → (IsWithin tip.size path → ⊥) →
       RecordsStands x w path (true_bytes digest l.next path)
@@ -406,7 +406,7 @@ module _ (digest : List ℕ → List ℕ) (tip : Tip) (edge : Edge) (note : List
     holds = all_stand;
   }
 
--- the answer of the last put decides
+-- the answer of the last put is the answer
 pub ends_brought : (digest : List ℕ → List ℕ) (tip : Tip) (edge : Edge) (note : List ℕ) (known : List (List ℕ))
     (x w v : Option (List Put)) {T E : Type 0} (r : Result T E) → PutsNote w v note r →
     (AddsToRecord w v ((Checkpoint, note) ∷ []) → IsCopyBrought digest tip edge note known x v) →

@@ -60,7 +60,7 @@ module _ (digest : List ℕ → List ℕ) (m : ℕ) where
     are_new = All-cons (IsNewFile digest m known) put [] is (All-nil (IsNewFile digest m known));
   }
 
-  -- a file that was put, if it did not stand yet
+  -- a file is put, if the shelf lacks it
   pub gathers_keep : (known : List (List ℕ)) (old new : Option (List Put)) (put : Put) →
       (KeepsRecord old new) ⊎ (AddsToRecord old new (put ∷ [])) → IsNewFile digest m known put →
       Obtains digest m known known old new
@@ -92,7 +92,7 @@ module _ (digest : List ℕ → List ℕ) (m : ℕ) where
     gathers = gathers_then known known b.next x y z (gathers_none known x y kept) b.gathers;
   }
 
-  -- entries that are known to be those of the log, before a file of them is put
+  -- entries are known to be those of the log, before a file of them is put
   pub gathers_more : (known more : List (List ℕ)) (old new : Option (List Put)) → AreShort more →
       KeepsRecord old new → Obtains digest m known (known ++ more) old new
   gathers_more known more old new short kept = record {
@@ -104,7 +104,7 @@ module _ (digest : List ℕ → List ℕ) (m : ℕ) where
     are_new = All-nil (IsNewFile digest m (known ++ more));
   }
 
--- the answer of the last call decides
+-- the answer of the last call is the answer
 pub brings_ok : (digest : List ℕ → List ℕ) (tip : Tip) (level index : ℕ) (hash : List ℕ) (known : List (List ℕ))
     (x y : Option (List Put)) {T E : Type 0} (r : Result T E) (P : Type 0) → OnOk r P →
     (P → IsBrought digest tip level index hash known x y) → IsCutShort digest tip.size known x y →

@@ -1,4 +1,4 @@
--- Which paths a bringing asks for.
+-- The paths that a call requests.
 use Rattle.std.proofs.Common.{◌≡◌, ℕ, ◌+◌, ◌*◌, ◌^◌, ◌<◌, ◌≤◌, arith, refl, sym, subst, ap, ◌∙◌}
 use Rattle.tlog_shape.proofs.Levels.{level_next}
 use Rattle.tlog_shape.specs.Edge.{edge_index_of, width_of}

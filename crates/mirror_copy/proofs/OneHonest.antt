@@ -1,4 +1,4 @@
--- One honest place suffices for a bringing, from its beginning.
+-- One honest place suffices to bring a copy, from the beginning of the call.
 use Rattle.std.proofs.Common.{◌≡◌, ◌≢◌, ◌⊎◌, inl, inr, ℕ, ◌^◌, ◌<◌, ◌≤◌, List, [], length, take, get_or, Option, Some, None, refl, sym, ap, subst, arith, length-append, length-take}
 use Rattle.tlog_tiles.specs.declared.paths.Path.{Path}
 use Rattle.tlog_tiles.specs.declared.paths.Path.TheVariants.{Checkpoint, Entries, Tile}
@@ -31,7 +31,7 @@ use Rattle.mirror_copy.proofs.ShelfReads.{part_weaker}
 use Rattle.mirror_copy.proofs.TrueEdges.{edge_is_true, edge_weaker}
 use Rattle.mirror_copy.proofs.WholeMoments.{none_found}
 
--- ---- faults that are left
+-- ---- remaining faults
 
 only_shelf : {S : Type 0} (places : Places S) (e : BringFault) → BlamesPlaces places e → IsSpared e → IsShelfOrMemory e
 only_shelf places BadCheckpoint h s = absurd h
@@ -57,7 +57,7 @@ only_read CopyInUse h n = absurd h
 only_read ShelfFault h n = inl refl
 only_read OutOfMemory h n = inr refl
 
--- ---- what the shelf holds
+-- ---- the content of the shelf
 
 module _ (digest : List ℕ → List ℕ) (origin : List ℕ) (log : List (List ℕ)) (puts : Option (List Put)) where
   not_damaged : HoldsFirst digest origin log puts → IsDamaged digest origin puts → ⊥
@@ -146,7 +146,7 @@ module _ {S : Type 0} (may : S → Path → Option (List ℕ) → Type 0) (x y z
   taken_begun path bytes (inl put) = inl (put_before a b kept path bytes put)
   taken_begun path bytes (inr given) = inr (given_begun path bytes given)
 
-  -- the honest place once the bringing began
+  -- the honest place after the call began
   pub honest_begun : (digest : List ℕ → List ℕ) (entries : List (List ℕ)) (size : ℕ) (root : List ℕ) →
       IsHonestFor digest may a x z entries size root → IsHonestFor digest may b y z entries size root
   honest_begun digest entries size root h =

@@ -1,4 +1,4 @@
--- An honest place, and what may be taken, call by call.
+-- An honest place, and the files that may be taken, call after call.
 use Rattle.std.proofs.Common.{◌⊎◌, inl, inr, ℕ, List, [], ◌∷◌, ◌++◌, length, take, get_or, Option, Some, None}
 use Rattle.std.proofs.Common.{ap, subst, ◌∙◌, arith}
 use Rattle.std.proofs.Math.Seq.{get_or-append_seam}
@@ -16,7 +16,7 @@ use Rattle.mirror_copy.specs.declared.places.Places.{Places}
 use Rattle.mirror_copy.proofs.Earlier.{kept_then}
 use Rattle.mirror_copy.proofs.Growth.{adds_then, kept_adds}
 
--- what was put before stands in the list while nothing is put
+-- earlier puts stay in the list while nothing is put
 pub put_before : (a b : Option (List Put)) → KeepsRecord a b → (path : Path) (bytes : List ℕ) → WasPut b path bytes → WasPut a path bytes
 put_before None b kept path bytes put = tt
 put_before (Some us) None kept path bytes put = absurd kept
@@ -28,7 +28,7 @@ recorded_kept (Some us) None c puts recorded kept = absurd recorded
 recorded_kept (Some us) (Some vs) None puts recorded kept = absurd kept
 recorded_kept (Some us) (Some vs) (Some ws) puts recorded kept = kept ∙ recorded
 
--- what is read was put there
+-- a file that is read was put
 pub put_read : (puts : Option (List Put)) (path : Path) (bytes : List ℕ) → RecordsRead puts path (Some bytes) → WasPut puts path bytes
 put_read None path bytes h = tt
 put_read (Some puts) path bytes s = (
@@ -88,7 +88,7 @@ module _ {S : Type 0} (may : S → Path → Option (List ℕ) → Type 0) (faile
               t.are_taken new
         ]
 
-    -- what may be taken later might be taken before, tiles of level 0 apart
+    -- a file that may be taken later might be taken before, except tiles of level 0
     pub taken_before : (a b : Option (List Put)) (path : Path) (bytes : List ℕ) → PutsTaken may x a b → MayTake may y b path bytes →
         IsLeafTile path ⊎ MayTake may x a path bytes
     taken_before a b path bytes t (inl put) = was_put a b path bytes t put
@@ -156,7 +156,7 @@ module _ {S : Type 0} (may : S → Path → Option (List ℕ) → Type 0) (faile
         (All-nil (λ (put : Put). IsLeafTile put.0 ⊎ MayTake may x a put.0 put.1));
   }
 
-  -- what may be taken after nothing was put
+  -- the files that may be taken after nothing was put
   pub taken_kept : (so : Path → Type 0) (x y : Places S) (a b : Option (List Put)) (path : Path) (bytes : List ℕ) →
       AsksPlaces may failed asked so x y → KeepsRecord a b → MayTake may y b path bytes → MayTake may x a path bytes
   taken_kept so x y a b path bytes p kept (inr given) = inr (given_before so x y path bytes p given)
@@ -174,7 +174,7 @@ module _ {S : Type 0} (may : S → Path → Option (List ℕ) → Type 0) (faile
   puts_after x a b c path bytes kept (inr recorded) taken =
       puts_one x a c path bytes (inr (adds_after a b c ((path, bytes) ∷ []) kept recorded)) taken
 
-  -- a file that might be taken at first, put after others
+  -- a file that might be taken at first is put after others
   pub puts_also : (x : Places S) (a b c : Option (List Put)) (path : Path) (bytes : List ℕ) → PutsTaken may x a b →
       (KeepsRecord b c) ⊎ (AddsToRecord b c ((path, bytes) ∷ [])) → IsLeafTile path ⊎ MayTake may x a path bytes → PutsTaken may x a c
   puts_also x a b c path bytes t (inl kept) taken = record {

@@ -16,7 +16,7 @@ use Rattle.mirror_copy.proofs.Growth.{left_then}
 use Rattle.mirror_export.proofs.FoundOnce.{read_more, read_once}
 use Rattle.mirror_copy.proofs.WholeMoments.{new_no_checkpoint, none_found}
 
--- a fault of no place is one of a bringing
+-- a fault that is not about a missing file is a fault of a call
 pub of_no_place : {S : Type 0} (places : Places S) (e : BringFault) → IsOfNoPlace e → BlamesPlaces places e
 of_no_place places BadCheckpoint h = absurd h
 of_no_place places CopyDamaged h = absurd h
@@ -30,7 +30,7 @@ of_no_place places ShelfFault h = tt
 of_no_place places OutOfMemory h = tt
 
 module _ (digest : List ℕ → List ℕ) {S : Type 0} (places : Places S) (tip : Tip) where
-  -- a fault of the last step, before which new files alone were put
+  -- a fault of the last step, after only new files were put
   pub last_blames : (x w : Option (List Put)) {T : Type 0} (r : Result T BringFault) →
       ((known : List (List ℕ)) → IsKnown digest tip 0 known → IsCutShort digest tip.size known x w) →
       IfErr r (λ e. ((e ≡ CopyInUse) × IsOtherFound tip.checkpoint w) ⊎ IsOfNoPlace e) →
@@ -46,14 +46,14 @@ module _ (digest : List ℕ → List ℕ) {S : Type 0} (places : Places S) (tip 
     cut = λ known is. left_then digest tip.size known x y o.before kept (o.cut known is);
   }
 
-  -- the same of a later part of a call, before which nothing was put
+  -- the same for a later part of a call, if nothing was put before it
   pub later_blames : (x y : Option (List Put)) {T : Type 0} (r : Result T BringFault) → KeepsRecord x y →
       IfErr r (BlamesRun digest places tip y) → IfErr r (BlamesRun digest places tip x)
   later_blames x y (Ok a) kept h = tt
   later_blames x y (Err e) kept (inl h) = inl (h.0, then_kept x y kept h.1)
   later_blames x y (Err e) kept (inr h) = inr h
 
--- the last step of a bringing to no entries
+-- the last step of a call to a checkpoint without entries
 pub last_empty : (digest : List ℕ → List ℕ) (tip : Tip) (x w : Option (List Put)) {T : Type 0} (r : Result T BringFault) →
     ((known : List (List ℕ)) → IsKnown digest tip 0 known → IsCutShort digest tip.size known x w) →
     IfErr r (λ e. ((e ≡ CopyInUse) × IsOtherFound tip.checkpoint w) ⊎ IsOfNoPlace e) →
@@ -64,7 +64,7 @@ last_empty digest tip x w (Err e) cut (inr h) = inr h
 
 -- ---- a shelf that records its puts
 
--- what was read at the start is read again, where new files alone were put
+-- the checkpoint of the start is read again, if only new files were put
 same_found : (digest : List ℕ → List ℕ) (m : ℕ) (known : List (List ℕ)) (held : List Put) (w : Option (List Put))
     (first last : Option (List ℕ)) → RecordsRead (Some held) Checkpoint first → IsCutShort digest m known (Some held) w →
     RecordsRead w Checkpoint last → last ≡ first
@@ -96,7 +96,7 @@ in_use digest origin tip x t o = record {
         o.found.other (same_found digest tip.size known held o.before tip.checkpoint o.found.now (there held is)
         (subst (λ (p : Option (List Put)). IsCutShort digest tip.size known p o.before) is (o.cut known k)) o.found.now_is)
 
--- CopyInUse, of a call that goes on from a tip
+-- CopyInUse of a call that continues from a tip
 pub in_use_later : (digest : List ℕ → List ℕ) (origin : List ℕ) {S : Type 0} (places : Places S) (tip : Tip) (n : ℕ)
     (x y : Option (List Put)) (e : BringFault) → KeepsRecord x y → IsTipRead digest origin x tip →
     BlamesFrom digest places n tip y e → e ≡ CopyInUse → IsInUse digest origin x
@@ -106,12 +106,12 @@ in_use_later digest origin places tip n x y e kept t (inr (inl h)) is =
 in_use_later digest origin places tip n x y e kept t (inr (inr h)) is =
     absurd (subst (λ (f : BringFault). BlamesPlaces places f) is h)
 
--- a fault of no place is not CopyInUse
+-- a fault that is not about a missing file is not CopyInUse
 not_in_use : (digest : List ℕ → List ℕ) (origin : List ℕ) (x : Option (List Put)) (e : BringFault) → IsOfNoPlace e →
     e ≡ CopyInUse → IsInUse digest origin x
 not_in_use digest origin x e h is = absurd (subst (λ (f : BringFault). IsOfNoPlace f) is h)
 
--- neither is one that comes where the tip is read
+-- a fault of reading the tip is not CopyInUse
 pub tip_not_in_use : (digest : List ℕ → List ℕ) (origin : List ℕ) (x : Option (List Put)) {P : Type 0} (e : BringFault) →
     ((e ≡ CopyDamaged) × P) ⊎ IsOfNoPlace e → e ≡ CopyInUse → IsInUse digest origin x
 tip_not_in_use digest origin x e (inl h) is = absurd (cc (h.0, is))

@@ -1,4 +1,4 @@
--- The files of a copy whose partial files may have given way.
+-- The files of a copy whose partial files may be replaced by full ones.
 use Rattle.std.proofs.Common.{◌≡◌, ◌≢◌, ◌⊎◌, ℕ, suc, ◌+◌, ◌*◌, ◌/◌, ◌^◌, ◌<◌, ◌≤◌, List, [], ◌∷◌, ◌++◌, length, map, take, drop, get_or}
 use Rattle.std.proofs.Common.{All, refl, sym, ap, subst, ◌∙◌, append_assoc, inl, inr, arith}
 use Rattle.std.specs.List.{Contains}
@@ -98,7 +98,7 @@ full_no_checkpoint n Checkpoint file e = absurd file
 full_no_checkpoint n (Tile level index width) file e = cc
 full_no_checkpoint n (Entries index width) file e = cc
 
--- ---- a copy in which every file stands
+-- ---- a copy with all its files
 
 tree_stands : (digest : List ℕ → List ℕ) (origin note : List ℕ) (entries : List (List ℕ)) (puts : List Put) →
     IsCopy digest origin note entries puts → (path : Path) → IsTreeFile (length entries) path →
@@ -167,7 +167,7 @@ stands_split (x ∷ gone) puts path bytes h = elim (tail_stands x (gone ++ puts)
   ]
 ]
 
--- ---- partial files that have given way, as if they had been put first
+-- ---- replaced partial files, as if they had been put first
 
 checkpoint_case : (path : Path) → (path ≡ Checkpoint) ⊎ (path ≢ Checkpoint)
 checkpoint_case Checkpoint = inl refl
@@ -175,13 +175,13 @@ checkpoint_case (Tile level index width) = inr (λ e. cc)
 checkpoint_case (Entries index width) = inr (λ e. cc)
 
 module _ (digest : List ℕ → List ℕ) (entries : List (List ℕ)) (held : List Put) where
-  -- the true bytes of a partial file that has given way
+  -- the true bytes of a partial file that was replaced by its full one
   pub record IsGone (put : Put) : Type 0 where
     pub file : IsTreeFile (length entries) put.0
     pub way : HasGivenWay digest entries held put.0
     pub bytes_are : put.1 ≡ true_bytes digest entries put.0
 
-  -- behind such puts each of the files stands
+  -- after such puts, each of the files is on the shelf
   pub record IsFilled (paths : List Path) : Type 0 where
     pub gone : List Put
     pub are : All IsGone gone
@@ -248,7 +248,7 @@ module _ (digest : List ℕ → List ℕ) (entries : List (List ℕ)) (held : Li
     pub all_filled : IsFilled (paths_of (length entries))
     all_filled = filled (paths_of (length entries)) (λ path has other. listed_file (length entries) path other has)
 
--- behind them a copy stands in which every file stands
+-- after such puts, the shelf has a copy with all its files
 pub filled_copy : (digest : List ℕ → List ℕ) (origin note : List ℕ) (entries : List (List ℕ)) (held : List Put) →
     IsPrunedCopy digest origin note entries held → (f : IsFilled digest entries held (paths_of (length entries))) →
     IsCopy digest origin note entries (f.gone ++ held)
@@ -262,7 +262,7 @@ filled_copy digest origin note entries held copy f =
         f.stands (Tile level index width) (λ e. cc) listed
     holds (Entries index width) listed = f.stands (Entries index width) (λ e. cc) listed
 
--- ---- and back
+-- ---- back to the copy without these puts
 
 module _ (digest : List ℕ → List ℕ) (origin : List ℕ) (known : List (List ℕ)) (held gone : List Put)
     (are : All (IsGone digest known held) gone) (now : List Put)
@@ -304,7 +304,7 @@ module _ (digest : List ℕ → List ℕ) (origin : List ℕ) (known : List (Lis
   pub kept_back : HoldsFiles digest known (gone ++ now) → EachFileStands digest known now
   kept_back holds = files_back known (λ path within. refl) (λ path file. tree_held digest known (gone ++ now) holds path file)
 
--- ---- a file that has given way, as more is put
+-- ---- a replaced file, as more is put
 
 same_path : (a b : Path) → (a ≡ b) ⊎ (a ≢ b)
 same_path Checkpoint Checkpoint = inl refl
@@ -351,7 +351,7 @@ none_put puts path never has =
     (All-map (λ (p : Path). p ≢ path) (λ (put : Put). put.0) puts
     (All-weaker (Contains puts) (λ (put : Put). put.0 ≢ path) never puts (All-contains_itself puts))) has refl
 
--- what was put last, if all puts there have the same bytes
+-- the last put at the path, if all puts there have the same bytes
 stands_put : (held so_far : List Put) (path : Path) (bytes : List ℕ) → Contains so_far (path, bytes) →
     ((other : List ℕ) → Contains so_far (path, other) → other ≡ bytes) → Stands (held ++ so_far) path bytes
 stands_put held so_far path bytes has same =
@@ -370,7 +370,7 @@ stands_put held so_far path bytes has same =
     }
 
 module _ (digest : List ℕ → List ℕ) (hash : IsDigest digest) (entries : List (List ℕ)) (short : AreShort entries) where
-  -- a full file begins with the partial one
+  -- a full file begins with the partial file
   full_begins : (n : ℕ) (path : Path) → IsWithin n path →
       GoesOn path (true_bytes digest entries path) (true_bytes digest entries (full_of path))
   full_begins n Checkpoint within = absurd within

@@ -1,4 +1,4 @@
--- What a bringing leaves of a copy whose partial files may have given way: as if these had been put first, and every file stood.
+-- The effect of a call on a copy whose partial files may be replaced: as if these files had been put first.
 use Rattle.std.proofs.Common.{◌≡◌, ◌⊎◌, ℕ, ◌^◌, ◌<◌, ◌≤◌, List, [], ◌∷◌, ◌++◌, length, Option, Some, None, Result, Ok, Err}
 use Rattle.std.proofs.Common.{refl, sym, ap, subst, ◌∙◌, append_assoc, inl, inr, arith}
 use Rattle.std.proofs.lemmas.List.{append-nil}
@@ -124,7 +124,7 @@ module _ (digest : List ℕ → List ℕ) (hash : IsDigest digest) (origin note 
     kept = kept_back digest origin entries held gone f.are now later g.kept;
   }
 
-  -- a call that put new files alone
+  -- a call that put only new files
   module _ (new : List Put) (cut : IsCutShort digest tip.size entries (Some held) (Some new)) where
     g : Obtains digest (length entries) entries cut.next (Some (gone ++ held)) (Some (gone ++ new))
     g = subst (λ k. Obtains digest k entries cut.next (Some (gone ++ held)) (Some (gone ++ new))) (sym long)
@@ -146,7 +146,7 @@ module _ (digest : List ℕ → List ℕ) (hash : IsDigest digest) (origin note 
     pub pruned_left : IsPrunedCopy digest origin old_note entries new
     pruned_left = pruned_cut new (moment_end held new cut.gathers.puts cut.gathers.recorded)
 
-  -- a whole bringing
+  -- a complete call
   module _ (edge : Edge) (root : List ℕ) (upto : tip.size ≤ edge.size) (head : IsHead note origin edge.size root)
       (leads : hash_of_edge digest edge ≡ root) (new : List Put)
       (b : IsCopyBrought digest tip edge note entries (Some held) (Some new)) where
@@ -180,10 +180,10 @@ module _ (digest : List ℕ → List ℕ) (hash : IsDigest digest) (origin note 
         (grown_end digest origin note tip edge (gone ++ held) (gone ++ new) root upto head leads entries is b'
         (copy_files digest origin old_note entries (gone ++ held) whole))
 
--- ---- what a call comes to
+-- ---- the result of a call
 
 module _ (digest : List ℕ → List ℕ) (hash : IsDigest digest) (origin note : List ℕ) (tip : Tip) {T E : Type 0} where
-  -- a call that put new files alone
+  -- a call that put only new files
   pub leaves_cut : (x w : Option (List Put)) → IsTipRead digest origin x tip →
       ((known : List (List ℕ)) → IsKnown digest tip 0 known → IsCutShort digest tip.size known x w) → (e : E) →
       LeavesPruned digest origin {T = T} note x w (Err e)
@@ -244,7 +244,7 @@ leaves_same digest origin note x w k e held is old_note entries copy = record {
     by None h = absurd h
     by (Some ys) h = subst (λ (l : List Put). IsPrunedCopy digest origin old_note entries l) (sym h) copy
 
--- the same of another answer of that kind
+-- the same for another answer of that kind
 pub leaves_ok : (digest : List ℕ → List ℕ) (origin note : List ℕ) {T E U F : Type 0} (x w : Option (List Put)) (a : T) (b : U) →
     LeavesPruned digest origin {E = E} note x w (Ok a) → LeavesPruned digest origin {E = F} note x w (Ok b)
 leaves_ok digest origin note x w a b h held is old_note entries copy =
@@ -258,7 +258,7 @@ leaves_err digest origin note x w a b h held is old_note entries copy =
     record { moments = k.moments; beyond = k.beyond; brought = tt; stays = k.stays }
 
 module _ (digest : List ℕ → List ℕ) (hash : IsDigest digest) (origin note : List ℕ) (tip : Tip) {T E : Type 0} where
-  -- a call that brings a copy to a larger edge, by its answer
+  -- a call that brings a copy to a larger edge, for each answer
   pub larger_leaves : (edge : Edge) (root : List ℕ) → tip.size ≤ edge.size → IsHead note origin edge.size root →
       hash_of_edge digest edge ≡ root → (x w : Option (List Put)) → IsTipRead digest origin x tip → (r : Result T E) →
       ((known : List (List ℕ)) → IsKnown digest tip 0 known → BringsToEdge digest tip edge note known x w r) →
@@ -268,7 +268,7 @@ module _ (digest : List ℕ → List ℕ) (hash : IsDigest digest) (origin note 
   larger_leaves edge root upto head leads x w t (Err e) brings =
       leaves_cut digest hash origin note tip {T = T} {E = E} x w t brings e
 
-  -- a call that puts the checkpoint of no entries
+  -- a call that puts the checkpoint of an empty log
   pub empty_leaves : (size : ℕ) (root : List ℕ) → IsHead note origin size root → size ≡ 0 → root ≡ digest [] →
       (x w : Option (List Put)) → IsTipRead digest origin x tip → tip.checkpoint ≡ None → (r : Result T E) →
       PutsNote x w note r → LeavesPruned digest origin note x w r
@@ -280,7 +280,7 @@ module _ (digest : List ℕ → List ℕ) (hash : IsDigest digest) (origin note 
   empty_leaves size root head none root_is x w t empty (Err e) kept =
       leaves_cut digest hash origin note tip {T = T} {E = E} x w t (λ known k. left_none digest tip.size known x w kept) e
 
-  -- what is said of a later part of a call, before which what was put was kept
+  -- a result of a later part of a call, if the earlier puts were kept
   pub leaves_later : (x y w : Option (List Put)) (r : Result T E) → KeepsRecord x y → IsTipRead digest origin x tip →
       (IsTipRead digest origin y tip → LeavesPruned digest origin note y w r) → LeavesPruned digest origin note x w r
   leaves_later None y w r k t f = λ held is. absurd (cc is)

@@ -1,4 +1,4 @@
--- The root of what was brought.
+-- The root of the brought entries.
 use Rattle.std.proofs.Common.{◌≡◌, ℕ, ◌≤◌, ◌*◌, List, [], ◌∷◌, map, refl, sym, ap, subst, ◌∙◌, arith, All, not, ◌==◌}
 use Rattle.std.proofs.lemmas.List.Elements.{All-cons, All-filter, All-head, All-nil, All-tail}
 use Rattle.tlog_shape.specs.Edge.{edge_index_of, width_of}

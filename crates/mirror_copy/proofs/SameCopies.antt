@@ -17,7 +17,7 @@ use Rattle.mirror_copy.specs.Copies.{CopiesAreSame}
 use Rattle.mirror_copy.proofs.CopyMoments.{copy_files}
 use Rattle.mirror_copy.proofs.TipReads.{stands_one}
 
--- a set of strings has those of a list that it is made of
+-- the set of a list has the strings of each list that it contains
 holds_listed : (all wanted : List (List ℕ)) → ((s : List ℕ) → Contains wanted s → Contains all s) →
     HasAll (set.from_list all) wanted
 holds_listed all wanted within =
@@ -46,7 +46,7 @@ module _ (digest : List ℕ → List ℕ) (hash : IsDigest digest) (first second
             (λ s c. Contains-append_right (strings digest first) (strings digest second) s c);
       })
 
--- of two shelves that hold the files of the same entries, what stands on the one stands on the other
+-- if two shelves have the files of the same entries, the files of the first are on the second
 one_way : (digest : List ℕ → List ℕ) (entries : List (List ℕ)) (first second : List Put) →
     HoldsFiles digest entries first → HoldsFiles digest entries second → (path : Path) → path ≢ Checkpoint →
     Contains (paths_of (length entries)) path → (bytes : List ℕ) → Stands first path bytes → Stands second path bytes

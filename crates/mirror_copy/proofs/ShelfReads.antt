@@ -1,4 +1,4 @@
--- What was read of a shelf, before and after calls that put nothing.
+-- Reads of a shelf, before and after calls that put nothing.
 use Rattle.std.proofs.Common.{◌≡◌, ℕ, List, length, Option, Some, None, inl, inr, sym, subst, ◌∙◌}
 use Rattle.tlog_tiles.specs.declared.paths.Path.{Path}
 use Rattle.mirror_sources.specs.Recorded.{KeepsRecord}
@@ -14,7 +14,7 @@ use Rattle.mirror_copy.specs.Taken.{IsFirstOf, PartOf, WasPut}
 use Rattle.log_reader.specs.EdgeRows.{Edge, row_at}
 use Rattle.mirror_copy.proofs.OnePlace.{put_before, put_read}
 
--- what is read of a shelf that kept what was put was there before
+-- a file that is read after the puts were kept was there before
 pub read_before : (x y : Option (List Put)) (path : Path) (answer : Option (List ℕ)) → KeepsRecord x y →
     RecordsRead y path answer → RecordsRead x path answer
 read_before None y path (Some bytes) k h = tt
@@ -24,7 +24,7 @@ read_before (Some xs) None path None k h = absurd k
 read_before (Some xs) (Some ys) path (Some bytes) k h = subst (λ (l : List Put). Stands l path bytes) k h
 read_before (Some xs) (Some ys) path None k h = λ has. h (subst (λ (l : List Put). HasPut l path) (sym k) has)
 
--- the same of a partial file
+-- the same for a partial file
 way_before : (xs ys : List Put) (path : Path) (answer : Option (List ℕ)) → ys ≡ xs → CutsGivenWay ys path answer →
     CutsGivenWay xs path answer
 way_before xs ys path answer k h = subst (λ (l : List Put). CutsGivenWay l path answer) k h
@@ -38,14 +38,14 @@ partial_before (Some xs) (Some ys) path (Some bytes) k h =
 partial_before (Some xs) (Some ys) path None k h =
     (λ has. h.0 (subst (λ (l : List Put). HasPut l path) (sym k) has), way_before xs ys path None k h.1)
 
--- what stands at the path of a partial file
+-- the shelf's content at the path of a partial file
 pub partial_read : (x : Option (List Put)) (path : Path) (bytes : List ℕ) → RecordsRead x path (Some bytes) →
     RecordsPartial x path (Some bytes)
 partial_read None path bytes h = tt
 partial_read (Some puts) path bytes h =
     (λ has. h, λ digest hash entries short within way. absurd (way.gone (stands_has puts path bytes h)))
 
--- nothing stands there, and it is cut from what stands at the path of the full file
+-- the shelf lacks the partial file, and it is cut from the full file
 abbrev pub Cuts : Path → List ℕ → Option (List ℕ) → Type 0
 Cuts path full answer =
     (digest : List ℕ → List ℕ) → IsDigest digest → (entries : List (List ℕ)) → AreShort entries →
@@ -71,7 +71,7 @@ partial_cut (Some xs) (Some ys) path full (Some bytes) none k there cuts = (
 partial_cut (Some xs) (Some ys) path full None none k there cuts =
     (none, way_cut xs path full None (subst (λ (l : List Put). Stands l (full_of path) full) k there) cuts)
 
--- the full file does not stand either
+-- the shelf lacks the full file too
 pub partial_none : (x y : Option (List Put)) (path : Path) → RecordsRead x path None → KeepsRecord x y →
     RecordsRead y (full_of path) None → RecordsPartial x path None
 partial_none None y path none k full = tt
@@ -87,7 +87,7 @@ pub part_weaker : (take also : Path → List ℕ → Type 0) → ((path : Path) 
 part_weaker take also f path bytes (inl h) = inl (f path bytes h)
 part_weaker take also f path bytes (inr h) = inr (h.0, f (full_of path) h.0 h.1, h.2)
 
--- what was read was put there, or is the first of what was
+-- the bytes that were read were put there, or a longer file that was put begins with them
 pub part_put : (x : Option (List Put)) (path : Path) (bytes : List ℕ) → RecordsRead x path (Some bytes) → PartOf (WasPut x) path bytes
 part_put x path bytes h = inl (put_read x path bytes h)
 

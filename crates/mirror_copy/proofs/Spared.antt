@@ -57,7 +57,7 @@ spared_shelf CopyInUse h n = tt
 spared_shelf ShelfFault h n = tt
 spared_shelf OutOfMemory h n = tt
 
--- what follows from a fault that does not come, of an answer
+-- a consequence of a fault that does not come, for an answer
 pub spared_answer : {T : Type 0} (r : Result T BringFault) (Q : BringFault → Type 0) → ((e : BringFault) → IsSpared e → Q e) →
     IfErr r IsOfNoPlace → IfErr r IsNoConflict → IfErr r Q
 spared_answer (Ok x) Q f h n = tt
@@ -75,7 +75,7 @@ no_lack CopyInUse h = absurd h
 no_lack ShelfFault h = (λ e. cc, λ e. cc)
 no_lack OutOfMemory h = (λ e. cc, λ e. cc)
 
--- the same of the last step
+-- the same for the last step
 pub spared_last : {T : Type 0} (r : Result T BringFault) (Q : BringFault → Type 0) → ((e : BringFault) → IsSpared e → Q e) →
     (found : Option (List ℕ)) (puts : Option (List Put)) → IfErr r (BlamesLast found puts) → IfErr r IsNoConflict → IfErr r Q
 spared_last (Ok x) Q f found puts h n = tt
@@ -165,7 +165,7 @@ module _ (digest : List ℕ → List ℕ) (hash : IsDigest digest) (log : List (
         is = same ∙ ap (λ w. level_row digest log level (256 * index) w) (sym count);
       }
 
-  -- so is a full bundle
+  -- a full bundle that verifies under a true hash is true
   pub bundle_true : (index : ℕ) (value bytes : List ℕ) (row : List (List ℕ)) (v : Verifies digest kind.Bundle value bytes row) →
       IsTileHash digest log 0 index value → AreEntriesClear digest log v.is_row.entries →
       IsTileRow digest log 0 index row × (v.is_row.entries ≡ part (256 * index) 256 log)
@@ -211,7 +211,7 @@ module _ (digest : List ℕ → List ℕ) (hash : IsDigest digest) (log : List (
         is = there ∙ ap (λ l. mth digest (part ((first + i) * 256 ^ l) (256 ^ l) log)) up;
       }
 
-  -- so is each row of a true edge
+  -- each row of a true edge is true
   pub edge_row_true : (edge : Edge) → HasWidths edge → IsEdgeTrue digest log edge → (level : ℕ) → level ≤ 7 →
       IsTileRow digest log level (edge_index_of edge.size level) (row_at edge level)
   edge_row_true edge widths is level low =

@@ -1,4 +1,4 @@
--- A bringing that ended early: the copy that stood before stands in the end.
+-- After a call that ended early, the shelf has the old copy at the end.
 use Rattle.std.proofs.Common.{◌≡◌, ℕ, List, [], Option, Some, None, Result, Ok, Err, IfErr, refl, sym, subst}
 use Rattle.std.proofs.lemmas.List.{append-nil}
 use Rattle.tlog_tiles.specs.declared.paths.Path.TheVariants.{Checkpoint}
@@ -64,7 +64,7 @@ stays_same digest origin (Some xs) (Some ys) k = record {
       let same : held ≡ ys = cc (is, k) in subst (λ (l : List Put). HasPut l Checkpoint → ⊥) same none;
 }
 
--- one call after the other
+-- two calls in a row
 pub stays_then : (digest : List ℕ → List ℕ) (origin : List ℕ) (x y w : Option (List Put)) → CopyStays digest origin x y →
     CopyStays digest origin y w → CopyStays digest origin x w
 stays_then digest origin x None w p q = record {
@@ -76,7 +76,7 @@ stays_then digest origin x (Some ys) w p q = record {
   none = λ held is none. q.none ys refl (p.none held is none);
 }
 
--- what is said of a later part of a call, before which what was put was kept
+-- a result of a later part of a call, if the earlier puts were kept
 pub stays_later : (digest : List ℕ → List ℕ) (origin : List ℕ) (tip : Tip) (x y w : Option (List Put)) →
     {T E : Type 0} (r : Result T E) → KeepsRecord x y → IsTipRead digest origin x tip →
     (IsTipRead digest origin y tip → IfErr r (λ e. CopyStays digest origin y w)) →
@@ -89,7 +89,7 @@ stays_later digest origin tip (Some xs) (Some ys) w (Err e) k t f =
     subst (λ (l : List Put). CopyStays digest origin (Some l) w) k
     (f (subst (λ (l : List Put). IsTipRead digest origin (Some l) tip) (sym k) t))
 
--- a call that brings a copy to an edge, by its answer
+-- a call that brings a copy to an edge, for each answer
 pub larger_stays : (digest : List ℕ → List ℕ) (origin note : List ℕ) (tip : Tip) (edge : Edge)
     (x w : Option (List Put)) → IsTipRead digest origin x tip → {T E : Type 0} (r : Result T E) →
     ((known : List (List ℕ)) → IsKnown digest tip 0 known → BringsToEdge digest tip edge note known x w r) →
@@ -97,7 +97,7 @@ pub larger_stays : (digest : List ℕ → List ℕ) (origin note : List ℕ) (ti
 larger_stays digest origin note tip edge x w t (Ok a) brings = tt
 larger_stays digest origin note tip edge x w t (Err e) brings = stays_cut digest origin tip x w t brings
 
--- a call that puts the checkpoint alone, by its answer
+-- a call that puts only the checkpoint, for each answer
 pub empty_stays : (digest : List ℕ → List ℕ) (origin note : List ℕ) (x w : Option (List Put)) →
     {T E : Type 0} (r : Result T E) → PutsNote x w note r → IfErr r (λ e. CopyStays digest origin x w)
 empty_stays digest origin note x w (Ok a) recorded = tt

@@ -1,4 +1,4 @@
--- The true files of a log verify, so a place that gives them is not asked in vain.
+-- The true files of a log verify, so a place that gives them gives a good answer.
 use Rattle.std.proofs.Common.{◌≡◌, ◌⊎◌, inl, inr, ℕ, ◌*◌, ◌^◌, ◌<◌, ◌≤◌, List, length, map, get_or, Option, Some, None, refl, sym, subst, ◌∙◌, ap, arith}
 use Rattle.std.specs.Prelude.{IfSome}
 use Rattle.tlog_hash.specs.Tree.{fold_of, leaf_hash, mth}
@@ -55,7 +55,7 @@ module _ (digest : List ℕ → List ℕ) (is_digest : IsDigest digest) (entries
       )
 
   module _ (may : Path → Option (List ℕ) → Type 0) (gives : GivesTrueFiles digest entries may) where
-    -- an answer of a full file is its true bytes
+    -- an answer for a full file is its true bytes
     true_vain : (kind : FullFile) (path : Path) (hash : List ℕ) → IsWithin (length entries) path →
         width_named path ≡ 256 → Good kind hash (true_bytes digest entries path) → (answer : Option (List ℕ)) →
         may path answer → IfSome answer (λ bytes. Good kind hash bytes → ⊥) → ⊥
@@ -82,7 +82,7 @@ module _ (digest : List ℕ → List ℕ) (is_digest : IsDigest digest) (entries
     not_in_vain kind path hash is old new (inl failed) = failed
     not_in_vain kind path hash is old new (inr v) = absurd (by_path kind path hash is v.0 v.1 v.2)
 
--- where one of the places gives true files alone, not all of them are asked in vain
+-- if one of the places gives only true files, that place gives a good answer
 pub not_all_in_vain : (digest : List ℕ → List ℕ) → IsDigest digest → (entries : List (List ℕ)) → AreShort entries →
     (kind : FullFile) (path : Path) (hash : List ℕ) → IsFileUnder digest entries kind path hash → {S : Type 0}
     (may : S → Path → Option (List ℕ) → Type 0) (old new : Places S) → HasTruePlace digest entries may old new →
@@ -98,7 +98,7 @@ not_all_in_vain digest is_digest entries short kind path hash is may old new h v
       | inr many ↦ omega (arith, many, t.asked)
     ]
 
--- a place that gives true files alone, before what was kept in mind of the call
+-- a place that gives only true files, before the call was recorded
 pub place_noted : (digest : List ℕ → List ℕ) (entries : List (List ℕ)) {S : Type 0}
     (may : S → Path → Option (List ℕ) → Type 0) (old mid new : Places S) → new.list.items ≡ mid.list.items →
     HasTruePlace digest entries may old new → HasTruePlace digest entries may old mid
@@ -114,7 +114,7 @@ place_noted digest entries {S} may old mid new same h = record {
   };
 }
 
--- the same, after the path was kept in mind
+-- the same after the path was recorded
 pub lacks_none : (digest : List ℕ → List ℕ) → IsDigest digest → (entries : List (List ℕ)) → AreShort entries →
     (kind : FullFile) (path : Path) (hash : List ℕ) → IsFileUnder digest entries kind path hash → {S : Type 0}
     (may : S → Path → Option (List ℕ) → Type 0) (old mid new : Places S) → new.list.items ≡ mid.list.items →

@@ -24,18 +24,18 @@ use Rattle.mirror_copy.specs.Standing.{RecordsStands}
 use Rattle.mirror_sources.specs.Honest.{true_bytes}
 use Rattle.mirror_copy.proofs.Growth.{kept_adds, kept_same, gathers_keep, gathers_none, gathers_then, known_more}
 
--- how many hashes of a tile are of the tip's entries alone
+-- the number of hashes of a tile that cover only entries of the tip
 abbrev pub IsFirst : Tip → ℕ → ℕ → List (List ℕ) → ℕ → Type 0
 IsFirst tip level index row first =
     ((index ≡ edge_index_of tip.size level) × (first ≡ width_of tip.size level)
     × (take first row ≡ get_or tip.rows level []))
     ⊎ ((index ≢ edge_index_of tip.size level) × (first ≡ 0))
 
--- a tile of that level and index begins where its first hash does
+-- a tile of that level and index begins where its first hash begins
 place_of : (level index : ℕ) → index * 256 ^ (level + 1) ≡ 256 * index * 256 ^ level
 place_of level index = ap (λ n. index * n) (level_next level) ∙ omega arith
 
--- the numbers of a tile and of its children are small
+-- the indices of a tile and of its children are small
 pub child_small : (level index width i : ℕ) → i < width → (256 * index + width) * 256 ^ level ≤ 9223372036854775808 →
     256 * index + i < 9223372036854775808
 child_small level index width i lt fits =
@@ -58,7 +58,7 @@ row_fits level index width is fits =
     ap (λ k. k * 256 ^ level) (omega arith) in
     omega (arith, whole, fits, place_of level (index + 1))
 
--- what was kept before a row was brought
+-- the puts were kept before a row was brought
 pub row_then : (digest : List ℕ → List ℕ) (tip : Tip) (level index : ℕ) (row known : List (List ℕ))
     (x y z : Option (List Put)) → KeepsRecord x y → {n : ℕ} → IsRowBrought digest tip level index row known y z n →
     IsRowBrought digest tip level index row known x z n
@@ -75,7 +75,7 @@ module _ (tip : Tip) (level index : ℕ) (beyond : tip.size < (index + 1) * 256 
   abbrev m : ℕ
   m = tip.size
 
-  -- what the numbers of a first hash come to
+  -- the bounds that follow from the index of the first new hash
   record Begins (first : ℕ) : Type 0 where
     past : m < (256 * index + first + 1) * 256 ^ level
     same : max m ((256 * index + first) * 256 ^ level) ≡ max m (index * 256 ^ (level + 1))
@@ -124,7 +124,7 @@ module _ (tip : Tip) (level index : ℕ) (beyond : tip.size < (index + 1) * 256 
   begins row first (inl h) = at_edge first h.0 h.1
   begins row first (inr h) = beside first h.0 h.1
 
-  -- each hash from the first on lies beyond the tip
+  -- each hash from the first new one on ends after the tip
   pub child_beyond : (row : List (List ℕ)) (first i : ℕ) → IsFirst tip level index row first → first ≤ i →
       m < (256 * index + i + 1) * 256 ^ level
   child_beyond row first i is le =
@@ -133,7 +133,7 @@ module _ (tip : Tip) (level index : ℕ) (beyond : tip.size < (index + 1) * 256 
       mul-le (256 * index + first + 1) (256 ^ level) (256 * index + i + 1) (256 ^ level) (omega arith) (omega arith) in
       omega (arith, past, less)
 
-  -- a child that begins within the tip's entries is the first that is brought
+  -- a child that begins within the tip's entries is the first child that is brought
   pub first_child : (row : List (List ℕ)) (first i : ℕ) → IsFirst tip level index row first → first ≤ i → 1 ≤ level →
       (256 * index + i) * 256 ^ (level - 1 + 1) ≤ m → (i ≡ first) × (index * 256 ^ (level + 1) ≤ m)
   first_child row first i is le some within =
@@ -168,7 +168,7 @@ module _ (tip : Tip) (level index : ℕ) (beyond : tip.size < (index + 1) * 256 
     child_end : (k : ℕ) → (256 * index + k + 1) * 256 ^ (sub + 1) ≡ (256 * index + k + 1) * 256 ^ level
     child_end k = ap (λ l. (256 * index + k + 1) * 256 ^ l) up
 
-    -- what lies below the first hashes is the tip's
+    -- the entries below the first hashes are the tip's
     none_new : (x y : Option (List Put)) (first : ℕ) → IsFirst tip level index row first → (k : ℕ) → k < first →
         HoldsBelow digest m sub (256 * index + k) known x y
     none_new x y first (inl h) k lt path below new =
@@ -201,7 +201,7 @@ module _ (tip : Tip) (level index : ℕ) (beyond : tip.size < (index + 1) * 256 
       holds = none_new x x first (inr h);
     }
 
-    -- what the next child stands on
+    -- the facts before the next child
     pub so_far_known : (x y : Option (List Put)) (i start : ℕ) → IsKnown digest tip start known →
         (s : SoFar x y i) → IsKnown digest tip ((256 * index + i) * 256 ^ (sub + 1)) s.next
     so_far_known x y i start is s =

@@ -1,4 +1,4 @@
--- What is read of a copy's edge is that of the copy.
+-- The files that are read of a copy's edge are the copy's.
 use Rattle.std.proofs.Common.{◌≡◌, ℕ, suc, ◌+◌, ◌-◌, ◌*◌, ◌≤◌, ◌<◌, List, [], ◌∷◌, ◌++◌, length, get_or, Option, Some, None}
 use Rattle.std.proofs.Common.{refl, sym, ap, subst, ◌∙◌, arith, inl, inr}
 use Rattle.std.specs.List.{Contains}
@@ -28,7 +28,7 @@ use Rattle.mirror_sources.specs.Honest.{true_bytes}
 use Rattle.mirror_copy.specs.Growing.{IsKnown, Tip}
 use Rattle.mirror_folders.specs.Shelf.{RecordsRead}
 
--- ---- one file stands at a path
+-- ---- one file at a path
 
 module _ (puts : List Put) (path : Path) (a b : List ℕ) where
   later_put : (p : Stands puts path a) (q : Stands puts path b) → length p.before < length q.before →
@@ -68,7 +68,7 @@ stands_one puts path a b p q = elim (cases_lt (length p.before) (length q.before
   ]
 ]
 
--- what stands there was put there
+-- a file on the shelf was put there
 pub stands_has : (puts : List Put) (path : Path) (bytes : List ℕ) → Stands puts path bytes → HasPut puts path
 stands_has puts path bytes s = put_has puts path bytes (
   length s.before,
@@ -104,7 +104,7 @@ module _ (digest : List ℕ → List ℕ) (hash : IsDigest digest) (origin note 
   way_read path None file way h = h.1 digest hash entries copy.short (file_within n path file) way
   way_read path (Some bytes) file way h = h.1 digest hash entries copy.short (file_within n path file) way
 
-  -- what is read at the path of a file is that file, also where it has given way
+  -- the bytes that are read at the path of a file are that file, also if it was replaced
   pub file_read : (path : Path) (found : Option (List ℕ)) → IsTreeFile n path → RecordsPartial (Some held) path found →
       found ≡ Some (true_bytes digest entries path)
   file_read path found file h = elim (copy.files path file) [
@@ -175,7 +175,7 @@ module _ (digest : List ℕ → List ℕ) (hash : IsDigest digest) (origin note 
             (bundle_read tip.bundle (subst (λ k. IsBundleRead (Some held) k tip.bundle) is bundle));
       }
 
--- the tip of what was read from a shelf
+-- the tip of the files that were read from a shelf
 pub tip_read : (digest : List ℕ → List ℕ) → IsDigest digest → (origin : List ℕ) (puts : Option (List Put)) (tip : Tip)
     (checkpoint : List ℕ) (size : ℕ) (root : List ℕ) → tip.checkpoint ≡ Some checkpoint →
     RecordsRead puts Checkpoint (Some checkpoint) → IsHead checkpoint origin size root →

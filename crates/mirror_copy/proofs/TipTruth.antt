@@ -1,4 +1,4 @@
--- The tip of the first entries of a log, beside true rows and bundles of the log.
+-- The tip of the first entries of a log, compared with true rows and bundles of the log.
 use Rattle.std.proofs.Common.{◌≡◌, ℕ, ◌+◌, ◌-◌, ◌*◌, ◌/◌, ◌^◌, ◌≤◌, List, [], ◌++◌, length, take, drop, get_or}
 use Rattle.std.proofs.Common.{inl, inr, refl, sym, ap, ◌∙◌, arith, length-append}
 use Rattle.std.specs.Prelude.{IfNone, IsNone, None, Option, Some}
@@ -37,7 +37,7 @@ module _ (digest : List ℕ → List ℕ) (tip : Tip) (log : List (List ℕ)) (t
       ap (λ k. k * 256 ^ level) (hashes_of m level) in
       omega (arith, h, div-mul-le_self m (256 ^ level))
 
-  -- the old rows are true of the log
+  -- the old rows are the log's
   old_row : (level : ℕ) → level ≤ 7 →
       get_or tip.rows level [] ≡ level_row digest log level (256 * edge_index_of m level) (width_of m level)
   old_row level upto =

@@ -1,4 +1,4 @@
--- What a place answers that gives true files of a log alone.
+-- The answers of a place that gives only true files of a log.
 use Rattle.std.proofs.Common.{◌≡◌, ◌⊎◌, inl, inr, ℕ, ◌+◌, ◌*◌, ◌/◌, ◌^◌, ◌<◌, ◌≤◌, List, length, get_or, Option, Some, None}
 use Rattle.std.proofs.Common.{Result, Ok, Err, Vec, Global, drop, take, sym, ap, subst, ◌∙◌, arith, length-take, take-append-drop}
 use Rattle.std.specs.Prelude.{IfNone, IfOk, IfSome, option_map}
@@ -54,7 +54,7 @@ module _ (digest : List ℕ → List ℕ) (entries : List (List ℕ)) {S : Type 
       ((d : Place S) → may (get_or x.list.items index d).source path (Some bytes)) → bytes ≡ true_bytes digest entries path
   got_file path bytes within answer = t.gives path within (Some bytes) (answer t.none)
 
-  -- one that it does not have
+  -- a file that it lacks
   pub got_none : (path : Path) → IsWithin (length entries) path →
       ((d : Place S) → may (get_or x.list.items index d).source path None) → IsGone (length entries) path
   got_none path within answer = t.gives path within None (answer t.none)
@@ -69,7 +69,7 @@ module _ (digest : List ℕ → List ℕ) (entries : List (List ℕ)) {S : Type 
         | inr many ↦ omega (arith, many, few)
       ]
 
--- the full file of a path is never gone
+-- a log never deletes the full file of a path
 pub full_stays : (n : ℕ) (path : Path) → IsGone n path → IsGone n (full_of path) → ⊥
 full_stays n Checkpoint first h = h.full
 full_stays n (Tile level index width) first h = let few = h.partial in omega (arith, few)

@@ -1,4 +1,4 @@
--- An edge that leads to the root of a log is true, where nothing clashes.
+-- An edge that leads to the root of a log is true, if nothing clashes.
 use Rattle.std.proofs.Common.{◌≡◌, ℕ, ◌*◌, ◌^◌, ◌<◌, List, [], ◌++◌, length, map, Option, refl, sym, ap, subst, ◌∙◌}
 use Rattle.std.specs.FinSet as set
 use Rattle.std.proofs.lemmas.List.{append-nil}
@@ -33,7 +33,7 @@ module _ (take also : Path → List ℕ → Type 0) (f : (path : Path) (bytes : 
     rows_are = λ level upto. row_weaker n level (row_at edge level) (h.rows_are level upto);
   }
 
--- the rows that were read of a shelf were put there
+-- the rows that were read from a shelf were put there
 pub edge_put : (puts : Option (List Put)) (n : ℕ) (edge : Edge) → IsEdgeRead puts n edge → IsEdgeFrom (WasPut puts) n edge
 edge_put puts n edge h = record {
   size_is = h.size_is;

@@ -1,4 +1,4 @@
--- What verifies under a true hash is true, where the strings of the tree and those of the file do not clash.
+-- A file that verifies under a true hash is true, if the strings of the tree and of the file do not clash.
 use Rattle.std.proofs.Common.{◌≡◌, ℕ, zero, suc, ◌+◌, ◌*◌, ◌^◌, ◌≤◌, All, List, [], ◌∷◌, ◌++◌, length, map, take, drop, get_or}
 use Rattle.std.proofs.Common.{refl, sym, ap, subst, ◌∙◌, arith}
 use Rattle.std.specs.FinSet as set
@@ -21,7 +21,7 @@ use Rattle.mirror_model.proofs.TrueItems.{tile_end}
 use Rattle.log_reader.proofs.OneRow.{only_row}
 use Rattle.mirror_copy.specs.Suffices.{IsTileHash}
 
--- the first of some ranges
+-- the first w of some ranges
 take_ranges : {A : Type 0} (b first w count : ℕ) (es : List A) → w ≤ count →
     take w (ranges b first count es) ≡ ranges b first w es
 take_ranges b first zero count es le = refl
@@ -39,7 +39,7 @@ pub count_row : (digest : List ℕ → List ℕ) (es : List (List ℕ)) (level f
 count_row digest es level first w =
     length-map (ranges (256 ^ level) first w es) (mth digest) ∙ length-ranges (256 ^ level) first w es
 
--- an entry's string is one of the tree
+-- the string of an entry is a string of the tree
 leaf_there : (e : List ℕ) (es : List (List ℕ)) → Contains es e → Contains (map (λ (x : List ℕ). 0 ∷ x) es) (0 ∷ e)
 leaf_there e es c =
     let f = λ (x : List ℕ). 0 ∷ x in

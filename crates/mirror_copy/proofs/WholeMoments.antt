@@ -1,4 +1,4 @@
--- At each moment of a call that brings a copy to a checkpoint a whole copy stands.
+-- At each moment of a call that brings a copy to a checkpoint, the shelf has a whole copy.
 use Rattle.std.proofs.Common.{◌≡◌, ◌≢◌, ◌⊎◌, ℕ, ◌+◌, ◌*◌, ◌/◌, ◌%◌, ◌^◌, ◌<◌, ◌≤◌, List, [], ◌∷◌, ◌++◌, length, map, get_or}
 use Rattle.std.proofs.Common.{Option, Some, None, Result, Ok, Err, OnOk, refl, sym, ap, subst, ◌∙◌, append_assoc, inl, inr, arith, All}
 use Rattle.std.specs.List.{Contains}
@@ -48,7 +48,7 @@ has_append : (a b : List Put) (path : Path) → HasPut (a ++ b) path → HasPut 
 has_append a b path has = Contains-append_cases (paths a) (paths b) path
     (subst (λ (l : List Path). Contains l path) (map-append (λ (put : Put). put.0) a b) has)
 
--- what was put up to a moment, where that is no more than the first of what was put in all
+-- the puts up to a moment, if that moment is within the first puts
 has_front : (so_far later puts last : List Put) (path : Path) → so_far ++ later ≡ puts ++ last →
     length so_far ≤ length puts → HasPut so_far path → HasPut puts path
 has_front so_far later puts last path same le has =
@@ -88,7 +88,7 @@ new_no_checkpoint digest m next puts all has =
     (All-weaker (IsNewFile digest m next) (λ (put : Put). put.0 ≢ Checkpoint)
     (λ put new e. subst (λ p. IsWithin (length next) p) e new.within) puts all)) has refl
 
--- the files of the first entries stand, as new files and the checkpoint are put
+-- the files of the first entries stay on the shelf, as new files and the checkpoint are put
 files_kept : (digest : List ℕ → List ℕ) (m : ℕ) (known next : List (List ℕ)) (old so_far now : List Put) →
     length known ≡ m → HoldsFiles digest known old → now ≡ old ++ so_far →
     ((put : Put) → Contains so_far put → IsPutOf digest m next put) → HoldsFiles digest known now
@@ -115,7 +115,7 @@ no_file (Entries index width) other h = no_tile 0 index width h.within
 pub none_held : (digest : List ℕ → List ℕ) (puts : List Put) → HoldsFiles digest [] puts
 none_held digest puts path other listed = absurd (no_file path other ((files_are_all 0 path).0 listed))
 
--- ---- a bringing that was cut short
+-- ---- a call that ended early
 
 module _ (digest : List ℕ → List ℕ) (origin note : List ℕ) (tip : Tip) (old new : List Put)
     (t : IsTipRead digest origin (Some old) tip) where
@@ -156,7 +156,7 @@ module _ (digest : List ℕ → List ℕ) (origin note : List ℕ) (tip : Tip) (
             (has_front at.so_far at.later g.puts [] Checkpoint split shorter since)
       ]
 
--- ---- a whole bringing
+-- ---- a complete call
 
 module _ (digest : List ℕ → List ℕ) (origin note : List ℕ) (tip : Tip) (edge : Edge) (old new : List Put)
     (root : List ℕ) (upto : tip.size ≤ edge.size) (head : IsHead note origin edge.size root)
@@ -192,7 +192,7 @@ module _ (digest : List ℕ → List ℕ) (origin note : List ℕ) (tip : Tip) (
         (All-cons (λ (p : Put). p.0 ≡ Checkpoint) (Checkpoint, note) [] refl (All-nil (λ (p : Put). p.0 ≡ Checkpoint))) end)
   ]
 
-  -- the copy that stands in the end
+  -- the copy at the end
   made : HoldsFiles digest known old → IsCopy digest origin note b.next new
   made held = bringing_makes_copy digest origin note tip edge known old new is.short held long upto b head_is
 
@@ -249,7 +249,7 @@ module _ (digest : List ℕ → List ℕ) (origin note : List ℕ) (tip : Tip) (
           ])
     ]
 
--- ---- what was put
+-- ---- all puts
 
 beyond_new : (digest : List ℕ → List ℕ) (m : ℕ) (next : List (List ℕ)) (put : Put) → IsNewFile digest m next put →
     IsWithin m put.0 → ⊥
@@ -291,7 +291,7 @@ module _ (digest : List ℕ → List ℕ) (note : List ℕ) (tip : Tip) (held : 
         (All-cons P (Checkpoint, note) [] (λ within. within) (All-nil P));
   })
 
--- ---- what a call comes to
+-- ---- the result of a call
 
 module _ (digest : List ℕ → List ℕ) (origin note : List ℕ) (tip : Tip) where
   at_each : (x w : Option (List Put)) (held : List Put) → x ≡ Some held → (known : List (List ℕ)) →
@@ -302,7 +302,7 @@ module _ (digest : List ℕ → List ℕ) (origin note : List ℕ) (tip : Tip) w
       absurd (subst (λ (o : Option (List Put)). AddsToRecord o None cut.gathers.puts) is cut.gathers.recorded)
   at_each x (Some new) held is known cut so all = all new refl
 
-  -- a call that put new files alone
+  -- a call that put only new files
   pub whole_cut : (x w : Option (List Put)) → IsTipRead digest origin x tip →
       ((known : List (List ℕ)) → IsKnown digest tip 0 known → IsCutShort digest tip.size known x w) →
       KeepsCopy digest origin note x w
@@ -350,7 +350,7 @@ module _ (digest : List ℕ → List ℕ) (origin note : List ℕ) (tip : Tip) w
           by_end None b = absurd (no_end b.before b.gathers.puts b.gathers.recorded b.last)
           by_end (Some new) b = all new b
 
-      -- what was read before the call says of that moment
+      -- the facts from before the call, at that moment
       none_known : (held : List Put) → x ≡ Some held → (HasPut held Checkpoint → ⊥) → IsKnown digest tip 0 []
       none_known held is none =
           t.known (none_found held tip.checkpoint (subst (λ o. RecordsRead o Checkpoint tip.checkpoint) is t.checkpoint) none)
@@ -411,7 +411,7 @@ had_size digest origin tip x t = record {
       let size = k.size_is in omega arith;
 }
 
--- ---- the checkpoint of no entries
+-- ---- the checkpoint of an empty log
 
 no_width : (level : ℕ) → width_of 0 level ≡ 0
 no_width level = ap (λ q. q % 256) (div-eq_of_lt (level_positive level))
@@ -462,7 +462,7 @@ module _ (digest : List ℕ → List ℕ) (origin note : List ℕ) (tip : Tip) (
       (empty_brought digest tip note x w (t.empty empty) recorded)
   empty_ends (Err e) kept = tt
 
--- ---- a call that brings a copy to a larger edge, by its answer
+-- ---- a call that brings a copy to a larger edge, for each answer
 
 module _ (digest : List ℕ → List ℕ) (origin note : List ℕ) (tip : Tip) (edge : Edge) (root : List ℕ)
     (upto : tip.size ≤ edge.size) (head : IsHead note origin edge.size root)
@@ -479,7 +479,7 @@ module _ (digest : List ℕ → List ℕ) (origin note : List ℕ) (tip : Tip) (
   larger_ends (Ok a) brings = brought_to digest origin note tip edge root upto head leads x w t brings
   larger_ends (Err e) brings = tt
 
--- where nothing is recorded, nothing is said
+-- without a record, the clause says nothing
 pub none_whole : (digest : List ℕ → List ℕ) (origin note : List ℕ) (w : Option (List Put)) →
     KeepsCopy digest origin note None w
 none_whole digest origin note w = record {
@@ -493,7 +493,7 @@ pub none_brought : (digest : List ℕ → List ℕ) (origin note : List ℕ) (w 
     IsBroughtTo digest origin note None w
 none_brought digest origin note w = record { copy = λ held is. absurd (cc is); none = λ held is. absurd (cc is) }
 
--- what is said of a later part of a call, before which what was put was kept
+-- a result of a later part of a call, if the earlier puts were kept
 pub whole_later : (digest : List ℕ → List ℕ) (origin note : List ℕ) (tip : Tip) (x y w : Option (List Put)) →
     KeepsRecord x y → IsTipRead digest origin x tip →
     (IsTipRead digest origin y tip → KeepsCopy digest origin note y w) → KeepsCopy digest origin note x w
@@ -548,7 +548,7 @@ whole_same digest origin note x y k = record {
   beyond_none = λ held is none. beyond_same 0 held x y is k;
 }
 
--- ---- what is read of a shelf
+-- ---- reads of a shelf
 
 empty_known : (digest : List ℕ → List ℕ) → IsKnown digest empty_tip 0 []
 empty_known digest = record {

@@ -1,4 +1,4 @@
--- What places are asked for in a bringing, and what is known of one that was asked in vain.
+-- The requests to places when a copy is brought to a checkpoint, and the facts after a place gave no good answer.
 use Rattle.std.specs.Prelude.{◌≡◌, ◌⊎◌, ℕ, ◌-◌, ◌<◌, ◌≤◌, List, Option, IfSome}
 use Rattle.tlog_shape.specs.Edge.{edge_index_of, width_of}
 use Rattle.tlog_tiles.specs.declared.paths.Path.{Path}
@@ -6,45 +6,45 @@ use Rattle.tlog_tiles.specs.declared.paths.Path.TheVariants.{Checkpoint, Tile, E
 use Rattle.tlog_tiles.specs.Tiles.{IsWithin}
 use Rattle.mirror_sources.specs.Files.{full_of}
 
--- the place that is asked in that turn, if one is asked first and then the others in their order
+-- the index of the place at a turn: "first" at turn 0, then the other places in order
 abbrev pub IsAskedInTurn : ℕ → ℕ → ℕ → Type 0
 IsAskedInTurn first turn place =
     ((turn ≡ 0) × (place ≡ first))
     ⊎ (((1 ≤ turn) × (turn ≤ first) × (place ≡ turn - 1)) ⊎ ((first < turn) × (place ≡ turn)))
 
--- a place, which had failed so often before and after, was asked for the path in vain: it failed, or it was given up, or an
--- answer came that it may give and that is not good
+-- a place was asked for the path, but gave no good answer: it failed, or was given up, or gave a possible answer that is not
+-- good. old and new are its numbers of failures before and after
 abbrev pub IsAskedInVain : (Path → Option (List ℕ) → Type 0) → ℕ → ℕ → Path → (List ℕ → Type 0) → Type 0
 IsAskedInVain may old new path good =
     ((old < new) ⊎ (8 ≤ old))
     ⊎ ((answer : Option (List ℕ)) × (may path answer) × IfSome answer (λ bytes. ¬ good bytes))
 
--- the path, or its full one
+-- the path, or its full path
 abbrev pub IsPathOrFull : Path → Path → Type 0
 IsPathOrFull path asked = (asked ≡ path) ⊎ (asked ≡ full_of path)
 
--- the path of a partial tile at the edge of n entries, or its full one
+-- the path of a partial tile at the right edge of n entries, or its full path
 pub record IsEdgeTile (n : ℕ) (path : Path) : Type 0 where
   pub level : ℕ
   pub upto : level ≤ 7
   pub some : 1 ≤ width_of n level
   pub is : IsPathOrFull (Tile level (edge_index_of n level) (width_of n level)) path
 
--- the path of the partial bundle at the edge of n entries, or its full one
+-- the path of the partial bundle at the right edge of n entries, or its full path
 pub record IsEdgeBundle (n : ℕ) (path : Path) : Type 0 where
   pub some : 1 ≤ width_of n 0
   pub is : IsPathOrFull (Entries (edge_index_of n 0) (width_of n 0)) path
 
--- a full tile of level 1 or above, or a full bundle, that is not wholly within the first m entries
+-- a full tile of level 1 or above, or a full bundle, that the first m entries do not have
 abbrev pub IsNewFull : ℕ → Path → Type 0
 IsNewFull m Checkpoint = ⊥
 IsNewFull m (Tile level index width) = (1 ≤ level) × (width ≡ 256) × (¬ IsWithin m (Tile level index width))
 IsNewFull m (Entries index width) = (width ≡ 256) × (¬ IsWithin m (Entries index width))
 
--- what is asked for once the edge rows of n entries are known
+-- a path that may be requested once the edge rows of n entries are known
 abbrev pub IsEdgeBundleOrNew : ℕ → ℕ → Path → Type 0
 IsEdgeBundleOrNew n m path = IsEdgeBundle n path ⊎ IsNewFull m path
 
--- what a bringing from m entries to n asks for: the edge of n, and full files that are not wholly within the first m
+-- the paths that a call from m entries to n may request: the right edge of n, and full files that the first m do not have
 abbrev pub MayBeAsked : ℕ → ℕ → Path → Type 0
 MayBeAsked m n path = IsEdgeTile n path ⊎ IsEdgeBundleOrNew n m path

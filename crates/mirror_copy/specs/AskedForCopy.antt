@@ -1,4 +1,4 @@
--- What a bringing asks its places for, and which fault comes where a file was to be had from none.
+-- The requests to the places when a copy is brought to a checkpoint, and the fault if no place gave a file.
 use Rattle.std.specs.Prelude.{◌≡◌, ◌≤◌, ℕ, List, get_or, Option, Some, IsSome}
 use Rattle.tlog_tiles.specs.declared.paths.Path.{Path}
 use Rattle.tlog_tiles.specs.declared.paths.Path.TheVariants.{Checkpoint}
@@ -19,8 +19,7 @@ use Rattle.mirror_copy.specs.declared.fault.BringFault.TheVariants.{ShelfFault, 
 
 module _ (digest : List ℕ → List ℕ) {S : Type 0} (may : S → Path → Option (List ℕ) → Type 0) (failed : S → ℕ)
     (asked : S → Option (List Path)) where
-  -- the places are asked for nothing, or for what a bringing from the size of the copy that stood to the size of the
-  -- note may ask for
+  -- the places got no request, or requests that a call may make from the size of the old copy to the size of the note
   pub data AsksForCopy (origin note : List ℕ) (puts : Option (List Put)) (old new : Places S) : Type 0 where
     AsksNothing : AsksEach may failed asked (λ path. ⊥) old new → AsksForCopy origin note puts old new
     AsksFiles :
@@ -28,8 +27,8 @@ module _ (digest : List ℕ → List ℕ) {S : Type 0} (may : S → Path → Opt
         AsksEach may failed asked (MayBeAsked had size) old new → AsksForCopy origin note puts old new
 
 module _ {S : Type 0} (may : S → Path → Option (List ℕ) → Type 0) (failed : S → ℕ) (asked : S → Option (List Path)) where
-  -- a file was to be had from nowhere, and its path is kept in mind: it is Source where a place failed in this call, and
-  -- NoFile where none did
+  -- neither the shelf nor a place gave a file, and its path is recorded. The fault is Source if a place failed in this call,
+  -- and NoFile if no place did
   abbrev pub BlamesFailed : Places S → Places S → BringFault → Type 0
   BlamesFailed old new BadCheckpoint = Unit {0}
   BlamesFailed old new CopyDamaged = Unit {0}
@@ -45,7 +44,7 @@ module _ {S : Type 0} (may : S → Path → Option (List ℕ) → Type 0) (faile
   BlamesFailed old new OutOfMemory = Unit {0}
 
 module _ (digest : List ℕ → List ℕ) (origin note : List ℕ) (puts : Option (List Put)) where
-  -- a note that is not larger than the copy that stood. The shelf did not record that it had no checkpoint
+  -- the note is not larger than the old copy. The shelf does not record that it had no checkpoint
   pub record IsNotLarger : Type 0 where
     pub had : ℕ
     pub size : ℕ
@@ -55,7 +54,7 @@ module _ (digest : List ℕ → List ℕ) (origin note : List ℕ) (puts : Optio
     pub upto : size ≤ had
     pub not_none : (held : List Put) → puts ≡ Some held → ¬ ¬ HasPut held Checkpoint
 
-  -- BadCheckpoint says that the bytes are no note of a checkpoint of the origin, and NotLarger that it is not larger
+  -- BadCheckpoint: the bytes are not a note of a checkpoint of the origin. NotLarger: the note is not larger than the copy
   abbrev pub RefusesNote : BringFault → Type 0
   RefusesNote BadCheckpoint = (size : ℕ) (root : List ℕ) → ¬ IsHead note origin size root
   RefusesNote CopyDamaged = Unit {0}
@@ -68,8 +67,8 @@ module _ (digest : List ℕ → List ℕ) (origin note : List ℕ) (puts : Optio
   RefusesNote ShelfFault = Unit {0}
   RefusesNote OutOfMemory = Unit {0}
 
--- the shelf's checkpoint was read at the start, and once more when all other files were put, and it was another then.
--- Such a shelf recorded no copy, and not that no checkpoint stood: what is recorded changes by the puts of this call alone
+-- the checkpoint was read at the start, and again after all other files were put: it was a different one. The record of a shelf
+-- changes only by the puts of this call. So such a shelf records neither a copy, nor that it has no checkpoint
 pub record IsInUse (digest : List ℕ → List ℕ) (origin : List ℕ) (old : Option (List Put)) : Type 0 where
   pub found : Option (List ℕ)
   pub found_is : RecordsRead old Checkpoint found

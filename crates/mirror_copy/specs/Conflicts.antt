@@ -1,4 +1,4 @@
--- What a bringing that ends by a contradiction or a collision has put: nothing.
+-- A call that ends by a contradiction or a collision puts nothing.
 use Rattle.std.specs.Prelude.{ℕ, ◌≤◌, List, Option, Result, Ok, Err, ⊤}
 use Rattle.mirror_sources.specs.Recorded.{KeepsRecord}
 use Rattle.mirror_folders.specs.Shelf.{Put}
@@ -33,7 +33,7 @@ IsConflict CopyInUse = ⊥
 IsConflict ShelfFault = ⊥
 IsConflict OutOfMemory = ⊥
 
--- at a contradiction or a collision what was brought began within the first m entries, and nothing was put
+-- at a contradiction or a collision, the file in question begins within the first m entries, and nothing was put
 abbrev pub ConflictPutsNothing : {T : Type 0} → ℕ → ℕ → Option (List Put) → Option (List Put) →
     Result T BringFault → Type 0
 ConflictPutsNothing start m old new (Ok x) = ⊤

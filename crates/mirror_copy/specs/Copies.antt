@@ -1,4 +1,4 @@
--- A copy of a log: a folder that any web server gives out as the log.
+-- A copy of a log: a folder that any web server can serve as the log.
 use Rattle.std.specs.Prelude.{◌≡◌, ◌≢◌, ◌⊎◌, ◌↔◌, ◌<◌, ◌≤◌, ◌^◌, ℕ, List, [], ◌++◌, length, map, Contains}
 use Rattle.std.specs.Prelude.{Option, Some}
 use Rattle.std.specs.FinSet as set
@@ -19,14 +19,14 @@ use Rattle.log_reader.specs.EdgeRows.{Edge, row_at}
 use Rattle.mirror_copy.specs.Edges.{IsCopyBrought}
 
 module _ (digest : List ℕ → List ℕ) where
-  -- what was put is a copy of the entries under the note: each file of a log of them stands with its true bytes, the
-  -- checkpoint being the note, whose size is their number and whose root their tree hash
+  -- the puts are a copy of the entries under the note. Each file of a log of these entries is on the shelf with its true bytes.
+  -- The checkpoint is the note, whose size is the number of entries and whose root is their tree hash
   pub record IsCopy (origin note : List ℕ) (entries : List (List ℕ)) (puts : List Put) : Type 0 where
     pub short : AreShort entries
     pub is_head : IsHead note origin (length entries) (mth digest entries)
     pub holds : HoldsLog digest note entries puts
 
--- at each moment at which new files alone were put, the copy stands as it stood
+-- at each moment, if only new files were put, the copy is unchanged
 abbrev pub NewFilesKeepCopies : Type 0
 NewFilesKeepCopies =
     (digest : List ℕ → List ℕ) (origin note : List ℕ) (entries next : List (List ℕ)) (old new now : List Put) →
@@ -34,8 +34,8 @@ NewFilesKeepCopies =
     Obtains digest (length entries) entries next (Some old) (Some new) →
     IsMoment old new now → IsCopy digest origin note entries now
 
--- a copy of the first entries was brought to an edge under a note that is a head of the entries then known:
--- at each moment the old copy stands as it stood, or the new one stands
+-- a copy of the first entries was brought to an edge, under a note that is a checkpoint of all entries then known.
+-- At each moment the old copy or the new copy is on the shelf
 abbrev pub BringingStaysCopy : Type 0
 BringingStaysCopy =
     (digest : List ℕ → List ℕ) (origin old_note note : List ℕ) (tip : Tip) (edge : Edge) (known : List (List ℕ))
@@ -45,7 +45,7 @@ BringingStaysCopy =
     IsHead note origin (length b.next) (mth digest b.next) → IsMoment old new now →
     IsCopy digest origin old_note known now ⊎ IsCopy digest origin note b.next now
 
--- the same where no checkpoint stood: in the end a copy stands
+-- the same without a checkpoint before the call: a copy is on the shelf at the end
 abbrev pub BringingMakesCopy : Type 0
 BringingMakesCopy =
     (digest : List ℕ → List ℕ) (origin note : List ℕ) (tip : Tip) (edge : Edge) (known : List (List ℕ))
@@ -54,7 +54,7 @@ BringingMakesCopy =
     (b : IsCopyBrought digest tip edge note known (Some old) (Some new)) →
     IsHead note origin (length b.next) (mth digest b.next) → IsCopy digest origin note b.next new
 
--- the rows of the edge to which a copy was brought lead to the tree hash of its entries
+-- the edge rows of a brought copy lead to the tree hash of its entries
 abbrev pub BroughtRowsLeadToRoot : Type 0
 BroughtRowsLeadToRoot =
     (digest : List ℕ → List ℕ) (tip : Tip) (edge : Edge) (note : List ℕ) (known : List (List ℕ))
@@ -62,13 +62,13 @@ BroughtRowsLeadToRoot =
     (b : IsCopyBrought digest tip edge note known old new) →
     edge_root digest (map (row_at edge) (edge_levels edge.size)) ≡ mth digest b.next
 
--- where nothing stood, the empty tip and no entries are what a bringing begins with
+-- on an empty shelf, the call begins with the empty tip and without entries
 abbrev pub BringingBeginsEmpty : Type 0
 BringingBeginsEmpty =
     (digest : List ℕ → List ℕ) → IsKnown digest empty_tip 0 []
 
--- two copies of one size and root have the same files, the checkpoint apart, where no two different strings of their
--- trees share a digest
+-- two copies of one size and root have the same files, except the checkpoint. Premise: no two different strings of their trees
+-- share a digest
 abbrev pub CopiesAreSame : Type 0
 CopiesAreSame =
     (digest : List ℕ → List ℕ) → IsDigest digest → (origin first_note second_note : List ℕ)

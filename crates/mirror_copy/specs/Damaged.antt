@@ -1,4 +1,4 @@
--- Why what is on a shelf is no copy of a log of the origin.
+-- The reasons why a shelf does not have a copy of a log of the origin.
 use Rattle.std.specs.Prelude.{◌≡◌, ◌≢◌, ℕ, ◌≤◌, List, Option, Some, IfSome}
 use Rattle.tlog_shape.specs.Edge.{edge_index_of, width_of}
 use Rattle.tlog_tiles.specs.declared.paths.Path.TheVariants.{Checkpoint, Tile, Entries}
@@ -12,7 +12,7 @@ use Rattle.mirror_copy.specs.Found.{IsEdgeRead, RecordsPartial}
 use Rattle.mirror_copy.specs.Pruned.{IsPrunedCopy}
 
 module _ (puts : Option (List Put)) (n : ℕ) where
-  -- the partial tile of a level of the edge of n entries is not there, or is no row of its width
+  -- the partial tile of a level of the edge of n entries is missing, or is not a row of its width
   pub record IsRowWrong (level : ℕ) : Type 0 where
     pub upto : level ≤ 7
     pub some : 1 ≤ width_of n level
@@ -21,12 +21,12 @@ module _ (puts : Option (List Put)) (n : ℕ) where
     pub no_row : IfSome found (λ bytes. (row : List (List ℕ)) → ¬ IsRow (width_of n level) bytes row)
 
   module _ (digest : List ℕ → List ℕ) (root : List ℕ) where
-    -- such a tile is wrong, or the rows that are there lead to another root
+    -- such a tile is wrong, or the rows on the shelf lead to another root
     pub data IsEdgeWrong : Type 0 where
       HasWrongRow : (level : ℕ) → IsRowWrong level → IsEdgeWrong
       HasOtherRoot : (edge : Edge) → IsEdgeRead puts n edge → hash_of_edge digest edge ≢ root → IsEdgeWrong
 
--- the partial bundle at the edge is not there, or has other leaf hashes than those of the lowest row
+-- the partial bundle at the right edge is missing, or its leaf hashes differ from the lowest row
 pub record IsBundleWrong (digest : List ℕ → List ℕ) (puts : Option (List Put)) (edge : Edge) : Type 0 where
   pub some : 1 ≤ width_of edge.size 0
   pub found : Option (List ℕ)
@@ -34,7 +34,7 @@ pub record IsBundleWrong (digest : List ℕ → List ℕ) (puts : Option (List P
   pub no_leaves : IfSome found (λ bytes. ¬ HasLeaves digest (width_of edge.size 0) bytes (row_at edge 0))
 
 module _ (digest : List ℕ → List ℕ) (origin : List ℕ) (puts : Option (List Put)) where
-  -- the shelf has a checkpoint, and it is no note of the origin, or the edge of its size and root or the bundle there is wrong
+  -- the shelf has a checkpoint, but it is not a note of the origin, or the edge of its size and root or the bundle there is wrong
   pub data IsTipWrong : Type 0 where
     IsNoHead :
         (note : List ℕ) → RecordsRead puts Checkpoint (Some note) →
@@ -47,7 +47,7 @@ module _ (digest : List ℕ → List ℕ) (origin : List ℕ) (puts : Option (Li
         IsHead note origin size root → (edge : Edge) → IsEdgeRead puts size edge → LeadsTo digest size root edge →
         IsBundleWrong digest puts edge → IsTipWrong
 
-  -- so a shelf that records its puts holds no copy, also none whose partial files have given way, and has a checkpoint
+  -- a shelf that records its puts then has a checkpoint, but no copy, not even a copy whose partial files were replaced
   pub record IsDamaged : Type 0 where
     pub reason : IsTipWrong
     pub no_copy : (held : List Put) → puts ≡ Some held → (note : List ℕ) (entries : List (List ℕ)) →

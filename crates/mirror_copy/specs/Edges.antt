@@ -1,4 +1,4 @@
--- A copy brought to the edge of a larger tree.
+-- A copy brought to the right edge of a larger tree.
 use Rattle.std.specs.Prelude.{◌≡◌, ◌≢◌, ℕ, ◌+◌, ◌-◌, ◌*◌, ◌^◌, ◌<◌, ◌≤◌, max, List, [], ◌∷◌, length, Option, Result, Ok, Err}
 use Rattle.tlog_shape.specs.Edge.{width_of, edge_index_of}
 use Rattle.tlog_tiles.specs.declared.paths.Path.{Path}
@@ -12,13 +12,13 @@ use Rattle.mirror_export.specs.FileLaws.{IsFileOf}
 use Rattle.mirror_copy.specs.Standing.{RecordsStands}
 use Rattle.mirror_copy.specs.Growing.{Tip, Obtains, HoldsBelow, IsCutShort}
 
--- what putting the checkpoint last comes to, by its answer
+-- the result of putting the checkpoint last, for each answer
 abbrev pub PutsNote : {T E : Type 0} → Option (List Put) → Option (List Put) → List ℕ → Result T E → Type 0
 PutsNote old new note (Ok x) = AddsToRecord old new ((Checkpoint, note) ∷ [])
 PutsNote old new note (Err e) = KeepsRecord old new
 
 module _ (digest : List ℕ → List ℕ) where
-  -- all that lies below the rows of the levels from low on was brought, and these rows are true
+  -- all files below the rows of the levels from low on were brought, and these rows are true
   pub record IsEdgeBrought (tip : Tip) (edge : Edge) (known : List (List ℕ)) (low : ℕ)
       (old new : Option (List Put)) : Type 0 where
     pub next : List (List ℕ)
@@ -28,7 +28,7 @@ module _ (digest : List ℕ → List ℕ) where
     pub holds : (level : ℕ) → low ≤ level → level ≤ 7 → (k : ℕ) → k < width_of edge.size level →
         HoldsBelow digest tip.size (level - 1) (256 * edge_index_of edge.size level + k) next old new
 
-  -- what bringing all below the edge comes to, by its answer
+  -- the result of bringing all files below the edge, for each answer
   abbrev pub BringsEdge : {T E : Type 0} → Tip → Edge → List (List ℕ) →
       Option (List Put) → Option (List Put) → Result T E → Type 0
   BringsEdge tip edge known old new (Ok x) = IsEdgeBrought tip edge known 1 old new
@@ -46,13 +46,13 @@ module _ (digest : List ℕ → List ℕ) where
         Entries (edge_index_of edge.size 0) (width_of edge.size 0) in
         RecordsStands old new path (true_bytes digest next path)
 
-  -- what bringing the partial bundle comes to, by its answer
+  -- the result of bringing the partial bundle, for each answer
   abbrev pub BringsEdgeBundle : {T E : Type 0} → ℕ → Edge → List (List ℕ) →
       Option (List Put) → Option (List Put) → Result T E → Type 0
   BringsEdgeBundle m edge known old new (Ok x) = IsEdgeBundleBrought m edge known old new
   BringsEdgeBundle m edge known old new (Err e) = IsCutShort digest m known old new
 
-  -- the partial tiles of the levels below some stand with true bytes, but for those of the first m entries
+  -- the partial tiles of the levels below "below" are on the shelf with true bytes, except those of the first m entries
   pub record AreEdgeTilesPut (m : ℕ) (edge : Edge) (entries : List (List ℕ)) (old new : Option (List Put))
       (below : ℕ) : Type 0 where
     pub gathers : Obtains digest m entries entries old new
@@ -61,7 +61,7 @@ module _ (digest : List ℕ → List ℕ) where
         ¬ IsWithin m (edge_tile edge level) →
         RecordsStands old new (edge_tile edge level) (true_bytes digest entries (edge_tile edge level))
 
-  -- the partial tile of a level stands with true bytes, if there is one and the first m entries do not have it
+  -- the partial tile of a level is on the shelf with true bytes, if there is one and the first m entries do not have it
   pub record IsEdgeTilePut (m : ℕ) (edge : Edge) (entries : List (List ℕ)) (old new : Option (List Put))
       (level : ℕ) : Type 0 where
     pub gathers : Obtains digest m entries entries old new
@@ -69,20 +69,20 @@ module _ (digest : List ℕ → List ℕ) where
         1 ≤ width_of edge.size level → ¬ IsWithin m (edge_tile edge level) →
         RecordsStands old new (edge_tile edge level) (true_bytes digest entries (edge_tile edge level))
 
-  -- what putting a partial tile comes to, by its answer
+  -- the result of putting a partial tile, for each answer
   abbrev pub PutsEdgeTile : {T E : Type 0} → ℕ → Edge → List (List ℕ) → Option (List Put) → Option (List Put) → ℕ →
       Result T E → Type 0
   PutsEdgeTile m edge entries old new level (Ok x) = IsEdgeTilePut m edge entries old new level
   PutsEdgeTile m edge entries old new level (Err e) = Obtains digest m entries entries old new
 
-  -- what putting the partial tiles comes to, by its answer
+  -- the result of putting the partial tiles, for each answer
   abbrev pub PutsEdgeTiles : {T E : Type 0} → ℕ → Edge → List (List ℕ) → Option (List Put) → Option (List Put) →
       Result T E → Type 0
   PutsEdgeTiles m edge entries old new (Ok x) = AreEdgeTilesPut m edge entries old new 8
   PutsEdgeTiles m edge entries old new (Err e) = Obtains digest m entries entries old new
 
-  -- a copy was brought to the edge: all its entries were gathered, and all its files stand that the first m
-  -- entries do not have, before the note was put
+  -- a copy was brought to the edge. All its entries were gathered. Before the note was put, the shelf had all its files that the
+  -- first m entries do not have
   pub record IsCopyBrought (tip : Tip) (edge : Edge) (note : List ℕ) (known : List (List ℕ))
       (old new : Option (List Put)) : Type 0 where
     pub next : List (List ℕ)
@@ -94,7 +94,7 @@ module _ (digest : List ℕ → List ℕ) where
     pub holds : (path : Path) → path ≢ Checkpoint → IsFileOf edge.size path → ¬ IsWithin tip.size path →
         RecordsStands old before path (true_bytes digest next path)
 
-  -- what bringing a copy comes to, by its answer
+  -- the result of bringing a copy, for each answer
   abbrev pub BringsToEdge : {T E : Type 0} → Tip → Edge → List ℕ → List (List ℕ) →
       Option (List Put) → Option (List Put) → Result T E → Type 0
   BringsToEdge tip edge note known old new (Ok x) = IsCopyBrought tip edge note known old new

@@ -1,5 +1,4 @@
--- What was read of a copy's edge. It is cited by the contracts of
--- private functions alone.
+-- The files of a copy's edge that were read. Only the contracts of private functions cite it.
 use Rattle.std.specs.Prelude.{◌≡◌, ⊤, ℕ, ◌≤◌, List, [], length, Option, Some, None, Result, IfErr, OnOk}
 use Rattle.tlog_shape.specs.Edge.{width_of, edge_index_of}
 use Rattle.tlog_tiles.specs.declared.paths.Path.{Path}
@@ -19,22 +18,22 @@ use Rattle.mirror_sources.specs.Honest.{true_bytes}
 use Rattle.tlog_tiles.specs.Tiles.{IsWithin}
 use Rattle.mirror_folders.specs.Shelf.{RecordsRead}
 
--- where a partial file has given way to its full one, its true bytes were cut from that
+-- if a partial file was replaced by its full file, its true bytes were cut from the full file
 abbrev pub CutsGivenWay : List Put → Path → Option (List ℕ) → Type 0
 CutsGivenWay puts path answer =
     (digest : List ℕ → List ℕ) → IsDigest digest → (entries : List (List ℕ)) → AreShort entries →
     IsWithin (length entries) path → HasGivenWay digest entries puts path →
     answer ≡ Some (true_bytes digest entries path)
 
--- the answer is what stands at the path of a partial file, where something was put there; where nothing was, it may be
--- cut from the full file
+-- the answer is the content of the shelf at the path of a partial file, if something was put there. If not, it may be cut from
+-- the full file
 abbrev pub RecordsPartial : Option (List Put) → Path → Option (List ℕ) → Type 0
 RecordsPartial None path answer = ⊤
 RecordsPartial (Some puts) path None = (¬ HasPut puts path) × CutsGivenWay puts path None
 RecordsPartial (Some puts) path (Some bytes) =
     (HasPut puts path → Stands puts path bytes) × CutsGivenWay puts path (Some bytes)
 
--- the row of a level of the edge of n entries is what stands on the shelf, where there is one
+-- the row of a level of the edge of n entries is the shelf's, if the level has one
 pub record IsRowRead (puts : Option (List Put)) (n level : ℕ) (row : List (List ℕ)) : Type 0 where
   pub bytes : List ℕ
   pub is_row : IsRow (width_of n level) bytes row
@@ -43,18 +42,18 @@ pub record IsRowRead (puts : Option (List Put)) (n level : ℕ) (row : List (Lis
   pub taken : 1 ≤ width_of n level →
       PartOf (WasPut puts) (Tile level (edge_index_of n level) (width_of n level)) bytes
 
--- the rows are those of the edge of n entries as they stand on the shelf
+-- the rows are those of the edge of n entries, as they are on the shelf
 pub record IsEdgeRead (puts : Option (List Put)) (n : ℕ) (edge : Edge) : Type 0 where
   pub size_is : edge.size ≡ n
   pub rows_are : (level : ℕ) → level ≤ 7 → IsRowRead puts n level (row_at edge level)
 
--- the bytes are the partial bundle at the edge of n entries as it stands on the shelf, and none where there is none
+-- the bytes are the partial bundle at the edge of n entries, as it is on the shelf. Without such a bundle there are no bytes
 pub record IsBundleRead (puts : Option (List Put)) (n : ℕ) (bytes : List ℕ) : Type 0 where
   pub none : width_of n 0 ≡ 0 → bytes ≡ []
   pub stands : 1 ≤ width_of n 0 → RecordsPartial puts (Entries (edge_index_of n 0) (width_of n 0)) (Some bytes)
 
 module _ (digest : List ℕ → List ℕ) where
-  -- the tip is what stands on the shelf: of each copy that stands there it is the tip
+  -- the tip is read from the shelf: it is the tip of each copy that is there
   pub record IsTipRead (origin : List ℕ) (puts : Option (List Put)) (tip : Tip) : Type 0 where
     pub checkpoint : RecordsRead puts Checkpoint tip.checkpoint
     pub copy : (held : List Put) → puts ≡ Some held → (note : List ℕ) (entries : List (List ℕ)) →
@@ -64,8 +63,8 @@ module _ (digest : List ℕ → List ℕ) where
     pub empty : tip.checkpoint ≡ None → tip.size ≡ 0
     pub known : tip.checkpoint ≡ None → IsKnown digest tip 0 []
 
-  -- what a call comes to that goes on from a tip, by its answer: whatever the tip was read from, if what was put since
-  -- is kept
+  -- the result of a call that continues from a tip, for each answer. It holds for each shelf state from which the tip was read, if
+  -- its puts were kept
   abbrev pub BringsFromTip : {T E : Type 0} → List ℕ → List ℕ → Tip → Option (List Put) → Option (List Put) →
       Result T E → Type 0
   BringsFromTip origin note tip old new result =

@@ -1,4 +1,4 @@
--- One honest place suffices for a bringing, whatever the others answer.
+-- One honest place suffices to bring a copy to a checkpoint, for all answers of the others.
 use Rattle.std.specs.Prelude.{◌≡◌, ◌⊎◌, ℕ, ◌≤◌, List, ◌++◌, length, take, Option, Some}
 use Rattle.tlog_hash.specs.Tree.{mth}
 use Rattle.tlog_tiles.specs.declared.paths.Path.{Path}
@@ -17,8 +17,8 @@ use Rattle.mirror_copy.specs.declared.places.Places.{Places}
 abbrev pub IsShelfOrMemory : BringFault → Type 0
 IsShelfOrMemory e = (e ≡ ShelfFault) ⊎ (e ≡ OutOfMemory)
 
--- the shelf records its puts, and it holds a copy of the first entries of the log, though not of all, or no checkpoint. Partial
--- files of the copy may have given way
+-- the shelf records its puts. It has a copy of the first entries of the log, but not of all, or no checkpoint. Partial files of
+-- the copy may be replaced by full ones
 pub data HoldsFirst (digest : List ℕ → List ℕ) (origin : List ℕ) (log : List (List ℕ)) (puts : Option (List Put))
     : Type 0 where
   HoldsCopy :
@@ -33,15 +33,15 @@ pub data HoldsFirst (digest : List ℕ → List ℕ) (origin : List ℕ) (log : 
 
 module _ (digest : List ℕ → List ℕ) {S : Type 0} (may : S → Path → Option (List ℕ) → Type 0) (puts : Option (List Put))
     (old new : Places S) where
-  -- one of the places is honest for the entries, and the root is that of the first of them, as many as size. No edge that
-  -- may be taken clashes with their tree
+  -- one of the places is honest for the entries, and the root is that of the first "size" of them. No edge that may be taken
+  -- clashes with their tree
   pub record IsHonestFor (entries : List (List ℕ)) (size : ℕ) (root : List ℕ) : Type 0 where
     pub one : OneIsHonest digest entries size may puts old new
     pub root_is : root ≡ mth digest (take size entries)
     pub edges : EdgesAreClear digest (take size entries) (MayTake may old puts)
 
-  -- the note is a checkpoint of a log for which one of the places is honest, and the shelf holds a copy of its first entries,
-  -- or no checkpoint
+  -- the note is a checkpoint of a log, and one of the places is honest for it. The shelf has a copy of its first entries, or no
+  -- checkpoint
   pub record IsHonestNote (origin note : List ℕ) : Type 0 where
     pub entries : List (List ℕ)
     pub size : ℕ

@@ -1,4 +1,4 @@
--- What the places of a run are asked for, and what is kept in mind of their answers.
+-- The requests to the places of a run, and what is recorded of their answers.
 use Rattle.std.specs.Prelude.{◌≡◌, ◌⊎◌, ℕ, ◌+◌, ◌-◌, ◌^◌, ◌<◌, ◌≤◌, min, All, List, length, get_or, Option, Some, None}
 use Rattle.std.specs.Prelude.{IsTrue, IsFalse, IsSome}
 use Rattle.tlog_tiles.specs.declared.paths.Path.{Path}
@@ -11,24 +11,24 @@ use Rattle.mirror_copy.specs.declared.place.Wrong.{Wrong}
 use Rattle.mirror_copy.specs.declared.place.WrongFile.{WrongFile}
 use Rattle.mirror_copy.specs.declared.places.Places.{Places}
 
--- the first file that was wrong at a place, after one more
+-- the first file that was wrong at a place, after one more wrong file
 abbrev pub with_first : Option WrongFile → Path → Wrong → Option WrongFile
 with_first None path wrong = Some (record { path = path; wrong = wrong })
 with_first (Some file) path wrong = Some file
 
--- a source's count of failures rose so many times, up to the last value of a u64
+-- a source's number of failures rose by "times", up to the maximum of a u64
 abbrev pub RoseTimes : ℕ → ℕ → ℕ → Type 0
 RoseTimes times old new = (times ≡ 0 → new ≡ old) × (1 ≤ times → new ≡ min (old + times) (2 ^ 64 - 1))
 
--- what the answer to a get says, where the place failed so often before it and after it
+-- what an answer to a get means. old and new are the place's numbers of failures before and after the get
 abbrev pub AnswersGet : (Path → Option (List ℕ) → Type 0) → Path → ℕ → ℕ → PlaceAnswer → Type 0
 AnswersGet may path old new (File bytes) = may path (Some bytes.items)
 AnswersGet may path old new NotFound = may path None
 AnswersGet may path old new Failed = (old < new) ⊎ (8 ≤ old)
 
 module _ {S : Type 0} (may : S → Path → Option (List ℕ) → Type 0) (failed : S → ℕ) (asked : S → Option (List Path)) where
-  -- a place that was asked for such paths alone: each failure is counted, in all and for this run, and one that failed
-  -- 8 times was not asked
+  -- all requests to a place were for such paths. Each failure is counted, in total and for this run. A place that had failed
+  -- 8 times got no request
   pub record IsAskedFor (so : Path → Type 0) (old new : Place S) : Type 0 where
     pub later : StaysWithin (may old.source) (may new.source)
     pub paths : List Path
@@ -45,12 +45,12 @@ module _ {S : Type 0} (may : S → Path → Option (List ℕ) → Type 0) (faile
     pub none : Place S
     pub rose : (get_or old.list.items index none).failures < (get_or new.list.items index none).failures
 
-  -- the places were asked for such paths alone
+  -- all requests to the places were for such paths
   pub record AsksEach (so : Path → Type 0) (old new : Places S) : Type 0 where
     pub count : length new.list.items ≡ length old.list.items
     pub each : (k : ℕ) (d : Place S) → IsAskedFor so (get_or old.list.items k d) (get_or new.list.items k d)
 
-  -- the places were asked for such paths alone, and that one failed is kept in mind
+  -- all requests to the places were for such paths. The record that a place failed is kept
   pub record AsksPlaces (so : Path → Type 0) (old new : Places S) : Type 0 where
     pub count : length new.list.items ≡ length old.list.items
     pub each : (k : ℕ) (d : Place S) → IsAskedFor so (get_or old.list.items k d) (get_or new.list.items k d)

@@ -1,4 +1,4 @@
--- One place that gives the true files suffices to find a file, and to go on from it, whatever the others answer.
+-- One place that gives true files suffices to find a file and to continue from it, for all answers of the others.
 use Rattle.std.specs.Prelude.{◌≡◌, ◌≢◌, ◌⊎◌, ⊤, ℕ, ◌+◌, ◌*◌, ◌/◌, ◌^◌, ◌<◌, ◌≤◌, List, ◌++◌, length, take, get_or, Option}
 use Rattle.tlog_hash.specs.Tree.{mth}
 use Rattle.tlog_hash.specs.Rows.{level_row, part}
@@ -21,8 +21,8 @@ use Rattle.mirror_copy.specs.declared.place.Place.{Place}
 use Rattle.mirror_copy.specs.declared.places.Places.{Places}
 
 module _ (digest : List ℕ → List ℕ) (entries : List (List ℕ)) where
-  -- the path is that of a full tile of level 1 or above, or of a full bundle, of a log of the entries, and the hash is that of
-  -- the entries below it
+  -- the path is that of a full tile of level 1 or above, or of a full bundle, of a log of the entries. The hash is that of the
+  -- entries below it
   abbrev pub IsFileUnder : FullFile → Path → List ℕ → Type 0
   IsFileUnder kind.Tile Checkpoint hash = ⊥
   IsFileUnder kind.Tile (Tile level index width) hash =
@@ -35,13 +35,13 @@ module _ (digest : List ℕ → List ℕ) (entries : List (List ℕ)) where
       (width ≡ 256) × IsWithin (length entries) (Entries index 256)
       × (hash ≡ mth digest (part (256 * index * 256 ^ 0) (256 * 256 ^ 0) entries))
 
-  -- a source of which these answers may come gives true files of a log of the entries alone: what an honest one does
+  -- each possible answer of the source is the true file of a log of the entries, like that of an honest source
   abbrev pub GivesTrueFiles : (Path → Option (List ℕ) → Type 0) → Type 0
   GivesTrueFiles may =
       (path : Path) → IsWithin (length entries) path → (answer : Option (List ℕ)) → may path answer →
       IsTrueAnswer digest entries path answer
 
--- the place of that index gives true files of a log of the entries alone, and it did not fail, and was not given up
+-- the place of that index gives only true files of a log of the entries. It did not fail, and was not given up
 pub record IsTruePlace (digest : List ℕ → List ℕ) (entries : List (List ℕ)) {S : Type 0}
     (may : S → Path → Option (List ℕ) → Type 0) (old new : Places S) (index : ℕ) : Type 0 where
   pub none : Place S
@@ -50,17 +50,17 @@ pub record IsTruePlace (digest : List ℕ → List ℕ) (entries : List (List �
   pub asked : (get_or old.list.items index none).failures < 8
   pub answers : (get_or new.list.items index none).failures ≡ (get_or old.list.items index none).failures
 
--- one of the places does
+-- one of the places is such a place
 pub record HasTruePlace (digest : List ℕ → List ℕ) (entries : List (List ℕ)) {S : Type 0}
     (may : S → Path → Option (List ℕ) → Type 0) (old new : Places S) : Type 0 where
   pub index : ℕ
   pub place : IsTruePlace digest entries may old new index
 
--- the fault is not that a file was to be had from nowhere
+-- the fault is not about a missing file
 abbrev pub IsNoLack : BringFault → Type 0
 IsNoLack e = (e ≢ NoFile) × (e ≢ Source)
 
--- nor that what was found contradicts the copy
+-- the fault is neither about a missing file, nor a contradiction or a collision
 abbrev pub IsSpared : BringFault → Type 0
 IsSpared BadCheckpoint = ⊤
 IsSpared CopyDamaged = ⊤
@@ -74,8 +74,8 @@ IsSpared ShelfFault = ⊤
 IsSpared OutOfMemory = ⊤
 
 module _ (digest : List ℕ → List ℕ) (entries : List (List ℕ)) (size : ℕ) where
-  -- one of the places gives true files of the entries alone, and answers in this call. No file that may be taken clashes with
-  -- the tree of the first of the entries, as many as size
+  -- one of the places gives only true files of the entries, and answers in this call. No file that may be taken clashes with the
+  -- tree of the first "size" entries
   pub record OneIsHonest {S : Type 0} (may : S → Path → Option (List ℕ) → Type 0) (puts : Option (List Put))
       (old new : Places S) : Type 0 where
     pub short : AreShort entries
@@ -96,13 +96,13 @@ module _ (digest : List ℕ → List ℕ) (log : List (List ℕ)) where
     pub within : (index + 1) * 256 ^ (level + 1) ≤ length log
     pub is : hash ≡ mth digest (part (index * 256 ^ (level + 1)) (256 ^ (level + 1)) log)
 
-  -- the row is that of the tile of that level and index, full or the last of its level
+  -- the row is that of the tile of that level and index, which is full or the last of its level
   pub record IsTileRow (level index : ℕ) (row : List (List ℕ)) : Type 0 where
     pub within : (256 * index + length row) * 256 ^ level ≤ length log
     pub whole : (length row ≡ 256) ⊎ (256 * index + length row ≡ length log / 256 ^ level)
     pub is : row ≡ level_row digest log level (256 * index) (length row)
 
-  -- the rows of the edge are those of the log
+  -- the edge rows are those of the log
   pub record IsEdgeTrue (edge : Edge) : Type 0 where
     pub size_is : edge.size ≡ length log
     pub rows_are : (level : ℕ) → level ≤ 7 → RowIsTrue digest edge log level

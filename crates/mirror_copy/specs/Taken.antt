@@ -1,5 +1,4 @@
--- Which files a bringing may take from its places and its shelf, and when the strings that are hashed of them do not clash with
--- those of a log.
+-- The files that a call may take from its places and its shelf, and when their strings do not clash with those of a log.
 use Rattle.std.specs.Prelude.{◌≡◌, ◌⊎◌, ℕ, ◌<◌, ◌≤◌, All, Contains, List, ◌++◌, length, map, get_or, Option, Some, None, ⊤}
 use Rattle.std.specs.FinSet as set
 use Rattle.tlog_shape.specs.Edge.{edge_index_of, width_of}
@@ -17,33 +16,33 @@ use Rattle.log_reader.specs.EdgeRows.{Edge, row_at}
 use Rattle.mirror_copy.specs.declared.place.Place.{Place}
 use Rattle.mirror_copy.specs.declared.places.Places.{Places}
 
--- the bytes were put at the path, as far as the shelf records its puts
+-- the bytes were put at the path. It always holds for a shelf that does not record its puts
 abbrev pub WasPut : Option (List Put) → Path → List ℕ → Type 0
 WasPut None path bytes = ⊤
 WasPut (Some puts) path bytes = Contains puts (path, bytes)
 
--- a tile of level 0, which is made of a bundle
+-- a tile of level 0, which is made from a bundle
 abbrev pub IsLeafTile : Path → Type 0
 IsLeafTile Checkpoint = ⊥
 IsLeafTile (Tile level index width) = level ≡ 0
 IsLeafTile (Entries index width) = ⊥
 
--- the bytes are the first of those of the full file
+-- the full file begins with the bytes
 pub record IsFirstOf (full bytes : List ℕ) : Type 0 where
   pub rest : List ℕ
   pub full_is : full ≡ bytes ++ rest
 
--- the bytes may be taken at the path, or are the first of what may be taken at the path of the full file
+-- the bytes may be taken at the path, or the bytes of a full file that begins with them may be taken at its full path
 abbrev pub PartOf : (Path → List ℕ → Type 0) → Path → List ℕ → Type 0
 PartOf take path bytes = take path bytes ⊎ ((full : List ℕ) × take (full_of path) full × IsFirstOf full bytes)
 
--- the row of a level of the edge of n entries is that of bytes that may be taken, where the level has one
+-- the row of a level of the edge of n entries comes from bytes that may be taken, if the level has one
 pub record IsRowFrom (take : Path → List ℕ → Type 0) (n level : ℕ) (row : List (List ℕ)) : Type 0 where
   pub bytes : List ℕ
   pub is_row : IsRow (width_of n level) bytes row
   pub taken : 1 ≤ width_of n level → PartOf take (Tile level (edge_index_of n level) (width_of n level)) bytes
 
--- so is each row of the edge
+-- each row of the edge is such a row
 pub record IsEdgeFrom (take : Path → List ℕ → Type 0) (n : ℕ) (edge : Edge) : Type 0 where
   pub size_is : edge.size ≡ n
   pub rows_are : (level : ℕ) → level ≤ 7 → IsRowFrom take n level (row_at edge level)
@@ -59,33 +58,33 @@ module _ {S : Type 0} (may : S → Path → Option (List ℕ) → Type 0) where
   abbrev pub MayTake : Places S → Option (List Put) → Path → List ℕ → Type 0
   MayTake places puts path bytes = WasPut puts path bytes ⊎ MayGive places path bytes
 
-  -- tiles of level 0 were put, and files that might be taken
+  -- each put is a tile of level 0, or a file that might be taken
   pub record PutsTaken (places : Places S) (old new : Option (List Put)) : Type 0 where
     pub puts : List Put
     pub recorded : AddsToRecord old new puts
     pub are_taken : All (λ put. IsLeafTile put.0 ⊎ MayTake places old put.0 put.1) puts
 
 module _ (digest : List ℕ → List ℕ) (log : List (List ℕ)) where
-  -- no two different strings of the log's tree, and of what folding the row hashes, share a digest
+  -- no two different strings of the log's tree and of the folding of the row share a digest
   abbrev pub IsRowClear : List (List ℕ) → Type 0
   IsRowClear row = NoClash digest (set.from_list (strings digest log ++ joins digest row))
 
-  -- the same of the tree of some entries
+  -- the same for the tree of some entries
   abbrev pub AreEntriesClear : List (List ℕ) → Type 0
   AreEntriesClear entries = NoClash digest (set.from_list (strings digest log ++ strings digest entries))
 
-  -- so it is of each full tile of level 1 or above and each bundle that may be taken
+  -- this holds for each full tile of level 1 or above and for each bundle that may be taken
   pub record FilesAreClear (take : Path → List ℕ → Type 0) : Type 0 where
     pub tile : (level index : ℕ) → 1 ≤ level → (bytes : List ℕ) (row : List (List ℕ)) →
         take (Tile level index 256) bytes → IsRow 256 bytes row → IsRowClear row
     pub bundle : (index width : ℕ) (bytes : List ℕ) (entries : List (List ℕ)) →
         PartOf take (Entries index width) bytes → IsBundle width bytes entries → AreEntriesClear entries
 
-  -- the same of what leads from the rows of an edge to their root
+  -- the same for the folding of the rows of an edge to their root
   abbrev pub IsEdgeClear : Edge → Type 0
   IsEdgeClear edge = NoClash digest
       (set.from_list (strings digest log ++ edge_strings digest (map (row_at edge) (edge_levels edge.size))))
 
-  -- so it is of each edge of as many entries whose rows may be taken
+  -- this holds for each edge of the log's size whose rows may be taken
   abbrev pub EdgesAreClear : (Path → List ℕ → Type 0) → Type 0
   EdgesAreClear take = (edge : Edge) → IsEdgeFrom take (length log) edge → IsEdgeClear edge

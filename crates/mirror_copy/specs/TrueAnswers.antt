@@ -1,4 +1,4 @@
--- What a place that gives true files alone answers. It is cited by the contracts of private functions alone.
+-- The answers of a place that gives only true files. Only the contracts of private functions cite it.
 use Rattle.std.specs.Prelude.{◌≡◌, ℕ, ◌*◌, ◌≤◌, List, length, map, take, Option, Some, IsSomeAnd}
 use Rattle.tlog_shape.specs.Edge.{edge_index_of, width_of}
 use Rattle.tlog_hash.specs.Rows.{level_row, part}
@@ -14,7 +14,7 @@ use Rattle.mirror_copy.specs.Suffices.{IsTruePlace}
 use Rattle.mirror_copy.specs.declared.places.Places.{Places}
 
 module _ {S : Type 0} (may : S → Path → Option (List ℕ) → Type 0) (old new : Places S) (index : ℕ) where
-  -- so it is of each list of entries whose true files alone the place gives
+  -- "so" holds for each list of entries if the place gives only true files of it
   abbrev pub OfTruePlace : ((List ℕ → List ℕ) → List (List ℕ) → Type 0) → Type 0
   OfTruePlace so =
       (digest : List ℕ → List ℕ) → IsDigest digest → (entries : List (List ℕ)) → AreShort entries →
@@ -25,7 +25,7 @@ module _ {S : Type 0} (may : S → Path → Option (List ℕ) → Type 0) (old n
   FindsTrue path found = OfTruePlace (λ digest entries. IsWithin (length entries) path →
       found ≡ Some (true_bytes digest entries path))
 
-  -- the same where a log may have deleted the partial file
+  -- the same if a log may have deleted the partial file
   abbrev pub FindsPart : Path → Option (List ℕ) → Type 0
   FindsPart path found = OfTruePlace (λ digest entries. IsWithin (length entries) path → IsGone (length entries) path →
       found ≡ Some (true_bytes digest entries path))

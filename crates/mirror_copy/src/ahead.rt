@@ -1,4 +1,4 @@
-//! Bundles that will be asked for soon.
+//! Bundles that will be requested soon.
 ghost use Rattle.std.specs.Prelude.{◌≡◌, ◌^◌, ◌<◌, ℕ, List, IfErr, IfOk};
 ghost use Rattle.tlog_tiles.specs.declared.paths.Path.TheVariants.{Entries};
 ghost use Rattle.mirror_sources.specs.Recorded.{KeepsRecord};
@@ -20,10 +20,10 @@ use std::alloc::{AllocError, Global};
 use tlog_hash::{Hash, TreeHash};
 use tlog_tiles::Path;
 
-// How many bundles a hint names at most.
+// The maximum number of bundles in a hint.
 const MOST_AHEAD: u64 = 64;
 
-// The paths of the full bundles after that one: so many, 64 at most.
+// The paths of the `more` full bundles after that index, 64 at most.
 fn bundles_after(alloc: Global, index: u64, more: u64) -> Result<Vec<Path>, AllocError>
     requires { index < 2 ^ 62 }
 {
@@ -37,8 +37,8 @@ fn bundles_after(alloc: Global, index: u64, more: u64) -> Result<Vec<Path>, Allo
     Ok(paths)
 }
 
-// Gives the place that is asked first a hint of the bundles after one that a place gave. Where the shelf had that one, the next
-// may be there too, so there is no hint. Nor is there one where memory is refused.
+// If a place gave a bundle, gives the place that is first in turn a hint of the next bundles. There is no hint if the shelf had the
+// bundle: it may have the next ones too. There is no hint if memory is refused.
 fn expect_after<S: Source + Drop>(
     alloc: Global,
     places: &mut Places<S>,
@@ -58,8 +58,8 @@ fn expect_after<S: Source + Drop>(
     places.expect(&paths);
 }
 
-/// The full bundle of that index, from the shelf or else from a place. `more` is how many bundles of its row come after it: where a
-/// place gave it, a hint names the next.
+/// The full bundle of that index, from the shelf or else from a place. `more` is the number of bundles after it in its row: if a place
+/// gave the bundle, a hint names the next ones.
 pub(crate) fn find_bundle<H: TreeHash, D: ReadableShelf, S: Source + Drop>(
     alloc: Global,
     shelf: &mut D,

@@ -1,4 +1,4 @@
-//! Tiles brought from places, with all that lies below them.
+//! Tiles brought from places, with all files below them.
 ghost use Rattle.std.specs.Prelude.{◌≡◌, ◌+◌, ◌*◌, ◌^◌, ◌<◌, ◌≤◌, ℕ, List, IfErr, OnOk, length, take};
 ghost use Rattle.mirror_sources.specs.Recorded.{KeepsRecord};
 ghost use Rattle.mirror_copy.specs.Asked.{IsNewFull};
@@ -22,7 +22,7 @@ use std::alloc::Global;
 use tlog_hash::{Hash, TreeHash};
 use tlog_tiles::{Path, write_row};
 
-// Brings a full bundle, and its tile of level 0. `more` is how many bundles of its row come after it.
+// Brings a full bundle, and its tile of level 0. `more` is the number of bundles after it in its row.
 fn bring_bundle<H: TreeHash, D: ReadableShelf, S: Source + Drop>(
     alloc: Global,
     shelf: &mut D,
@@ -70,8 +70,8 @@ fn bring_bundle<H: TreeHash, D: ReadableShelf, S: Source + Drop>(
     )
 }
 
-/// Brings a full tile: its row is found, all below it is brought from left to right, and then it is put. `more` is how many tiles
-/// of the row above come after it.
+/// Brings a full tile: finds its row, brings all files below it from left to right, and then puts it. `more` is the number of tiles
+/// after it in the row above.
 #[cycle(tiles)]
 fn bring_tile<H: TreeHash, D: ReadableShelf, S: Source + Drop>(
     alloc: Global,
@@ -115,7 +115,7 @@ fn bring_tile<H: TreeHash, D: ReadableShelf, S: Source + Drop>(
     keep(shelf, &path, &found.bytes)
 }
 
-/// Brings all below a row, full or at the edge, from left to right.
+/// Brings all files below a row, from left to right. The row is that of a full tile or of the right edge.
 #[cycle(tiles)]
 pub(crate) fn bring_row<H: TreeHash, D: ReadableShelf, S: Source + Drop>(
     alloc: Global,

@@ -34,7 +34,7 @@ use mirror_sources::Source;
 use std::alloc::Global;
 use tlog_hash::{Hash, TreeHash};
 
-// A checkpoint that a copy may be brought to: a note, and the size and root that its text says.
+// A checkpoint for the copy: a note, and the size and root in its text.
 #[derive(Drop)]
 struct Candidate<'a> {
     note: &'a [u8],
@@ -42,14 +42,14 @@ struct Candidate<'a> {
     root: Hash,
 }
 
-// Whether it is the hash of the empty list.
+// Whether the root is the hash of the empty list.
 fn is_empty_root<H: TreeHash>(root: &Hash) -> bool
     ensures { IsTrue result ↔ (root.now ≡ H.digest []) }
 {
     *root == H::empty()
 }
 
-// Says how many files the copy lacks, the checkpoint among them.
+// Passes to the shelf the number of files that the copy lacks. The checkpoint counts as one.
 fn expect_new<D: ReadableShelf>(shelf: &mut D, old_size: u64, size: u64)
     ensures same { KeepsRecord (D.puts shelf.old) (D.puts shelf.new) }
     ensures failed { D.failed shelf.new ≡ D.failed shelf.old }
@@ -59,7 +59,7 @@ fn expect_new<D: ReadableShelf>(shelf: &mut D, old_size: u64, size: u64)
     shelf.expect(files_to_put(size, old_size));
 }
 
-// The edge rows of a larger tree. Once they are found, it says how many files are to be put.
+// Finds the edge rows of a larger tree. Then passes to the shelf the number of files that will be put.
 fn find_new_edge<H: TreeHash, D: ReadableShelf, S: Source + Drop>(
     alloc: Global,
     shelf: &mut D,
@@ -88,7 +88,7 @@ fn find_new_edge<H: TreeHash, D: ReadableShelf, S: Source + Drop>(
     Ok(edge)
 }
 
-// Puts the checkpoint of a log of no entries onto a shelf that has none.
+// Puts the checkpoint of an empty log onto a shelf without a checkpoint.
 fn put_empty<H: TreeHash, D: ReadableShelf>(
     shelf: &mut D,
     origin: &str,
@@ -144,7 +144,7 @@ fn bring_larger<H: TreeHash, D: ReadableShelf, S: Source + Drop>(
     done
 }
 
-// Brings the copy with that tip to a checkpoint.
+// Brings the copy with that tip to a checkpoint, if it is larger.
 fn bring_from<H: TreeHash, D: ReadableShelf, S: Source + Drop>(
     alloc: Global,
     origin: &str,
@@ -177,20 +177,22 @@ fn bring_from<H: TreeHash, D: ReadableShelf, S: Source + Drop>(
     Err(BringFault::NotLarger)
 }
 
-/// Brings the copy on a shelf to a larger checkpoint, and answers how many entries it had before.
+/// Brings the copy on a shelf to a larger checkpoint. The answer is the copy's old number of entries.
 ///
-/// The note is one whose text is a checkpoint of the origin. No signature is looked at: the caller has opened the note under the
-/// log's keys. Each file of the larger tree that the copy lacks is looked for on the shelf, then at the place whose bytes verified
-/// last, then at the others in their order, and counts only where it verifies: the edge rows lead to the checkpoint's root, a full
-/// tile folds to its hash in the row above it, and the leaf hashes of a bundle fold to their hash. A tile is put after what lies
-/// below it, and the checkpoint last. So at each moment a whole copy stands, whatever the places answer. What stands is never taken
-/// away, and is put again only where its bytes are false. Where it is true it is flushed before the checkpoint is put.
+/// The note's text has to be a checkpoint of the origin. This call verifies no signature: the caller has opened the note under the
+/// log's keys. The call looks for each file of the larger tree that the copy lacks: first on the shelf, then at the place whose bytes
+/// verified last, then at the other places in order. A file is used only if it verifies. The edge rows have to lead to the checkpoint's
+/// root. A full tile has to fold to its hash in the row above. The leaf hashes of a bundle have to fold to their hash.
 ///
-/// A partial file at the edge, on the shelf or at a place, may have given way to its full one: then it is cut from that.
+/// A tile is put after the files below it, and the checkpoint last. So the shelf has a whole copy at each moment, for all answers of the
+/// places. No file is removed. A file is put again only if its bytes are false. If they are true, the file is flushed before the
+/// checkpoint is put.
 ///
-/// A shelf without a checkpoint is an empty copy. Only such a one is brought to a checkpoint of no entries.
+/// If the shelf or a place lacks a partial file at the right edge, it is cut from the full file.
 ///
-/// Once the edge rows are found, the shelf gets by `expect` the number of files that the copy lacks, the checkpoint among them.
+/// A shelf without a checkpoint is an empty copy. Only an empty copy may be brought to a checkpoint without entries.
+///
+/// Once the edge rows are found, `expect` passes to the shelf the number of files that the copy lacks. The checkpoint counts as one.
 ///
 /// ```text
 /// bring_copy::<Sha256Tree, MemShelf, ListSource<Sha256Tree>>(alloc, "ex", &mut shelf, &mut places, note)? // 257
@@ -198,13 +200,13 @@ fn bring_from<H: TreeHash, D: ReadableShelf, S: Source + Drop>(
 ///
 /// # Errors
 ///
-/// - `BadCheckpoint`: the bytes are no note whose text is a checkpoint of the origin.
-/// - `CopyDamaged`: the shelf has a checkpoint that is no such note, or not the edge rows and the partial bundle of its root.
-/// - `NotLarger`: the copy has as many entries or more.
-/// - `Contradiction`: the old rows are not in the larger tree. `Collision`: they are, and the old bundle is not. Nothing was put.
-/// - `NoFile`: neither the shelf nor a place has a file that verifies. `Source`: the same, and a place failed in this call. Its path is
-///   then `places.lacked()`.
-/// - `CopyInUse`: when all other files stood, the shelf's checkpoint was another than at first, so another run put it.
+/// - `BadCheckpoint`: the bytes are not a note whose text is a checkpoint of the origin.
+/// - `CopyDamaged`: the shelf's checkpoint is not such a note, or the shelf lacks its edge rows or its partial bundle.
+/// - `NotLarger`: the copy has at least as many entries as the checkpoint.
+/// - `Contradiction`: the larger tree does not have the old rows. `Collision`: it has them, but not the old bundle. Nothing was put.
+/// - `NoFile`: neither the shelf nor a place has a file that verifies. `Source`: the same, and a place failed in this call. The file's
+///   path is then `places.lacked()`.
+/// - `CopyInUse`: another run changed the shelf's checkpoint. The call saw it after it had put all other files.
 /// - `ShelfFault`: the shelf failed. `OutOfMemory`: memory was refused.
 pub fn bring_copy<H: TreeHash, D: ReadableShelf, S: Source + Drop>(
     alloc: Global,

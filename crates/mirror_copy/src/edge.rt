@@ -1,4 +1,4 @@
-//! A copy brought to the edge of a larger tree.
+//! A copy brought to the right edge of a larger tree.
 ghost use Rattle.std.specs.Prelude.{◌≡◌, ◌*◌, ◌^◌, ◌<◌, ◌≤◌, ℕ, List, IfErr, OnOk, take};
 ghost use Rattle.tlog_shape.specs.Edge.{edge_index_of};
 ghost use Rattle.mirror_sources.specs.Recorded.{KeepsRecord};
@@ -23,7 +23,7 @@ use std::alloc::Global;
 use tlog_hash::TreeHash;
 use tlog_shape::edge_index;
 
-/// Brings all that lies below the edge but for the partial bundle, from left to right.
+/// Brings all files below the right edge except the partial bundle, from left to right.
 pub(crate) fn bring_levels<H: TreeHash, D: ReadableShelf, S: Source + Drop>(
     alloc: Global,
     shelf: &mut D,

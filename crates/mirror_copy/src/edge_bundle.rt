@@ -1,4 +1,4 @@
-//! The partial bundle at the edge.
+//! The partial bundle at the right edge.
 ghost use Rattle.std.specs.Prelude.{◌≡◌, ◌*◌, ◌^◌, ◌<◌, ◌≤◌, ℕ, List, IfErr, IfNone, IfOk, IfSome, IsTrue, Some, length, option_map, take};
 ghost use Rattle.tlog_shape.specs.Edge.{edge_index_of};
 ghost use Rattle.mirror_sources.specs.Recorded.{KeepsRecord};
@@ -30,7 +30,7 @@ use tlog_hash::{Hash, TreeHash};
 use tlog_shape::edge_index;
 use tlog_tiles::Path;
 
-/// Bytes that were given, if they are a bundle with these leaf hashes.
+/// These bytes, if they are a bundle with these leaf hashes.
 pub(crate) fn accept_edge_bundle<H: TreeHash>(
     alloc: Global,
     row: &[Hash],
@@ -59,7 +59,7 @@ pub(crate) fn accept_edge_bundle<H: TreeHash>(
     }
 }
 
-// The bundle as a place gives it, where it verifies.
+// The bundle from a place, if it verifies.
 fn edge_bundle_at_place<H: TreeHash, S: Source + Drop>(
     alloc: Global,
     places: &mut Places<S>,
@@ -91,7 +91,7 @@ fn edge_bundle_at_place<H: TreeHash, S: Source + Drop>(
     Ok(found)
 }
 
-// The bundle as the places give it: of the first whose bundle verifies.
+// The bundle from the first place whose bundle verifies.
 fn edge_bundle_at_places<H: TreeHash, S: Source + Drop>(
     alloc: Global,
     places: &mut Places<S>,
@@ -120,7 +120,7 @@ fn edge_bundle_at_places<H: TreeHash, S: Source + Drop>(
     Ok(None)
 }
 
-// The bundle, from the shelf or else from a place.
+// The bundle from the shelf, or else from a place.
 fn find_edge_bundle<H: TreeHash, D: ReadableShelf, S: Source + Drop>(
     alloc: Global,
     shelf: &mut D,
@@ -152,7 +152,7 @@ fn find_edge_bundle<H: TreeHash, D: ReadableShelf, S: Source + Drop>(
     }
 }
 
-/// Brings the partial bundle at the edge, if there is one.
+/// Brings the partial bundle at the right edge, if there is one.
 pub(crate) fn bring_edge_bundle<H: TreeHash, D: ReadableShelf, S: Source + Drop>(
     alloc: Global,
     shelf: &mut D,

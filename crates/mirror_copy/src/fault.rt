@@ -1,4 +1,4 @@
-//! Why a bringing ends early.
+//! The faults of bringing a copy to a checkpoint.
 ghost use Rattle.std.specs.Prelude.{◌≡◌};
 ghost use Rattle.mirror_copy.specs.Faults.{by_shelf};
 ghost use Rattle.mirror_copy.specs.declared.fault.BringFault.TheVariants.{OutOfMemory};
@@ -7,31 +7,31 @@ use mirror_folders::ShelfError;
 use std::alloc::{AllocError, AllocFailed};
 use thiserror::Error;
 
-/// Why a copy was not brought to a checkpoint. It prints its variant's name.
+/// The reason why a copy was not brought to a checkpoint. It prints as its variant's name.
 #[derive(Debug, Drop, PartialEq, Eq, Clone, Copy, Error)]
 pub enum BringFault {
-    /// The bytes are no note whose text is a checkpoint of the origin.
+    /// The bytes are not a note whose text is a checkpoint of the origin.
     #[error("BadCheckpoint")]
     BadCheckpoint,
-    /// What is on the shelf is no copy of a log of the origin.
+    /// The shelf has a checkpoint, but not a copy of a log of the origin.
     #[error("CopyDamaged")]
     CopyDamaged,
-    /// The copy has as many entries as the checkpoint, or more.
+    /// The copy has at least as many entries as the checkpoint.
     #[error("NotLarger")]
     NotLarger,
-    /// A row of the larger tree does not begin with the copy's.
+    /// A row of the larger tree does not begin with the copy's row.
     #[error("Contradiction")]
     Contradiction,
-    /// The rows begin with the copy's, and the bundle does not begin with the bytes of the copy's.
+    /// The rows begin with the copy's rows, but the bundle does not begin with the copy's bundle.
     #[error("Collision")]
     Collision,
-    /// Neither the shelf nor a place has a file that verifies, and no place failed in this bringing.
+    /// Neither the shelf nor a place has a file that verifies. No place failed in this call.
     #[error("NoFile")]
     NoFile,
-    /// Neither the shelf nor a place has a file that verifies, and a place failed in this bringing.
+    /// Neither the shelf nor a place has a file that verifies. A place failed in this call.
     #[error("Source")]
     Source,
-    /// The shelf's checkpoint is another than the one that was read first.
+    /// The shelf's checkpoint changed since it was read first.
     #[error("CopyInUse")]
     CopyInUse,
     /// The shelf failed.

@@ -1,4 +1,4 @@
-//! A file found on the shelf or at a place, where it verifies.
+//! A file that verifies, from the shelf or from a place.
 ghost use Rattle.std.specs.Prelude.{◌≡◌, ◌<◌, ℕ, List, IfErr, IfNone, IfOk, IfSome, get_or, length};
 ghost use Rattle.mirror_sources.specs.Recorded.{KeepsRecord};
 ghost use Rattle.mirror_model.specs.TrueLaws.{AreShort};
@@ -29,7 +29,7 @@ pub(crate) struct Found {
     pub(crate) is_given: bool,
 }
 
-// Bytes that were given, where they verify.
+// These bytes, if they verify.
 fn accept<H: TreeHash>(
     alloc: Global,
     kind: FullFile,
@@ -52,7 +52,7 @@ fn accept<H: TreeHash>(
     }
 }
 
-// The file as a place gives it, where it verifies.
+// The file from a place, if it verifies.
 fn find_at_place<H: TreeHash, S: Source + Drop>(
     alloc: Global,
     places: &mut Places<S>,
@@ -93,7 +93,7 @@ fn find_at_place<H: TreeHash, S: Source + Drop>(
     }
 }
 
-// The file as the places give it: of the first whose file verifies.
+// The file from the first place whose file verifies.
 fn find_at_places<H: TreeHash, S: Source + Drop>(
     alloc: Global,
     places: &mut Places<S>,
@@ -124,7 +124,7 @@ fn find_at_places<H: TreeHash, S: Source + Drop>(
     Ok(None)
 }
 
-/// The file, from the shelf or else from a place.
+/// The file from the shelf, or else from a place.
 pub(crate) fn find<H: TreeHash, D: ReadableShelf, S: Source + Drop>(
     alloc: Global,
     shelf: &mut D,

@@ -1,4 +1,4 @@
-//! The edge rows of a tree, all from the shelf or all from one place.
+//! The edge rows of a tree: all from the shelf, or all from one place.
 ghost use Rattle.std.specs.Prelude.{◌≡◌, ◌<◌, ◌≤◌, ℕ, List, IfErr, IfNone, IfOk, IfSome, length, option_map};
 ghost use Rattle.mirror_sources.specs.Recorded.{KeepsRecord};
 ghost use Rattle.mirror_copy.specs.Asked.{IsEdgeTile};
@@ -26,7 +26,7 @@ use tlog_hash::{Hash, TreeHash};
 use tlog_shape::edge_width;
 use tlog_tiles::Path;
 
-// The row of a level at a place, empty where the level has none; None where the place does not have it, or failed.
+// The row of a level at a place, empty if the level has none. None: the place lacks the row, or failed.
 fn row_at_place<S: Source + Drop>(
     alloc: Global,
     places: &mut Places<S>,
@@ -58,7 +58,7 @@ fn row_at_place<S: Source + Drop>(
     Ok(row)
 }
 
-// The edge rows at a place, asked for lowest level first, up to the first that it does not have.
+// The edge rows at a place, requested from the lowest level up, to the first row that the place lacks.
 fn rows_at_place<S: Source + Drop>(
     alloc: Global,
     places: &mut Places<S>,
@@ -83,7 +83,7 @@ fn rows_at_place<S: Source + Drop>(
     Ok(Some(EdgeRows::new(size, rows)))
 }
 
-// The row of a level on the shelf, empty if the level has none; None if the shelf has no such row.
+// The row of a level on the shelf, empty if the level has none. None: the shelf lacks the row.
 fn row_on_shelf<D: ReadableShelf>(
     alloc: Global,
     shelf: &mut D,
@@ -110,7 +110,7 @@ fn row_on_shelf<D: ReadableShelf>(
     Ok(row_of(alloc, width, &bytes)?)
 }
 
-// The edge rows on the shelf, up to the first that is not there.
+// The edge rows on the shelf, from the lowest level up, to the first row that the shelf lacks.
 fn rows_on_shelf<D: ReadableShelf>(
     alloc: Global,
     shelf: &mut D,
@@ -173,7 +173,7 @@ fn lowest_edge_path(size: u64) -> Path {
     edge_path(size, 7)
 }
 
-// The edge rows of a place, if they lead to the root.
+// The edge rows from a place, if they lead to the root.
 fn edge_at_place<H: TreeHash, S: Source + Drop>(
     alloc: Global,
     places: &mut Places<S>,
@@ -204,7 +204,7 @@ fn edge_at_place<H: TreeHash, S: Source + Drop>(
     }
 }
 
-// The edge rows as the places have them: of the first whose rows lead to the root.
+// The edge rows from the first place whose rows lead to the root.
 fn edge_at_places<H: TreeHash, S: Source + Drop>(
     alloc: Global,
     places: &mut Places<S>,
@@ -232,7 +232,7 @@ fn edge_at_places<H: TreeHash, S: Source + Drop>(
     Ok(None)
 }
 
-/// The edge rows of a tree of that size and root, from the shelf, or else from the first place that has them all.
+/// The edge rows of a tree of that size and root: from the shelf, or else from the first place that has them all.
 pub(crate) fn find_edge<H: TreeHash, D: ReadableShelf, S: Source + Drop>(
     alloc: Global,
     shelf: &mut D,

@@ -1,4 +1,4 @@
-//! A verified file, put if it is not there yet.
+//! A verified file, put if the shelf lacks it.
 ghost use Rattle.std.specs.Prelude.{◌≡◌, ◌↔◌, ◌⊎◌, [], ◌∷◌, IfErr, IfOk, IsTrue, OnOk};
 ghost use Rattle.mirror_sources.specs.Recorded.{KeepsRecord, AddsToRecord};
 ghost use Rattle.mirror_copy.specs.Conflicts.{IsNoConflict};
@@ -15,7 +15,7 @@ fn is_same(first: &[u8], second: &[u8]) -> bool
     first == second
 }
 
-// Whether the bytes are at the path.
+// Whether the shelf has these bytes at the path.
 fn stands<D: ReadableShelf>(shelf: &mut D, path: &Path, bytes: &[u8]) -> Result<bool, BringFault>
     ensures fault { IfErr result IsNoConflict }
     ensures counted { CountsShelf (D.failed shelf.old) (D.failed shelf.new) result }
@@ -30,8 +30,7 @@ fn stands<D: ReadableShelf>(shelf: &mut D, path: &Path, bytes: &[u8]) -> Result<
     }
 }
 
-/// Puts the file, if it is not there yet. One that is there, as an earlier run may have put it, is flushed before the checkpoint is
-/// put.
+/// Puts the file, if the shelf lacks it. A file on the shelf, perhaps from an earlier run, is flushed before the checkpoint is put.
 pub(crate) fn keep<D: ReadableShelf>(
     shelf: &mut D,
     path: &Path,

@@ -15,7 +15,7 @@ fn is_same(first: &[u8], second: &[u8]) -> bool
     first == second
 }
 
-// Whether the shelf's checkpoint is the one that was there when the tip was read.
+// Whether the shelf still has the checkpoint that was read with the tip.
 fn is_unchanged(tip: &CopyTip, now: &Option<Vec<u8>>) -> bool
     ensures { IsTrue result ↔ (option_map (λ v. v.items) now.now ≡ tip.now.checkpoint) }
 {
@@ -26,7 +26,7 @@ fn is_unchanged(tip: &CopyTip, now: &Option<Vec<u8>>) -> bool
     }
 }
 
-/// Puts the checkpoint, if the shelf's is still the one that was there when the tip was read.
+/// Puts the checkpoint, if the shelf still has the one that was read with the tip.
 pub(crate) fn put_last<D: ReadableShelf>(
     shelf: &mut D,
     tip: &CopyTip,

@@ -2,7 +2,7 @@
 ghost use Rattle.mirror_copy.specs.Copies.{BringingBeginsEmpty, BringingMakesCopy, BringingStaysCopy, BroughtRowsLeadToRoot, CopiesAreSame, NewFilesKeepCopies};
 ghost use Rattle.mirror_copy.specs.Pruned.{CopiesArePruned};
 
-/// At each moment at which new files alone were put, the copy is as it was.
+/// At each moment, if only new files were put, the old copy is unchanged.
 pub fn new_files_law()
     ensures { NewFilesKeepCopies }
 {}
@@ -12,28 +12,28 @@ pub fn makes_copy_law()
     ensures { BringingMakesCopy }
 {}
 
-/// At each moment of a bringing the old copy is there, or the new one.
+/// At each moment of the call, the shelf has the old copy or the new copy.
 pub fn stays_copy_law()
     ensures { BringingStaysCopy }
 {}
 
-/// The rows of the edge lead to the tree hash of the entries that were put.
+/// The edge rows lead to the tree hash of the entries that were put.
 pub fn root_law()
     ensures { BroughtRowsLeadToRoot }
 {}
 
-/// Two copies of one size and root have the same files, the checkpoint apart, where no two different strings of their trees
-/// share a digest.
+/// Two copies of one size and root have the same files, except the checkpoint. Premise: no two different strings of their trees share a
+/// digest.
 pub fn same_copy_law()
     ensures { CopiesAreSame }
 {}
 
-/// A copy in which every file is there is one whose partial files may have given way to their full ones.
+/// A copy with all its files is also a copy whose partial files may be replaced by full files.
 pub fn pruned_copy_law()
     ensures { CopiesArePruned }
 {}
 
-/// A bringing may begin with nothing.
+/// The call may start from an empty shelf.
 pub fn empty_tip_law()
     ensures { BringingBeginsEmpty }
 {}

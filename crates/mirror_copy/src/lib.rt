@@ -1,8 +1,8 @@
-//! A copy of a log: a folder that any web server gives out as the log (C2SP tlog-tiles), brought to a larger checkpoint from
-//! places that are not trusted. It takes little memory, whatever the size of the log: each file is verified before it is put.
+//! A copy of a log is a folder that any web server can serve as the log (C2SP tlog-tiles). This crate brings a copy to a larger
+//! checkpoint, from places that are not trusted. Each file is verified before it is put, so the memory does not grow with the log.
 //!
 //! ```text
-//! bring_copy::<Sha256Tree, MemShelf, ListSource<Sha256Tree>>(alloc, "ex", &mut shelf, &mut places, note)? // 257: how many entries it had
+//! bring_copy::<Sha256Tree, MemShelf, ListSource<Sha256Tree>>(alloc, "ex", &mut shelf, &mut places, note)? // 257: its old entries
 //! ```
 #![tactic(auto)]
 

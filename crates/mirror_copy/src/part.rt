@@ -11,7 +11,7 @@ ghost use Rattle.mirror_copy.specs.Taken.{IsFirstOf};
 
 use tlog_tiles::{Path, split_entry};
 
-/// The path of the full file of a place.
+/// The path of the full file with the same level and index.
 pub(crate) fn full_of(path: &Path) -> Path
     ensures { result ≡ full_of path.now }
 {
@@ -29,7 +29,7 @@ pub(crate) fn full_of(path: &Path) -> Path
     }
 }
 
-// The first `count` entries of a bundle; None where it has fewer.
+// The first `count` entries of a bundle. None: it has fewer.
 fn first_entries(bundle: &[u8], count: u32) -> Option<&[u8]>
     ensures first { IfSome result (λ part. IsFirstOf bundle.now part.now) }
     ensures whole { (entries : List (List ℕ)) → AreShort entries → bundle.now ≡ bundle_text entries
@@ -50,7 +50,7 @@ fn first_entries(bundle: &[u8], count: u32) -> Option<&[u8]>
     Some(part)
 }
 
-// The first hashes of a tile; None where it has fewer.
+// The first `count` hashes of a tile. None: it has fewer.
 fn first_hashes(tile: &[u8], count: u32) -> Option<&[u8]>
     ensures first { IfSome result (λ part. IsFirstOf tile.now part.now) }
     ensures whole { (row : List (List ℕ)) → All (λ hash. length hash ≡ 32) row
@@ -68,7 +68,7 @@ fn first_hashes(tile: &[u8], count: u32) -> Option<&[u8]>
     Some(part)
 }
 
-/// The part of a full file that is the partial file of that path.
+/// The partial file of that path, cut from its full file.
 pub(crate) fn part_of<'a>(path: &Path, full: &'a [u8]) -> Option<&'a [u8]>
     ensures first { IfSome result (λ part. IsFirstOf full.now part.now) }
     ensures whole { (digest : List ℕ → List ℕ) → IsDigest digest → (entries : List (List ℕ))

@@ -6,12 +6,12 @@ use mirror_sources::{Source, SourceFault};
 use std::alloc::AllocError;
 use tlog_tiles::Path;
 
-/// What was wrong with a file at a place.
+/// How a file at a place was wrong.
 #[derive(Debug, PartialEq, Eq, Clone, Copy)]
 pub enum Wrong {
-    /// The place does not have it.
+    /// The place lacks the file.
     NotFound,
-    /// The place has other bytes.
+    /// The place has other bytes at the path.
     False,
     /// The get failed.
     Failed,
@@ -22,26 +22,26 @@ pub enum Wrong {
 pub struct WrongFile {
     /// Its path.
     pub path: Path,
-    /// What was wrong with it.
+    /// How it was wrong.
     pub wrong: Wrong,
 }
 
-/// What a place answers.
+/// The answer of a place to a get.
 #[derive(Drop)]
 pub enum PlaceAnswer {
-    /// The bytes of the file, which are not verified yet.
+    /// The bytes of the file, not verified yet.
     File(Vec<u8>),
     /// The place has no such file.
     NotFound,
-    /// The get failed, or the place failed so often before that it was not asked.
+    /// The get failed, or the place was not asked since it had failed 8 times.
     Failed,
 }
 
-// How often a place may fail in a run.
+// The number of failures after which a place is given up.
 const MOST_FAILURES: u32 = 8;
 
-/// A source that is not trusted, with what came of asking it in this run: how often it failed, and the first file that was wrong.
-/// A place that failed 8 times is not asked again.
+/// A source that is not trusted, with its number of failures in this run and the first file that was wrong there. After 8 failures, no
+/// get goes to this place.
 #[derive(Drop)]
 pub struct Place<S: Source + Drop> {
     source: S,
@@ -50,7 +50,7 @@ pub struct Place<S: Source + Drop> {
 }
 
 impl<S: Source + Drop> Place<S> {
-    /// The place of that source, which was not asked yet.
+    /// A place of that source, before its first get.
     pub fn new(source: S) -> Self
         ensures source { result.source ≡ source }
         ensures failures { result.failures ≡ 0 }
@@ -70,7 +70,7 @@ impl<S: Source + Drop> Place<S> {
         &self.source
     }
 
-    /// How many gets failed in this run, 8 at most.
+    /// The number of gets that failed in this run, 8 at most.
     pub fn failures(&self) -> u32
         ensures { result ≡ self.now.failures }
     {
@@ -84,14 +84,14 @@ impl<S: Source + Drop> Place<S> {
         self.first_wrong
     }
 
-    /// Whether it failed so often that it is not asked again.
+    /// Whether the place failed 8 times, so no get goes to it.
     pub fn is_given_up(&self) -> bool
         ensures { IsTrue result ↔ 8 ≤ self.now.failures }
     {
         self.failures >= MOST_FAILURES
     }
 
-    /// Keeps in mind that a file was wrong, if it is the first.
+    /// Records a wrong file, if it is the first.
     pub fn note_wrong(&mut self, path: &Path, wrong: Wrong)
         ensures source { self.new.source ≡ self.old.source }
         ensures failures { self.new.failures ≡ self.old.failures }
@@ -102,7 +102,7 @@ impl<S: Source + Drop> Place<S> {
         }
     }
 
-    /// Gives the source a hint of what will be asked for next, unless the place is given up.
+    /// Gives the source a hint of the next paths, unless the place is given up.
     pub(crate) fn expect(&mut self, paths: &[Path])
         ensures asks { IsAskedFor S.may_answer S.failed S.asked (λ p. ⊥) self.old self.new }
         ensures failures { self.new.failures ≡ self.old.failures }
@@ -113,11 +113,11 @@ impl<S: Source + Drop> Place<S> {
         self.source.expect(paths);
     }
 
-    /// Asks for the file at a path. A failure is counted, and kept in mind.
+    /// Gets the file at a path. A failure is counted and recorded.
     ///
     /// # Errors
     ///
-    /// Memory was refused.
+    /// `AllocError`: memory was refused.
     pub fn get(&mut self, path: &Path) -> Result<PlaceAnswer, AllocError>
         ensures asks { IsAskedFor S.may_answer S.failed S.asked (λ p. p ≡ path.now)
             self.old self.new }

@@ -1,4 +1,4 @@
-//! The files of the edge, as a place has them.
+//! The edge files at a place.
 ghost use Rattle.std.specs.Prelude.{◌≡◌, ◌<◌, IfOk, IfSome, length, option_map};
 ghost use Rattle.mirror_sources.specs.Files.{full_of};
 ghost use Rattle.mirror_copy.specs.Asked.{IsPathOrFull};
@@ -13,7 +13,7 @@ use mirror_sources::Source;
 use std::alloc::{AllocError, Global};
 use tlog_tiles::Path;
 
-// The partial file of that path, cut from the full one that the place has.
+// The partial file of that path, cut from the place's full file.
 fn get_part<S: Source + Drop>(
     alloc: Global,
     places: &mut Places<S>,
@@ -45,8 +45,8 @@ fn get_part<S: Source + Drop>(
     }
 }
 
-/// The bytes of a partial file at a place; None where the place does not have it, or failed. A log may have deleted a partial file
-/// once its full one stands: then they are cut from that.
+/// The bytes of a partial file at a place. None: the place lacks it, or failed. A log may delete a partial file once it has the full one:
+/// then the bytes are cut from the full file.
 pub(crate) fn get_partial<S: Source + Drop>(
     alloc: Global,
     places: &mut Places<S>,

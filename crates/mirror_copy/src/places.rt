@@ -12,10 +12,10 @@ use mirror_sources::Source;
 use std::alloc::{AllocError, Global};
 use tlog_tiles::Path;
 
-/// The places of a run, in the order of the words that named them. What is learnt of them lasts over several bringings.
+/// The places of a run, in the order in which they were added. What was learnt about them is kept from call to call.
 ///
-/// The place whose bytes verified last is asked first, then the others in their order. A place that failed 8 times in the run is
-/// not asked again.
+/// The place whose bytes verified last is asked first, then the others in order. A place that failed 8 times in the run is not asked
+/// again.
 ///
 /// ```text
 /// let mut places = Places::new(alloc);
@@ -44,11 +44,11 @@ impl<S: Source + Drop> Places<S> {
         }
     }
 
-    /// Adds the next place. It was not asked yet.
+    /// Adds a place after the others. No get has gone to it yet.
     ///
     /// # Errors
     ///
-    /// Memory was refused.
+    /// `AllocError`: memory was refused.
     pub fn add(&mut self, source: S) -> Result<(), AllocError>
         ensures { MatchResult result
             (λ _. self.new.list.items ≡ self.old.list.items ++
@@ -59,25 +59,25 @@ impl<S: Source + Drop> Places<S> {
         Ok(())
     }
 
-    /// The places, in their order.
+    /// The places, in order.
     pub fn list(&self) -> &[Place<S>]
         ensures { result.now ≡ self.now.list.items }
     {
         self.list.as_slice()
     }
 
-    /// The path of the file that neither the shelf nor a place gave, once a bringing ended so.
+    /// The path of the file that neither the shelf nor a place gave, if a call ended by that fault.
     pub fn lacked(&self) -> Option<Path>
         ensures { result ≡ self.now.lacked }
     {
         self.lacked
     }
 
-    /// Asks a place for the file at a path.
+    /// Gets the file at a path from a place.
     ///
     /// # Errors
     ///
-    /// Memory was refused.
+    /// `AllocError`: memory was refused.
     pub fn get(&mut self, index: usize, path: &Path) -> Result<PlaceAnswer, AllocError>
         requires { index < length self.old.list.items }
         ensures asks { AsksPlaces S.may_answer S.failed S.asked (λ p. p ≡ path.now)
@@ -102,7 +102,7 @@ impl<S: Source + Drop> Places<S> {
         self.list.len()
     }
 
-    /// The place that is asked first: the one whose bytes verified last.
+    /// The place that is asked first: its bytes verified last.
     pub(crate) fn first(&self) -> usize
         ensures { 0 < length self.now.list.items → result < length self.now.list.items }
     {
@@ -113,7 +113,7 @@ impl<S: Source + Drop> Places<S> {
         }
     }
 
-    /// A bringing begins: none has failed in it yet.
+    /// Begins a call: no place has failed in it yet.
     pub(crate) fn begin(&mut self)
         ensures list { self.new.list.items ≡ self.old.list.items }
         ensures failed { IsFalse self.new.has_failed }
@@ -122,7 +122,7 @@ impl<S: Source + Drop> Places<S> {
         self.lacked = None;
     }
 
-    /// Gives the place that is asked first a hint of what will be asked for next.
+    /// Gives the place that is asked first a hint of the next paths.
     pub(crate) fn expect(&mut self, paths: &[Path])
         ensures { AsksPlaces S.may_answer S.failed S.asked (λ p. ⊥) self.old self.new }
     {
@@ -133,14 +133,14 @@ impl<S: Source + Drop> Places<S> {
         self.list[index].expect(paths);
     }
 
-    /// The bytes of a place verified.
+    /// Records that the bytes of a place verified.
     pub(crate) fn note_verified(&mut self, index: usize)
         ensures { AsksPlaces S.may_answer S.failed S.asked (λ p. ⊥) self.old self.new }
     {
         self.verified_last = index;
     }
 
-    /// A file of a place was wrong.
+    /// Records that a file of a place was wrong.
     pub(crate) fn note_wrong(&mut self, index: usize, path: &Path, wrong: Wrong)
         requires { index < length self.old.list.items }
         ensures { AsksPlaces S.may_answer S.failed S.asked (λ p. ⊥) self.old self.new }
@@ -148,7 +148,7 @@ impl<S: Source + Drop> Places<S> {
         self.list[index].note_wrong(path, wrong);
     }
 
-    /// Neither the shelf nor a place gave a file.
+    /// Records that neither the shelf nor a place gave a file. The answer is the fault.
     pub(crate) fn lacks(&mut self, path: &Path) -> BringFault
         ensures list { self.new.list.items ≡ self.old.list.items }
         ensures asks { AsksPlaces S.may_answer S.failed S.asked (λ p. ⊥) self.old self.new }
@@ -165,7 +165,7 @@ impl<S: Source + Drop> Places<S> {
     }
 }
 
-/// The place that is asked in a turn, if one is asked first, and then the others in their order.
+/// The index of the place at a turn: `first` at turn 0, then the other places in order.
 pub(crate) fn in_turn(first: usize, turn: usize) -> usize
     ensures turn { IsAskedInTurn first turn result }
     ensures within { (n : ℕ) → first < n → turn < n → result < n }

@@ -20,7 +20,7 @@ use tlog_hash::TreeHash;
 use tlog_shape::edge_index;
 use tlog_tiles::Path;
 
-// The partial bundle at the edge on the shelf, with the leaf hashes of the lowest row; no bytes if there is none.
+// The partial bundle at the right edge on the shelf, if it has the leaf hashes of the lowest row. Without such a bundle, no bytes.
 fn bundle_on_shelf<H: TreeHash, D: ReadableShelf>(
     alloc: Global,
     shelf: &mut D,
@@ -50,9 +50,9 @@ fn bundle_on_shelf<H: TreeHash, D: ReadableShelf>(
     }
 }
 
-/// The tip of the copy on a shelf: its checkpoint is a note of the origin, the edge rows of its size lead to its root,
-/// and the partial bundle at the edge has the leaf hashes of the lowest row. No signature is looked at, and no other file is read.
-/// Without a checkpoint the copy is empty.
+/// The tip of the copy on a shelf. Its checkpoint has to be a note of the origin. The edge rows of its size have to lead to its root. The
+/// partial bundle at the right edge has to have the leaf hashes of the lowest row. This call verifies no signature and reads no other
+/// file. A shelf without a checkpoint is an empty copy.
 pub(crate) fn read_tip<H: TreeHash, D: ReadableShelf>(
     alloc: Global,
     origin: &str,

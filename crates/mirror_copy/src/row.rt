@@ -6,7 +6,7 @@ use std::alloc::{AllocError, Global};
 use tlog_hash::Hash;
 use tlog_tiles::{RowFault, read_row};
 
-/// The hashes of a tile of that width; None where the bytes are no such tile.
+/// The hashes of a tile of that width. None: the bytes are not such a tile.
 pub(crate) fn row_of(
     alloc: Global,
     width: u32,

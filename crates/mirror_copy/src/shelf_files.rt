@@ -1,4 +1,4 @@
-//! The files of the edge, as a shelf has them.
+//! The edge files on a shelf.
 ghost use Rattle.std.specs.Prelude.{IfErr, IfOk, IfSome, option_map};
 ghost use Rattle.mirror_sources.specs.Recorded.{KeepsRecord};
 ghost use Rattle.mirror_copy.specs.Conflicts.{IsNoConflict};
@@ -12,8 +12,8 @@ use mirror_folders::ReadableShelf;
 use std::alloc::Global;
 use tlog_tiles::Path;
 
-/// The bytes of a partial file on the shelf; None if it is not there. It may have given way to its full file: then they
-/// are cut from that.
+/// The bytes of a partial file on the shelf. None: the shelf lacks it. If it was replaced by its full file, the bytes are cut from
+/// the full file.
 #[tactic(auto, using(crate::proofs::Earlier::kept_then))]
 pub(crate) fn read_partial<D: ReadableShelf>(
     alloc: Global,

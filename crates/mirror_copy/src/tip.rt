@@ -9,8 +9,8 @@ use std::marker::Model;
 use tlog_hash::Hash;
 use tlog_shape::{edge_index, edge_width};
 
-/// The tip of a copy: its edge, the bytes of the partial bundle there, and the checkpoint that was there when they were read, None where
-/// there was none.
+/// The tip of a copy: its edge rows, the bytes of its partial bundle, and its checkpoint at the time of the reading. The checkpoint is None
+/// if there was none.
 #[derive(Drop)]
 pub(crate) struct CopyTip {
     edge: EdgeRows,
@@ -44,7 +44,7 @@ fn is_same(first: &[u8], second: &[u8]) -> bool
     first == second
 }
 
-// Whether the hashes begin with those.
+// Whether the row begins with the old hashes.
 fn begins_with(row: &[Hash], old: &[Hash]) -> bool
     ensures { IsTrue result ↔ ((length old.now ≤ length row.now)
         × (take (length old.now) row.now ≡ old.now)) }
@@ -52,7 +52,7 @@ fn begins_with(row: &[Hash], old: &[Hash]) -> bool
     old.len() <= row.len() && is_same_row(&row[..old.len()], old)
 }
 
-// Whether the bytes begin with those.
+// Whether the bytes begin with the old ones.
 fn goes_on_from(bytes: &[u8], old: &[u8]) -> bool
     ensures { IsTrue result ↔ ((length old.now ≤ length bytes.now)
         × (take (length old.now) bytes.now ≡ old.now)) }
@@ -61,7 +61,7 @@ fn goes_on_from(bytes: &[u8], old: &[u8]) -> bool
 }
 
 impl CopyTip {
-    /// The tip of a copy with that edge and that partial bundle, under that checkpoint.
+    /// The tip of a copy with that edge, partial bundle and checkpoint.
     pub(crate) fn new(edge: EdgeRows, bundle: Vec<u8>, checkpoint: Vec<u8>) -> CopyTip
         ensures size { result.size ≡ edge.size }
         ensures rows { result.rows ≡ edge.rows }
@@ -75,7 +75,7 @@ impl CopyTip {
         }
     }
 
-    /// The tip where there is no checkpoint.
+    /// The tip of a shelf without a checkpoint.
     pub(crate) fn empty(alloc: Global) -> CopyTip
         ensures { result ≡ empty_tip }
     {
@@ -86,7 +86,7 @@ impl CopyTip {
         }
     }
 
-    /// The checkpoint that was there.
+    /// The checkpoint that was read.
     pub(crate) fn checkpoint(&self) -> Option<&[u8]>
         ensures { option_map (λ b. b.now) result ≡ self.now.checkpoint }
     {
@@ -108,7 +108,7 @@ impl CopyTip {
         self.edge.row(level)
     }
 
-    /// How many hashes of a tile are of the copy's entries alone; None where these are others than the copy's.
+    /// The number of hashes of a tile that cover only entries of the copy. None: these hashes differ from the copy's.
     pub(crate) fn first_new(&self, level: u32, index: u64, row: &[Hash]) -> Option<u64>
         requires level { level ≤ 7 }
         ensures first { IfSome result (λ first. ((index ≡ edge_index_of self.now.size level)
@@ -133,7 +133,7 @@ impl CopyTip {
         }
     }
 
-    /// Whether a bundle begins with the bytes of the copy's partial one, if it is at its place.
+    /// Whether a bundle begins with the bytes of the copy's partial bundle. True if the copy has no partial bundle at that index.
     pub(crate) fn goes_on(&self, index: u64, bytes: &[u8]) -> bool
         ensures other { IsFalse result → index ≡ edge_index_of self.now.size 0 }
         ensures same { IsTrue result → index ≡ edge_index_of self.now.size 0

@@ -25,7 +25,7 @@ use tlog_hash::TreeHash;
 use tlog_shape::{edge_index, edge_width};
 use tlog_tiles::{Path, write_row};
 
-// Whether the partial tile of a level is that of the old tip.
+// Whether the old tip has the partial tile of a level.
 fn is_old(size: u64, old_size: u64, level: u32) -> bool
     requires { level ≤ 7 }
     ensures { IsTrue result ↔ ((edge_index_of size level ≡ edge_index_of old_size level)
@@ -35,7 +35,7 @@ fn is_old(size: u64, old_size: u64, level: u32) -> bool
         && edge_width(size, level) == edge_width(old_size, level)
 }
 
-// Puts the partial tile of a level, if there is one that the old tip does not have.
+// Puts the partial tile of a level, if there is one and the old tip lacks it.
 fn put_edge_tile<H: TreeHash, D: ReadableShelf>(
     alloc: Global,
     shelf: &mut D,
@@ -70,7 +70,7 @@ fn put_edge_tile<H: TreeHash, D: ReadableShelf>(
     keep(shelf, &path, &bytes)
 }
 
-// Puts the partial tiles that the old tip does not have.
+// Puts the partial tiles that the old tip lacks.
 fn put_edge_tiles<H: TreeHash, D: ReadableShelf>(
     alloc: Global,
     shelf: &mut D,
@@ -93,7 +93,7 @@ fn put_edge_tiles<H: TreeHash, D: ReadableShelf>(
     Ok(())
 }
 
-/// Brings a copy to the tree of that edge, and puts its note last.
+/// Brings a copy to the tree of that edge, and puts the note last.
 pub(crate) fn bring_to_edge<H: TreeHash, D: ReadableShelf, S: Source + Drop>(
     alloc: Global,
     shelf: &mut D,

@@ -1,4 +1,4 @@
--- Where two points agree, the first entries of a list with the second have the first.
+-- If two points agree, the first entries of a list with the second point have the first one.
 use Rattle.std.proofs.Common.{◌≡◌, inl, inr, ℕ, ◌≤◌, List, [], length, take, Some, None, sym, ap, ◌∙◌, arith, take-append-drop, take_all, length-take}
 use Rattle.tlog_hash.specs.Tree.{mth}
 use Rattle.tlog_hash.proofs.Trees.{mth-none}

@@ -1,4 +1,4 @@
--- Places are asked one after the other.
+-- Requests to places, place after place.
 use Rattle.std.proofs.Common.{◌≡◌, ◌≢◌, ℕ, ◌+◌, ◌<◌, List, [], ◌∷◌, ◌++◌, length, get_or, Option, refl, sym, ◌∙◌, ap, subst, inl, inr, arith}
 use Rattle.std.proofs.Common.{Global, Vec, Result, Ok, Err, map, length-append}
 use Rattle.std.proofs.Math.ListN.{set}
@@ -32,7 +32,7 @@ module _ {S : Type 0} (may : S → Path → Option (List ℕ) → Type 0) (faile
     others = λ k place le. refl;
   }
 
-  -- a place that was asked before
+  -- an earlier place
   earlier : (old now : List S) (answers : List PlaceAnswer) (count : ℕ) (place : S) (answer : PlaceAnswer) →
       AreAnswers may failed asked old now answers count → (k : ℕ) (p : S) (a : PlaceAnswer) → k < count →
       Answer (get_or old k p) (get_or (set now count place) k p) (get_or (answers ++ answer ∷ []) k a)
@@ -44,7 +44,7 @@ module _ {S : Type 0} (may : S → Path → Option (List ℕ) → Type 0) (faile
       (subst (λ x. Answer (get_or old k p) (get_or now k p) x)
       (sym (get_or_append_left answers (answer ∷ []) a k within)) (before.each k p a less))
 
-  -- the place that was asked last
+  -- the last place
   last : (old now : List S) (answers : List PlaceAnswer) (count : ℕ) (place : S) (answer : PlaceAnswer) →
       count < length now → AreAnswers may failed asked old now answers count →
       Answer (get_or now count place) place answer → (p : S) (a : PlaceAnswer) →
@@ -59,7 +59,7 @@ module _ {S : Type 0} (may : S → Path → Option (List ℕ) → Type 0) (faile
       (subst (λ x. Answer (get_or old count p) place x) (sym added)
       (subst (λ s. Answer s place answer) here is))
 
-  -- one more place was asked, whose number is the count
+  -- one more place got a request: the one at index "count"
   pub one_asked : (old now : List S) (answers : List PlaceAnswer) (count : ℕ) (place : S) (answer : PlaceAnswer) →
       count < length now → AreAnswers may failed asked old now answers count →
       Answer (get_or now count place) place answer →
@@ -78,7 +78,7 @@ module _ {S : Type 0} (may : S → Path → Option (List ℕ) → Type 0) (faile
         let ne : k ≢ count = omega arith in get_or-set_other now count k place p ne ∙ before.others k p (omega arith);
   }
 
-  -- the same with any place where the list has none
+  -- the same with any default place
   pub asked_here : (old now : List S) (answers : List PlaceAnswer) (count : ℕ) (here place : S)
       (answer : PlaceAnswer) → count < length now → AreAnswers may failed asked old now answers count →
       Answer (get_or now count here) place answer →
@@ -111,7 +111,7 @@ module _ {S : Type 0} (may : S → Path → Option (List ℕ) → Type 0) (faile
       rising = rising;
     }
 
-    -- there is none
+    -- there are no candidates
     none_found : (gathered : List Candidate) (first : Option CandidateFault) (fault : CandidateFault) →
         Gathers origin keys answers gathered first → gathered ≡ [] → fault ≡ option_or first follow.NoCheckpoint →
         GivesNone may failed asked origin keys old new fault

@@ -1,4 +1,4 @@
--- Places of a run, call by call: which failed, and what they may give.
+-- The places of a run, call after call: their failures, and the notes that they may give.
 use Rattle.std.proofs.Common.{◌≡◌, inl, inr, ℕ, ◌<◌, List, [], ◌∷◌, length, get_or, Global, Vec, Option, Some, refl, subst, ◌∙◌, arith}
 use Rattle.std.proofs.lemmas.Bool.{cases_lt}
 use Rattle.tlog_tiles.specs.declared.paths.Path.{Path}
@@ -48,7 +48,7 @@ module _ {S : Type 0} (may : S → Path → Option (List ℕ) → Type 0) (faile
   any_copied digest origin note puts x y (AsksNothing p) = any_weaker (λ path. ⊥) x y p
   any_copied digest origin note puts x y (AsksFiles had size root had_is head p) = any_weaker (MayBeAsked had size) x y p
 
-  -- a place that failed after others were asked, and before
+  -- a place failed in the second of two calls, so it failed in both together
   pub fails_later : (x y z : Places S) → Any x y → Any y z → PlaceFails y z → PlaceFails x z
   fails_later x y z p q f =
       let m = (p.each f.index f.none).more in
@@ -80,12 +80,12 @@ module _ {S : Type 0} (may : S → Path → Option (List ℕ) → Type 0) (faile
   fails_one : (x y : Places S) → APlaceFailed may failed asked x y → PlaceFails x y
   fails_one x y f = record { index = f.index; none = f.none; failed = inl f.rose }
 
-  -- a bringing that ends by Source
+  -- a call of bring_copy that ends by Source
   pub fails_brought : (x y : Places S) (e : BringFault) → e ≡ bring.Source → BlamesFailed may failed asked x y e →
       PlaceFails x y
   fails_brought x y e is h = fails_one x y (subst (λ f. BlamesFailed may failed asked x y f) is h).0
 
-  -- what a place may give now it might have given before
+  -- a note that a place may give now is one that it might have given before
   pub gives_before : (x y : Places S) (note : List ℕ) → Any x y → MayGive may y note → MayGive may x note
   gives_before x y note p g = record {
     index = g.index;

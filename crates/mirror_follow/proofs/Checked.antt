@@ -1,4 +1,4 @@
--- A proof that was handed out and whose first root is another is that of a fork.
+-- A proof that a reader gave shows a fork if its first root differs.
 use Rattle.std.proofs.Common.{◌≡◌, ◌∙◌, ℕ, ◌<◌, List, Some, arith}
 use Rattle.tlog_proof.specs.Text.{HasHashes}
 use Rattle.tlog_proof.specs.Made.{Holds}
@@ -18,7 +18,7 @@ checked_fork digest small large size root (Inclusion s i r leaf path) lt size_is
 checked_fork digest small large size root (Consistency m g n r path) lt size_is root_is asked held other =
     (asked.0, asked.1 ∙ size_is, asked.2 ∙ root_is, omega (arith, asked.0, asked.1, size_is, lt), held, other)
 
--- one whose first root is that of the smaller candidate shows that the two agree
+-- a proof whose first root is that of the smaller candidate shows that the two agree
 pub checked_agree : (digest : List ℕ → List ℕ) (small large : Candidate) (size : ℕ) (root : List ℕ) (proof : Proof) →
     small.size.0 < large.size.0 → size ≡ large.size.0 → root ≡ large.root →
     IsConsistencyTo small.size.0 size root proof → Holds digest proof → HasHashes proof →

@@ -1,4 +1,4 @@
--- Reads of a copy: where one stands, none of its files is called damaged.
+-- Reads of a copy: if the shelf has a whole copy, no read ends by CopyDamaged.
 use Rattle.std.proofs.Common.{◌≡◌, ℕ, ◌++◌, List, length, Option, None, Some, Result, Ok, Err, IsErr, IsErrAnd, IfErr, sym, subst}
 use Rattle.std.specs.Prelude.{⊤}
 use Rattle.std.proofs.lemmas.Bool.{false≢true}
@@ -32,7 +32,7 @@ use Rattle.mirror_follow.proofs.Standing.{checkpoint_one}
 
 -- ---- faults of a read
 
--- the answer has the fault of a run that one of reading a copy is
+-- the fault of the answer is the run's fault for this fault of reading a copy
 abbrev IsBy : {U : Type 0} → CopyFault → Result U FollowFault → Type 0
 IsBy e r = IsErr r × IsErrAnd r (λ f. f ≡ by_copy e)
 
@@ -56,14 +56,14 @@ fault_ends T A a b (reading.CopyDamaged path) h so = so (λ no. no)
 fault_ends T A a b reading.ShelfFault h so = tt
 fault_ends T A a b reading.OutOfMemory h so = tt
 
--- a read that ends a run as damaged is no failure of the shelf
+-- a read that ends a run by CopyDamaged is no failure of the shelf
 pub read_ends : (T : Type 0) {U : Type 0} (A : Type 0) (a b : ℕ) (e : CopyFault) (r : Result U FollowFault) → IsBy e r →
     CountsRead {T = T} a b (Err e) → ((IsShelfFailure e → ⊥) → A) → IfErr r (EndsRun A ⊥)
 read_ends T A a b e (Ok x) is h so = tt
 read_ends T A a b e (Err f) is h so = subst (EndsRun A ⊥) (sym is.1) (fault_ends T A a b e h so)
 
 module _ (digest : List ℕ → List ℕ) where
-  -- then the shelf has the files of no such log
+  -- after such a read, the shelf lacks the files of each such log
   pub lacks_log : (T : Type 0) (copy : Candidate) (x : Option (List Put)) (e : CopyFault) →
       ReadsCopyLog {T = T} digest copy.size.0 copy.root x (Err e) (λ _ _. ⊤) → (IsShelfFailure e → ⊥) →
       LacksLog digest copy x
@@ -76,7 +76,7 @@ module _ (T U : Type 0) (digest : List ℕ → List ℕ) (size : ℕ) (root : Li
   abbrev Opened : List (List ℕ) → Reader → Type 0
   Opened entries r = IsReaderOf digest entries r
 
-  -- of a source
+  -- a read of a source
   pub read_log : (may later : Path → Option (List ℕ) → Type 0) → StaysWithin may later → (e : ReadFault) →
       ReadsLog digest size root may (Ok reader) Opened → ReadsTilesOf digest reader new later (Err e) claim →
       ReadsLog {T = U} digest size root may (Err e) (λ _ _. ⊤)
@@ -84,7 +84,7 @@ module _ (T U : Type 0) (digest : List ℕ → List ℕ) (size : ℕ) (root : Li
       (reads entries (opened entries size_is root_is source)
       (source_tiles digest entries later (source_later digest entries may later stays source))).answer
 
-  -- of a shelf
+  -- a read of a shelf
   pub read_copy : (x y : Option (List Put)) → KeepsRecord x y → (e : CopyFault) →
       ReadsCopyLog digest size root x (Ok reader) Opened → ReadsCopyOf IsShelfFailure digest reader new y (Err e) claim →
       ReadsCopyLog {T = U} digest size root x (Err e) (λ _ _. ⊤)
@@ -98,7 +98,7 @@ module _ (digest : List ℕ → List ℕ) (origin : List ℕ) where
       IsWholeCopy digest origin note entries (Some held)
   whole note entries held copy = (copies_are_whole digest origin note entries held copy.short copy.is_head).all copy.holds
 
-  -- the copy that a run knows does not stand, where the shelf has not its files
+  -- the shelf does not have the copy of a run if it lacks the copy's files
   pub none_lacks : (copy : Candidate) (x : Option (List Put)) → LacksLog digest copy x →
       HasStanding digest origin (Some copy) x → ⊥
   none_lacks copy x lacks s =
@@ -108,7 +108,7 @@ module _ (digest : List ℕ → List ℕ) (origin : List ℕ) where
       (subst (λ p. HasFilesOf digest entries p) (sym s.puts_are) w.files)
 
   module _ (x y : Option (List Put)) (found : List ℕ) (stands : RecordsRead x Checkpoint (Some found)) where
-    -- the checkpoint of a copy that stands is one of the origin
+    -- the checkpoint of a copy on the shelf is one of the origin
     pub no_head : ((size : ℕ) (root : List ℕ) → IsHead found origin size root → ⊥) → HoldsNoCopy digest origin x
     no_head none held is note entries copy =
         let one : found ≡ note =
@@ -116,7 +116,7 @@ module _ (digest : List ℕ → List ℕ) (origin : List ℕ) where
         none (length entries) (mth digest entries)
         (subst (λ b. IsHead b origin (length entries) (mth digest entries)) (sym one) copy.is_head)
 
-    -- and its edge is read
+    -- the edge of a copy on the shelf is read
     pub no_edge : (T : Type 0) (size : ℕ) (root : List ℕ) → IsHead found origin size root → KeepsRecord x y →
         (e : CopyFault) → ReadsCopyLog {T = T} digest size root y (Err e) (λ _ _. ⊤) → (IsShelfFailure e → ⊥) →
         HoldsNoCopy digest origin x

@@ -1,4 +1,4 @@
--- Faults of turns, and of a whole call.
+-- The faults of turns, and of a whole call.
 use Rattle.std.proofs.Common.{◌≡◌, ◌≢◌, ◌⊎◌, inl, inr, ℕ, ◌+◌, ◌<◌, ◌≤◌, List, [], ◌∷◌, ◌++◌, length, get_or, take, Option, Some, None, IfErr, IfOk, OnOk, Result, Ok, Err, ap, refl, sym, subst, ◌∙◌, arith, length-take}
 use Rattle.std.specs.Prelude.{⊤}
 use Rattle.std.specs.List.Sorted.{IsSorted}
@@ -44,7 +44,7 @@ use Rattle.mirror_follow.proofs.TurnOrder.{element}
 not_now : (candidate : Candidate) (copy : Option Candidate) → IsCopyNow candidate copy → copy ≢ None
 not_now candidate copy n e = cc (n.is, e)
 
--- where the first fault becomes Source, the turn ended so
+-- if the first fault becomes Source, the turn ended by Source
 or_source : (first : Option FollowFault) (f : FollowFault) → or_fault first f ≡ Some fault.Source →
     (first ≡ Some fault.Source) ⊎ (f ≡ fault.Source)
 or_source None f e = inr (cc e)
@@ -72,13 +72,13 @@ source_blames x y run next t is fails e = elim (source_after run.first_fault t (
   | inr now ↦ inr (fails now)
 ]
 
--- a turn in which no candidate is missing since a place failed
+-- a turn whose outcome is not a missing candidate with Source
 pub none_fails : {S E : Type 0} (x y : Places S) (r : Result Outcome E) → IfOk r (λ t. t ≢ turn.NotHad fault.Source) →
     IfOk r (λ t. t ≡ turn.NotHad fault.Source → PlaceFails x y)
 none_fails x y (Ok t) h = λ e. absurd (h e)
 none_fails x y (Err e) h = tt
 
--- a turn after a bringing that ended by a fault
+-- a turn after a call of bring_copy that ended by a fault
 pub turned_fails : {S E : Type 0} (may : S → Path → Option (List ℕ) → Type 0) (failed : S → ℕ)
     (asked : S → Option (List Path)) (x y : Places S) (e : BringFault) (r : Result Outcome E) →
     BlamesFailed may failed asked x y e → IfOk r (λ t. t ≡ turn.NotHad fault.Source → e ≡ bring.Source) →
@@ -86,7 +86,7 @@ pub turned_fails : {S E : Type 0} (may : S → Path → Option (List ℕ) → Ty
 turned_fails may failed asked x y e (Ok t) blames h = λ is. fails_brought may failed asked x y e (h is) blames
 turned_fails may failed asked x y e (Err f) blames h = tt
 
--- turn by turn
+-- turn after turn
 pub fails_now : {S : Type 0} (may : S → Path → Option (List ℕ) → Type 0) (failed : S → ℕ) (asked : S → Option (List Path))
     (x y z : Places S) (first last : Option FollowFault) → AsksAny may failed asked x y → AsksAny may failed asked y z →
     (first ≡ Some fault.Source → PlaceFails x y) → BlamesPlace y z first last → last ≡ Some fault.Source → PlaceFails x z
@@ -98,7 +98,7 @@ fails_now may failed asked x y z first last p q before now e = elim (now e) [
 -- ---- the fault of the first candidate
 
 module _ (digest : List ℕ → List ℕ) where
-  -- the fault of a candidate is kept, if it is the first
+  -- the fault of a candidate is kept if it is the first fault
   or_kept : (done : List Candidate) (c : Candidate) (first : Option FollowFault) (f : FollowFault) →
       IsFaultOf digest c f → IsFirstFault digest done first → IsFirstFault digest (done ++ c ∷ []) (or_fault first f)
   or_kept [] c None f is h = is
@@ -125,7 +125,7 @@ module _ (digest : List ℕ → List ℕ) where
   keeps_fault done c run next (turn.NotHad f) empty knows is h none =
       kept_by done c run.first_fault next.first_fault f is (empty (sym knows ∙ none)) (h (sym knows ∙ none))
 
-  -- one that has no turn, since it repeats another
+  -- a candidate without a turn, since it repeats another
   first_again : (done : List Candidate) (c : Candidate) (first : Option FollowFault) → 0 < length done →
       IsFirstFault digest done first → IsFirstFault digest (done ++ c ∷ []) first
   first_again [] c first some h = absurd (omega (arith, some))
@@ -154,7 +154,7 @@ module _ (digest : List ℕ → List ℕ) where
       KeepsFault digest cs run
   keeps_all cs i run le h = subst (λ l. KeepsFault digest l run) (take_all i cs le) h
 
-  -- what is known of the turn of a candidate where the copy is empty
+  -- the facts after the turn of a candidate, if the copy is empty
   pub empty_says : {E : Type 0} (r : Result Outcome E) (c : Candidate) → IfOk r (IsOfEmpty digest c) →
       IfOk r (SaysTurn digest None c)
   empty_says (Err e) c h = tt
@@ -179,12 +179,12 @@ pub ends_shelf : (A B : Type 0) (e : ShelfError) → EndsRun A B (by_shelf e)
 ends_shelf A B shelf.Failed = tt
 ends_shelf A B shelf.OutOfMemory = tt
 
--- a bringing that is damaged says so of its shelf
+-- a call that ends by CopyDamaged states that its shelf has no copy
 pub brought_damaged : (digest : List ℕ → List ℕ) (origin : List ℕ) (x : Option (List Put)) (e : BringFault) →
     (e ≡ bring.CopyDamaged → IsDamaged digest origin x) → e ≡ bring.CopyDamaged → HoldsNoCopy digest origin x
 brought_damaged digest origin x e damaged is = (damaged is).no_copy
 
--- what such a fault says, said otherwise
+-- the facts at such a fault, replaced by their consequences
 pub ends_so : (A B C D : Type 0) (e : FollowFault) → (A → C) → (B → D) → EndsRun A B e → EndsRun C D e
 ends_so A B C D fault.NoCheckpoint f g is = is
 ends_so A B C D (fault.Head h) f g is = is
@@ -203,7 +203,7 @@ ends_if (Ok t) A B C D f g is = tt
 ends_if (Err e) A B C D f g is = ends_so A B C D e f g is
 
 module _ (digest : List ℕ → List ℕ) (origin : List ℕ) where
-  -- a bringing to a candidate ends since the copy is another: then none of fewer entries stood
+  -- a call for a candidate ended since the copy is not the one that was read: then the shelf had no smaller copy
   pub no_smaller : (note : List ℕ) (n : ℕ) (root : List ℕ) (x : Option (List Put)) (e : BringFault) →
       IsHead note origin n root → RefusesNote digest origin note x e →
       (e ≡ bring.CopyInUse → IsInUse digest origin x) → IsOfOtherRun e → HoldsNoSmaller digest origin n x
@@ -222,7 +222,7 @@ module _ (digest : List ℕ → List ℕ) (origin : List ℕ) where
   no_smaller note n root x bring.ShelfFault head refuses in_use other = absurd other
   no_smaller note n root x bring.OutOfMemory head refuses in_use other = absurd other
 
-  -- so the copy that the run knows does not stand, where it is smaller
+  -- so the shelf does not have the copy of the run, if that is smaller
   pub none_stands : (copy : Candidate) (n : ℕ) (x : Option (List Put)) → copy.size.0 < n →
       HoldsNoSmaller digest origin n x → HasStanding digest origin (Some copy) x → ⊥
   none_stands copy n x lt none s =
@@ -230,12 +230,12 @@ module _ (digest : List ℕ → List ℕ) (origin : List ℕ) where
       none s.held s.puts_are (note_of copy) (s.entries ++ s.under.more) s.under.copy in
       let size : copy.size.0 ≡ length (s.entries ++ s.under.more) = s.under.size_is in omega (arith, le, size, lt)
 
-  -- nor does it where no copy does
+  -- nor if the shelf has no copy
   pub none_at_all : (copy : Candidate) (x : Option (List Put)) → HoldsNoCopy digest origin x →
       HasStanding digest origin (Some copy) x → ⊥
   none_at_all copy x none s = none s.held s.puts_are (note_of copy) (s.entries ++ s.under.more) s.under.copy
 
-  -- nor where another checkpoint was read
+  -- nor if another checkpoint was read
   pub none_found : (copy : Candidate) (x : Option (List Put)) → IsOtherFound (Some (note_of copy)) x →
       HasStanding digest origin (Some copy) x → ⊥
   none_found copy x o s =
@@ -248,7 +248,7 @@ module _ (digest : List ℕ → List ℕ) (origin : List ℕ) where
           other (ap Some
           (checkpoint_one digest origin (note_of copy) (s.entries ++ s.under.more) s.held s.under.copy bytes there))
 
-  -- where the copy that a run knows does not stand, none stood at first
+  -- if the shelf does not have the copy of a run, it had no copy at first
   pub none_first : (first x : Option (List Put)) (copy : Option Candidate) → (HasStanding digest origin copy x → ⊥) →
       IsCopyOfRun digest origin first x copy → HoldsNoCopy digest origin first
   none_first first x copy none known held is note entries stood =
@@ -262,7 +262,7 @@ module _ (digest : List ℕ → List ℕ) (origin : List ℕ) where
 
 -- ---- faults of a report
 
--- a report ends with the fault of the first candidate, or since memory was refused
+-- a report ends with the fault of the first candidate, or by OutOfMemory
 abbrev Reported : Run → FollowFault → Type 0
 Reported run e = (e ≡ fault.OutOfMemory) ⊎ ((run.copy ≡ None) × (e ≡ option_or run.first_fault fault.NoCheckpoint))
 
@@ -321,7 +321,7 @@ module _ (digest : List ℕ → List ℕ) {S : Type 0} (may : S → Path → Opt
   ends_run None fault.OutOfMemory is = tt
   ends_run (Some note) fault.OutOfMemory is = tt
 
-  -- there is no candidate
+  -- there are no candidates
   none_given : (e : FollowFault) → GivesNoneBy may origin keys x y e → Ends None e
   none_given fault.NoCheckpoint h = h
   none_given (fault.Head f) h = h
@@ -351,7 +351,7 @@ module _ (digest : List ℕ → List ℕ) {S : Type 0} (may : S → Path → Opt
   ends_lacking None e h = none_given e h
   ends_lacking (Some note) e h = one_given note e h
 
-  -- the candidates were not had
+  -- the copy was brought to no candidate
   module _ (given : Option (List ℕ)) (c : Candidate) (cs : List Candidate)
       (gathered : AreCandidates may origin keys x y given (c ∷ cs)) (rising : IsSorted turn_cmp (c ∷ cs))
       (empty : RecordsRead puts Checkpoint None) where
@@ -405,7 +405,7 @@ module _ (digest : List ℕ → List ℕ) {S : Type 0} (may : S → Path → Opt
       (first_fault_of digest c cs run.first_fault e (keeps first.0) first.1)
       (λ is. fails (first_is_source run.first_fault (sym first.1 ∙ is)))
 
--- the copy was empty where a run ends with none
+-- the copy was empty at the start if it is empty at the end of the run
 pub was_empty : (digest : List ℕ → List ℕ) (origin : List ℕ) (x : Option (List Put)) (first : Option Candidate)
     (cs : List Candidate) (run : Run) → HasTakenRun digest first cs run → IsFoundCopy origin x first → run.copy ≡ None →
     RecordsRead x Checkpoint None
@@ -416,7 +416,7 @@ was_empty digest origin x first cs run h found none =
     none_found_first None grown found = found
     none_found_first (Some f) grown found = absurd grown
 
--- why there is no candidate: the shelf did not fail
+-- at a fault without candidates, the shelf did not fail
 pub none_of_places : {S : Type 0} (may : S → Path → Option (List ℕ) → Type 0) (origin : List ℕ) (keys : List Key)
     (x y : Places S) (e : CandidateFault) → GiveNoneFor may origin keys x y e → (e ≡ none.Source → PlaceFails x y) →
     GivesNoneBy may origin keys x y (of_candidates e)

@@ -27,7 +27,7 @@ some_same x y e = cc e
 pair_same : (h a b : List ℕ) → two h h ≡ two a b → a ≡ b
 pair_same h a b e = let q = some_same (h, h) (a, b) e in sym (ap (λ x. x.0) q) ∙ ap (λ x. x.1) q
 
--- at the end of a path both roots are one
+-- at the end of a path both roots are equal
 end_same : (flag : Bool) (g : List ℕ) (q : List (List ℕ)) (a b : List ℕ) → at_end flag g q ≡ Some (a, b) → a ≡ b
 end_same true g [] a b e = pair_same g a b e
 end_same true g (h ∷ q) a b e = absurd (cc e)
@@ -35,7 +35,7 @@ end_same false g [] a b e = absurd (cc e)
 end_same false g (h ∷ []) a b e = pair_same h a b e
 end_same false g (h ∷ z ∷ q) a b e = absurd (cc e)
 
--- of two pairs of hashes that are joined to one string the first hashes have one length where the second ones have
+-- two pairs of hashes are joined to one string. If the second hashes have one length, so have the first ones
 front_length : (l r l' r' : List ℕ) → length r ≡ length r' → 1 ∷ l ++ r ≡ 1 ∷ l' ++ r' → length l ≡ length l'
 front_length l r l' r' len e =
     let sums : length (l ++ r) ≡ length (l' ++ r') = ap (λ s. length (drop 1 s)) e in

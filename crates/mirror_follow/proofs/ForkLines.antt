@@ -16,7 +16,7 @@ use Rattle.mirror_model.specs.Forks.{IsPrefix, Point}
 use Rattle.mirror_follow.specs.Forks.{ForkLineIsEvidence, HasPoint, IsForkProof, IsMetByFork, LacksForkClash}
 use Rattle.mirror_follow.proofs.FirstRoots.{shows}
 
--- what holds of each hash of a path holds of them in the other order
+-- a fact about each hash of a path holds for the reversed path
 turned : (P : List ℕ → Type 0) (path : List (List ℕ)) → AllByRecursion P path → AllByRecursion P (reverse path)
 turned P [] all = tt
 turned P (p ∷ path) all =
@@ -28,17 +28,17 @@ pub lengths : (path : List (List ℕ)) → AllByRecursion Is32Bytes path → All
 lengths [] all = tt
 lengths (p ∷ path) all = (all.0.are_32, lengths path all.1)
 
--- a list that begins another is its first entries
+-- if a list begins another, it is the other's first entries
 front : (first second : List (List ℕ)) → IsPrefix first second → take (length first) second ≡ first
 front first second p = ap (take (length first)) (sym p.is) ∙ take-append_seam first p.rest
 
--- a list that begins another is not longer
+-- if a list begins another, it is not longer
 not_longer : (first second : List (List ℕ)) → IsPrefix first second → length first ≤ length second
 not_longer first second p =
     let len : length first + length p.rest ≡ length second =
     sym (length-append first p.rest) ∙ ap length p.is in omega (arith, len)
 
--- two points of one list, which begins with its first entries, have one root where they have one size
+-- a list begins another. If two points of them have one size, they have one root
 same_root : (digest : List ℕ → List ℕ) (small large : Point) (first second : List (List ℕ)) →
     HasPoint digest small first → HasPoint digest large second → small.size ≡ large.size → IsPrefix first second →
     small.root ≡ large.root

@@ -1,4 +1,4 @@
--- The candidates that the places of a run give, place by place.
+-- The candidates of the places of a run, place after place.
 use Rattle.std.proofs.Common.{◌≡◌, ◌≢◌, inl, inr, ℕ, ◌+◌, ◌<◌, List, [], ◌∷◌, ◌++◌, All, Option, Some, None, refl, sym, subst, ◌∙◌, ap, arith}
 use Rattle.std.proofs.Common.{Global, Vec, Result, Ok, Err, map, get_or, length, length-append}
 use Rattle.std.specs.List.{Contains}
@@ -27,7 +27,7 @@ use Rattle.mirror_follow.specs.declared.gather.Gathered.{Gathered}
 use Rattle.mirror_follow.proofs.Blame.{fails_later, fails_then, gives_before}
 use Rattle.mirror_follow.proofs.Gathering.{gave_cases}
 
--- there are candidates in turn, where there are any
+-- the candidates in the order of turns are not empty if the gathered ones are not
 pub turns_some : (g : Gathered) (r : Result (Vec Candidate Global) CandidateFault) →
     IfOk r (λ c. IsPermutation g.candidates.items c.items) → IfOk r (λ c. g.candidates.items ≢ []) →
     IfOk r (λ c. 0 < length c.items)
@@ -52,7 +52,7 @@ module _ (origin : List ℕ) (keys : List Key) where
       subst (λ a. Contains (a ∷ answers) Failed) (sym is)
       (Contains-append_left (Failed ∷ []) answers Failed (Contains-push [] Failed))
 
-  -- where the reason of the first place is that it failed, an answer is that a place failed
+  -- if the reason of the first place is Source, an answer is Failed
   first_failed : (answers : List PlaceAnswer) (first : Option CandidateFault) → IsFirstReason origin keys answers first →
       option_or first fault.NoCheckpoint ≡ fault.Source → Contains answers Failed
   first_failed [] None is e = absurd (cc e)
@@ -61,7 +61,7 @@ module _ (origin : List ℕ) (keys : List Key) where
   first_failed (a ∷ answers) (Some f) is e = head_among a answers (reason_failed a f is e)
 
   module _ {S : Type 0} (may : S → Path → Option (List ℕ) → Type 0) (failed : S → ℕ) (asked : S → Option (List Path)) where
-    -- an answer that came before others were asked
+    -- an answer before requests to other places
     answer_then : (x y z : Places S) (k : ℕ) (d : Place S) (a : PlaceAnswer) → AsksAny may failed asked y z →
         MayAnswer may (get_or x.list.items k d) (get_or y.list.items k d) a →
         MayAnswer may (get_or x.list.items k d) (get_or z.list.items k d) a
@@ -74,7 +74,7 @@ module _ (origin : List ℕ) (keys : List Key) where
           | inr given ↦ inr given
         ]
 
-    -- an answer that came after others were asked
+    -- an answer after requests to other places
     answer_later : (x y z : Places S) (k : ℕ) (d : Place S) (a : PlaceAnswer) → AsksAny may failed asked x y →
         AsksAny may failed asked y z → MayAnswer may (get_or y.list.items k d) (get_or z.list.items k d) a →
         MayAnswer may (get_or x.list.items k d) (get_or z.list.items k d) a
@@ -149,7 +149,7 @@ module _ (origin : List ℕ) (keys : List Key) where
       ];
     }
 
-    -- of all places
+    -- the answers of all places
     pub gathered_all : (x y : Places S) (count n : ℕ) (g : Gathered) → count ≡ n → From x y count g → From x y n g
     gathered_all x y count n g e is = subst (λ k. From x y k g) e is
 
@@ -162,7 +162,7 @@ module _ (origin : List ℕ) (keys : List Key) where
         (All-weaker (IsGiven origin keys is.answers) (λ candidate. MayGive may x (note_of candidate))
         (λ candidate given. is.gave (note_of candidate) given.gave) g.candidates.items is.gathers.are_of.each)
 
-    -- the candidates that places gave, in turn
+    -- the given candidates, in the order of turns
     turns_given : (x y : Places S) (g : Gathered) (candidates : List Candidate) → From x y (length x.list.items) g →
         IsPermutation g.candidates.items candidates → GiveCandidates may origin keys x y candidates
     turns_given x y g candidates is same = record {
@@ -183,7 +183,7 @@ module _ (origin : List ℕ) (keys : List Key) where
     turns_give x y g (Err e) is same = tt
     turns_give x y g (Ok c) is same = turns_given x y g c.items is same
 
-    -- the places are asked for files after that
+    -- the places get requests for files after that
     pub candidates_later : (x y z : Places S) (given : Option (List ℕ)) (candidates : List Candidate) →
         AsksAny may failed asked y z → AreCandidates may origin keys x y given candidates →
         AreCandidates may origin keys x z given candidates
@@ -199,7 +199,7 @@ module _ (origin : List ℕ) (keys : List Key) where
     candidates_later x y z (Some note) candidates q are = are
 
     module _ (x y : Places S) (g : Gathered) (is : From x y (length x.list.items) g) (none : g.candidates.items ≡ []) where
-      -- there is no candidate
+      -- there are no candidates
       give_none : (f : CandidateFault) → f ≡ option_or g.first fault.NoCheckpoint → GiveNone may origin keys x y f
       give_none f because = record {
         answers = is.answers;

@@ -18,7 +18,7 @@ use Rattle.mirror_follow.specs.declared.answer.PlaceAnswer.TheVariants.{File, No
 use Rattle.mirror_follow.specs.declared.fault.CandidateFault.{CandidateFault}
 use Rattle.mirror_follow.specs.declared.fault.CandidateFault.TheVariants as follow
 
--- a list with one more is not empty
+-- a list with one more element is not empty
 not_empty : {X : Type 0} (xs : List X) (x : X) → xs ++ x ∷ [] ≡ [] → ⊥
 not_empty xs x e =
     let len : length xs + 1 ≡ 0 = sym (length-append xs (x ∷ [])) ∙ ap length e in absurd (omega (arith, len))
@@ -33,7 +33,7 @@ module _ (origin : List ℕ) (keys : List Key) where
       head_notes_are_read_once bytes origin keys (Err head) (Ok o.checkpoint) reads o.is_open
       (λ e. differs (cc e)) (λ e. cc e) in absurd (cc e)
 
-  -- an answer that gives no candidate is no note that opens
+  -- an answer without a candidate is not a note that opens
   no_note : (answer : PlaceAnswer) (fault : CandidateFault) (note : List ℕ) (size : ℕ) (root : List ℕ) →
       IsReason origin keys answer fault → IsNote note answer → ¬ IsOpenHead note origin keys size root
   no_note (File bytes) fault note size root reason is is_open =
@@ -42,7 +42,7 @@ module _ (origin : List ℕ) (keys : List Key) where
   no_note NotFound fault note size root reason is is_open = is
   no_note Failed fault note size root reason is is_open = is
 
-  -- what was given still is, with one more answer
+  -- a note that was given is still given after one more answer
   gave_more : (answers : List PlaceAnswer) (answer : PlaceAnswer) (note : List ℕ) → Gave answers note →
       Gave (answers ++ answer ∷ []) note
   gave_more answers answer note g = record {
@@ -58,7 +58,7 @@ module _ (origin : List ℕ) (keys : List Key) where
       (λ c g. record { gave = gave_more answers answer (note_of c) g.gave; is_candidate = g.is_candidate })
       candidates given
 
-  -- what is given with one more answer was given before, or is that answer
+  -- a note that is given after one more answer was given before, or is that answer
   pub gave_cases : (answers : List PlaceAnswer) (answer : PlaceAnswer) (note : List ℕ) → Gave (answers ++ answer ∷ []) note →
       Gave answers note ⊎ IsNote note answer
   gave_cases answers answer note g = elim (Contains-push_cases answers answer g.answer g.among) [
@@ -74,7 +74,7 @@ module _ (origin : List ℕ) (keys : List Key) where
   first_more (a ∷ answers) answer None fault reason is = absurd is
   first_more (a ∷ answers) answer (Some f) fault reason is = is
 
-  -- an answer that gives no candidate
+  -- an answer without a candidate
   pub gathers_none : (answers : List PlaceAnswer) (answer : PlaceAnswer) (fault : CandidateFault)
       (candidates : List Candidate) (first : Option CandidateFault) → IsReason origin keys answer fault →
       Gathers origin keys answers candidates first →
@@ -115,7 +115,7 @@ module _ (origin : List ℕ) (keys : List Key) where
     none = λ empty. absurd (not_empty candidates candidate empty);
   }
 
-  -- an answer that was passed over
+  -- an answer that was skipped
   pub gathers_passed : (answers : List PlaceAnswer) (answer : PlaceAnswer) (fault : CandidateFault)
       (old new : List Candidate) (first last : Option CandidateFault) → new ≡ old → last ≡ or_first first fault →
       IsReason origin keys answer fault → Gathers origin keys answers old first →
@@ -134,14 +134,14 @@ module _ (origin : List ℕ) (keys : List Key) where
       subst (λ l. Gathers origin keys (answers ++ File bytes ∷ []) l first) (sym added)
       (gathers_one answers bytes old first candidate is g)
 
-  -- where a place has no checkpoint, or failed
+  -- an answer of a place without a checkpoint, or that failed
   pub not_found : (answer : PlaceAnswer) → answer ≡ NotFound → IsReason origin keys answer follow.NoCheckpoint
   not_found answer is = subst (λ a. IsReason origin keys a follow.NoCheckpoint) (sym is) refl
 
   pub failed : (answer : PlaceAnswer) → answer ≡ Failed → IsReason origin keys answer follow.Source
   failed answer is = subst (λ a. IsReason origin keys a follow.Source) (sym is) refl
 
-  -- nothing is gathered of no answers
+  -- no answers give no candidates
   gathers_nothing : Gathers origin keys [] [] None
   gathers_nothing = record {
     are_of = record {

@@ -34,7 +34,7 @@ use Rattle.mirror_follow.proofs.OneHonest.{honest_part, never_ends, not_refused}
 none_sorted : IsSorted turn_cmp []
 none_sorted = λ k d low lt. absurd (omega (arith, lt))
 
--- ---- there is no candidate
+-- ---- there are no candidates
 
 module _ {S : Type 0} (may : S → Path → Option (List ℕ) → Type 0) (origin : List ℕ) (keys : List Key) (x y : Places S) where
   no_candidates : (f : CandidateFault) → GiveNone may origin keys x y f → GiveCandidates may origin keys x y []
@@ -67,7 +67,7 @@ module _ {S : Type 0} (may : S → Path → Option (List ℕ) → Type 0) (origi
   given_opens note fault.Source h cs are = absurd h
   given_opens note fault.OutOfMemory h cs are = inr refl
 
-  -- where the greatest candidate is an honest place's, or one of the candidates is, there is one
+  -- if the greatest candidate is an honest place's, or one of the candidates is, there are candidates
   pub some_given : (digest : List ℕ → List ℕ) (puts : Option (List Put)) (given : Option (List ℕ)) (e : FollowFault) →
       LacksCandidates may origin keys x y given e →
       IsHonestRun digest may puts x y origin (AreCandidates may origin keys x y given) → IsOfShelfOrMemory e
@@ -113,7 +113,7 @@ module _ (digest : List ℕ → List ℕ) {S : Type 0} (may : S → Path → Opt
   abbrev FirstOf : HasFirst candidates h.size h.root
   FirstOf = has_first candidates h.size h.root (h.greatest candidates gathered rising)
 
-  -- after the candidates were asked for
+  -- after the requests for candidates
   pub honest_first : (failed : S → ℕ) (asked : S → Option (List Path)) (mid : Places S) →
       AsksAny may failed asked start mid → AsksAny may failed asked mid new → (y : Option (List Put)) → KeepsRecord x y →
       (copy : Option Candidate) → IsCopyOfRun digest origin x y copy → (list : List Candidate) → list ≡ candidates →
@@ -138,7 +138,7 @@ module _ (digest : List ℕ → List ℕ) {S : Type 0} (may : S → Path → Opt
 
   -- ---- the answer
 
-  -- a copy that was not smaller is that of the first entries
+  -- a copy that was not smaller has the root of the log's first entries
   root_kept : (y : Option (List Put)) (copy : Option Candidate) (c : Candidate) → copy ≡ Some c →
       HadCopy digest origin x copy → IsCopyOfRun digest origin x y copy → c.root ≡ mth digest (take c.size.0 h.entries)
   root_kept y copy c is had known = root h.holds
@@ -204,7 +204,7 @@ module _ (digest : List ℕ → List ℕ) {S : Type 0} (may : S → Path → Opt
 module _ (digest : List ℕ → List ℕ) {S : Type 0} (may : S → Path → Option (List ℕ) → Type 0) (origin : List ℕ)
     (x last : Option (List Put)) (start new : Places S) (so : List Candidate → Type 0)
     (h : IsHonestAmong digest may last start new origin x so) (candidates : List Candidate) (gathered : so candidates) where
-  -- after the candidates were asked for
+  -- after the requests for candidates
   pub honest_listed : (failed : S → ℕ) (asked : S → Option (List Path)) (mid : Places S) →
       AsksAny may failed asked start mid → AsksAny may failed asked mid new → (y : Option (List Put)) → KeepsRecord x y →
       (copy : Option Candidate) → IsCopyOfRun digest origin x y copy → HadCopy digest origin x copy →
@@ -238,7 +238,7 @@ module _ (digest : List ℕ → List ℕ) {S : Type 0} (may : S → Path → Opt
   report_passes run n (Err e) n_is s is (inl memory) = inr memory
   report_passes run n (Err e) n_is s is (inr none) = absurd (cc (none.0, s.is))
 
--- the copy stands, and the turns ended with a fault
+-- the shelf has the copy, and the turns ended with a fault
 pub part_stands : (digest : List ℕ → List ℕ) (origin : List ℕ) (entries : List (List ℕ)) (x : Option (List Put))
     (e : FollowFault) → HoldsPart digest origin entries x → EndsAt (HoldsNoCopy digest origin x) e → IsOfShelfOrMemory e
 part_stands digest origin entries x e h ends =

@@ -1,4 +1,4 @@
--- Calls that put nothing, one after the other, and candidates that open.
+-- Calls in sequence that put nothing, and candidates that open.
 use Rattle.std.proofs.Common.{◌≡◌, ℕ, ◌<◌, length, get_or, List, [], ◌∷◌, ◌++◌, All, Option, map, sym, ◌∙◌, ap, subst, arith}
 use Rattle.std.proofs.Common.{Global, Vec, Result, Ok, Err}
 use Rattle.std.specs.List.Sorted.{IsPermutation, IsSorted}
@@ -26,7 +26,7 @@ all_open origin keys answers gathered candidates first g same =
     All-permutation (IsCandidate origin keys) gathered candidates same
     (All-weaker (IsGiven origin keys answers) (IsCandidate origin keys) (λ c is. is.is_candidate) gathered g.are_of.each)
 
--- so do those that are in turn
+-- the candidates in the order of turns open
 pub turns_open : (origin : List ℕ) (keys : List Key) (answers : List PlaceAnswer) (gathered : List Candidate)
     (first : Option CandidateFault) (r : Result (Vec Candidate Global) CandidateFault) →
     Gathers origin keys answers gathered first → IfOk r (λ c. IsPermutation gathered c.items) →
@@ -34,7 +34,7 @@ pub turns_open : (origin : List ℕ) (keys : List Key) (answers : List PlaceAnsw
 turns_open origin keys answers gathered first (Ok c) g same = all_open origin keys answers gathered c.items first g same
 turns_open origin keys answers gathered first (Err e) g same = tt
 
--- the one candidate opens
+-- the only candidate opens
 pub one_open : (origin : List ℕ) (keys : List Key) (note : List ℕ) (candidate : Candidate)
     (none candidates : List Candidate) → IsCandidateOf note origin keys candidate → none ≡ [] →
     candidates ≡ none ++ candidate ∷ [] → All (IsCandidate origin keys) candidates
@@ -43,7 +43,7 @@ one_open origin keys note candidate none candidates is empty one =
     (All-push (IsCandidate origin keys) [] candidate (All-nil (IsCandidate origin keys))
     (subst (λ n. IsCandidateOf n origin keys candidate) (sym is.note_is) is))
 
--- and its note is the one that was given
+-- the note of the only candidate is the given one
 pub one_given : (origin : List ℕ) (keys : List Key) (note : List ℕ) (candidate : Candidate)
     (none candidates : List Candidate) → IsCandidateOf note origin keys candidate → none ≡ [] →
     candidates ≡ none ++ candidate ∷ [] → All (λ c. note_of c ≡ note) candidates
@@ -51,14 +51,14 @@ one_given origin keys note candidate none candidates is empty one =
     subst (All (λ c. note_of c ≡ note)) (sym (one ∙ ap (λ l. l ++ candidate ∷ []) empty))
     (All-push (λ c. note_of c ≡ note) [] candidate (All-nil (λ c. note_of c ≡ note)) is.note_is)
 
--- so it is the only one
+-- the given note is the only candidate
 pub only_open : (origin : List ℕ) (keys : List Key) (note : List ℕ) (candidate : Candidate)
     (none candidates : List Candidate) → IsCandidateOf note origin keys candidate → none ≡ [] →
     candidates ≡ none ++ candidate ∷ [] → IsOnly origin keys note candidates
 only_open origin keys note candidate none candidates is empty one =
     record { candidate = candidate; is = one ∙ ap (λ l. l ++ candidate ∷ []) empty; opens = is }
 
--- one is in order
+-- a single candidate is in order
 pub one_rises : (candidate : Candidate) (none candidates : List Candidate) → none ≡ [] →
     candidates ≡ none ++ candidate ∷ [] → IsSorted turn_cmp candidates
 one_rises candidate none candidates empty one =
@@ -79,14 +79,14 @@ heads_open origin keys candidates opened =
     })
     candidates opened
 
--- so is one of them
+-- each of them is a checkpoint of the origin
 pub head_at : (origin : List ℕ) (candidates : List Candidate) (i : ℕ) (candidate : Candidate) → i < length candidates →
     candidate ≡ get_or candidates i candidate → All (IsHeadOf origin) candidates → IsHeadOf origin candidate
 head_at origin candidates i candidate lt is all =
     subst (IsHeadOf origin) (sym is) (All-get_or (IsHeadOf origin) candidates i candidate lt all)
 
 module _ (digest : List ℕ → List ℕ) (origin : List ℕ) (keys : List Key) (so : List ℕ → Type 0) where
-  -- a call that puts nothing follows no candidate
+  -- a call that puts nothing is a run without candidates
   pub follows_none : (x y : Option (List Put)) → KeepsRecord x y → FollowsCandidates digest origin keys so x y
   follows_none x y kept = record {
     candidates = [];
@@ -95,7 +95,7 @@ module _ (digest : List ℕ → List ℕ) (origin : List ℕ) (keys : List Key) 
     keeps = no_run digest origin [] x y kept;
   }
 
-  -- after a call that puts nothing, a run under the notes of candidates
+  -- a call that puts nothing, and then a run under the notes of candidates
   pub follows_candidates : (given candidates : List Candidate) (x y z : Option (List Put)) → candidates ≡ given →
       All (IsCandidate origin keys) given → All (λ c. so (note_of c)) given → KeepsRecord x y →
       KeepsCopies digest origin (map note_of candidates) y z → FollowsCandidates digest origin keys so x z

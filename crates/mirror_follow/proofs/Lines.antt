@@ -1,4 +1,4 @@
--- The lines of forks: their order, and whose checkpoints they have.
+-- Fork lines: their order and their checkpoints.
 use Rattle.std.proofs.Common.{Result, Ok, Err, IfOk, OnOk, zero, suc}
 use Rattle.std.proofs.Common.{◌≡◌, ◌≢◌, inl, inr, ℕ, ◌<◌, ◌≤◌, List, [], ◌∷◌, ◌++◌, length, get_or, take, drop, All, Contains, Option, Some, None, IfSome, refl, sym, ap, subst, ◌∙◌, arith}
 use Rattle.std.proofs.Common.{Ordering, Less, Equal, Greater, nat_cmp}
@@ -69,7 +69,7 @@ tied_points a b e =
       slice_cmp-IsAntisymmetric nat_cmp-IsAntisymmetric a.root b.root t.1,
     )
 
--- of two checkpoints at other points one comes first
+-- one of two checkpoints at different points comes first
 other_first : (a b : Candidate) (o : Ordering) → by_point a b ≡ o → (o ≡ Less → ⊥) → (IsOnePoint a b → ⊥) → by_point b a ≡ Less
 other_first a b Less e more apart = absurd (more refl)
 other_first a b Equal e more apart = absurd (apart (tied_points a b e))
@@ -84,7 +84,7 @@ line_first a b line s l e =
     subst (λ p. point_cmp p (point_of line.large) ≡ Less) (same_point a line.small s)
     (subst (λ p. point_cmp (point_of a) p ≡ Less) (same_point b line.large l) e)
 
--- the line of two checkpoints, the one that comes first being the smaller
+-- the line of two checkpoints, with the first one as the smaller
 pub line_in_order : (a b : Candidate) (line : ForkLine) → IsSame a line.small → IsSame b line.large →
     by_point a b ≡ Less → IsForkLine a b line
 line_in_order a b line s l e = record { both = inl (s, l); small_first = λ apart. line_first a b line s l e }
@@ -101,7 +101,7 @@ pub line_of_other : {E : Type 0} (a b : Candidate) (proof : Option Proof) (r : R
 line_of_other a b proof (Ok line) more is = line_turned a b line is.small_is is.large_is more
 line_of_other a b proof (Err e) more is = tt
 
--- ---- a line is put where it belongs
+-- ---- a line is put at its index
 
 -- a line of the same two points
 pub line_there : (lines : List ForkLine) (line : ForkLine) (i : ℕ) (there : ForkLine) → i < length lines →
@@ -160,7 +160,7 @@ sorted_none : IsStrictlySortedBy fork_line_cmp []
 unfolding IsStrictlySortedBy
 sorted_none = tt
 
--- ---- whose checkpoints they have
+-- ---- the checkpoints of the lines
 
 same_then : (a b c : Candidate) → IsSame a b → IsSame b c → IsSame a c
 same_then a b c p q = record {
@@ -241,7 +241,7 @@ module _ (first : Option Candidate) where
     sorted = f.adds.sorted l.sorted;
   }
 
-  -- after the turn of a candidate that is a fork of the copy
+  -- after the turn of a candidate that is a fork with the copy
   pub lines_forked : (done : List Candidate) (c : Candidate) (copy : Option Candidate) (old new : List ForkLine) →
       copy ≢ None → IfSome copy (λ held. AddsFork held c old new) → IfSome copy (λ held. IsOnePoint held c → ⊥) →
       IfSome copy (IsFirstOrListed first done) → AreLines first done old → AreLines first (done ++ c ∷ []) new

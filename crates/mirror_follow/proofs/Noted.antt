@@ -1,4 +1,4 @@
--- The note of the copy in the end.
+-- The note of the copy at the end.
 use Rattle.std.proofs.Common.{◌≡◌, ◌⊎◌, inl, inr, ℕ, List, [], length, Option, Some, None, Result, Ok, Err, IfOk, Bool, sym, subst, ◌∙◌}
 use Rattle.std.specs.List.Sorted.{IsSorted}
 use Rattle.mirror_folders.specs.Shelf.{Put}
@@ -86,7 +86,7 @@ module _ (digest : List ℕ → List ℕ) (origin : List ℕ) (candidates : List
           (λ now u. least_none now (had.none held e none) u) (k.none held e none);
     }
 
--- what a report says, after all turns
+-- the facts that a report states, after all turns
 pub says_by : (digest : List ℕ → List ℕ) (origin : List ℕ) (so : List Candidate → Type 0) (x w : Option (List Put))
     (first : Option Candidate) (candidates : List Candidate) (run : Run) {E : Type 0} (r : Result Followed E) →
     IfOk r (λ f. (c : Candidate) × (run.copy ≡ Some c) × (f.size ≡ c.size.0) × (f.root ≡ c.root)) →

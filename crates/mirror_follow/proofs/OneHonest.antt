@@ -1,4 +1,4 @@
--- One honest place suffices for a run, turn by turn.
+-- One honest place suffices for a run, turn after turn.
 use Rattle.std.proofs.Common.{◌≡◌, ◌≢◌, ◌⊎◌, inl, inr, ℕ, ◌+◌, ◌-◌, ◌<◌, ◌≤◌, List, [], ◌∷◌, ◌++◌, length, map, take, get_or, Option, Some, None, Result, Ok, Err, OnOk, refl, sym, ap, subst, ◌∙◌, arith, length-append, length-take}
 use Rattle.std.proofs.lemmas.Bool.{cases_lt}
 use Rattle.std.proofs.lemmas.List.{append-nil, get_or-take, get_or_default, nil_from_length, take_all, take_more}
@@ -46,7 +46,7 @@ use Rattle.mirror_follow.proofs.Runs.{no_run, two_runs}
 use Rattle.mirror_follow.proofs.TurnOrder.{again, falls, none_above}
 use Rattle.log_reader.proofs.Kept.{kept_once}
 
--- ---- an honest place, call by call
+-- ---- an honest place, call after call
 
 module _ (take also : Path → List ℕ → Type 0) (f : (path : Path) (bytes : List ℕ) → also path bytes → take path bytes)
     (digest : List ℕ → List ℕ) (log : List (List ℕ)) where
@@ -92,7 +92,7 @@ module _ {S : Type 0} (may : S → Path → Option (List ℕ) → Type 0) (faile
     take_part path bytes (inl put) = inl (puts path bytes put)
     take_part path bytes (inr given) = inr (given_part path bytes given)
 
-    -- a place that is honest in a call is so in a part of it, where no more was put
+    -- a place that is honest in a call is honest in a part of it, if no more was put
     pub honest_part : (digest : List ℕ → List ℕ) (entries : List (List ℕ)) (size : ℕ) (root : List ℕ) →
         IsHonestFor digest may b x w entries size root → IsHonestFor digest may a y z entries size root
     honest_part digest entries size root h = record {
@@ -111,7 +111,7 @@ module _ {S : Type 0} (may : S → Path → Option (List ℕ) → Type 0) (faile
 
 -- ---- faults
 
--- a turn over a copy that stands ends since the shelf failed, or memory was refused
+-- if the shelf has the copy, a turn ends only since the shelf failed, or memory was refused
 pub never_ends : (A : Type 0) (e : FollowFault) → A → EndsAt (A → ⊥) e → IsOfShelfOrMemory e
 never_ends A fault.NoCheckpoint a h = absurd h
 never_ends A (fault.Head f) a h = absurd h
@@ -124,7 +124,7 @@ never_ends A fault.NoFile a h = absurd h
 never_ends A fault.Source a h = absurd h
 never_ends A fault.OutOfMemory a h = inr refl
 
--- so does the first read of the shelf
+-- the same for the first read of the shelf
 pub never_damaged : (digest : List ℕ → List ℕ) (origin : List ℕ) (entries : List (List ℕ)) (puts : Option (List Put))
     (e : FollowFault) → HoldsPartOrNone digest origin entries puts → EndsRun (HoldsNoCopy digest origin puts) ⊥ e →
     (e ≡ fault.CopyDamaged → RecordsSome puts path.Checkpoint) → IsOfShelfOrMemory e
@@ -155,14 +155,14 @@ not_refused note origin keys size root f head refused memory =
 
 -- ---- a turn
 
--- the root of an honest candidate of no entries is the hash of the empty list
+-- the root of an honest candidate without entries is the hash of the empty list
 pub no_false_root : (digest : List ℕ → List ℕ) {S : Type 0} (may : S → Path → Option (List ℕ) → Type 0)
     (puts : Option (List Put)) (x y : Places S) (origin : List ℕ) (c : Candidate) →
     IsHonestTurn digest may puts x y origin c → HasFalseRoot digest c → ⊥
 no_false_root digest may puts x y origin c h f =
     f.1 (h.honest.root_is ∙ (ap (λ n. mth digest (take n h.entries)) f.0 ∙ mth-none digest))
 
--- an honest candidate's note is one that a bringing may be to
+-- the note of an honest candidate is one to which bring_copy may bring the copy
 pub honest_note : (digest : List ℕ → List ℕ) {S : Type 0} (may : S → Path → Option (List ℕ) → Type 0)
     (puts : Option (List Put)) (x y : Places S) (origin : List ℕ) (c : Candidate) → IsHeadOf origin c →
     IsHonestTurn digest may puts x y origin c → IsHonestNote digest may puts x y origin (note_of c)
@@ -175,7 +175,7 @@ honest_note digest may puts x y origin c head h = record {
   holds = h.holds;
 }
 
--- a candidate that is honest in a call is so in its first part
+-- a candidate that is honest in a call is honest in its first part
 pub honest_before : (digest : List ℕ → List ℕ) {S : Type 0} (may : S → Path → Option (List ℕ) → Type 0) (failed : S → ℕ)
     (asked : S → Option (List Path)) (puts : Option (List Put)) (x y z : Places S) (origin : List ℕ) (c : Candidate) →
     AsksAny may failed asked x y → AsksAny may failed asked y z → IsHonestTurn digest may puts x z origin c →
@@ -187,10 +187,10 @@ honest_before digest may failed asked puts x y z origin c p q h = record {
   holds = h.holds;
 }
 
--- ---- what the shelf holds
+-- ---- the content of the shelf
 
 module _ (digest : List ℕ → List ℕ) (origin : List ℕ) (entries : List (List ℕ)) where
-  -- a copy of fewer entries than the first n
+  -- a copy of fewer than n entries
   part_first : (n : ℕ) (first more : List (List ℕ)) → entries ≡ first ++ more → length first < n → n ≤ length entries →
       (puts : Option (List Put)) (now : List Put) → puts ≡ Some now → (note : List ℕ) → IsCopy digest origin note first now →
       HoldsFirst digest origin (take n entries) puts
@@ -210,7 +210,7 @@ module _ (digest : List ℕ → List ℕ) (origin : List ℕ) (entries : List (L
       let size : d.size.0 ≡ length (first ++ s.more) = s.size_is in
       omega (arith, size, lt, length-append first s.more)
 
-  -- the copy that was read, where a candidate is larger
+  -- the copy that was read, if a candidate is larger
   pub first_of_log : (c : Candidate) (copy : Option Candidate) (puts : Option (List Put)) → c.size.0 ≤ length entries →
       HoldsPartOrNone digest origin entries puts → IsCopyOfRun digest origin puts puts copy → IsLargerThan copy c →
       HoldsFirst digest origin (take c.size.0 entries) puts
@@ -219,7 +219,7 @@ module _ (digest : List ℕ → List ℕ) (origin : List ℕ) (entries : List (L
       part_first c.size.0 h.first h.more h.entries_are
       (smaller c copy h.first puts (known.some h.held h.is h.note h.first h.copy) larger) upto puts h.held h.is h.note h.copy
 
-  -- the same after turns that left it
+  -- the same after turns that did not change it
   pub first_later : (c : Candidate) (copy : Option Candidate) (puts now : Option (List Put)) → c.size.0 ≤ length entries →
       HoldsPart digest origin entries puts → HadCopy digest origin puts copy → IsCopyOfRun digest origin puts now copy →
       IsLargerThan copy c → HoldsFirst digest origin (take c.size.0 entries) now
@@ -243,7 +243,7 @@ module _ (digest : List ℕ → List ℕ) (origin : List ℕ) (entries : List (L
   under c first None h = absurd h
   under c first (Some now) h = record { held = now; puts_are = refl; entries = first; under = h }
 
-  -- the copy that a run knows stands
+  -- the shelf has the copy of a run
   pub stands_now : (c : Candidate) (copy : Option Candidate) (puts now : Option (List Put)) → copy ≡ Some c →
       HoldsPartOrNone digest origin entries puts → IsCopyOfRun digest origin puts now copy → HasStanding digest origin copy now
   stands_now c copy puts now is h known =
@@ -255,7 +255,7 @@ module _ (digest : List ℕ → List ℕ) (origin : List ℕ) (entries : List (L
       stands (HasPart h) known = under c h.first now (known.some h.held h.is h.note h.first h.copy)
       stands (HasNone held is none) known = under c [] now (known.none held is none)
 
-  -- what was put before the last turns stands in the list after them
+  -- the puts before the last turns are in the list of puts after them
   pub put_later : (notes : List (List ℕ)) (copy : Option Candidate) (puts now last : Option (List Put)) →
       HoldsPart digest origin entries puts → IsCopyOfRun digest origin puts now copy →
       KeepsCopies digest origin notes now last → (path : Path) (bytes : List ℕ) → WasPut now path bytes → WasPut last path bytes
@@ -321,7 +321,7 @@ module _ (read : Option Candidate) (first : Candidate) where
       above (inl lt) = let le = at_upto h.now h.at in absurd (omega (arith, le, lt, upto))
       above (inr a) = a.0
 
-  -- the copy that was read is not smaller
+  -- the copy that was read is not smaller than the first candidate
   reached_read : (o : Candidate) → read ≡ Some o → first.size.0 ≤ o.size.0 → HasReached read first read
   reached_read o is upto = record {
     now = o;
@@ -336,7 +336,7 @@ module _ (read : Option Candidate) (first : Candidate) where
     at = inl (larger, (sym n.same.size_is, sym n.same.root_is));
   }
 
-  -- a candidate that had its turn: it is not larger than the copy
+  -- a copy of at least n entries has at least n entries after a turn
   sized_up : (n : ℕ) (c : Candidate) (old new : Option Candidate) → HasSize n old → StepsUp c old new → HasSize n new
   sized_up n c old new h (inl same) = record { now = h.now; is = same ∙ h.is; upto = h.upto }
   sized_up n c old new h (inr up) =
@@ -359,7 +359,7 @@ module _ (read : Option Candidate) (first : Candidate) where
     upto = let size = k.same.size_is in omega (arith, le, size);
   }
 
--- ---- turn by turn
+-- ---- turn after turn
 
 module _ (digest : List ℕ → List ℕ) {S : Type 0} (may : S → Path → Option (List ℕ) → Type 0) (failed : S → ℕ)
     (asked : S → Option (List Path)) (origin : List ℕ) (x : Option (List Put)) (start : Places S)
@@ -377,13 +377,13 @@ module _ (digest : List ℕ → List ℕ) {S : Type 0} (may : S → Path → Opt
   Known y copy =
       (first : Option (List Put)) → IsCopyOfRun digest origin first x read → IsCopyOfRun digest origin first y copy
 
-  -- the copy that was read is left, or the copy has the candidate's size; so it has if a candidate of its size and root had
-  -- its turn
+  -- the copy is the one that was read, or it has at least the candidate's size. The latter holds if a candidate of that size and
+  -- root had its turn
   pub record Passes (i : ℕ) (c : Candidate) (copy : Option Candidate) : Type 0 where
     pub kept : (copy ≡ read) ⊎ HasSize c.size.0 copy
     pub had : (d : Candidate) → Contains (take i cs) d → IsOnePoint d c → HasSize c.size.0 copy
 
-  -- before a turn, where one place is honest to the end: the run begins, or the first candidate had its turn
+  -- before a turn, with a place that is honest to the end: the run begins, or the first candidate had its turn
   pub record Reaching (i : ℕ) (y : Option (List Put)) (now : Places S) (copy : Option Candidate) : Type 0 where
     pub begun : i ≡ 0 → (y ≡ x) × (copy ≡ read)
     pub reached : 1 ≤ i → IsSorted turn_cmp cs → (new : Places S) → AsksAny may failed asked now new →
@@ -422,7 +422,7 @@ module _ (digest : List ℕ → List ℕ) {S : Type 0} (may : S → Path → Opt
     Suffices so = IsRepeat cs i ⊎ ((c : Candidate) → c ≡ get_or cs i c → IsLargerThan copy c →
         IsHonestTurn digest may y a b origin c → so c)
 
-    -- the turn of the first candidate, where it is larger
+    -- the turn of the first candidate, if it is larger
     turn_suffices : (so : Candidate → Type 0) → Suffices so → (new : Places S) → Any b new → (h : First new) → i ≡ 0 →
         IsLargerThan read h.first → so h.first
     turn_suffices so (inl repeats) new r h e larger = let some = repeats.0 in absurd (omega (arith, some, e))
@@ -562,7 +562,7 @@ module _ (digest : List ℕ → List ℕ) {S : Type 0} (may : S → Path → Opt
             (before.passed rises new last (any_then may failed asked a b new q r) all h);
       }
 
-  -- all had their turn
+  -- all candidates had their turn
   pub reach_all : (i : ℕ) (y : Option (List Put)) (now : Places S) (copy : Option Candidate) → length cs ≤ i →
       Reaching i y now copy → IsSorted turn_cmp cs → (h : First now) → HasReached read h.first copy
   reach_all i y now copy le before rises h =
@@ -578,7 +578,7 @@ module _ (digest : List ℕ → List ℕ) {S : Type 0} (may : S → Path → Opt
 
 -- ---- one turn
 
--- what came of a turn, and the copy that the run knows after it
+-- the outcome of a turn, and the copy of the run after it
 pub steps_up : (digest : List ℕ → List ℕ) (c : Candidate) (t : Outcome) (old new : Option Candidate) →
     SaysTurn digest old c t → KnowsAfter c t old new → StepsUp c old new
 steps_up digest c turn.Agrees old new says knows = inl knows

@@ -1,4 +1,4 @@
--- A copy whose note gave way to another one of its size and root.
+-- A copy whose note was replaced by another one of its size and root.
 use Rattle.std.proofs.Common.{◌≡◌, ◌≢◌, ◌⊎◌, inl, inr, ℕ, ◌<◌, List, [], ◌∷◌, ◌++◌, length, Option, Some, None}
 use Rattle.std.proofs.Common.{refl, sym, subst, ◌∙◌, ap, arith, length-append}
 use Rattle.std.specs.List.{Contains}
@@ -27,7 +27,7 @@ use Rattle.mirror_follow.specs.Renoting.{IsNotePut}
 use Rattle.mirror_follow.specs.Standing.{IsHeadOf}
 use Rattle.mirror_follow.specs.declared.candidate.Candidate.{Candidate}
 
--- at a moment of one put nothing was put yet, or it was
+-- at each moment of one put, nothing was put yet, or the put was made
 moments_are : (held : List Put) (put : Put) (now : List Put) → IsMoment held (held ++ put ∷ []) now →
     (now ≡ held) ⊎ (held ++ put ∷ [] ≡ now)
 moments_are held put now at = elim (cases_lt 0 (length at.so_far)) [

@@ -29,7 +29,7 @@ use Rattle.mirror_follow.specs.Runs.{IsGrownUnder, KeepsCopies, RunsKeepCopies}
 
 -- ---- moments of two calls
 
--- of two lists that are cut twice the shorter front begins the longer
+-- two lists are equal, and each is cut in two. The shorter first part begins the longer one
 front_of : (a b c d : List Put) → a ++ b ≡ c ++ d → length a ≤ length c → c ≡ a ++ drop (length a) c
 front_of a b c d same le =
     let begins : take (length a) c ≡ a =
@@ -44,7 +44,7 @@ module _ (held first last mid new : List Put) (mid_is : mid ≡ held ++ first) (
       ∙ (ap (λ (l : List Put). l ++ at.later) (sym at.now_is)
       ∙ (sym at.new_is ∙ (new_is ∙ (ap (λ (l : List Put). l ++ last) mid_is ∙ append_assoc held first last)))))
 
-  -- a moment of both calls is one of the first or of the second
+  -- a moment of both calls is one of the first call or of the second
   moment_cases : IsMoment held mid now ⊎ IsMoment mid new now
   moment_cases = elim (cases_lt (length first) (length at.so_far)) [
     | inl more ↦
@@ -73,7 +73,7 @@ module _ (held first last mid new : List Put) (mid_is : mid ≡ held ++ first) (
         })
   ]
 
--- what is so at each moment of both calls is so at each moment
+-- a fact at each moment of each of two calls holds at each moment of both together
 splice : (held mid first last : List Put) (w : Option (List Put)) (so : List Put → Type 0) → mid ≡ held ++ first →
     AddsToRecord (Some mid) w last → ((now : List Put) → IsMoment held mid now → so now) → AtEachMoment mid w so →
     AtEachMoment held w so
@@ -88,14 +88,14 @@ splice held mid first last (Some new) so mid_is recorded f g = λ now at.
 end_is : (held mid puts : List Put) → mid ≡ held ++ puts → IsMoment held mid mid
 end_is held mid puts is = record { so_far = puts; later = []; now_is = is; new_is = sym (append-nil mid) }
 
--- what is so at each moment, and more so
+-- a fact at each moment, and its consequence
 at_each_weaker : (held : List Put) (w : Option (List Put)) (so also : List Put → Type 0) →
     ((new now : List Put) → w ≡ Some new → IsMoment held new now → so now → also now) → AtEachMoment held w so →
     AtEachMoment held w also
 at_each_weaker held None so also f g = absurd g
 at_each_weaker held (Some new) so also f g = λ now at. f new now refl at (g now at)
 
--- ---- what stays put
+-- ---- files that stay on the shelf
 
 -- a file of some entries is within them
 file_within : (n : ℕ) (path : Path) → path ≢ Checkpoint → IsFileOf n path → IsWithin n path
@@ -106,7 +106,7 @@ file_within n (Entries index width) other file = file.within
 not_within : (n k : ℕ) → n ≤ k → (put : Put) → (IsWithin k put.0 → ⊥) → IsWithin n put.0 → ⊥
 not_within n k le put beyond within = beyond (within_more n k put.0 le within)
 
--- what is put beyond more entries is put beyond fewer
+-- puts beyond more entries are puts beyond fewer
 beyond_fewer : (n k : ℕ) (held : List Put) (w : Option (List Put)) → n ≤ k → PutsBeyond k held w → PutsBeyond n held w
 beyond_fewer n k held w le b = record {
   puts = b.puts;
@@ -123,7 +123,7 @@ beyond_then n held mid w b b' = record {
   are_beyond = All-append (λ (put : Put). ¬ IsWithin n put.0) b.puts b'.puts b.are_beyond b'.are_beyond;
 }
 
--- the files of some entries stand while others are put
+-- the files of some entries stay on the shelf while others are put
 files_stay : (digest : List ℕ → List ℕ) (entries : List (List ℕ)) (held puts new now : List Put) →
     HoldsFiles digest entries held → new ≡ held ++ puts → All (λ put. ¬ IsWithin (length entries) put.0) puts →
     IsMoment held new now → HoldsFiles digest entries now
@@ -139,13 +139,13 @@ files_stay digest entries held puts new now files new_is beyond at path other li
     (subst (λ (l : List Put). Contains l (path, bytes)) split
     (Contains-append_left at.so_far at.later (path, bytes) has)) within)))
 
--- ---- one run after the other
+-- ---- two runs in sequence
 
 module _ (digest : List ℕ → List ℕ) (origin : List ℕ) (notes : List (List ℕ)) where
   abbrev Grown : List (List ℕ) → List Put → Type 0
   Grown entries puts = IsGrownUnder digest origin notes entries puts
 
-  -- a copy that has grown and grows once more has grown
+  -- a copy that has grown twice has grown
   grown_more : (entries more : List (List ℕ)) (now : List Put) → HoldsFiles digest entries now →
       Grown (entries ++ more) now → Grown entries now
   grown_more entries more now files g = record {
@@ -164,7 +164,7 @@ module _ (digest : List ℕ → List ℕ) (origin : List ℕ) (notes : List (Lis
     longer : length entries ≤ length (entries ++ g.grown.more)
     longer = omega (arith, length-append entries g.grown.more)
 
-    -- what is put after a copy has grown
+    -- the puts after a copy has grown
     grown_beyond : PutsBeyond (length entries) mid w
     grown_beyond = beyond_fewer (length entries) (length (entries ++ g.grown.more)) mid w longer
         (second.beyond mid refl g.note (entries ++ g.grown.more) g.grown.copy)
@@ -174,7 +174,7 @@ module _ (digest : List ℕ → List ℕ) (origin : List ℕ) (notes : List (Lis
         files_stay digest entries mid grown_beyond.puts new now g.grown.kept
         (subst (λ o. AddsToRecord (Some mid) o grown_beyond.puts) is grown_beyond.recorded) grown_beyond.are_beyond at
 
-    -- a copy that has grown stays so
+    -- a copy that has grown stays grown
     grown_stays : AtEachMoment mid w (Grown entries)
     grown_stays = at_each_weaker mid w
         (λ now. IsCopy digest origin g.note (entries ++ g.grown.more) now ⊎ Grown (entries ++ g.grown.more) now)

@@ -1,4 +1,4 @@
--- What a report says of each candidate.
+-- The facts that a report states about each candidate.
 use Rattle.std.proofs.Common.{◌≡◌, ◌⊎◌, inl, inr, ℕ, ◌<◌, ◌≤◌, Bool, true, false, cond, List, [], ◌∷◌, length, All, Contains, Option, Some, None, refl, sym, ap, subst, ◌∙◌, arith, true≢false}
 use Rattle.std.specs.List.Sorted.{IsPermutation}
 use Rattle.std.proofs.lemmas.List.Elements.{All-contains}
@@ -28,7 +28,7 @@ module _ (digest : List ℕ → List ℕ) (first : Option Candidate) (candidates
   point_is : point_of copy ≡ point_of_copy f
   point_is = λ i. record { size = sym size_is i; root = sym root_is i }
 
-  -- a candidate that was not had, and one of its size and root
+  -- a candidate to which the copy could not be brought, and one of its size and root
   lacked_settled : (x : Candidate) → IsLacked lacked x →
       IsInSomeLine f.forks.items x ⊎ Contains f.larger.items (x.size.0, x.root)
   lacked_settled x l = elim (All-contains (IsSplit f.forks.items larger) lacked l.other split.each l.listed) [
@@ -47,7 +47,7 @@ module _ (digest : List ℕ → List ℕ) (first : Option Candidate) (candidates
   settled x (inl a) = inl (omega (arith, a.0, size_is), subst (λ p. Agrees digest (point_of x) p) point_is a.1)
   settled x (inr r) = inr (reported_settled x r)
 
-  -- a larger one
+  -- a larger candidate
   left_larger : (p : ℕ × List ℕ) → IsLeft copy lacked p → IsLarger candidates f p
   left_larger p l =
       let both = All-contains (λ c. IsBeyond (Some copy) c × IsLacked candidates c) lacked l.candidate h.lacks l.listed in
@@ -78,7 +78,7 @@ module _ (digest : List ℕ → List ℕ) (first : Option Candidate) (candidates
   is_false true g = absurd (g refl)
   is_false false g = refl
 
-  -- the first one
+  -- the first candidate
   first_behind : (cs : List Candidate) → KeepsFirst cs forks lacked behind reached → f.forks.items ≡ [] →
       f.larger.items ≡ [] → reached ≡ false → (p : ℕ × List ℕ) → behind ≡ Some p → cs ≡ candidates →
       All (λ c. c.size.0 < f.size) candidates → IsBehind candidates f p

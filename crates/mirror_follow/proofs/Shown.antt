@@ -1,4 +1,4 @@
--- Forks of two candidates, and the lines that tell of them.
+-- Forks of two candidates, and the lines that report them.
 use Rattle.std.proofs.Common.{◌≡◌, ◌≢◌, ◌⊎◌, inl, inr, ℕ, ◌≤◌, List, [], ◌∷◌, take, drop, Option, Some, None, IfOk, IfSome, OnOk, Ok, Err, Result, refl, sym, subst, ◌∙◌, arith}
 use Rattle.std.proofs.lemmas.Bool.{cases_lt}
 use Rattle.std.proofs.lemmas.List.Elements.{All-append, All-cons, All-drop, All-take}
@@ -17,7 +17,7 @@ same_point : (a b : Candidate) → IsSame a b → point_of a ≡ point_of b
 same_point a b s = λ i. record { size = sym s.size_is i; root = sym s.root_is i }
 
 module _ (digest : List ℕ → List ℕ) where
-  -- a line of two candidates of which the proof shows a fork
+  -- a line of two candidates whose fork the proof shows
   line_shows : (small large : Candidate) (proof : Option Proof) (line : ForkLine) → IsLine small large proof line →
       ShowsFork digest (point_of small) (point_of large) proof → ShowsLine digest line
   line_shows small large proof line is shown =
@@ -30,7 +30,7 @@ module _ (digest : List ℕ → List ℕ) where
   equal_shows a b proof none sizes roots =
       subst (λ p. ShowsFork digest (point_of a) (point_of b) p) (sym none) (inl (sizes, roots))
 
-  -- two candidates that are a fork, the one of the lesser size first
+  -- two candidates that are a fork, the smaller one first
   pub first_shows : (a b : Candidate) (proof : Option Proof) (line : ForkLine) → a.size.0 ≤ b.size.0 →
       IsLine a b proof line → AreFork digest a b proof → ShowsLine digest line
   first_shows a b proof line le is (inl shown) = line_shows a b proof line is shown.1
@@ -51,7 +51,7 @@ module _ (digest : List ℕ → List ℕ) where
       All-append (ShowsLine digest) (take at lines) (line ∷ drop at lines) (All-take (ShowsLine digest) at lines each)
       (All-cons (ShowsLine digest) line (drop at lines) shown (All-drop (ShowsLine digest) at lines each))
 
-  -- a candidate of the copy's size or of no entries, with another root than is due
+  -- a candidate of the copy's size or without entries, whose root is not the one that it has to have
   pub due_shows : (copy candidate : Candidate) (due : List ℕ) → candidate.size.0 ≤ copy.size.0 →
       (candidate.size.0 ≡ 0) ⊎ (candidate.size.0 ≡ copy.size.0) → (candidate.size.0 ≡ copy.size.0 → due ≡ copy.root) →
       (candidate.size.0 ≢ copy.size.0 → due ≡ digest []) → candidate.root ≢ due → AreFork digest copy candidate None
@@ -65,7 +65,7 @@ module _ (digest : List ℕ → List ℕ) where
         inr (inr (refl, sym same, λ e. other (sym e ∙ sym (as_copy same))))
   ]
 
-  -- a turn of a candidate beside a copy
+  -- the turn of a candidate if there is a copy
   pub turn_beside : (copy : Option Candidate) (held candidate : Candidate) (t : Outcome) → copy ≡ Some held →
       ShowsTurn digest (Some held) candidate t → ShowsTurn digest copy candidate t
   turn_beside copy held candidate t is h = subst (λ o. ShowsTurn digest o candidate t) (sym is) h
@@ -77,7 +77,7 @@ module _ (digest : List ℕ → List ℕ) where
   reported_forks run (Ok f) h each = h digest each
   reported_forks run (Err e) h each = tt
 
--- a fork of the copy and a candidate that was added
+-- the fork of the copy and a candidate was added
 pub fork_added : {T E : Type 0} (r : Result T E) (old new : List ForkLine) (line : ForkLine) (copy : Option Candidate)
     (held candidate : Candidate) (proof : Option Proof) → copy ≡ Some held →
     ((digest : List ℕ → List ℕ) → AreFork digest held candidate proof → ShowsLine digest line) →
@@ -89,7 +89,7 @@ fork_added (Ok x) old new line copy held candidate proof is shows adds =
     (shows digest (subst (λ o. IfSome o (λ c. AreFork digest c candidate proof)) is fork))
 fork_added (Err e) old new line copy held candidate proof is shows adds = tt
 
--- a fork of two candidates of one size that was added
+-- the fork of two candidates of one size was added
 pub equal_added : {T E : Type 0} (r : Result T E) (old new : List ForkLine) (line : ForkLine) (first second : Candidate) →
     first.size.0 ≡ second.size.0 → first.root ≢ second.root →
     ((digest : List ℕ → List ℕ) → AreFork digest first second None → ShowsLine digest line) →

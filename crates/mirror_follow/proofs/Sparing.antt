@@ -1,4 +1,4 @@
--- A bringing in which no place failed, turn by turn.
+-- A call of bring_copy in which no place failed, turn after turn.
 use Rattle.std.proofs.Common.{◌≡◌, ◌≢◌, ◌⊎◌, inl, inr, ℕ, ◌<◌, List, [], ◌∷◌, length, take, get_or, Option, Some, None, Result, Ok, Err, IfErr, IfOk, OnOk, refl, sym, ap, subst, ◌∙◌, arith, length-take}
 use Rattle.std.proofs.lemmas.Bool.{cases_lt}
 use Rattle.std.specs.List.Sorted.{IsSorted}
@@ -33,7 +33,7 @@ module _ (digest : List ℕ → List ℕ) {S : Type 0} (may : S → Path → Opt
   abbrev Spares : Option (List Put) → Places S → Places S → List ℕ → Type 0
   Spares puts x y note = SparesBringing digest may failed asked origin puts x y note
 
-  -- a bringing that ends by NoFile
+  -- a call of bring_copy that ends by NoFile
   spares_brought : (puts : Option (List Put)) (x y : Places S) (note : List ℕ) →
       AsksForCopy digest may failed asked origin note puts x y → BlamesFailed may failed asked x y bring.NoFile →
       Spares puts x y note
@@ -55,7 +55,7 @@ module _ (digest : List ℕ → List ℕ) {S : Type 0} (may : S → Path → Opt
   turned_spares puts x y note e (Ok t) asks blames h = λ is.
       spares_brought puts x y note asks (subst (λ f. BlamesFailed may failed asked x y f) (h is) blames)
 
-  -- more was asked before, and after
+  -- the same with more requests before and after
   pub spares_wider : (puts : Option (List Put)) (x y z w : Places S) (note : List ℕ) → AsksAny may failed asked x y →
       AsksAny may failed asked z w → Spares puts y z note → Spares puts x w note
   spares_wider puts x y z w note p q s = record {
@@ -106,9 +106,9 @@ module _ (digest : List ℕ → List ℕ) {S : Type 0} (may : S → Path → Opt
       subst (λ k. next.copy ≡ None →
       SparesAt digest may failed asked origin puts x y k run.first_fault next.first_fault) (same_at cs i lt c d is at) h
 
-  -- ---- turn by turn
+  -- ---- turn after turn
 
-  -- where the copy is empty, and the first fault is NoFile, no place failed in the bringing of the first candidate
+  -- if the copy is empty, and the first fault is NoFile, no place failed while the copy was brought to the first candidate
   abbrev pub SparesSoFar : Option (List Put) → Places S → Places S → List Candidate → Run → Type 0
   SparesSoFar x start now cs run =
       (first : Candidate) (others : List Candidate) → cs ≡ first ∷ others → run.copy ≡ None →
@@ -208,11 +208,11 @@ module _ (digest : List ℕ → List ℕ) {S : Type 0} (may : S → Path → Opt
 
 -- ---- other faults
 
--- a turn does not end so
+-- a turn does not end the run by NoFile
 pub ends_spares : (A B Q : Type 0) (e : FollowFault) → EndsRun A B e → e ≡ fault.NoFile → Q
 ends_spares A B Q e h is = absurd (subst (EndsRun A B) is h)
 
--- nor does asking for candidates
+-- the requests for candidates do not end by NoFile
 pub lacks_spares : {S : Type 0} (may : S → Path → Option (List ℕ) → Type 0) (origin : List ℕ) (keys : List Key) (x y : Places S)
     (Q : Type 0) (given : Option (List ℕ)) (e : FollowFault) → LacksCandidates may origin keys x y given e →
     e ≡ fault.NoFile → Q

@@ -1,4 +1,4 @@
--- Candidates that were not had become lines of forks, and larger ones.
+-- Candidates to which the copy could not be brought become fork lines and larger ones.
 use Rattle.std.proofs.Common.{◌≡◌, inl, inr, ℕ, ◌+◌, ◌<◌, ◌≤◌, List, [], ◌∷◌, ◌++◌, length, get_or, take, All, Contains, Result, Ok, Err, OnOk, refl, sym, ap, subst, ◌∙◌, arith}
 use Rattle.std.specs.List.{insert}
 use Rattle.std.proofs.lemmas.List.{take_all, take_more}
@@ -50,7 +50,7 @@ line_at lines line i there lt is small large = record {
   large_is = large;
 }
 
--- a candidate of a line is in one that has the same points
+-- a candidate of a line is in a line of the list with the same points
 pub in_line_of : (lines : List ForkLine) (line : ForkLine) (candidate : Candidate) → HasLineOf lines line →
     IsInLine candidate line → IsInSomeLine lines candidate
 in_line_of lines line candidate h (inl p) =
@@ -70,7 +70,7 @@ pub line_added : {T E : Type 0} (r : Result T E) (old new : List ForkLine) (line
 line_added (Ok x) old new line c P p kept h = λ some. (kept, in_line_of new line c h p)
 line_added (Err e) old new line c P p kept h = tt
 
--- ---- what was not had
+-- ---- candidates to which the copy could not be brought
 
 module _ (copy : Candidate) (old : List ForkLine) where
   pub split_none : (lacked : List Candidate) (larger : List (ℕ × List ℕ)) → lacked ≡ [] → larger ≡ [] →
@@ -94,7 +94,7 @@ module _ (copy : Candidate) (old : List ForkLine) where
   split_kept forks next larger x kept (inl line) = inl (lines_kept forks next x kept line)
   split_kept forks next larger x kept (inr among) = inr among
 
-  -- one that is in a line
+  -- a candidate that is in a line
   pub split_line : (done : List Candidate) (forks next : List ForkLine) (larger : List (ℕ × List ℕ)) (x : Candidate) →
       SplitsLacked copy old done forks larger → KeepsLines forks next → IsInSomeLine next x →
       SplitsLacked copy old (done ++ x ∷ []) next larger
@@ -109,7 +109,7 @@ module _ (copy : Candidate) (old : List ForkLine) where
   split_longer forks larger p x (inl line) = inl line
   split_longer forks larger p x (inr among) = inr (Contains-append_left larger (p ∷ []) (x.size.0, x.root) among)
 
-  -- one that is larger
+  -- a candidate that is larger
   pub split_larger : (done : List Candidate) (forks next : List ForkLine) (larger more : List (ℕ × List ℕ)) (x : Candidate) →
       SplitsLacked copy old done forks larger → KeepsLines forks next →
       (copy.size.0 ≡ x.size.0 → copy.root ≡ x.root) → more ≡ larger ++ (x.size.0, x.root) ∷ [] →
@@ -126,7 +126,7 @@ module _ (copy : Candidate) (old : List ForkLine) where
       }
       in subst (SplitsLacked copy old (done ++ x ∷ []) next) (sym e) both
 
-  -- candidate by candidate
+  -- candidate after candidate
   pub split_at : (lacked : List Candidate) (i : ℕ) (x : Candidate) (forks : List ForkLine) (larger : List (ℕ × List ℕ)) →
       i < length lacked → x ≡ get_or lacked i x → SplitsLacked copy old (take i lacked ++ x ∷ []) forks larger →
       SplitsLacked copy old (take (i + 1) lacked) forks larger

@@ -1,4 +1,4 @@
--- The copy of a run, turn by turn.
+-- The copy of a run, turn after turn.
 use Rattle.std.proofs.Common.{◌≡◌, ℕ, List, [], ◌++◌, length, Option, Some, None, Result, Ok, Err, IfOk, IfSome, refl, sym, subst, ◌∙◌, append_assoc}
 use Rattle.std.proofs.lemmas.List.{append-nil}
 use Rattle.tlog_hash.specs.Tree.{mth}
@@ -20,7 +20,7 @@ use Rattle.mirror_follow.specs.declared.report.Followed.{Followed}
 use Rattle.mirror_follow.specs.declared.report.Outcome.{Outcome}
 use Rattle.mirror_follow.specs.declared.report.Outcome.TheVariants as turn
 
--- what is so in the end, and more so
+-- a fact at the end, and its consequence
 pub end_weaker : (w : Option (List Put)) (so also : List Put → Type 0) → ((now : List Put) → so now → also now) →
     InTheEnd w so → InTheEnd w also
 end_weaker None so also f h = h
@@ -33,7 +33,7 @@ module _ (digest : List ℕ → List ℕ) (origin : List ℕ) where
   abbrev Under : Candidate → List (List ℕ) → List Put → Type 0
   Under c entries puts = StandsUnder digest origin c entries puts
 
-  -- ---- a call that leaves the copy as it was
+  -- ---- a call that does not change the copy
 
   under_stays : (c : Candidate) (entries : List (List ℕ)) (y w : Option (List Put)) → InTheEnd y (Under c entries) →
       CopyStays digest origin y w → InTheEnd w (Under c entries)
@@ -68,7 +68,7 @@ module _ (digest : List ℕ → List ℕ) (origin : List ℕ) where
   -- ---- a call that brings the copy to a candidate
 
   module _ (c : Candidate) (head : IsHeadOf origin c) where
-    -- a copy that was grown from one of those entries
+    -- a copy that was grown from a copy of those entries
     grown_under : (entries more : List (List ℕ)) (now : List Put) →
         IsGrownCopy digest origin (note_of c) (entries ++ more) now → Under c entries now
     grown_under entries more now g =
@@ -192,7 +192,7 @@ module _ (digest : List ℕ → List ℕ) (origin : List ℕ) where
         absurd (cc (none_found held (Some (note_of c)) (subst (λ o. RecordsRead o Checkpoint (Some (note_of c))) is there) none));
   }
 
-  -- the copy that was read is the one that was there
+  -- the copy that was read is the shelf's
   read_first : (x : Option (List Put)) (c : Candidate) → IsHeadOf origin c → RecordsRead x Checkpoint (Some (note_of c)) →
       HadCopy digest origin x (Some c)
   read_first x c head there = record {
@@ -267,7 +267,7 @@ same_head_of origin c d s head =
     (subst (λ size. IsHead (note_of c) origin size d.root) (sym s.size_is)
     (subst (λ root. IsHead (note_of c) origin c.size.0 root) (sym s.root_is) head))
 
--- the copy that the run knows after a turn is a checkpoint of the origin
+-- the copy of the run after a turn is a checkpoint of the origin
 head_now : (origin : List ℕ) (c : Candidate) (copy : Option Candidate) → IsHeadOf origin c → IsCopyNow c copy →
     IfSome copy (IsHeadOf origin)
 head_now origin c copy head n =
@@ -281,7 +281,7 @@ head_after origin c old new (turn.Forks proof) head e h = subst (λ o. IfSome o 
 head_after origin c old new turn.Contradicts head e h = subst (λ o. IfSome o (IsHeadOf origin)) (sym e) h
 head_after origin c old new (turn.NotHad fault) head e h = subst (λ o. IfSome o (IsHeadOf origin)) (sym e) h
 
--- a call that puts nothing, and that brings the copy to nothing
+-- a call that puts nothing, and does not bring the copy to the candidate
 pub after_same : (digest : List ℕ → List ℕ) (origin : List ℕ) (c : Candidate) (x y : Option (List Put)) {E : Type 0}
     (r : Result Outcome E) → KeepsRecord x y →
     IfOk r (λ t. (digest : List ℕ → List ℕ) (origin : List ℕ) (old new : Option (List Put)) →
@@ -290,7 +290,7 @@ pub after_same : (digest : List ℕ → List ℕ) (origin : List ℕ) (c : Candi
 after_same digest origin c x y (Ok t) kept h = h digest origin x y (stays_same digest origin x y kept)
 after_same digest origin c x y (Err e) kept h = tt
 
--- what a report answers
+-- the answer of a report
 pub followed_by : (digest : List ℕ → List ℕ) (origin : List ℕ) (x w : Option (List Put)) (copy : Option Candidate) (had : ℕ)
     {E : Type 0} (r : Result Followed E) →
     IfOk r (λ f. (c : Candidate) × (copy ≡ Some c) × (f.size ≡ c.size.0) × (f.root ≡ c.root)) →

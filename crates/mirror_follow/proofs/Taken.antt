@@ -1,4 +1,4 @@
--- What is known of the candidates, turn by turn.
+-- The facts about the candidates, turn after turn.
 use Rattle.std.proofs.Common.{◌≡◌, ◌≢◌, ◌⊎◌, inl, inr, ℕ, ◌+◌, ◌<◌, ◌≤◌, Bool, true, false, List, [], ◌∷◌, ◌++◌, length, get_or, take, All, Contains, Option, Some, None, refl, sym, ap, subst, ◌∙◌, arith, true≢false}
 use Rattle.std.proofs.Common.{Result, Ok, Err, IfOk, IfSome, OnOk}
 use Rattle.std.specs.List.Sorted.{IsSorted}
@@ -54,11 +54,11 @@ still : (b : Bool) → (b ≡ false → ⊥) → b ≡ true
 still true f = refl
 still false f = absurd (f refl)
 
--- the copy itself agrees
+-- a candidate with the copy's size and root agrees with it
 agree_now : (digest : List ℕ → List ℕ) (a b : Candidate) → IsOnePoint a b → Agrees digest (point_of a) (point_of b)
 agree_now digest a b p = record { proof = None; shown = inl (p.0, p.1) }
 
--- a candidate that is a fork of the copy is not at its point
+-- a candidate that is a fork with the copy does not have its size and root
 fork_apart : (digest : List ℕ → List ℕ) (held c : Candidate) (proof : Option Proof) → AreFork digest held c proof →
     IsOnePoint c held → ⊥
 fork_apart digest held c proof (inl shown) p = omega (arith, shown.0, p.0)
@@ -123,7 +123,7 @@ module _ (digest : List ℕ → List ℕ) (first : Option Candidate) where
         All (λ x. IsBeyond copy x × IsLacked More x) lacked
     beyond_more copy lacked all k d lt = let x = all k d lt in (x.0, lacked_more _ x.1)
 
-    -- ---- it agrees
+    -- ---- the candidate agrees
 
     keeps_agreed : (xs : List Candidate) (forks : List ForkLine) (lacked : List Candidate) (behind : Option (ℕ × List ℕ))
         (reached now : Bool) → (reached ≡ true → now ≡ true) → KeepsFirst xs forks lacked behind reached →
@@ -165,7 +165,7 @@ module _ (digest : List ℕ → List ℕ) (first : Option Candidate) where
     taken_agreed (Some held) forks lacked behind reached now h agreed noted m =
         agreed_held held forks lacked behind reached now h agreed noted m
 
-    -- ---- the copy is brought to it
+    -- ---- the copy is brought to the candidate
 
     keeps_reached : (xs : List Candidate) (forks : List ForkLine) (lacked : List Candidate) (behind : Option (ℕ × List ℕ)) →
         KeepsFirst (xs ++ c ∷ []) forks lacked behind true
@@ -197,7 +197,7 @@ module _ (digest : List ℕ → List ℕ) (first : Option Candidate) where
         one_of = inr (c, Contains-push done c, is);
       }
 
-      -- the points of those before are not that of the copy
+      -- no earlier candidate has the size and root of the copy
       notes_apart : IsNextOf done c → All (IsNoted (Some now)) done
       notes_apart next k d lt = λ one.
           absurd (next.apart k d lt (one_then (get_or done k d) now c one (one_back c now at_now)))
@@ -234,14 +234,14 @@ module _ (digest : List ℕ → List ℕ) (first : Option Candidate) where
       grown_none None g = tt
       grown_none (Some f) g = absurd g
 
-      -- from none
+      -- from no copy
       brought_none : (forks : List ForkLine) (lacked : List Candidate) (behind : Option (ℕ × List ℕ)) (reached : Bool) →
           Taken done None forks lacked behind reached → IsNextOf done c → Taken More (Some now) forks lacked behind true
       brought_none forks lacked behind reached h next =
           brought_with None forks lacked behind reached h (λ k d lt a. absurd a) (notes_apart next)
           (beyond_next None lacked next h.lacks) (grown_none first h.grown)
 
-      -- from a smaller one
+      -- from a smaller copy
       brought_larger : (held : Candidate) (forks : List ForkLine) (lacked : List Candidate) (behind : Option (ℕ × List ℕ))
           (reached : Bool) → Taken done (Some held) forks lacked behind reached → IsNextOf done c →
           held.size.0 < c.size.0 → Taken More (Some now) forks lacked behind true
@@ -250,7 +250,7 @@ module _ (digest : List ℕ → List ℕ) (first : Option Candidate) where
           (λ k d less a. let up = next.upto k d less in absurd (omega (arith, a.0, lt, up))) (notes_apart next)
           (beyond_next (Some held) lacked next h.lacks) (grown_larger first held lt h.grown)
 
-      -- from one of its size and root
+      -- from a copy of its size and root
       brought_same : (held : Candidate) (forks : List ForkLine) (lacked : List Candidate) (behind : Option (ℕ × List ℕ))
           (reached : Bool) → Taken done (Some held) forks lacked behind reached → IsOnePoint c held →
           IsNoteUpTo (note_of c) (note_of held) → Taken More (Some now) forks lacked behind true
@@ -281,7 +281,7 @@ module _ (digest : List ℕ → List ℕ) (first : Option Candidate) where
       taken_brought (Some held) forks lacked behind reached h next (inr p) =
           brought_same held forks lacked behind reached h p.0 p.1
 
-    -- ---- it is reported
+    -- ---- the candidate is reported
 
     keeps_reported : (xs : List Candidate) (forks forks' : List ForkLine) (lacked lacked' : List Candidate)
         (behind : Option (ℕ × List ℕ)) (reached : Bool) →
@@ -315,7 +315,7 @@ module _ (digest : List ℕ → List ℕ) (first : Option Candidate) where
     kept_reported forks forks' lacked kept x (inl l) = inl (lines_kept forks forks' x kept l)
     kept_reported forks forks' lacked kept x (inr l) = inr l
 
-    -- it is a fork
+    -- the candidate is a fork
     pub taken_forked : (copy : Option Candidate) (forks forks' : List ForkLine) (lacked : List Candidate)
         (behind : Option (ℕ × List ℕ)) (reached : Bool) → Taken done copy forks lacked behind reached → IsNoted copy c →
         KeepsLines forks forks' → IsInSomeLine forks' c → Taken More copy forks' lacked behind reached
@@ -339,7 +339,7 @@ module _ (digest : List ℕ → List ℕ) (first : Option Candidate) where
     larger_beyond (Some held) added s lt =
         (omega (arith, lt, s.size_is), λ one. omega (arith, lt, s.size_is, one.0))
 
-    -- it was not had
+    -- the copy could not be brought to the candidate
     pub taken_lacked : (copy : Option Candidate) (forks : List ForkLine) (lacked : List Candidate) (added : Candidate)
         (behind : Option (ℕ × List ℕ)) (reached : Bool) → Taken done copy forks lacked behind reached → IsSame c added →
         IsLargerThan copy c → Taken More copy forks (lacked ++ added ∷ []) behind reached
@@ -352,7 +352,7 @@ module _ (digest : List ℕ → List ℕ) (first : Option Candidate) where
           record { other = c; listed = Contains-push done c; same = one_back c added (one_of_same c added s) },
         ))
 
-    -- ---- it repeats one
+    -- ---- the candidate repeats one
 
     agreed_as : (copy : Option Candidate) (one : Candidate) → IsOnePoint one c → IsAgreed digest copy one →
         IsAgreed digest copy c
@@ -443,7 +443,7 @@ module _ (digest : List ℕ → List ℕ) (first : Option Candidate) where
         behind marks
         (taken_lacked run.copy run.forks.items run.not_had.items lacked.added run.behind run.is_reached h lacked.same says)
 
-    -- ---- the lines, and the candidates that were not had
+    -- ---- the lines, and the candidates to which the copy could not be brought
 
     all_listed : (lacked : List Candidate) → All (IsListed done) lacked → All (IsListed More) lacked
     all_listed lacked all = All-weaker (IsListed done) (IsListed More) (listed_more done c) lacked all
@@ -509,7 +509,7 @@ pub larger_above : (copy : Option Candidate) (c : Candidate) → IsLargerThan co
 larger_above None c lt = tt
 larger_above (Some held) c lt = inl lt
 
--- a candidate of the copy's size or of no entries, with the root that is due
+-- a candidate of the copy's size or without entries, with the root that it has to have
 pub due_agrees : (digest : List ℕ → List ℕ) (copy c : Candidate) (due : List ℕ) → c.size.0 ≤ copy.size.0 →
     (c.size.0 ≡ 0) ⊎ (c.size.0 ≡ copy.size.0) → (c.size.0 ≡ copy.size.0 → due ≡ copy.root) →
     (c.size.0 ≢ copy.size.0 → due ≡ digest []) → c.root ≡ due → Agrees digest (point_of c) (point_of copy)
@@ -523,7 +523,7 @@ due_agrees digest copy c due le which as_copy as_none same = elim (cases_lt c.si
       record { proof = None; shown = inl (one, same ∙ as_copy one) }
 ]
 
--- what a turn says, by the copy that the run knows
+-- the facts after a turn, with the copy of the run
 module _ (digest : List ℕ → List ℕ) {E : Type 0} (r : Result Outcome E) (copy : Option Candidate) (c held : Candidate)
     (is : copy ≡ Some held) where
   pub says_held : IfOk r (SaysTurn digest (Some held) c) → IfOk r (SaysTurn digest copy c)
@@ -561,7 +561,7 @@ module _ (digest : List ℕ → List ℕ) (first : Option Candidate) where
     taken_at x is fresh run next f h =
         subst (λ l. HasTakenRun digest first l next) (more x is) (f (next_of cs rises i x lt is fresh) h)
 
-    -- one that repeats the one before it has none
+    -- a candidate that repeats the one before it has no turn
     pub taken_repeat : IsRepeat cs i → (run : Run) → HasTakenRun digest first (take i cs) run →
         HasTakenRun digest first (take (i + 1) cs) run
     taken_repeat r run h =
@@ -575,12 +575,12 @@ module _ (digest : List ℕ → List ℕ) (first : Option Candidate) where
           listed = all_listed digest first (take i cs) x.0 run.not_had.items h.listed;
         })
 
-  -- after the turns of all
+  -- after all turns
   pub taken_all : (cs : List Candidate) (i : ℕ) (run : Run) → length cs ≤ i → HasTakenRun digest first (take i cs) run →
       HasTakenRun digest first cs run
   taken_all cs i run le h = subst (λ l. HasTakenRun digest first l run) (take_all i cs le) h
 
--- a call that lets a candidate of a list have its turn
+-- a call that runs the turn of a candidate of a list
 pub turn_ok : (digest : List ℕ → List ℕ) {T E : Type 0} (r : Result T E) (cs : List Candidate) (i : ℕ) → i < length cs →
     (x : Candidate) → x ≡ get_or cs i x → (IsRepeat cs i → ⊥) → (run next : Run) →
     OnOk r ((first : Option Candidate) (done : List Candidate) → IsNextOf done x → HasTakenRun digest first done run →

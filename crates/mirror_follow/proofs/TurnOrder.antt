@@ -1,4 +1,4 @@
--- The order in which candidates have their turn.
+-- The order of the candidates' turns.
 use Rattle.std.proofs.Common.{◌≡◌, ℕ, ◌-◌, ◌<◌, ◌≤◌, Bool, true, false, List, [], ◌∷◌, length, get_or, take, Some, refl, sym, ap, subst, ◌∙◌, arith, true≢false, length-take}
 use Rattle.std.proofs.Common.{Ordering, Less, Equal, Greater, nat_cmp, is_lt, is_gt}
 use Rattle.std.specs.Cmp.{IsTotalOrder, then_total, on_total, back_total, nat_cmp_total, tied_itself}
@@ -36,7 +36,7 @@ turned Less = refl
 turned Equal = refl
 turned Greater = refl
 
--- what is not less is the other way not greater
+-- if b is not less than a, a is not greater than b
 not_greater : (a b : List ℕ) → is_lt (slice_cmp nat_cmp b a) ≡ false → is_gt (slice_cmp nat_cmp a b) ≡ false
 not_greater a b h =
     ap is_gt (nat_list_cmp_total.antisymm a b) ∙ turned (slice_cmp nat_cmp b a) ∙ h
@@ -46,7 +46,7 @@ less_gt Less h = refl
 less_gt Equal h = absurd (true≢false (sym h))
 less_gt Greater h = absurd (true≢false (sym h))
 
--- what a test of two notes says
+-- the meaning of a test of two notes
 pub note_less : (a b : List ℕ) → is_lt (slice_cmp nat_cmp a b) ≡ true → IsNoteUpTo a b
 note_less a b h = less_gt (slice_cmp nat_cmp a b) h
 
@@ -60,7 +60,7 @@ note_test a b r e =
     e ∙ ap (is_some_and is_lt) (lists_agrees {R = nat_cmp} (λ x y. refl) a b) in
     (λ t. note_less a b (sym s ∙ t), λ f. note_other a b (sym s ∙ f))
 
--- ---- two candidates in turn
+-- ---- two candidates in order
 
 then_first : (o r : Ordering) → is_lt (ordering_then o r) ≡ false → is_lt o ≡ false
 then_first Less r h = h
@@ -105,7 +105,7 @@ tied Less h g = absurd (true≢false g)
 tied Equal h g = refl
 tied Greater h g = absurd (true≢false h)
 
--- one in turn between two of one size and root has these too
+-- a candidate between two of one size and root has this size and root
 between : (a b c : Candidate) → IsBefore a b → IsBefore b c → IsOnePoint a c → IsOnePoint b c
 between a b c p q e =
     let size : b.size.0 ≡ c.size.0 = omega (arith, p.upto, q.upto, e.0) in
@@ -131,7 +131,7 @@ module _ (cs : List Candidate) (rises : IsSorted turn_cmp cs) (i : ℕ) (c : Can
   at : (d : Candidate) → get_or cs i d ≡ c
   at d = get_or_default cs i d c lt ∙ sym is
 
-  -- one of those before it
+  -- an earlier candidate
   earlier : (k : ℕ) (d : Candidate) → k < i → IsBefore (get_or (take i cs) k d) c
   earlier k d less =
       subst (λ x. IsBefore x c) (sym (get_or-take i cs k d less))
@@ -140,7 +140,7 @@ module _ (cs : List Candidate) (rises : IsSorted turn_cmp cs) (i : ℕ) (c : Can
   within : (k : ℕ) → k < length (take i cs) → k < i
   within k less = let n = length-take i cs in omega (arith, n, less)
 
-  -- one that does not repeat the one before
+  -- a candidate that does not repeat the one before it
   pub next_of : (IsRepeat cs i → ⊥) → IsNextOf (take i cs) c
   next_of fresh = record {
     upto = λ k d less. (earlier k d (within k less)).upto;
@@ -159,7 +159,7 @@ module _ (cs : List Candidate) (rises : IsSorted turn_cmp cs) (i : ℕ) (c : Can
             (far k (i - 1) none (omega (arith, less)) (omega (arith, lt))) (far (i - 1) i none (omega arith) lt) one,
       )
 
-  -- one that repeats the one before
+  -- a candidate that repeats the one before it
   pub record IsAgain : Type 0 where
     pub one : Candidate
     pub listed : Contains (take i cs) one
@@ -198,7 +198,7 @@ none_above cs rises first others are c listed =
     subst (λ x. x.size.0 ≤ first.size.0) listed.2
     (subst (λ x. (get_or cs listed.0 c).size.0 ≤ x.size.0) head upto)
 
--- a candidate is not larger than one before it
+-- a candidate is at least as large as each one after it
 pub falls : (cs : List Candidate) → IsSorted turn_cmp cs → (i : ℕ) (c : Candidate) → i < length cs → c ≡ get_or cs i c →
     (j : ℕ) (d : Candidate) → i ≤ j → j < length cs → d ≡ get_or cs j d → d.size.0 ≤ c.size.0
 falls cs rises i c lt is j d le within there =

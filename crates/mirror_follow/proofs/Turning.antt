@@ -1,4 +1,4 @@
--- A run of turns, turn by turn.
+-- A run of turns, turn after turn.
 use Rattle.std.proofs.Common.{◌≡◌, ◌≢◌, ℕ, List, [], Option, IfSome, refl, sym, subst, ◌∙◌}
 use Rattle.std.proofs.lemmas.List.Elements.{All-nil}
 use Rattle.mirror_folders.specs.Shelf.{Put}
@@ -26,7 +26,7 @@ module _ (digest : List ℕ → List ℕ) (origin : List ℕ) where
     shows = subst (λ l. ShowsEach digest l) (sym empty) (All-nil (ShowsLine digest));
   }
 
-  -- a candidate that has no turn
+  -- a candidate without a turn
   pub run_same : (x : Option (List Put)) (run : Run) → ContinuesRun digest origin x x run run
   run_same x run = record { known = λ first k. k; head = λ h. h; had_is = refl; shows = λ h. h }
 
@@ -55,7 +55,7 @@ module _ (digest : List ℕ → List ℕ) (origin : List ℕ) where
 
 -- ---- faults
 
--- a fault that is not the shelf's
+-- a fault other than the shelf's
 pub counts_other : (n : ℕ) (e : FollowFault) → e ≢ ShelfFault → CountsFollowFault n n e
 counts_other n fault.NoCheckpoint other = refl
 counts_other n (fault.Head f) other = refl

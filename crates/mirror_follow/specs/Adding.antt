@@ -1,4 +1,4 @@
--- A line of a fork is added to lines that rise.
+-- A fork line is added to rising lines.
 use Rattle.std.specs.Prelude.{◌≡◌, ◌⊎◌, ℕ, ◌<◌, ◌≤◌, List, get_or, length, Option}
 use Rattle.std.specs.List.{insert}
 use Rattle.std.specs.List.Sorted.{IsStrictlySortedBy}
@@ -9,13 +9,13 @@ use Rattle.mirror_follow.specs.Standing.{IsSame}
 use Rattle.mirror_follow.specs.declared.candidate.Candidate.{Candidate}
 use Rattle.mirror_follow.specs.declared.report.ForkLine.{ForkLine}
 
--- the line belongs there among the lines: it comes after those before, and before the one that is there
+-- the line belongs at that index: it comes after the lines before it, and before the line at the index
 pub record IsPlaceOf (line : ForkLine) (lines : List ForkLine) (at : ℕ) : Type 0 where
   pub within : at ≤ length lines
   pub after : (k : ℕ) (none : ForkLine) → k < at → fork_line_cmp line (get_or lines k none) ≡ Greater
   pub before : (none : ForkLine) → at < length lines → fork_line_cmp line (get_or lines at none) ≡ Less
 
--- the line is there, or it was added so that the lines still rise
+-- the lines have such a line already, or it was added so that they still rise
 pub record AddsLine (line : ForkLine) (old new : List ForkLine) : Type 0 where
   pub among : (new ≡ old) ⊎ ((at : ℕ) × (new ≡ insert old at line))
   pub sorted : IsStrictlySortedBy fork_line_cmp old → IsStrictlySortedBy fork_line_cmp new
@@ -31,12 +31,12 @@ pub record AddsFork (a b : Candidate) (old new : List ForkLine) : Type 0 where
   pub is : IsForkLine a b line
   pub adds : AddsLine line old new
 
--- likewise, and they have not one size and root
+-- the same, and the two do not have the same size and root
 pub record AddsOther (a b : Candidate) (old new : List ForkLine) : Type 0 where
   pub apart : ¬ IsOnePoint a b
   pub fork : AddsFork a b old new
 
--- what is added to lines of forks is a line of that candidate, with the copy or with another candidate
+-- the added lines are lines of that candidate, with the copy or with another candidate
 abbrev pub AddsLinesOf : Candidate → List Candidate → Candidate → List ForkLine → List ForkLine → Type 0
 AddsLinesOf copy candidates candidate old new =
     (first : Option Candidate) → IsFirstOrListed first candidates copy → IsListed candidates candidate →

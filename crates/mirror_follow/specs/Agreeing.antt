@@ -1,4 +1,4 @@
--- What shows that a log that made one checkpoint had made another before it (RFC 9162, section 2.1.4).
+-- The evidence that a log that made one checkpoint had made another before it (RFC 9162, section 2.1.4).
 use Rattle.std.specs.Prelude.{◌≡◌, ◌⊎◌, ℕ, ◌<◌, List, [], take, Option, Some, None}
 use Rattle.tlog_proof.specs.Consistency.{IsConsistency}
 use Rattle.tlog_proof.specs.Text.{HasHashes}
@@ -9,7 +9,7 @@ use Rattle.mirror_model.specs.Forks.{Point}
 use Rattle.mirror_follow.specs.Forks.{HasPoint, LacksForkClash}
 
 module _ (digest : List ℕ → List ℕ) where
-  -- the proof is a consistency proof that is accepted, from the one point to the larger one
+  -- the proof is an accepted consistency proof from the smaller point to the larger one
   pub record IsAgreeProof (small large : Point) (first : ℕ) (first_root : List ℕ) (second : ℕ)
       (second_root : List ℕ) (path : List (List ℕ)) : Type 0 where
     pub first_is : first ≡ small.size
@@ -20,8 +20,8 @@ module _ (digest : List ℕ → List ℕ) where
     pub accepted : IsConsistency digest first first_root second second_root path
     pub hashes : HasHashes (Consistency first first_root second second_root path)
 
-  -- what shows that two points agree, the smaller first. Without a proof: one size and one root, or no entries and the
-  -- hash of the empty list
+  -- the evidence that two points agree, the smaller first. Without a proof: one size and one root, or no entries and the hash of
+  -- the empty list
   abbrev pub ShowsAgree : Point → Point → Option Proof → Type 0
   ShowsAgree small large None =
       ((small.size ≡ large.size) × (small.root ≡ large.root))
@@ -35,7 +35,7 @@ module _ (digest : List ℕ → List ℕ) where
     pub proof : Option Proof
     pub shown : ShowsAgree small large proof
 
--- where two points agree, the first entries of a list with the second point have the first one, where no two different
+-- if two points agree, each list with the second point begins with a list that has the first one. Premise: no two different
 -- strings of the check of the proof and of the list's tree share a digest
 abbrev pub AgreeingIsOfFirst : Type 0
 AgreeingIsOfFirst =

@@ -1,4 +1,4 @@
--- Whose the faults of a run are.
+-- The causes of the faults of a run.
 use Rattle.std.specs.Prelude.{◌≡◌, ◌⊎◌, ℕ, ◌<◌, ◌≤◌, List, get_or, length, Option, Some, None, Result, Ok, Err, ⊤}
 use Rattle.tlog_tiles.specs.declared.paths.Path.{Path}
 use Rattle.tlog_tiles.specs.declared.paths.Path.TheVariants.{Checkpoint}
@@ -17,12 +17,12 @@ use Rattle.mirror_follow.specs.declared.fault.FollowFault.TheVariants.{NoCheckpo
 use Rattle.mirror_follow.specs.declared.fault.FollowFault.TheVariants.{ShelfFault, Contradiction, Collision, NoFile}
 use Rattle.mirror_follow.specs.declared.fault.FollowFault.TheVariants.{Source, OutOfMemory}
 
--- the fault of a run that a shelf's is
+-- the fault of a run for a fault of the shelf
 abbrev pub by_shelf : ShelfError → FollowFault
 by_shelf shelf.Failed = ShelfFault
 by_shelf shelf.OutOfMemory = OutOfMemory
 
--- the fault of a run that one of reading a copy is
+-- the fault of a run for a fault of reading a copy
 abbrev pub by_copy : CopyFault → FollowFault
 by_copy (reading.Origin fault) = CopyDamaged
 by_copy (reading.Head fault) = CopyDamaged
@@ -30,15 +30,14 @@ by_copy (reading.CopyDamaged path) = CopyDamaged
 by_copy reading.ShelfFault = ShelfFault
 by_copy reading.OutOfMemory = OutOfMemory
 
--- the fault of a run that ends since there is no candidate
+-- the fault of a run without candidates
 abbrev pub of_candidates : CandidateFault → FollowFault
 of_candidates candidate.NoCheckpoint = NoCheckpoint
 of_candidates (candidate.Head fault) = Head fault
 of_candidates candidate.Source = Source
 of_candidates candidate.OutOfMemory = OutOfMemory
 
--- how a shelf's count of failures goes from the one number to the other by a fault: it rises by a ShelfFault, and by
--- no other
+-- how a shelf's number of failures changes at a fault: only a ShelfFault raises it
 abbrev pub CountsFollowFault : ℕ → ℕ → FollowFault → Type 0
 CountsFollowFault old new NoCheckpoint = new ≡ old
 CountsFollowFault old new (Head fault) = new ≡ old
@@ -51,12 +50,12 @@ CountsFollowFault old new NoFile = new ≡ old
 CountsFollowFault old new Source = new ≡ old
 CountsFollowFault old new OutOfMemory = new ≡ old
 
--- the same of an answer
+-- the same for an answer
 abbrev pub CountsFollow : {T : Type 0} → ℕ → ℕ → Result T FollowFault → Type 0
 CountsFollow old new (Ok x) = new ≡ old
 CountsFollow old new (Err e) = CountsFollowFault old new e
 
--- the fault is neither that of a place nor that of the shelf
+-- the fault is neither a place's nor the shelf's
 abbrev pub IsOfTheRun : FollowFault → Type 0
 IsOfTheRun NoCheckpoint = ⊤
 IsOfTheRun (Head fault) = ⊤
@@ -69,7 +68,7 @@ IsOfTheRun NoFile = ⊤
 IsOfTheRun Source = ⊥
 IsOfTheRun OutOfMemory = ⊤
 
--- a place failed, or it was given up before since it had failed 8 times
+-- a place failed, or had been given up after 8 failures
 pub record PlaceFails {S : Type 0} (old new : Places S) : Type 0 where
   pub index : ℕ
   pub none : Place S
@@ -77,18 +76,18 @@ pub record PlaceFails {S : Type 0} (old new : Places S) : Type 0 where
       ⊎ (8 ≤ (get_or old.list.items index none).failures)
 
 module _ {S : Type 0} (may : S → Path → Option (List ℕ) → Type 0) where
-  -- a place may give the note for its checkpoint
+  -- a place may give the note as its checkpoint
   pub record MayGive (places : Places S) (note : List ℕ) : Type 0 where
     pub index : ℕ
     pub listed : index < length places.list.items
     pub gives : (none : Place S) → may (get_or places.list.items index none).source Checkpoint (Some note)
 
-  -- the note is the one that was given, or where none was, one that a place may give
+  -- the note is the given one, or else one that a place may give
   abbrev pub IsGivenOrMayGive : Option (List ℕ) → Places S → List ℕ → Type 0
   IsGivenOrMayGive None places note = MayGive places note
   IsGivenOrMayGive (Some given) places note = note ≡ given
 
--- places are asked for files, whatever these are
+-- the places may get requests for any files
 abbrev pub AsksAny : {S : Type 0} → (S → Path → Option (List ℕ) → Type 0) → (S → ℕ) → (S → Option (List Path)) →
     Places S → Places S → Type 0
 AsksAny may failed asked old new = AsksEach may failed asked (λ path. ⊤) old new

@@ -1,4 +1,4 @@
--- Candidates: notes that open, of checkpoints to which a copy may be brought, and the order in which they have their turn.
+-- Candidates: notes that open, with checkpoints to which a copy may be brought, and the order of their turns.
 use Rattle.std.specs.Prelude.{◌≡◌, ℕ, List, Result, Ok, Err}
 use Rattle.std.specs.Cmp.Lexicographic.{slice_cmp}
 use Rattle.std.specs.Ordering.{nat_cmp, ordering_then}
@@ -9,21 +9,21 @@ use Rattle.mirror_model.specs.Refusals.{ReadsHead}
 use Rattle.mirror_model.specs.declared.fault.TakeFault.{TakeFault}
 use Rattle.mirror_follow.specs.declared.candidate.Candidate.{Candidate}
 
--- the candidate is that note, which opens under the keys, and whose text is a checkpoint of the origin, of that size and root
+-- the candidate is that note. It opens under the keys, and its text is a checkpoint of the origin, with that size and root
 pub record IsCandidateOf (note origin : List ℕ) (keys : List Key) (candidate : Candidate) : Type 0 where
   pub note_is : candidate.note.items ≡ note
   pub is_open : IsOpenHead note origin keys candidate.size.0 candidate.root
 
--- the candidate is its own note, which opens
+-- the candidate's own note opens, with its size and root
 abbrev pub IsCandidate : List ℕ → List Key → Candidate → Type 0
 IsCandidate origin keys candidate = IsCandidateOf candidate.note.items origin keys candidate
 
--- what each answer of a judge of notes says: Ok, which candidate the note is; a fault, why it is none
+-- the meaning of an answer about a note. Ok: the note is this candidate. A fault: the note is no candidate, for this reason
 abbrev pub JudgesNote : List ℕ → List ℕ → List Key → Result Candidate TakeFault → Type 0
 JudgesNote note origin keys (Ok candidate) = IsCandidateOf note origin keys candidate
 JudgesNote note origin keys (Err fault) = ReadsHead note origin keys (Err fault)
 
--- the order of turns: the greater size first, of one size the lesser root, and of one size and root the lesser note
+-- the order of turns: the greater size first, then the lesser root, then the lesser note
 abbrev pub turn_cmp : Candidate → Candidate → Ordering
 turn_cmp a b =
     ordering_then (nat_cmp b.size.0 a.size.0)

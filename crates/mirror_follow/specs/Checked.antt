@@ -10,8 +10,8 @@ abbrev pub HasFirstRoot : List ℕ → Proof → Type 0
 HasFirstRoot hash (Inclusion size index root leaf path) = ⊥
 HasFirstRoot hash (Consistency first first_root second second_root path) = first_root ≡ hash
 
--- the proof is a consistency proof that is accepted, from the smaller candidate's size into the larger one's tree, and its
--- first root is not the smaller one's
+-- the proof is an accepted consistency proof from the smaller candidate's size into the larger one's tree. Its first root differs
+-- from the smaller root
 abbrev pub IsCheckedFork : (List ℕ → List ℕ) → Candidate → Candidate → Proof → Type 0
 IsCheckedFork digest small large (Inclusion size index root leaf path) = ⊥
 IsCheckedFork digest small large (Consistency first first_root second second_root path) =

@@ -1,4 +1,4 @@
--- Why following ends with a fault.
+-- The reasons why a call of `follow` ends with a fault.
 use Rattle.std.specs.Prelude.{◌≡◌, ◌≢◌, ◌⊎◌, ℕ, List, [], ◌∷◌, Option, Some, None, Err, ⊤}
 use Rattle.std.specs.List.Sorted.{IsSorted}
 use Rattle.signed_note.specs.Keys.{Key}
@@ -27,7 +27,7 @@ use Rattle.mirror_follow.specs.declared.report.Outcome.TheVariants as turn
 
 -- ---- faults of turns
 
--- a fault by which a turn ends the run, and what it says: of a copy that is damaged, and of one that another run has changed
+-- the facts at a fault that ends the run in a turn: "damaged" at CopyDamaged, "in_use" at CopyInUse
 abbrev pub EndsRun : Type 0 → Type 0 → FollowFault → Type 0
 EndsRun damaged in_use NoCheckpoint = ⊥
 EndsRun damaged in_use (Head fault) = ⊥
@@ -40,11 +40,11 @@ EndsRun damaged in_use NoFile = ⊥
 EndsRun damaged in_use Source = ⊥
 EndsRun damaged in_use OutOfMemory = ⊤
 
--- likewise, and both say this
+-- the same with one fact for both
 abbrev pub EndsAt : Type 0 → FollowFault → Type 0
 EndsAt so fault = EndsRun so so fault
 
--- a bringing ended since the copy is another than the one that was found
+-- a call of bring_copy ended since the copy is not the one that was found
 abbrev pub IsOfOtherRun : BringFault → Type 0
 IsOfOtherRun bring.BadCheckpoint = ⊤
 IsOfOtherRun bring.CopyDamaged = ⊥
@@ -57,11 +57,11 @@ IsOfOtherRun bring.CopyInUse = ⊤
 IsOfOtherRun bring.ShelfFault = ⊥
 IsOfOtherRun bring.OutOfMemory = ⊥
 
--- the candidate is of no entries, and its root is not the hash of the empty list
+-- the candidate has no entries, but its root is not the hash of the empty list
 abbrev pub HasFalseRoot : (List ℕ → List ℕ) → Candidate → Type 0
 HasFalseRoot digest candidate = (candidate.size.0 ≡ 0) × (candidate.root ≢ digest [])
 
--- a fault for which an empty copy was not brought to the candidate, and the run goes on
+-- a fault for which an empty copy was not brought to the candidate, while the run continues
 abbrev pub IsFaultOf : (List ℕ → List ℕ) → Candidate → FollowFault → Type 0
 IsFaultOf digest candidate NoCheckpoint = ⊥
 IsFaultOf digest candidate (Head fault) = ⊥
@@ -74,7 +74,7 @@ IsFaultOf digest candidate NoFile = ⊤
 IsFaultOf digest candidate Source = ⊤
 IsFaultOf digest candidate OutOfMemory = ⊥
 
--- what comes of the turn of a candidate where the copy is empty: it is brought to it, or the candidate was not had
+-- the outcome of a turn if the copy is empty: it was brought to the candidate, or could not be
 abbrev pub IsOfEmpty : (List ℕ → List ℕ) → Candidate → Outcome → Type 0
 IsOfEmpty digest candidate turn.Agrees = ⊥
 IsOfEmpty digest candidate turn.Brought = ⊤
@@ -82,7 +82,7 @@ IsOfEmpty digest candidate (turn.Forks proof) = ⊥
 IsOfEmpty digest candidate turn.Contradicts = HasFalseRoot digest candidate
 IsOfEmpty digest candidate (turn.NotHad fault) = IsFaultOf digest candidate fault
 
--- the first fault, after one more
+-- the first fault, after one more fault
 abbrev pub or_fault : Option FollowFault → FollowFault → Option FollowFault
 or_fault None fault = Some fault
 or_fault (Some first) fault = Some first
@@ -95,17 +95,17 @@ fault_after first (turn.Forks proof) = first
 fault_after first turn.Contradicts = or_fault first Contradiction
 fault_after first (turn.NotHad fault) = or_fault first fault
 
--- where the first fault of a run became Source, a place failed
+-- if the first fault of a run became Source, a place failed
 abbrev pub BlamesPlace : {S : Type 0} → Places S → Places S → Option FollowFault → Option FollowFault → Type 0
 BlamesPlace old new first last = last ≡ Some Source → (first ≡ Some Source) ⊎ PlaceFails old new
 
--- the fault is that of the first candidate; none where there is no candidate
+-- the fault is that of the first candidate. Without candidates there is none
 abbrev pub IsFirstFault : (List ℕ → List ℕ) → List Candidate → Option FollowFault → Type 0
 IsFirstFault digest [] fault = fault ≡ None
 IsFirstFault digest (candidate ∷ others) None = ⊥
 IsFirstFault digest (candidate ∷ others) (Some fault) = IsFaultOf digest candidate fault
 
--- where the copy of a run is empty, the fault of the first of these candidates is kept
+-- if the copy of a run is empty, the run keeps the fault of the first of these candidates
 abbrev pub KeepsFault : (List ℕ → List ℕ) → List Candidate → Run → Type 0
 KeepsFault digest done run = run.copy ≡ None → IsFirstFault digest done run.first_fault
 
@@ -115,7 +115,7 @@ KeepsFault digest done run = run.copy ≡ None → IsFirstFault digest done run.
 abbrev pub IsRefused : List ℕ → List Key → List ℕ → TakeFault → Type 0
 IsRefused origin keys note fault = (fault ≢ take.OutOfMemory) × ReadsHead note origin keys (Err fault)
 
--- why a note that was given is no candidate
+-- the reason why the given note is no candidate
 abbrev pub RefusesGiven : List ℕ → List Key → List ℕ → FollowFault → Type 0
 RefusesGiven origin keys note NoCheckpoint = ⊥
 RefusesGiven origin keys note (Head fault) = IsRefused origin keys note fault
@@ -128,7 +128,7 @@ RefusesGiven origin keys note NoFile = ⊥
 RefusesGiven origin keys note Source = ⊥
 RefusesGiven origin keys note OutOfMemory = ⊤
 
--- why the places give no candidate
+-- the reason why the places give no candidate
 abbrev pub GivesNoneBy : {S : Type 0} → (S → Path → Option (List ℕ) → Type 0) → List ℕ → List Key → Places S →
     Places S → FollowFault → Type 0
 GivesNoneBy may origin keys old new NoCheckpoint = GiveNone may origin keys old new candidate.NoCheckpoint
@@ -142,7 +142,7 @@ GivesNoneBy may origin keys old new NoFile = ⊥
 GivesNoneBy may origin keys old new Source = PlaceFails old new × GiveNone may origin keys old new candidate.Source
 GivesNoneBy may origin keys old new OutOfMemory = ⊤
 
--- why there is no candidate, where that note was given, or none was
+-- the reason why there is no candidate, with the given note or without one
 abbrev pub LacksCandidates : {S : Type 0} → (S → Path → Option (List ℕ) → Type 0) → List ℕ → List Key →
     Places S → Places S → Option (List ℕ) → FollowFault → Type 0
 LacksCandidates may origin keys old new None fault = GivesNoneBy may origin keys old new fault
@@ -150,7 +150,7 @@ LacksCandidates may origin keys old new (Some note) fault = RefusesGiven origin 
 
 module _ (digest : List ℕ → List ℕ) {S : Type 0} (may : S → Path → Option (List ℕ) → Type 0) (origin : List ℕ)
     (keys : List Key) (puts : Option (List Put)) (old new : Places S) where
-  -- there are candidates, and the first of them is so. The shelf had no checkpoint
+  -- there are candidates, and "so" holds for the first. The shelf had no checkpoint
   pub record HadNone (given : Option (List ℕ)) (so : Candidate → Type 0) : Type 0 where
     pub first : Candidate
     pub others : List Candidate
@@ -159,10 +159,9 @@ module _ (digest : List ℕ → List ℕ) {S : Type 0} (may : S → Path → Opt
     pub is_so : so first
     pub empty : RecordsRead puts Checkpoint None
 
-  -- what a fault says, where that note was given, or none was. NoCheckpoint and Head: the given note is no candidate, or
-  -- no place gives one, for the reason of the first. CopyDamaged and CopyInUse: the shelf recorded no copy.
-  -- Contradiction, NoFile and Source: the copy was empty, and this is the fault of the greatest candidate. Collision
-  -- never comes
+  -- the facts at a fault, with the given note or without one. NoCheckpoint and Head: the given note is no candidate, or no place
+  -- gives one, with the reason of the first place. CopyDamaged and CopyInUse: the shelf recorded no copy. Contradiction, NoFile
+  -- and Source: the copy was empty, and this is the fault of the greatest candidate. Collision never comes
   abbrev pub EndsFor : Option (List ℕ) → FollowFault → Type 0
   EndsFor None NoCheckpoint = GiveNone may origin keys old new candidate.NoCheckpoint
   EndsFor None (Head fault) = GiveNone may origin keys old new (candidate.Head fault)

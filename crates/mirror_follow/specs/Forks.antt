@@ -1,4 +1,4 @@
--- What shows that no log has made two checkpoints (RFC 9162, section 2.1.4): the evidence of a fork line.
+-- The evidence that no log has made two checkpoints (RFC 9162, section 2.1.4): that of a fork line.
 use Rattle.std.specs.Prelude.{◌≡◌, ◌≢◌, ◌⊎◌, ℕ, ◌<◌, List, [], length, reverse, true, Contains, Option, Some, None, ⊤}
 use Rattle.tlog_hash.specs.Tree.{mth, strings}
 use Rattle.tlog_hash.specs.Shape.{shape}
@@ -11,8 +11,8 @@ use Rattle.mirror_model.specs.Strings.{IsDigest}
 use Rattle.mirror_model.specs.Forks.{IsPrefix, Point}
 
 module _ (digest : List ℕ → List ℕ) where
-  -- the proof is a consistency proof that is accepted, from the smaller size into the larger point, and its first root
-  -- is not that of the smaller point
+  -- the proof is an accepted consistency proof from the smaller size into the larger point, and its first root differs from the
+  -- root of the smaller point
   pub record IsForkProof (small large : Point) (first : ℕ) (first_root : List ℕ) (second : ℕ)
       (second_root : List ℕ) (path : List (List ℕ)) : Type 0 where
     pub first_is : first ≡ small.size
@@ -23,7 +23,7 @@ module _ (digest : List ℕ → List ℕ) where
     pub hashes : HasHashes (Consistency first first_root second second_root path)
     pub differs : first_root ≢ small.root
 
-  -- what shows a fork of two points, the smaller first. Without a proof: one size and two roots, or no entries and a
+  -- the evidence of a fork of two points, the smaller first. Without a proof: one size and different roots, or no entries and a
   -- root that is not the hash of the empty list
   abbrev pub ShowsFork : Point → Point → Option Proof → Type 0
   ShowsFork small large None =
@@ -33,15 +33,14 @@ module _ (digest : List ℕ → List ℕ) where
   ShowsFork small large (Some (Consistency first first_root second second_root path)) =
       IsForkProof small large first first_root second second_root path
 
-  -- the string is hashed where the proof is checked, or where the tree hash of the entries is made
+  -- the string is hashed in the check of the proof, or for the tree hash of the entries
   abbrev pub IsMetByFork : Proof → List (List ℕ) → List ℕ → Type 0
   IsMetByFork (Inclusion size index root leaf path) entries string = ⊥
   IsMetByFork (Consistency first first_root second second_root path) entries string =
       IsHashedBoth digest (shape second) first true first_root (reverse path) string
       ⊎ Contains (strings digest entries) string
 
-  -- no two different strings of the check of the proof and of the entries' tree share a digest; where there is no
-  -- proof, nothing is asked
+  -- no two different strings of the check of the proof and of the entries' tree share a digest. Without a proof, it always holds
   abbrev pub LacksForkClash : Option Proof → List (List ℕ) → Type 0
   LacksForkClash None entries = ⊤
   LacksForkClash (Some proof) entries = HasNoClash digest (IsMetByFork proof entries)
@@ -51,8 +50,8 @@ module _ (digest : List ℕ → List ℕ) where
     pub size_is : length entries ≡ point.size
     pub root_is : mth digest entries ≡ point.root
 
--- of two lists with the sizes and roots of a fork line the first does not begin the second, where no two different
--- strings of the check of its proof and of the second list's tree share a digest
+-- a fork line has two sizes and roots. A list with the first pair does not begin a list with the second one. Premise: no two
+-- different strings of the check of the proof and of the second list's tree share a digest
 abbrev pub ForkLineIsEvidence : Type 0
 ForkLineIsEvidence =
     (digest : List ℕ → List ℕ) → IsDigest digest → (small large : Point) (proof : Option Proof) →

@@ -1,4 +1,4 @@
--- The candidates that the places of a run give, and why they give none.
+-- The candidates of the places of a run, or the reason why there are none.
 use Rattle.std.specs.Prelude.{◌≡◌, ◌⊎◌, ℕ, ◌<◌, ◌≤◌, List, [], ◌∷◌, Contains, get_or, length, Option, Some, None, ⊤}
 use Rattle.signed_note.specs.Keys.{Key}
 use Rattle.tlog_tiles.specs.declared.paths.Path.{Path}
@@ -23,21 +23,21 @@ pub record IsOnly (origin : List ℕ) (keys : List Key) (note : List ℕ) (candi
   pub opens : IsCandidateOf note origin keys candidate
 
 module _ {S : Type 0} (may : S → Path → Option (List ℕ) → Type 0) where
-  -- a place answers for its checkpoint what it may answer; or it failed, or it had failed 8 times before
+  -- a place gives a possible answer for its checkpoint. Or it failed, or it had failed 8 times before
   abbrev pub MayAnswer : Place S → Place S → PlaceAnswer → Type 0
   MayAnswer old new (File bytes) = may old.source Checkpoint (Some bytes.items)
   MayAnswer old new NotFound = may old.source Checkpoint None
   MayAnswer old new Failed = (old.failures < new.failures) ⊎ (8 ≤ old.failures)
 
-  -- each of the first places gave its answer, as many as count, in their order
+  -- each of the first "count" places gave its answer, in order
   pub record AnswerEach (old new : Places S) (answers : List PlaceAnswer) (count : ℕ) : Type 0 where
     pub count_is : length answers ≡ count
     pub each : (k : ℕ) (place : Place S) (answer : PlaceAnswer) → k < count →
         MayAnswer (get_or old.list.items k place) (get_or new.list.items k place) (get_or answers k answer)
 
   module _ (origin : List ℕ) (keys : List Key) (old new : Places S) where
-    -- what was gathered are the candidates of the answers of the first places: each note is one that a place may give,
-    -- and where a place failed to answer, one did
+    -- the gathered candidates come from the answers of the first places. Each note is one that a place may give. If an answer is
+    -- Failed, that place failed
     pub record GathersFrom (count : ℕ) (gathered : Gathered) : Type 0 where
       pub answers : List PlaceAnswer
       pub gathers : Gathers origin keys answers gathered.candidates.items gathered.first
@@ -45,8 +45,8 @@ module _ {S : Type 0} (may : S → Path → Option (List ℕ) → Type 0) where
       pub gave : (note : List ℕ) → Gave answers note → MayGive may old note
       pub failed : Contains answers Failed → PlaceFails old new
 
-    -- each place was asked, no answer is a note that opens, and the fault is the reason of the first; of no places it
-    -- is that there is no checkpoint
+    -- each place got a request, no answer is a note that opens, and the fault is the reason of the first place. For an empty
+    -- list of places it is NoCheckpoint
     pub record GiveNone (fault : CandidateFault) : Type 0 where
       pub answers : List PlaceAnswer
       pub answer_each : AnswerEach old new answers (length old.list.items)
@@ -54,18 +54,18 @@ module _ {S : Type 0} (may : S → Path → Option (List ℕ) → Type 0) where
       pub reason : (first : Option CandidateFault) × IsFirstReason origin keys answers first
           × (fault ≡ option_or first candidate.NoCheckpoint)
 
-    -- each place was asked, and the candidates are exactly the notes that they gave and that open
+    -- each place got a request, and the candidates are exactly the notes of the answers that open
     pub record GiveCandidates (candidates : List Candidate) : Type 0 where
       pub answers : List PlaceAnswer
       pub answer_each : AnswerEach old new answers (length old.list.items)
       pub are_of : AreCandidatesOf origin keys answers candidates
 
-    -- the candidates: the note that was given, or where none was, those of the places
+    -- the candidates: the given note, or else those of the places
     abbrev pub AreCandidates : Option (List ℕ) → List Candidate → Type 0
     AreCandidates None candidates = GiveCandidates candidates
     AreCandidates (Some note) candidates = IsOnly origin keys note candidates
 
-    -- why the places give no candidate, by the fault
+    -- the reason why the places give no candidate, by the fault
     abbrev pub GiveNoneFor : CandidateFault → Type 0
     GiveNoneFor candidate.NoCheckpoint = GiveNone candidate.NoCheckpoint
     GiveNoneFor (candidate.Head fault) = GiveNone (candidate.Head fault)

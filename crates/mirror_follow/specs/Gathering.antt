@@ -1,4 +1,4 @@
--- The candidates that places give, gathered answer by answer.
+-- The candidates of places, gathered answer after answer.
 use Rattle.std.specs.Prelude.{◌≡◌, ◌≢◌, ℕ, List, [], ◌∷◌, map, All, Contains, Option, Some, None, Err}
 use Rattle.signed_note.specs.Keys.{Key}
 use Rattle.mirror_model.specs.Heads.{IsOpenHead}
@@ -24,7 +24,7 @@ pub record Gave (answers : List PlaceAnswer) (note : List ℕ) : Type 0 where
   pub among : Contains answers answer
   pub is_note : IsNote note answer
 
--- the reason that is kept, after one more
+-- the kept reason, after one more reason
 abbrev pub or_first : Option CandidateFault → CandidateFault → Option CandidateFault
 or_first None fault = Some fault
 or_first (Some first) fault = Some first
@@ -34,7 +34,7 @@ abbrev pub note_of : Candidate → List ℕ
 note_of candidate = candidate.note.items
 
 module _ (origin : List ℕ) (keys : List Key) where
-  -- why an answer gives no candidate
+  -- the reason why an answer gives no candidate
   abbrev pub IsReason : PlaceAnswer → CandidateFault → Type 0
   IsReason (File bytes) fault =
       (head : TakeFault) × (head ≢ OutOfMemory) × (fault ≡ follow.Head head) × ReadsHead bytes.items origin keys (Err head)
@@ -47,7 +47,7 @@ module _ (origin : List ℕ) (keys : List Key) where
   IsFirstReason (answer ∷ answers) None = ⊥
   IsFirstReason (answer ∷ answers) (Some fault) = IsReason answer fault
 
-  -- the candidate is one of the notes that were given
+  -- the candidate is one of the given notes
   pub record IsGiven (answers : List PlaceAnswer) (candidate : Candidate) : Type 0 where
     pub gave : Gave answers (note_of candidate)
     pub is_candidate : IsCandidateOf (note_of candidate) origin keys candidate
@@ -58,7 +58,7 @@ module _ (origin : List ℕ) (keys : List Key) where
     pub every : (note : List ℕ) (size : ℕ) (root : List ℕ) → Gave answers note →
         IsOpenHead note origin keys size root → Contains (map note_of candidates) note
 
-  -- so far: the candidates of the answers, and where there are none, why the first answer gives none
+  -- so far: the candidates of the answers. If there are none, the reason why the first answer gives none
   pub record Gathers (answers : List PlaceAnswer) (candidates : List Candidate) (first : Option CandidateFault)
       : Type 0 where
     pub are_of : AreCandidatesOf answers candidates

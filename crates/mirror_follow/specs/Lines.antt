@@ -1,4 +1,4 @@
--- The lines of forks: whose checkpoints they have, and in which order they are.
+-- The fork lines: their checkpoints and their order.
 use Rattle.std.specs.Prelude.{◌≡◌, ◌⊎◌, List, All, Contains, Option, Some, None}
 use Rattle.std.specs.List.Sorted.{IsStrictlySortedBy}
 use Rattle.std.specs.declared.cmp.Ordering.{Ordering}
@@ -16,15 +16,15 @@ use Rattle.mirror_follow.specs.declared.report.ForkLine.{ForkLine}
 abbrev pub pair_of : ForkLine → PointPair
 pair_of line = record { small = point_of line.small; large = point_of line.large }
 
--- the order of lines: by the smaller checkpoint, and then by the larger one
+-- the order of lines: by the smaller checkpoint, then by the larger one
 abbrev pub fork_line_cmp : ForkLine → ForkLine → Ordering
 fork_line_cmp a b = pair_cmp (pair_of a) (pair_of b)
 
--- the smaller checkpoint comes first; of one size that of the lesser root
+-- the smaller checkpoint comes first: by size, then by root
 abbrev pub HasSmallFirst : ForkLine → Type 0
 HasSmallFirst line = point_cmp (point_of line.small) (point_of line.large) ≡ Less
 
--- ---- whose checkpoints lines have
+-- ---- the checkpoints of lines
 
 -- the checkpoint is one of the candidates, with its note
 abbrev pub IsListed : List Candidate → Candidate → Type 0
@@ -38,13 +38,13 @@ IsFirst (Some first) checkpoint = IsSame first checkpoint
 abbrev pub IsFirstOrListed : Option Candidate → List Candidate → Candidate → Type 0
 IsFirstOrListed first candidates checkpoint = IsFirst first checkpoint ⊎ IsListed candidates checkpoint
 
--- one of the two checkpoints is a candidate. So is the other, or it is that of the first copy
+-- one of the two checkpoints is a candidate. The other is one too, or it is that of the first copy
 abbrev pub HasCandidate : Option Candidate → List Candidate → ForkLine → Type 0
 HasCandidate first candidates line =
     (IsListed candidates line.small × IsFirstOrListed first candidates line.large)
     ⊎ (IsListed candidates line.large × IsFirstOrListed first candidates line.small)
 
--- each line has a candidate, and its smaller checkpoint first. The lines rise, and no two have the same checkpoints
+-- each line has a candidate, and its smaller checkpoint is first. The lines rise, and no two have the same checkpoints
 pub record AreLines (first : Option Candidate) (candidates : List Candidate) (lines : List ForkLine) : Type 0 where
   pub each : All (HasCandidate first candidates) lines
   pub small_first : All HasSmallFirst lines

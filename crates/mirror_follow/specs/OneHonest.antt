@@ -1,5 +1,5 @@
--- One honest place suffices for a run, whatever the others answer. What is said of turns is cited by the contracts of
--- private functions alone.
+-- One honest place suffices for a run, for all answers of the others. Only the contracts of private functions cite the definitions
+-- for turns.
 use Rattle.std.specs.Prelude.{◌≡◌, ◌⊎◌, ℕ, ◌≤◌, max, List, [], ◌∷◌, ◌++◌, take, Contains, Option, Some, Result, Ok, Err}
 use Rattle.std.specs.List.Sorted.{IsSorted}
 use Rattle.tlog_hash.specs.Tree.{mth}
@@ -21,13 +21,13 @@ use Rattle.mirror_follow.specs.declared.report.Outcome.{Outcome}
 use Rattle.mirror_follow.specs.declared.report.Outcome.TheVariants as turn
 use Rattle.mirror_follow.specs.declared.report.Run.{Run}
 
--- the fault is the shelf's, or memory was refused
+-- the shelf failed, or memory was refused
 abbrev pub IsOfShelfOrMemory : FollowFault → Type 0
 IsOfShelfOrMemory e = (e ≡ ShelfFault) ⊎ (e ≡ OutOfMemory)
 
--- ---- what the shelf holds
+-- ---- the content of the shelf
 
--- the shelf records its puts, and it holds a copy of the first of these entries, or of all
+-- the shelf records its puts, and has a copy of the first of these entries, or of all
 pub record HoldsPart (digest : List ℕ → List ℕ) (origin : List ℕ) (entries : List (List ℕ)) (puts : Option (List Put))
     : Type 0 where
   pub held : List Put
@@ -38,7 +38,7 @@ pub record HoldsPart (digest : List ℕ → List ℕ) (origin : List ℕ) (entri
   pub copy : IsCopy digest origin note first held
   pub entries_are : entries ≡ first ++ more
 
--- so it does, or it has no checkpoint
+-- the same, or the shelf has no checkpoint
 pub data HoldsPartOrNone (digest : List ℕ → List ℕ) (origin : List ℕ) (entries : List (List ℕ))
     (puts : Option (List Put)) : Type 0 where
   HasPart : HoldsPart digest origin entries puts → HoldsPartOrNone digest origin entries puts
@@ -61,22 +61,22 @@ pub record HasPointOf (candidates : List Candidate) (size : ℕ) (root : List �
 
 -- ---- the answer
 
--- the copy has the size of the greatest candidate, or that of before if it was larger, and it is of the first of these
--- entries; or the shelf failed, or memory was refused
+-- the copy has the size of the greatest candidate, or its old size if that is larger, and the root of the first of these entries.
+-- Or the shelf failed, or memory was refused
 abbrev pub ReachesLog : (List ℕ → List ℕ) → List (List ℕ) → ℕ → Result Followed FollowFault → Type 0
 ReachesLog digest entries size (Ok f) = (f.size ≡ max size f.old) × (f.root ≡ mth digest (take f.size entries))
 ReachesLog digest entries size (Err e) = IsOfShelfOrMemory e
 
--- the copy has at least that size; or the shelf failed, or memory was refused
+-- the copy has at least that size. Or the shelf failed, or memory was refused
 abbrev pub ReachesSize : ℕ → Result Followed FollowFault → Type 0
 ReachesSize size (Ok f) = size ≤ f.size
 ReachesSize size (Err e) = IsOfShelfOrMemory e
 
 module _ (digest : List ℕ → List ℕ) {S : Type 0} (may : S → Path → Option (List ℕ) → Type 0) (puts : Option (List Put))
     (old new : Places S) (origin : List ℕ) where
-  -- one of the places is honest for these entries, and the greatest candidate is a checkpoint of the first of them: there
-  -- are candidates that were gathered so, and whichever these are, the first in the order of turns has that size and root.
-  -- The shelf holds a copy of the first of the entries, or no checkpoint
+  -- one of the places is honest for these entries, and the greatest candidate is a checkpoint of the first of them. There is a list
+  -- of candidates for which "so" holds, and the first of each such list has that size and root. The shelf has a copy of the first
+  -- of the entries, or no checkpoint
   pub record IsHonestRun (so : List Candidate → Type 0) : Type 0 where
     pub entries : List (List ℕ)
     pub size : ℕ
@@ -87,8 +87,8 @@ module _ (digest : List ℕ → List ℕ) {S : Type 0} (may : S → Path → Opt
     pub honest : IsHonestFor digest may puts old new entries size root
     pub holds : HoldsPartOrNone digest origin entries puts
 
-  -- one of the places is honest for these entries, and one of the candidates is a checkpoint of the first of them,
-  -- whichever the candidates are. The shelf held a copy of the first of the entries. In the end it has these puts
+  -- one of the places is honest for these entries, and each possible list of candidates has a checkpoint of the first of them. At
+  -- the start the shelf has the puts "held", a copy of the first of the entries. At the end it has "puts"
   pub record IsHonestAmong (held : Option (List Put)) (so : List Candidate → Type 0) : Type 0 where
     pub entries : List (List ℕ)
     pub size : ℕ
@@ -100,13 +100,13 @@ module _ (digest : List ℕ → List ℕ) {S : Type 0} (may : S → Path → Opt
 
   -- ---- turns
 
-  -- the same of a candidate that is larger than the copy
+  -- the same for a candidate that is larger than the copy
   pub record IsHonestTurn (candidate : Candidate) : Type 0 where
     pub entries : List (List ℕ)
     pub honest : IsHonestFor digest may puts old new entries candidate.size.0 candidate.root
     pub holds : HoldsFirst digest origin (take candidate.size.0 entries) puts
 
-  -- the same of the first of the candidates, where that copy was read
+  -- the same for the first of the candidates, if that copy was read
   pub record IsHonestFirst (copy : Option Candidate) (candidates : List Candidate) : Type 0 where
     pub entries : List (List ℕ)
     pub first : Candidate
@@ -116,7 +116,7 @@ module _ (digest : List ℕ → List ℕ) {S : Type 0} (may : S → Path → Opt
     pub holds : HoldsPartOrNone digest origin entries puts
     pub known : IsCopyOfRun digest origin puts puts copy
 
-  -- the same of one of the candidates. In the end the shelf has these puts
+  -- the same for one of the candidates. At the start the shelf has the puts "held". At the end it has "puts"
   pub record IsHonestListed (held : Option (List Put)) (copy : Option Candidate) (candidates : List Candidate)
       : Type 0 where
     pub entries : List (List ℕ)
@@ -127,39 +127,39 @@ module _ (digest : List ℕ → List ℕ) {S : Type 0} (may : S → Path → Opt
     pub had : HadCopy digest origin held copy
     pub known : IsCopyOfRun digest origin held held copy
 
--- a turn brings the copy to its candidate; or the shelf failed, or memory was refused
+-- a turn brings the copy to its candidate. Or the shelf failed, or memory was refused
 abbrev pub IsBroughtOr : Result Outcome FollowFault → Type 0
 IsBroughtOr (Ok outcome) = outcome ≡ turn.Brought
 IsBroughtOr (Err e) = IsOfShelfOrMemory e
 
--- the run knows that copy after a turn; or the shelf failed, or memory was refused
+-- after a turn, the copy of the run is that candidate. Or the shelf failed, or memory was refused
 abbrev pub BringsTo : {T : Type 0} → Candidate → Option Candidate → Result T FollowFault → Type 0
 BringsTo candidate copy (Ok x) = IsCopyNow candidate copy
 BringsTo candidate copy (Err e) = IsOfShelfOrMemory e
 
--- the copy that a run knows stays, or it is brought to a candidate above it
+-- the copy of the run is unchanged, or it is brought to a candidate above it
 abbrev pub StepsUp : Candidate → Option Candidate → Option Candidate → Type 0
 StepsUp candidate old new = (new ≡ old) ⊎ (IsAbove old candidate × IsCopyNow candidate new)
 
--- the copy that was read is not smaller than the candidate, and the copy that the run knows has its size and root
+-- the copy that was read is not smaller than the candidate, and the copy of the run has its size and root
 pub record KeepsPoint (read : Option Candidate) (candidate now : Candidate) : Type 0 where
   pub copy : Candidate
   pub is : read ≡ Some copy
   pub upto : candidate.size.0 ≤ copy.size.0
   pub same : IsOnePoint copy now
 
--- the copy that the run knows has the size and root of the greater of the two: the candidate, and the copy that was read
+-- the copy of the run has the size and root of the greater of two: the candidate, and the copy that was read
 pub record HasReached (read : Option Candidate) (candidate : Candidate) (copy : Option Candidate) : Type 0 where
   pub now : Candidate
   pub is : copy ≡ Some now
   pub at : (IsLargerThan read candidate × IsOnePoint candidate now) ⊎ KeepsPoint read candidate now
 
--- so it is after the turns; or the shelf failed, or memory was refused
+-- this holds after the turns. Or the shelf failed, or memory was refused
 abbrev pub TurnsReach : Option Candidate → Candidate → Result Run FollowFault → Type 0
 TurnsReach read candidate (Ok run) = HasReached read candidate run.copy
 TurnsReach read candidate (Err e) = IsOfShelfOrMemory e
 
--- the copy that the run knows has at least that size
+-- the copy of the run has at least that size
 pub record HasSize (size : ℕ) (copy : Option Candidate) : Type 0 where
   pub now : Candidate
   pub is : copy ≡ Some now

@@ -1,4 +1,4 @@
--- A copy that is brought to one note after the other: what stands at each moment.
+-- A copy that is brought to one note after the other: the content of the shelf at each moment.
 use Rattle.std.specs.Prelude.{◌≡◌, ◌⊎◌, ℕ, All, List, [], length, map, Contains, Option, Some}
 use Rattle.signed_note.specs.Keys.{Key}
 use Rattle.tlog_tiles.specs.declared.paths.Path.TheVariants.{Checkpoint}
@@ -11,15 +11,15 @@ use Rattle.mirror_follow.specs.Gathering.{note_of}
 use Rattle.mirror_follow.specs.declared.candidate.Candidate.{Candidate}
 
 module _ (digest : List ℕ → List ℕ) (origin : List ℕ) (notes : List (List ℕ)) where
-  -- under one of the notes a copy stands of entries that begin with those, and each file of those, the checkpoint
-  -- apart, stands with its true bytes
+  -- under one of the notes, the shelf has a copy of entries that begin with these. Each file of these entries, except the
+  -- checkpoint, has its true bytes
   pub record IsGrownUnder (entries : List (List ℕ)) (puts : List Put) : Type 0 where
     pub note : List ℕ
     pub listed : Contains notes note
     pub grown : IsGrownCopy digest origin note entries puts
 
-  -- at each moment of a run that brings a copy to some of the notes: where a copy stood, it stands still, or a copy of
-  -- it grown under one of the notes; where no checkpoint stood, none stands, or a copy under one of the notes. No file
+  -- at each moment of a run that brings a copy to some of the notes: if a copy was on the shelf, it is still there, or a copy grown
+  -- from it under one of the notes. If there was no checkpoint, there is none, or there is a copy under one of the notes. No file
   -- of the old copy is put again
   pub record KeepsCopies (old new : Option (List Put)) : Type 0 where
     pub copy : (held : List Put) → old ≡ Some held → (note : List ℕ) (entries : List (List ℕ)) →
@@ -31,8 +31,7 @@ module _ (digest : List ℕ → List ℕ) (origin : List ℕ) (notes : List (Lis
         IsCopy digest origin note entries held → PutsBeyond (length entries) held new
     pub beyond_none : (held : List Put) → old ≡ Some held → ¬ HasPut held Checkpoint → PutsBeyond 0 held new
 
--- a call that brings a copy to one of the notes is such a run; so is one that puts nothing; and so are two runs, one
--- after the other
+-- a call that brings a copy to one of the notes is such a run. So is a call that puts nothing, and so are two runs in sequence
 pub record RunsKeepCopies : Type 0 where
   pub one : (digest : List ℕ → List ℕ) (origin : List ℕ) (notes : List (List ℕ)) (note : List ℕ)
       (old new : Option (List Put)) → Contains notes note → KeepsCopy digest origin note old new →
@@ -43,8 +42,8 @@ pub record RunsKeepCopies : Type 0 where
       KeepsCopies digest origin notes old mid → KeepsCopies digest origin notes mid new →
       KeepsCopies digest origin notes old new
 
--- at each moment of a run a copy stands as it stood, or grown under the note of some candidate, each of which opens, and
--- whose note may have been had so
+-- at each moment of a run the shelf has the old copy, or one grown from it under the note of a candidate. Each candidate opens, and
+-- "so" holds for its note
 pub record FollowsCandidates (digest : List ℕ → List ℕ) (origin : List ℕ) (keys : List Key) (so : List ℕ → Type 0)
     (old new : Option (List Put)) : Type 0 where
   pub candidates : List Candidate

@@ -1,4 +1,4 @@
--- What an answer says of the candidates.
+-- The facts about the candidates that an answer states.
 use Rattle.std.specs.Prelude.{◌≡◌, ◌⊎◌, ◌↔◌, ℕ, ◌<◌, ◌≤◌, false, List, [], ◌∷◌, ◌++◌, length, All, Contains}
 use Rattle.std.specs.Prelude.{Option, None, Some, ⊤}
 use Rattle.std.specs.Cmp.Lexicographic.{slice_cmp}
@@ -22,7 +22,7 @@ use Rattle.mirror_follow.specs.declared.report.ForkLine.{ForkLine}
 
 -- ---- candidates
 
--- the note is the other, or comes before it by its bytes
+-- the note is the other note, or its bytes come before those of the other
 abbrev pub IsNoteUpTo : List ℕ → List ℕ → Type 0
 IsNoteUpTo note other = is_gt (slice_cmp nat_cmp note other) ≡ false
 
@@ -34,7 +34,7 @@ IsOnePoint first second = (first.size.0 ≡ second.size.0) × (first.root ≡ se
 abbrev pub IsInLine : Candidate → ForkLine → Type 0
 IsInLine candidate line = IsOnePoint candidate line.small ⊎ IsOnePoint candidate line.large
 
--- so has one of some line
+-- some line has such a checkpoint
 pub record IsInSomeLine (lines : List ForkLine) (candidate : Candidate) : Type 0 where
   pub line : ForkLine
   pub listed : Contains lines line
@@ -73,33 +73,33 @@ pub record IsNoteOfOne (candidates : List Candidate) (followed : Followed) (note
   pub size_is : candidate.size.0 ≡ followed.size
   pub root_is : candidate.root ≡ followed.root
 
--- the note is not greater than the one of before, if that was of as many entries
+-- the note is not greater than the old one, if the old copy had the same size
 abbrev pub IsUpToOld : Option (List ℕ) → List (List ℕ) → Followed → List ℕ → Type 0
 IsUpToOld None entries followed note = ⊤
 IsUpToOld (Some old) entries followed note = length entries ≡ followed.size → IsNoteUpTo note old
 
--- the note is the one of before
+-- the note is the old one
 abbrev pub IsOldNote : Option (List ℕ) → List ℕ → Type 0
 IsOldNote None note = ⊥
 IsOldNote (Some old) note = note ≡ old
 
 module _ (digest : List ℕ → List ℕ) where
-  -- a candidate agrees with the copy and is not larger, or a line of forks or of larger ones reports it
+  -- a candidate agrees with the copy and is not larger, or it is in a fork line or among the larger ones
   abbrev pub IsSettled : Followed → Candidate → Type 0
   IsSettled followed candidate =
       ((candidate.size.0 ≤ followed.size) × Agrees digest (point_of candidate) (point_of_copy followed))
       ⊎ (IsInSomeLine followed.forks.items candidate
       ⊎ Contains followed.larger.items (candidate.size.0, candidate.root))
 
-  -- what an answer says of each of the candidates
+  -- the facts about each of the candidates
   pub record SettlesEach (candidates : List Candidate) (followed : Followed) : Type 0 where
     pub each : All (IsSettled followed) candidates
     pub larger : All (IsLarger candidates followed) followed.larger.items
     pub behind : (point : ℕ × List ℕ) → (followed.behind ≡ Some point) ↔ IsBehind candidates followed point
 
   module _ (origin : List ℕ) (candidates : List Candidate) where
-    -- there is a copy of the size and root of the answer, of entries that begin with those. Its note is the least of the
-    -- candidates of that size and root and the one of before
+    -- the shelf has a copy with the size and root of the answer, of entries that begin with these. Its note is the least among the
+    -- candidates of that size and root and the old note
     pub record HasLeastNote (followed : Followed) (old : Option (List ℕ)) (entries : List (List ℕ)) (puts : List Put)
         : Type 0 where
       pub note : List ℕ
@@ -112,14 +112,14 @@ module _ (digest : List ℕ → List ℕ) where
       pub up_to_old : IsUpToOld old entries followed note
       pub had : IsNoteOfOne candidates followed note ⊎ IsOldNote old note
 
-    -- there is such a copy in the end
+    -- the shelf has such a copy at the end
     pub record HasLeastInTheEnd (old new : Option (List Put)) (followed : Followed) : Type 0 where
       pub some : (held : List Put) → old ≡ Some held → (note : List ℕ) (entries : List (List ℕ)) →
           IsCopy digest origin note entries held → InTheEnd new (HasLeastNote followed (Some note) entries)
       pub none : (held : List Put) → old ≡ Some held → ¬ HasPut held Checkpoint →
           InTheEnd new (HasLeastNote followed None [])
 
-  -- what an answer says of the candidates that were gathered so, and of the copy that was found first
+  -- the facts that an answer states about the gathered candidates, and about the copy that was found first
   pub record Says (origin : List ℕ) (so : List Candidate → Type 0) (old new : Option (List Put)) (followed : Followed)
       : Type 0 where
     pub candidates : List Candidate

@@ -1,4 +1,4 @@
--- Proofs that show a fork, and the lines that tell of forks.
+-- Proofs that show a fork, and the lines that report forks.
 use Rattle.std.specs.Prelude.{◌≡◌, ◌≢◌, ◌⊎◌, ℕ, ◌<◌, List, All, IfSome, Option, None, ⊤}
 use Rattle.tlog_proof.specs.declared.proof.Proof.{Proof}
 use Rattle.mirror_model.specs.Forks.{Point}
@@ -25,7 +25,7 @@ module _ (digest : List ℕ → List ℕ) where
   ShowsLarger small large proof =
       (small.size.0 < large.size.0) × ShowsFork digest (point_of small) (point_of large) proof
 
-  -- two candidates are a fork, which the proof shows: the one is larger, or both have one size and two roots
+  -- the proof shows a fork of two candidates: one is larger, or both have one size and different roots
   abbrev pub AreFork : Candidate → Candidate → Option Proof → Type 0
   AreFork first second proof =
       ShowsLarger first second proof
@@ -36,11 +36,11 @@ module _ (digest : List ℕ → List ℕ) where
   abbrev pub ShowsLine : ForkLine → Type 0
   ShowsLine line = ShowsFork digest (point_of line.small) (point_of line.large) line.proof
 
-  -- so does each of the lines
+  -- each of the lines shows this
   abbrev pub ShowsEach : List ForkLine → Type 0
   ShowsEach lines = All ShowsLine lines
 
-  -- a turn that ends with a fork: the copy and the candidate are one
+  -- if a turn ends with a fork, the copy and the candidate are a fork
   abbrev pub ShowsTurn : Option Candidate → Candidate → Outcome → Type 0
   ShowsTurn copy candidate turn.Agrees = ⊤
   ShowsTurn copy candidate turn.Brought = ⊤

@@ -1,4 +1,4 @@
--- A bringing in which no place failed, and some file was to be had from nowhere.
+-- A call of bring_copy in which no place failed, but neither the shelf nor a place gave some file.
 use Rattle.std.specs.Prelude.{◌≡◌, ◌⊎◌, ℕ, List, ◌∷◌, get_or, IsSome, Option, None, Some}
 use Rattle.std.specs.List.Sorted.{IsSorted}
 use Rattle.tlog_tiles.specs.declared.paths.Path.{Path}
@@ -15,8 +15,8 @@ use Rattle.mirror_follow.specs.declared.fault.FollowFault.TheVariants.{NoFile}
 
 module _ (digest : List ℕ → List ℕ) {S : Type 0} (may : S → Path → Option (List ℕ) → Type 0) (failed : S → ℕ)
     (asked : S → Option (List Path)) (origin : List ℕ) (puts : Option (List Put)) (old new : Places S) where
-  -- in a part of the call the places were asked for what a bringing of the copy to the note may ask for. None of them failed
-  -- in it, and at its end the path of a file that was to be had from nowhere was kept in mind
+  -- in a part of the call, the places got only the requests that bring_copy may make for the note. No place failed in this part.
+  -- At its end the path of a file that neither the shelf nor a place gave was recorded
   pub record SparesBringing (note : List ℕ) : Type 0 where
     pub before : Places S
     pub after : Places S
@@ -27,7 +27,7 @@ module _ (digest : List ℕ → List ℕ) {S : Type 0} (may : S → Path → Opt
         (get_or after.list.items k d).failures ≡ (get_or before.list.items k d).failures
     pub lacked : IsSome after.lacked
 
-  -- so it was of the greatest of the candidates, which were gathered so
+  -- this holds for the greatest of the gathered candidates
   pub record SparesGreatest (so : List Candidate → Type 0) : Type 0 where
     pub greatest : Candidate
     pub others : List Candidate
@@ -35,7 +35,7 @@ module _ (digest : List ℕ → List ℕ) {S : Type 0} (may : S → Path → Opt
     pub rising : IsSorted turn_cmp (greatest ∷ others)
     pub spares : SparesBringing (note_of greatest)
 
-  -- so it was where the first fault of a run became NoFile
+  -- this held when the first fault of a run became NoFile
   abbrev pub SparesAt : Candidate → Option FollowFault → Option FollowFault → Type 0
   SparesAt candidate first last =
       last ≡ Some NoFile → (first ≡ Some NoFile) ⊎ ((first ≡ None) × SparesBringing (note_of candidate))

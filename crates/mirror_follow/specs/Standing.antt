@@ -1,4 +1,4 @@
--- The copy of a run: what stands on the shelf while candidates have their turn, and in the end.
+-- The copy of a run: the content of the shelf while candidates have their turn, and at the end.
 use Rattle.std.specs.Prelude.{◌≡◌, ℕ, ◌≤◌, List, [], ◌++◌, length, Option, Some, None}
 use Rattle.tlog_hash.specs.Tree.{mth}
 use Rattle.tlog_tiles.specs.declared.paths.Path.TheVariants.{Checkpoint}
@@ -13,16 +13,16 @@ use Rattle.mirror_follow.specs.declared.report.Followed.{Followed}
 use Rattle.mirror_follow.specs.declared.report.Outcome.{Outcome}
 use Rattle.mirror_follow.specs.declared.report.Outcome.TheVariants as turn
 
--- the note is one whose text is a checkpoint of the origin, of that size and root
+-- the note's text is a checkpoint of the origin, of that size and root
 abbrev pub IsHeadOf : List ℕ → Candidate → Type 0
 IsHeadOf origin candidate = IsHead (note_of candidate) origin candidate.size.0 candidate.root
 
--- how many entries a copy has, if there is one
+-- the number of entries of a copy, 0 if there is none
 abbrev pub size_of_copy : Option Candidate → ℕ
 size_of_copy None = 0
 size_of_copy (Some copy) = copy.size.0
 
--- the shelf answers this for its checkpoint: that of the copy, and None where there is none
+-- the shelf's answer for its checkpoint is that of the copy, or None if there is no copy
 abbrev pub IsFoundCopy : List ℕ → Option (List Put) → Option Candidate → Type 0
 IsFoundCopy origin puts None = RecordsRead puts Checkpoint None
 IsFoundCopy origin puts (Some copy) = RecordsRead puts Checkpoint (Some (note_of copy)) × IsHeadOf origin copy
@@ -32,21 +32,21 @@ abbrev pub IsCopyRead : List ℕ → ℕ → Option Candidate → Type 0
 IsCopyRead note size None = ⊥
 IsCopyRead note size (Some copy) = (note_of copy ≡ note) × (copy.size.0 ≡ size)
 
--- the shelf has the files of no log of the size and root of the copy
+-- the shelf lacks the files of each log with the size and root of the copy
 abbrev pub LacksLog : (List ℕ → List ℕ) → Candidate → Option (List Put) → Type 0
 LacksLog digest copy puts =
     (entries : List (List ℕ)) → length entries ≡ copy.size.0 → mth digest entries ≡ copy.root →
     ¬ HasFilesOf digest entries puts
 
 module _ (digest : List ℕ → List ℕ) (origin : List ℕ) where
-  -- a copy stands under the note of the candidate, of entries that begin with those, with its size and root
+  -- under the note of the candidate, the shelf has a copy with its size and root, of entries that begin with these
   pub record StandsUnder (candidate : Candidate) (entries : List (List ℕ)) (puts : List Put) : Type 0 where
     pub more : List (List ℕ)
     pub copy : IsCopy digest origin (note_of candidate) (entries ++ more) puts
     pub size_is : candidate.size.0 ≡ length (entries ++ more)
     pub root_is : candidate.root ≡ mth digest (entries ++ more)
 
-  -- the copy that the run knows stands
+  -- the shelf has the copy of the run
   pub record IsStanding (copy : Candidate) (puts : Option (List Put)) : Type 0 where
     pub held : List Put
     pub puts_are : puts ≡ Some held
@@ -63,35 +63,35 @@ module _ (digest : List ℕ → List ℕ) (origin : List ℕ) where
       (held : List Put) → puts ≡ Some held → (note : List ℕ) (entries : List (List ℕ)) →
       ¬ IsCopy digest origin note entries held
 
-  -- nor one of fewer entries than n
+  -- the shelf recorded no copy of fewer than n entries
   abbrev pub HoldsNoSmaller : ℕ → Option (List Put) → Type 0
   HoldsNoSmaller n puts =
       (held : List Put) → puts ≡ Some held → (note : List ℕ) (entries : List (List ℕ)) →
       IsCopy digest origin note entries held → n ≤ length entries
 
-  -- a copy stands in the end as the run knows it
+  -- at the end the shelf has the copy of the run
   abbrev pub StandsAs : Option Candidate → List (List ℕ) → Option (List Put) → Type 0
   StandsAs None entries new = ⊥
   StandsAs (Some copy) entries new = InTheEnd new (StandsUnder copy entries)
 
-  -- in the end no checkpoint stands, or a copy as the run knows it
+  -- at the end the shelf has no checkpoint, or the copy of the run
   abbrev pub StandsOrNone : Option Candidate → Option (List Put) → Type 0
   StandsOrNone None new = InTheEnd new (λ now. ¬ HasPut now Checkpoint)
   StandsOrNone (Some copy) new = InTheEnd new (StandsUnder copy [])
 
-  -- the copy that the run knows is the one that stands: that which stood before, or one grown from it
+  -- the copy of the run is on the shelf: it is the old copy, or one grown from it
   pub record IsCopyOfRun (old new : Option (List Put)) (copy : Option Candidate) : Type 0 where
     pub some : (held : List Put) → old ≡ Some held → (note : List ℕ) (entries : List (List ℕ)) →
         IsCopy digest origin note entries held → StandsAs copy entries new
     pub none : (held : List Put) → old ≡ Some held → ¬ HasPut held Checkpoint → StandsOrNone copy new
 
-  -- the copy that was read is the one that was there, and there is none where no checkpoint was
+  -- the copy that was read is the shelf's. It is None if there was no checkpoint
   pub record HadCopy (old : Option (List Put)) (copy : Option Candidate) : Type 0 where
     pub some : (held : List Put) → old ≡ Some held → (note : List ℕ) (entries : List (List ℕ)) →
         IsCopy digest origin note entries held → IsCopyRead note (length entries) copy
     pub none : (held : List Put) → old ≡ Some held → ¬ HasPut held Checkpoint → copy ≡ None
 
-  -- what stands after a turn of a candidate: where the copy was brought, one under its note, and else that which stood
+  -- the shelf after the turn of a candidate: if the copy was brought, one under its note, else the old one
   abbrev pub StandsAfter : Candidate → Option (List Put) → Option (List Put) → Outcome → Type 0
   StandsAfter candidate old new turn.Agrees = CopyStays digest origin old new
   StandsAfter candidate old new turn.Brought = IsBroughtTo digest origin (note_of candidate) old new
@@ -99,7 +99,7 @@ module _ (digest : List ℕ → List ℕ) (origin : List ℕ) where
   StandsAfter candidate old new turn.Contradicts = CopyStays digest origin old new
   StandsAfter candidate old new (turn.NotHad fault) = CopyStays digest origin old new
 
-  -- a copy of that size and root stands, of entries that begin with those
+  -- the shelf has a copy of that size and root, of entries that begin with these
   pub record HasCopy (size : ℕ) (root : List ℕ) (entries : List (List ℕ)) (puts : List Put) : Type 0 where
     pub note : List ℕ
     pub more : List (List ℕ)
@@ -107,8 +107,8 @@ module _ (digest : List ℕ → List ℕ) (origin : List ℕ) where
     pub size_is : size ≡ length (entries ++ more)
     pub root_is : root ≡ mth digest (entries ++ more)
 
-  -- in the end a copy of the size and root of the answer stands: the one that stood before, or one grown from it; and
-  -- the answer says how many entries it had before
+  -- at the end the shelf has a copy with the size and root of the answer: the old copy, or one grown from it. The answer has the
+  -- old number of entries
   pub record IsFollowed (old new : Option (List Put)) (followed : Followed) : Type 0 where
     pub had : HadSize digest origin old followed.old
     pub some : (held : List Put) → old ≡ Some held → (note : List ℕ) (entries : List (List ℕ)) →
@@ -128,7 +128,7 @@ pub record IsCopyNow (candidate : Candidate) (copy : Option Candidate) : Type 0 
   pub is : copy ≡ Some now
   pub same : IsSame candidate now
 
--- the copy that the run knows after a turn of a candidate
+-- the copy of the run after the turn of a candidate
 abbrev pub KnowsAfter : Candidate → Outcome → Option Candidate → Option Candidate → Type 0
 KnowsAfter candidate turn.Agrees old new = new ≡ old
 KnowsAfter candidate turn.Brought old new = IsCopyNow candidate new

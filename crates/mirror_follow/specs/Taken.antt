@@ -1,4 +1,4 @@
--- What is known of the candidates that had their turn.
+-- The facts about the candidates that had their turn.
 use Rattle.std.specs.Prelude.{◌≡◌, ◌≢◌, ◌⊎◌, ℕ, ◌-◌, ◌<◌, ◌≤◌, Bool, true, false, List, [], ◌∷◌, ◌++◌, All, Contains}
 use Rattle.std.specs.Prelude.{IfSome, Option, None, Some, ⊤, slice_index_or}
 use Rattle.mirror_follow.specs.Agreeing.{Agrees}
@@ -14,7 +14,7 @@ use Rattle.mirror_follow.specs.declared.report.Run.{Run}
 use Rattle.mirror_follow.specs.declared.report.Outcome.{Outcome}
 use Rattle.mirror_follow.specs.declared.report.Outcome.TheVariants as turn
 
--- ---- lines of forks
+-- ---- fork lines
 
 -- some line has the same two points
 pub record HasLineOf (lines : List ForkLine) (line : ForkLine) : Type 0 where
@@ -23,7 +23,7 @@ pub record HasLineOf (lines : List ForkLine) (line : ForkLine) : Type 0 where
   pub small_is : IsOnePoint line.small same.small
   pub large_is : IsOnePoint line.large same.large
 
--- the lines of before are still there
+-- the old lines are still there
 abbrev pub KeepsLines : List ForkLine → List ForkLine → Type 0
 KeepsLines old new = (line : ForkLine) → Contains old line → Contains new line
 
@@ -39,29 +39,29 @@ pub record IsNextOf (done : List Candidate) (candidate : Candidate) : Type 0 whe
   pub upto : All (λ c. candidate.size.0 ≤ c.size.0) done
   pub apart : All (λ c. ¬ IsOnePoint c candidate) done
 
--- some candidate that was not had has the size and root of that one
+-- some candidate to which the copy could not be brought has the size and root of this one
 pub record IsLacked (lacked : List Candidate) (candidate : Candidate) : Type 0 where
   pub other : Candidate
   pub listed : Contains lacked other
   pub same : IsOnePoint candidate other
 
--- a candidate that was not had is added
+-- a candidate to which the copy could not be brought is added
 pub record AddsLacked (candidate : Candidate) (old new : List Candidate) : Type 0 where
   pub added : Candidate
   pub same : IsSame candidate added
   pub is : new ≡ old ++ added ∷ []
 
--- the first candidate that agreed, after one more
+-- the first candidate that agreed, after one more candidate
 abbrev pub or_agreed : Option (ℕ × List ℕ) → Candidate → Option (ℕ × List ℕ)
 or_agreed None candidate = Some (candidate.size.0, candidate.root)
 or_agreed (Some first) candidate = Some first
 
--- whether a candidate has the copy's size, after one more
+-- whether a candidate has the copy's size, after one more candidate
 pub record MarksReached (copy : Option Candidate) (candidate : Candidate) (old new : Bool) : Type 0 where
   pub reached : new ≡ true → (old ≡ true) ⊎ (candidate.size.0 ≡ size_of_copy copy)
   pub unreached : new ≡ false → (old ≡ false) × (candidate.size.0 ≢ size_of_copy copy)
 
--- what is added to a run by what came of a candidate's turn
+-- the outcome of a candidate's turn is added to a run
 abbrev pub IsAdded : Candidate → Outcome → Run → Run → Type 0
 IsAdded candidate turn.Agrees old new =
     (new.forks ≡ old.forks) × (new.not_had ≡ old.not_had) × (new.behind ≡ or_agreed old.behind candidate)
@@ -83,7 +83,7 @@ abbrev pub IsNoted : Option Candidate → Candidate → Type 0
 IsNoted None candidate = ⊤
 IsNoted (Some copy) candidate = IsOnePoint candidate copy → IsNoteUpTo (note_of copy) (note_of candidate)
 
--- the copy is brought to the candidate, which is larger, or has its size and root and a lesser note
+-- the candidate is larger than the copy. Or it has its size and root, and a note that is not greater
 abbrev pub IsAbove : Option Candidate → Candidate → Type 0
 IsAbove None candidate = ⊤
 IsAbove (Some copy) candidate =
@@ -95,37 +95,37 @@ abbrev pub IsLargerThan : Option Candidate → Candidate → Type 0
 IsLargerThan None candidate = ⊤
 IsLargerThan (Some copy) candidate = copy.size.0 < candidate.size.0
 
--- a candidate that was not had is in a line, or its size and root are among those of the larger ones
+-- a candidate to which the copy could not be brought is in a line, or its size and root are among the larger ones
 abbrev pub IsSplit : List ForkLine → List (ℕ × List ℕ) → Candidate → Type 0
 IsSplit forks larger candidate =
     IsInSomeLine forks candidate ⊎ Contains larger (candidate.size.0, candidate.root)
 
--- one of the larger ones is a candidate that was not had. Where it has the copy's size, it has its root
+-- one of the larger ones is a candidate to which the copy could not be brought. If it has the copy's size, it has its root
 pub record IsLeft (copy : Candidate) (lacked : List Candidate) (point : ℕ × List ℕ) : Type 0 where
   pub candidate : Candidate
   pub listed : Contains lacked candidate
   pub is : point ≡ (candidate.size.0, candidate.root)
   pub same : copy.size.0 ≡ candidate.size.0 → copy.root ≡ candidate.root
 
--- the candidates that were not had became lines of forks and larger ones
+-- the candidates to which the copy could not be brought became fork lines and larger ones
 pub record SplitsLacked (copy : Candidate) (old : List ForkLine) (lacked : List Candidate) (new : List ForkLine)
     (larger : List (ℕ × List ℕ)) : Type 0 where
   pub kept : KeepsLines old new
   pub each : All (IsSplit new larger) lacked
   pub left : All (IsLeft copy lacked) larger
 
--- what a test says: that no line reports a candidate, and none has the copy's size
+-- the test: no line reports a candidate, and no candidate has the copy's size
 pub record IsBehindTest (test reached : Bool) (forks : List ForkLine) (larger : List (ℕ × List ℕ)) : Type 0 where
   pub yes : test ≡ true → (reached ≡ false) × (forks ≡ []) × (larger ≡ [])
   pub no : test ≡ false → (reached ≡ false) → (forks ≡ []) → larger ≡ [] → ⊥
 
 -- ---- all turns so far
 
--- a candidate is in a line, or was not had
+-- a candidate is in a line, or the copy could not be brought to it
 abbrev pub IsReported : List ForkLine → List Candidate → Candidate → Type 0
 IsReported forks lacked candidate = IsInSomeLine forks candidate ⊎ IsLacked lacked candidate
 
--- the point of a candidate that was not had is that of one of them, it is not smaller than the copy, and not as the copy
+-- the candidate is at least as large as the copy, and does not have its size and root
 abbrev pub IsBeyond : Option Candidate → Candidate → Type 0
 IsBeyond None candidate = ⊤
 IsBeyond (Some copy) candidate = (copy.size.0 ≤ candidate.size.0) × ¬ IsOnePoint candidate copy
@@ -141,7 +141,7 @@ abbrev pub IsUnder : Option Candidate → Candidate → Type 0
 IsUnder None candidate = ⊥
 IsUnder (Some copy) candidate = candidate.size.0 < copy.size.0
 
--- the copy is not smaller than the first one; where it has its size, its note is not greater
+-- the copy is at least as large as the first copy. If both have one size, its note is not greater
 abbrev pub IsGrown : Option Candidate → Option Candidate → Type 0
 IsGrown None copy = ⊤
 IsGrown (Some first) None = ⊥
@@ -149,12 +149,12 @@ IsGrown (Some first) (Some copy) =
     (first.size.0 ≤ copy.size.0)
     × (first.size.0 ≡ copy.size.0 → IsNoteUpTo (note_of copy) (note_of first))
 
--- the copy is the first one, or one of the candidates
+-- the copy is the first copy, or one of the candidates
 abbrev pub IsOneOf : Option Candidate → List Candidate → Option Candidate → Type 0
 IsOneOf first done None = ⊤
 IsOneOf first done (Some copy) = IsFirstOrListed first done copy
 
--- what is known of the first candidate: it agreed, or it is reported, or a candidate has the copy's size
+-- the facts about the first candidate: it agreed, or it is reported, or a candidate has the copy's size
 abbrev pub KeepsFirst : List Candidate → List ForkLine → List Candidate → Option (ℕ × List ℕ) → Bool → Type 0
 KeepsFirst [] forks lacked behind reached = behind ≡ None
 KeepsFirst (candidate ∷ done) forks lacked behind reached =
@@ -168,7 +168,7 @@ module _ (digest : List ℕ → List ℕ) where
   IsAgreed (Some copy) candidate =
       (candidate.size.0 ≤ copy.size.0) × Agrees digest (point_of candidate) (point_of copy)
 
-  -- what a candidate's turn says of it
+  -- the facts after a candidate's turn
   abbrev pub SaysTurn : Option Candidate → Candidate → Outcome → Type 0
   SaysTurn copy candidate turn.Agrees = IsAgreed copy candidate × IsNoted copy candidate
   SaysTurn copy candidate turn.Brought = IsAbove copy candidate
@@ -176,7 +176,7 @@ module _ (digest : List ℕ → List ℕ) where
   SaysTurn copy candidate turn.Contradicts = IsLargerThan copy candidate
   SaysTurn copy candidate (turn.NotHad fault) = IsLargerThan copy candidate
 
-  -- what is known after the turns of the candidates, of a run that began with the first copy
+  -- the facts after the turns of the candidates, in a run that began with the first copy
   pub record HasTaken (first : Option Candidate) (done : List Candidate) (copy : Option Candidate)
       (forks : List ForkLine) (lacked : List Candidate) (behind : Option (ℕ × List ℕ)) (reached : Bool)
       : Type 0 where
@@ -189,7 +189,7 @@ module _ (digest : List ℕ → List ℕ) where
     pub grown : IsGrown first copy
     pub one_of : IsOneOf first done copy
 
-  -- the same of a run, and of its lines. Each candidate that was not had is one of them
+  -- the same for a run and its lines. Each candidate to which the copy could not be brought is one of them
   pub record HasTakenRun (first : Option Candidate) (done : List Candidate) (run : Run) : Type 0 where
     pub taken : HasTaken first done run.copy run.forks.items run.not_had.items run.behind run.is_reached
     pub lines : AreLines first done run.forks.items

@@ -1,4 +1,4 @@
--- A run of turns: what each turn keeps, and what they come to.
+-- A run of turns: the facts that each turn keeps, and the result.
 use Rattle.std.specs.Prelude.{◌≡◌, ℕ, List, Option, IfSome}
 use Rattle.mirror_folders.specs.Shelf.{Put}
 use Rattle.mirror_follow.specs.Shown.{ShowsEach}
@@ -7,7 +7,7 @@ use Rattle.mirror_follow.specs.declared.candidate.Candidate.{Candidate}
 use Rattle.mirror_follow.specs.declared.report.Run.{Run}
 
 module _ (digest : List ℕ → List ℕ) (origin : List ℕ) (old new : Option (List Put)) where
-  -- a turn goes on with the run, which knows the copy that stands
+  -- a turn continues the run, whose copy is on the shelf
   pub record ContinuesRun (run next : Run) : Type 0 where
     pub known : (first : Option (List Put)) → IsCopyOfRun digest origin first old run.copy →
         IsCopyOfRun digest origin first new next.copy

@@ -1,10 +1,10 @@
-//! What a place answers.
-/// What a place answers.
+//! The answer of a place to a get.
+/// The answer of a place to a get.
 #[derive(Drop)]
 pub enum PlaceAnswer {
     /// The bytes of the file.
     File(Vec<u8>),
-    /// The place has no such file.
+    /// The place lacks the file.
     NotFound,
     /// The get failed.
     Failed,

@@ -1,4 +1,4 @@
-//! Places asked for candidates.
+//! Candidates requested from places.
 ghost use Rattle.std.specs.Prelude.{◌≡◌, ◌≢◌, ◌<◌, [], ℕ, All, List, IfErr, IfOk, Option, get_or, length, map};
 ghost use Rattle.std.specs.List.Sorted.{IsPermutation, IsSorted};
 ghost use Rattle.tlog_text.specs.Answers.{seen};
@@ -20,7 +20,7 @@ use signed_note::Verifier;
 use std::alloc::{AllocError, Global};
 use tlog_tiles::Path;
 
-// Asks a place for its checkpoint.
+// Requests the checkpoint of a place.
 fn ask<S: Source>(place: &mut S) -> Result<PlaceAnswer, AllocError>
     ensures { IfOk result
         (λ answer. IsAnswer S.may_answer S.failed S.asked place.old place.new answer) }
@@ -33,7 +33,7 @@ fn ask<S: Source>(place: &mut S) -> Result<PlaceAnswer, AllocError>
     }
 }
 
-// Asks each place once for its checkpoint.
+// Requests the checkpoint of each place once.
 fn ask_each<S: Source>(
     alloc: Global,
     origin: &str,
@@ -52,7 +52,7 @@ fn ask_each<S: Source>(
     Ok(gathered)
 }
 
-// The candidates that were gathered, in the order of turns; or why the first place gave none.
+// The gathered candidates, in the order of turns, or the reason why the first place gave none.
 fn in_turn(gathered: Gathered) -> Result<Vec<Candidate>, CandidateFault>
     ensures same { IfOk result (λ c. IsPermutation gathered.candidates.items c.items) }
     ensures some { IfOk result (λ c. gathered.candidates.items ≢ []) }
@@ -71,18 +71,22 @@ fn in_turn(gathered: Gathered) -> Result<Vec<Candidate>, CandidateFault>
     Ok(candidates)
 }
 
-/// The candidates that some places give: each is asked once for its checkpoint, in their order. What opens under the keys and is a
-/// checkpoint of the origin is a candidate. They are in the order of their turns.
+/// The candidates of some places. Each place gets one request, for its checkpoint, in order. A note that opens under the keys and is a
+/// checkpoint of the origin is a candidate. The candidates are in the order of their turns.
 ///
 /// ```text
-/// ask_candidates(alloc, "ex", &keys, &mut places)? // of places over 3 and over 257 entries: that of 257, and that of 3
+/// ask_candidates(alloc, "ex", &keys, &mut places)? // places over 3 and over 257 entries: the candidate of 257, then that of 3
 /// ```
 ///
 /// # Errors
 ///
-/// Where no place gives a candidate, the reason of the first place: `NoCheckpoint`, where it has none; `Head`, with the first
-/// refusal that applies, where the bytes are no note that opens, or no checkpoint of the origin; `Source`, where the get failed. Of
-/// no places it is `NoCheckpoint`. `OutOfMemory` where memory was refused.
+/// If no place gives a candidate, the reason of the first place:
+///
+/// - `NoCheckpoint`: it lacks a checkpoint. This is also the fault of an empty list of places.
+/// - `Head`: the bytes are not a note that opens, or not a checkpoint of the origin. It has the first refusal that applies.
+/// - `Source`: the get failed.
+///
+/// `OutOfMemory`: memory was refused.
 pub fn ask_candidates<S: Source>(
     alloc: Global,
     origin: &str,
@@ -96,7 +100,7 @@ pub fn ask_candidates<S: Source>(
     in_turn(gathered)
 }
 
-// Asks a place of a run for its checkpoint.
+// Requests the checkpoint of a place of a run.
 fn ask_place<S: Source + Drop>(places: &mut Places<S>, i: usize) -> Result<PlaceAnswer, AllocError>
     requires { i < length places.old.list.items }
     ensures asks { AsksAny S.may_answer S.failed S.asked places.old places.new }
@@ -114,7 +118,7 @@ fn ask_place<S: Source + Drop>(places: &mut Places<S>, i: usize) -> Result<Place
     }
 }
 
-// Asks each place of a run once for its checkpoint.
+// Requests the checkpoint of each place of a run once.
 fn ask_each_place<S: Source + Drop>(
     alloc: Global,
     origin: &str,
@@ -133,11 +137,11 @@ fn ask_each_place<S: Source + Drop>(
     Ok(gathered)
 }
 
-/// The candidates that the places of a run give, in the order of their turns. A get that fails counts among the failures of its place.
+/// The candidates of the places of a run, in the order of their turns. A get that fails counts as a failure of its place.
 ///
 /// # Errors
 ///
-/// Those of `ask_candidates`.
+/// The faults of `ask_candidates`.
 pub(crate) fn ask_places<S: Source + Drop>(
     alloc: Global,
     origin: &str,

@@ -1,4 +1,4 @@
-//! Candidates: notes that open, of checkpoints to which a copy may be brought.
+//! Candidates: notes that open, with checkpoints to which a copy may be brought.
 ghost use Rattle.std.specs.Prelude.{map};
 ghost use Rattle.mirror_follow.specs.Candidates.{JudgesNote};
 
@@ -9,11 +9,11 @@ use std::alloc::Global;
 use std::cmp::Reverse;
 use tlog_hash::Hash;
 
-/// A note that opens under the keys and whose text is a checkpoint of the origin. Candidates rise in the order in which they have
-/// their turn: the greatest size first, of one size the least root, and of one size and root the least note.
+/// A note that opens under the keys and whose text is a checkpoint of the origin. Candidates rise in the order of their turns: the
+/// greatest size first, then the least root, then the least note.
 #[derive(Debug, Drop, PartialEq, Eq, PartialOrd, Ord)]
 pub struct Candidate {
-    /// How many entries the log has.
+    /// The log's number of entries.
     pub size: Reverse<u64>,
     /// The hash of its tree.
     pub root: Hash,
@@ -21,7 +21,7 @@ pub struct Candidate {
     pub note: Vec<u8>,
 }
 
-/// The candidate that a note is.
+/// The candidate of a note.
 pub(crate) fn candidate_of(
     alloc: Global,
     origin: &str,

@@ -1,4 +1,4 @@
-//! Why there is no candidate, and why following ends early.
+//! The reasons why there is no candidate, and why a call of `follow` ends early.
 ghost use Rattle.std.specs.Prelude.{◌≡◌};
 ghost use Rattle.mirror_follow.specs.Blame.{by_copy, by_shelf, of_candidates};
 ghost use Rattle.mirror_follow.specs.declared.fault.CandidateFault.TheVariants.{OutOfMemory};
@@ -10,13 +10,13 @@ use mirror_model::TakeFault;
 use std::alloc::{AllocError, AllocFailed};
 use thiserror::Error;
 
-/// Why places give no candidate. It prints its variant's name, or that of the fault that it carries.
+/// The reason why places give no candidate. It prints as its variant's name, or as the name of the fault inside.
 #[derive(Debug, Drop, PartialEq, Eq, Clone, Copy, Error)]
 pub enum CandidateFault {
-    /// The first place has no checkpoint, and none gives a candidate.
+    /// The first place lacks a checkpoint, and no place gives a candidate.
     #[error("NoCheckpoint")]
     NoCheckpoint,
-    /// The checkpoint of the first place, or the one that was given, is no candidate.
+    /// The checkpoint of the first place, or the given note, is no candidate.
     #[error("{0}")]
     Head(TakeFault),
     /// A place failed.
@@ -27,34 +27,34 @@ pub enum CandidateFault {
     OutOfMemory,
 }
 
-/// Why following ended early. It prints its variant's name, or that of the fault that it carries.
+/// The reason why a call of `follow` ended early. It prints as its variant's name, or as the name of the fault inside.
 #[derive(Debug, Drop, PartialEq, Eq, Clone, Copy, Error)]
 pub enum FollowFault {
-    /// The first place has no checkpoint, and none gives a candidate.
+    /// The first place lacks a checkpoint, and no place gives a candidate.
     #[error("NoCheckpoint")]
     NoCheckpoint,
-    /// The note that was given, or the checkpoint of the first place where none gives a candidate, is no candidate.
+    /// The given note is no candidate. Or no place gives a candidate, and this is the reason for the first place's checkpoint.
     #[error("{0}")]
     Head(TakeFault),
-    /// What is on the shelf is no copy of a log of the origin.
+    /// The shelf has a checkpoint, but not a copy of a log of the origin.
     #[error("CopyDamaged")]
     CopyDamaged,
-    /// The shelf's checkpoint is another than the one that was read first.
+    /// The shelf's checkpoint changed since it was read first.
     #[error("CopyInUse")]
     CopyInUse,
     /// The shelf failed.
     #[error("ShelfFault")]
     ShelfFault,
-    /// The greatest candidate is of no entries, and its root is not the hash of the empty list.
+    /// The greatest candidate has size 0, and its root is not the hash of the empty list.
     #[error("Contradiction")]
     Contradiction,
-    /// A bundle of a candidate collides with that of the copy. `follow` passes over such a candidate, and never answers this.
+    /// A bundle of a candidate collides with that of the copy. `follow` skips such a candidate, so it never returns this fault.
     #[error("Collision")]
     Collision,
     /// No place gave a file of the greatest candidate.
     #[error("NoFile")]
     NoFile,
-    /// The same, and a place failed; or no place gives a candidate, and the first failed.
+    /// The same, and a place failed. Or no place gives a candidate, and the first place failed.
     #[error("Source")]
     Source,
     /// Memory was refused.
@@ -89,7 +89,7 @@ impl From<ShelfError> for FollowFault {
     }
 }
 
-// Of a shelf whose checkpoint was read only the last three come.
+// After the shelf's checkpoint was read, only the last three faults can come.
 impl From<CopyFault> for FollowFault {
     ghost from_gives = { λ e f. f ≡ by_copy e };
 

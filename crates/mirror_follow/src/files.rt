@@ -1,4 +1,4 @@
-//! Files of a log, read into memory for a proof.
+//! The files of a log for a proof, read into memory.
 ghost use Rattle.std.specs.Prelude.{◌<◌, length};
 ghost use Rattle.mirror_follow.specs.Blame.{AsksAny};
 
@@ -8,7 +8,7 @@ use std::alloc::{AllocError, Global};
 use tlog_shape::{edge_index, edge_width};
 use tlog_tiles::Path;
 
-/// Files that were read, each with its path.
+/// The files that were read, each with its path.
 #[derive(Drop)]
 pub(crate) struct ReadFiles {
     alloc: Global,
@@ -53,7 +53,7 @@ impl ReadFiles {
     }
 }
 
-// The path of the full file of a place.
+// The path of the full file with the same level and index.
 fn full_of(path: &Path) -> Path {
     match path {
         Path::Checkpoint => Path::Checkpoint,
@@ -69,8 +69,8 @@ fn full_of(path: &Path) -> Path {
     }
 }
 
-/// The paths of the files for the proof from the first entries to all: the edge of all, and the full tiles in which the
-/// first entries end, with those above them.
+/// The paths of the files for the consistency proof from the first entries to all. These are the right edge of the whole tree, the full
+/// tiles in which the first entries end, and the tiles above them.
 pub(crate) fn proof_paths(alloc: Global, first: u64, size: u64) -> Result<Vec<Path>, AllocError> {
     let mut paths = Vec::new(alloc);
     let mut has_ended = false;
@@ -96,7 +96,7 @@ pub(crate) fn proof_paths(alloc: Global, first: u64, size: u64) -> Result<Vec<Pa
     Ok(paths)
 }
 
-// The bytes that a place answers, if it has the file.
+// The bytes of the answer, if the place has the file.
 fn bytes_of(answer: PlaceAnswer) -> Option<Vec<u8>> {
     match answer {
         PlaceAnswer::File(bytes) => Some(bytes),
@@ -105,7 +105,7 @@ fn bytes_of(answer: PlaceAnswer) -> Option<Vec<u8>> {
     }
 }
 
-// Asks a place for the file at a path.
+// Gets the file at a path from a place.
 fn get_file<S: Source + Drop>(
     places: &mut Places<S>,
     index: usize,
@@ -118,7 +118,7 @@ fn get_file<S: Source + Drop>(
     Ok(bytes_of(answer))
 }
 
-// Asks a place for the file at a path, or for the full one that it gave way to.
+// Gets the file at a path from a place, or else its full file.
 fn ask_file<S: Source + Drop>(
     places: &mut Places<S>,
     index: usize,
@@ -138,7 +138,7 @@ fn ask_file<S: Source + Drop>(
     }
 }
 
-/// Asks a place for those files, and for the full one where a partial one is gone.
+/// Gets those files from a place. If a partial file is missing, gets its full file.
 pub(crate) fn ask_files<S: Source + Drop>(
     alloc: Global,
     places: &mut Places<S>,

@@ -1,4 +1,4 @@
-//! The candidates of some places, gathered answer by answer.
+//! The candidates of some places, gathered answer after answer.
 ghost use Rattle.std.specs.Prelude.{◌≡◌, ◌≢◌, ◌∷◌, ◌++◌, [], List, IfOk, None, OnOk, map};
 ghost use Rattle.mirror_follow.specs.Gathering.{Gathers, or_first};
 ghost use Rattle.mirror_follow.specs.declared.answer.PlaceAnswer.{PlaceAnswer};
@@ -10,7 +10,7 @@ use mirror_model::TakeFault;
 use signed_note::Verifier;
 use std::alloc::{AllocError, Global};
 
-// The reason that a note is no candidate.
+// The reason why a note is no candidate.
 fn refused(fault: TakeFault) -> Result<CandidateFault, AllocError>
     ensures { IfOk result (λ f. (f ≡ CandidateFault.Head fault) × (fault ≢ TakeFault.OutOfMemory)) }
 {
@@ -20,7 +20,7 @@ fn refused(fault: TakeFault) -> Result<CandidateFault, AllocError>
     }
 }
 
-/// The candidates so far, and why the first place that gave none gave none.
+/// The candidates so far, and why the first place without a candidate gave none.
 #[derive(Drop)]
 pub(crate) struct Gathered {
     pub(crate) candidates: Vec<Candidate>,
@@ -28,7 +28,7 @@ pub(crate) struct Gathered {
 }
 
 impl Gathered {
-    /// None so far.
+    /// No candidates and no reason.
     pub(crate) fn new(alloc: Global) -> Gathered
         ensures candidates { result.candidates.items ≡ [] }
         ensures first { result.first ≡ None }
@@ -39,7 +39,7 @@ impl Gathered {
         }
     }
 
-    // Passes over an answer that gives no candidate, for that reason.
+    // Skips an answer without a candidate, and keeps the reason if it is the first.
     fn pass_over(&mut self, fault: CandidateFault)
         ensures candidates { self.new.candidates.items ≡ self.old.candidates.items }
         ensures first { self.new.first ≡ or_first self.old.first fault }
@@ -49,7 +49,7 @@ impl Gathered {
         }
     }
 
-    // Adds the candidate that a note is, if it is one.
+    // Adds the note's candidate, if it is one.
     fn take_note(
         &mut self,
         alloc: Global,
@@ -69,11 +69,11 @@ impl Gathered {
         Ok(())
     }
 
-    /// Takes the answer of the next place.
+    /// Adds the answer of the next place.
     ///
     /// # Errors
     ///
-    /// Memory was refused.
+    /// `AllocError`: memory was refused.
     pub(crate) fn take(
         &mut self,
         alloc: Global,

@@ -1,4 +1,4 @@
-//! A copy of a log followed: brought to the newest checkpoint that some places give, with the forks that they show.
+//! Follows a log: brings a copy to the newest checkpoint that some places give, and reports the forks that they show.
 #![tactic(auto)]
 
 mod answer;

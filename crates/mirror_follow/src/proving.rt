@@ -42,14 +42,14 @@ fn has_first_root(proof: &Proof, root: &Hash) -> bool
     }
 }
 
-// How many bytes a hash has, which are 32.
+// The number of bytes of a hash, which is 32.
 fn hash_len(hash: &Hash) -> usize
     ensures { Is32Bytes hash.now }
 {
     hash.as_slice().len()
 }
 
-// The hashes of a path have 32 bytes.
+// Each hash of a path has 32 bytes.
 fn see_path(path: &[Hash])
     ensures { AllByRecursion Is32Bytes path.now }
 {
@@ -58,7 +58,7 @@ fn see_path(path: &[Hash])
     }
 }
 
-// The hashes of a proof have 32 bytes. It does nothing, and its contract is what the type says.
+// Each hash of a proof has 32 bytes. The body does nothing: the contract states what follows from the type.
 fn see_hashes(proof: &Proof)
     ensures { HasHashes proof.now }
 {
@@ -86,7 +86,7 @@ fn see_hashes(proof: &Proof)
     }
 }
 
-// The proof from the smaller point into the log of the larger one, where its first root is another than the smaller one's.
+// The proof from the smaller point into the log of the larger one, if its first root differs from the smaller root.
 #[tactic(auto, using(crate::proofs::Checked::checked_fork, crate::proofs::Checked::checked_agree, log_reader::proofs::Kept::kept_twice))]
 fn checked_proof<H: TreeHash, S: Source>(
     alloc: Global,
@@ -117,8 +117,8 @@ fn checked_proof<H: TreeHash, S: Source>(
     }
 }
 
-// The proof that a log of the larger point does not begin with the smaller one, made of files that lead to the larger root; None
-// where it does, where the smaller one is of no entries, and where it is not smaller.
+// The proof that a log of the larger point does not begin with the smaller one. It is made from files that lead to the larger root.
+// None: the log begins with it, or the smaller point has no entries, or it is not smaller.
 #[tactic(auto, using(log_reader::proofs::Kept::kept_once))]
 fn fork_proof<H: TreeHash, S: Source>(
     alloc: Global,
@@ -149,7 +149,7 @@ fn fork_proof<H: TreeHash, S: Source>(
     }
 }
 
-/// The proof that a larger candidate contradicts the copy, of files that one of the places has; None where none has them.
+/// The proof that a larger candidate contradicts the copy, made from files of one of the places. None: no place has these files.
 pub(crate) fn ask_proof<H: TreeHash, S: Source + Drop>(
     alloc: Global,
     places: &mut Places<S>,
@@ -173,7 +173,7 @@ pub(crate) fn ask_proof<H: TreeHash, S: Source + Drop>(
     Ok(None)
 }
 
-/// The proof that the copy does not begin with a smaller candidate; None where it does, and where that has no entries.
+/// The proof that the copy does not begin with a smaller candidate. None: it does, or the candidate has no entries.
 #[tactic(auto, using(copy_reader::proofs::ShelfSources::same_shelf))]
 pub(crate) fn read_proof<H: TreeHash, D: ReadableShelf>(
     alloc: Global,
@@ -195,8 +195,8 @@ pub(crate) fn read_proof<H: TreeHash, D: ReadableShelf>(
     Ok(fork_proof::<H, ShelfSource<D>>(alloc, &mut files, smaller, copy)?)
 }
 
-// Reads the edge of a copy of that size and root: its rows lead to the root, and the partial bundle has the leaf hashes of the
-// lowest row.
+// Reads the edge of a copy of that size and root. Its rows have to lead to the root, and the partial bundle has to have the leaf hashes of
+// the lowest row.
 #[tactic(auto, using(log_reader::proofs::Kept::kept_twice))]
 fn judge_files<H: TreeHash, D: ReadableShelf>(
     alloc: Global,
@@ -216,8 +216,8 @@ fn judge_files<H: TreeHash, D: ReadableShelf>(
     Ok(())
 }
 
-/// The checkpoint of the copy on the shelf, if any. Its edge rows lead to its root, and the partial bundle at the edge has
-/// the leaf hashes of the lowest row. No signature is looked at.
+/// The checkpoint of the copy on the shelf, if any. Its edge rows have to lead to its root. The partial bundle at the right edge has to
+/// have the leaf hashes of the lowest row. This call verifies no signature.
 #[tactic(auto, using(log_reader::proofs::Kept::kept_twice))]
 pub(crate) fn judge_copy<H: TreeHash, D: ReadableShelf>(
     alloc: Global,

@@ -1,4 +1,4 @@
-//! What a run of turns comes to: the forks that were seen, and what could not be had.
+//! The results of a run of turns: the forks, and the candidates to which the copy could not be brought.
 ghost use Rattle.std.specs.Prelude.{◌≡◌, ◌≢◌, ◌⊎◌, ◌↔◌, ◌∷◌, ◌++◌, ◌≤◌, [], ℕ, All, Contains, IfErr, IfNone, IfOk, IfSome, IsFalse, IsTrue, List, None, OnOk, Option, Some, false, if◌then◌else◌, true};
 ghost use Rattle.std.specs.declared.cmp.Ordering.TheVariants.{Less};
 ghost use Rattle.mirror_model.specs.Forks.{point_cmp};
@@ -19,51 +19,51 @@ use std::cmp::{Ordering, Reverse};
 use tlog_hash::Hash;
 use tlog_proof::Proof;
 
-/// Two checkpoints that no log has both made, the one of the lesser size and root first.
+/// Two checkpoints that no log has both made. The one with the lesser size, then root, is first.
 #[derive(Debug, Drop, PartialEq, Eq)]
 pub struct ForkLine {
     /// The smaller checkpoint.
     pub small: Candidate,
-    /// The larger one.
+    /// The larger checkpoint.
     pub large: Candidate,
-    /// The consistency proof from the smaller size into the larger tree. Its first root is not the smaller checkpoint's. None where
-    /// the sizes are equal, and where the smaller one is 0.
+    /// The consistency proof from the smaller size into the larger tree. Its first root differs from that of the smaller checkpoint. None:
+    /// the sizes are equal, or the smaller one is 0.
     pub proof: Option<Proof>,
 }
 
-/// What came of following the places.
+/// The result of a call of `follow`.
 #[derive(Debug, Drop, PartialEq, Eq)]
 pub struct Followed {
-    /// How many entries the copy has.
+    /// The copy's number of entries.
     pub size: u64,
     /// The hash of its tree.
     pub root: Hash,
-    /// How many entries it had before.
+    /// The number of entries that the copy had before.
     pub old: u64,
-    /// The forks, rising, each once.
+    /// The forks, rising, each one once.
     pub forks: Vec<ForkLine>,
-    /// The size and root of each candidate that could not be had, rising.
+    /// The size and root of each larger candidate to which the copy could not be brought, rising.
     pub larger: Vec<(u64, Hash)>,
-    /// The greatest candidate, where all agree with the copy and are smaller.
+    /// The greatest candidate, if all candidates agree with the copy and are smaller.
     pub behind: Option<(u64, Hash)>,
 }
 
-/// What came of a candidate's turn.
+/// The outcome of a candidate's turn.
 #[derive(Drop)]
 pub(crate) enum Outcome {
-    /// The copy begins with it.
+    /// The copy begins with the candidate.
     Agrees,
-    /// The copy was brought to it.
+    /// The copy was brought to the candidate.
     Brought,
-    /// It and the copy are a fork, with the proof where there is one.
+    /// The candidate and the copy are a fork, with the proof if there is one.
     Forks(Option<Proof>),
-    /// The copy's rows are not in its tree, or it is of no entries and its root is not the hash of the empty list.
+    /// The candidate's tree lacks the copy's rows. Or the candidate has no entries, and its root is not the hash of the empty list.
     Contradicts,
-    /// No place gave a file of it, or its bundle collides with that of the copy.
+    /// No place gave a file of the candidate, or its bundle collides with that of the copy.
     NotHad(FollowFault),
 }
 
-// What is known during a run.
+// The state of a run.
 #[derive(Drop)]
 pub(crate) struct Run {
     pub(crate) copy: Option<Candidate>,
@@ -86,7 +86,7 @@ fn copy_of(alloc: Global, candidate: &Candidate) -> Result<Candidate, AllocError
     })
 }
 
-// The order of checkpoints: by size, and then by root.
+// The order of checkpoints: by size, then by root.
 fn cmp_points(first: &Candidate, second: &Candidate) -> Ordering
     ensures { result ≡ point_cmp (point_of first.now) (point_of second.now) }
 {
@@ -97,7 +97,7 @@ fn cmp_points(first: &Candidate, second: &Candidate) -> Ordering
         .then(first.root.cmp(&second.root))
 }
 
-// Whether the first point comes before the second: by size, and then by root.
+// Whether the first point comes before the second: by size, then by root.
 fn is_before(first: &Candidate, second: &Candidate) -> bool
     ensures before { IsTrue result → first.now.size.0 ≤ second.now.size.0 }
     ensures after { IsFalse result → second.now.size.0 ≤ first.now.size.0 }
@@ -106,14 +106,14 @@ fn is_before(first: &Candidate, second: &Candidate) -> bool
     cmp_points(first, second) == Ordering::Less
 }
 
-/// Whether two candidates have one size and root.
+/// Whether two candidates have the same size and root.
 pub(crate) fn is_same_point(first: &Candidate, second: &Candidate) -> bool
     ensures { IsTrue result ↔ IsOnePoint first.now second.now }
 {
     first.size.0 == second.size.0 && first.root == second.root
 }
 
-// The line of two candidates, the lesser first.
+// The line of two candidates, the lesser one first.
 fn line_of(
     alloc: Global,
     small: &Candidate,
@@ -131,7 +131,7 @@ fn line_of(
     })
 }
 
-// The fork of two candidates, the lesser first.
+// The fork of two candidates, the lesser one first.
 fn fork_of(
     alloc: Global,
     first: &Candidate,
@@ -149,14 +149,14 @@ fn fork_of(
     line_of(alloc, second, first, proof)
 }
 
-// The order of lines: by the smaller checkpoint, and then by the larger one.
+// The order of lines: by the smaller checkpoint, then by the larger one.
 fn cmp_lines(first: &ForkLine, second: &ForkLine) -> Ordering
     ensures { result ≡ fork_line_cmp first.now second.now }
 {
     cmp_points(&first.small, &second.small).then(cmp_points(&first.large, &second.large))
 }
 
-// Where the line belongs among lines that rise; None if one of the same two points is there.
+// The index of the line among rising lines. None: a line of the same two points is there.
 fn place_in(lines: &[ForkLine], line: &ForkLine) -> Option<usize>
     ensures place { IfSome result (IsPlaceOf line.now lines.now) }
     ensures there { IfNone result (HasLineOf lines.now line.now) }
@@ -171,7 +171,7 @@ fn place_in(lines: &[ForkLine], line: &ForkLine) -> Option<usize>
     Some(lines.len())
 }
 
-// Adds a line where it belongs, if it is not there yet.
+// Adds a line at its index, if there is none of the same two points.
 fn add_line(lines: &mut Vec<ForkLine>, line: ForkLine) -> Result<(), AllocError>
     ensures shows { OnOk result ((digest : List ℕ → List ℕ) → ShowsEach digest lines.old.items
         → ShowsLine digest line → ShowsEach digest lines.new.items) }
@@ -186,7 +186,7 @@ fn add_line(lines: &mut Vec<ForkLine>, line: ForkLine) -> Result<(), AllocError>
     Ok(())
 }
 
-// A candidate of the same size and another root.
+// A candidate of the same size with another root.
 fn other_of<'a>(candidates: &'a [Candidate], candidate: &Candidate) -> Option<&'a Candidate>
     ensures other { IfSome result (λ other. (other.now.size.0 ≡ candidate.now.size.0)
         × (other.now.root ≢ candidate.now.root)) }
@@ -201,7 +201,7 @@ fn other_of<'a>(candidates: &'a [Candidate], candidate: &Candidate) -> Option<&'
 }
 
 impl Run {
-    /// The run over that copy begins.
+    /// The state at the start of a run over that copy.
     pub(crate) fn new(alloc: Global, copy: Option<Candidate>) -> Run
         ensures copy { result.copy ≡ copy }
         ensures had { result.had ≡ size_of_copy copy }
@@ -226,7 +226,7 @@ impl Run {
         }
     }
 
-    // The candidate agrees with the copy.
+    // Records that the candidate agrees with the copy.
     fn agree(&mut self, candidate: &Candidate)
         ensures copy { self.new.copy ≡ self.old.copy }
         ensures had { self.new.had ≡ self.old.had }
@@ -250,7 +250,7 @@ impl Run {
         }
     }
 
-    // The candidate could not be had.
+    // Records that the copy could not be brought to the candidate.
     fn lack(
         &mut self,
         alloc: Global,
@@ -273,7 +273,7 @@ impl Run {
         Ok(())
     }
 
-    // The candidate and the copy are a fork.
+    // Records that the candidate and the copy are a fork.
     fn fork(
         &mut self,
         alloc: Global,
@@ -304,7 +304,7 @@ impl Run {
         }
     }
 
-    /// Adds what came of a candidate's turn.
+    /// Adds the outcome of a candidate's turn.
     pub(crate) fn add(
         &mut self,
         alloc: Global,
@@ -334,7 +334,7 @@ impl Run {
     }
 }
 
-// Adds the fork of two candidates of one size and two roots.
+// Adds the fork of two candidates with one size and different roots.
 fn add_equal(
     alloc: Global,
     first: &Candidate,
@@ -353,7 +353,8 @@ fn add_equal(
     add_line(forks, line)
 }
 
-// Adds the fork of a candidate that could not be had, where another candidate or the copy has its size. Whether there is none.
+// Adds the fork of a candidate to which the copy could not be brought, if another candidate or the copy has its size. True: there is no
+// fork.
 fn is_larger(
     alloc: Global,
     copy: &Candidate,
@@ -384,7 +385,7 @@ fn is_larger(
     }
 }
 
-// Adds what a candidate that could not be had comes to: a fork, or else a larger one.
+// Adds the result for a candidate to which the copy could not be brought: a fork, or else a larger candidate.
 fn split_one(
     alloc: Global,
     copy: &Candidate,
@@ -411,7 +412,7 @@ fn split_one(
     Ok(())
 }
 
-// Adds the forks of candidates of one size that could not be had, and answers the others.
+// Adds the forks of equal size among the candidates to which the copy could not be brought. The answer is the other candidates.
 fn split_not_had(
     alloc: Global,
     copy: &Candidate,
@@ -435,21 +436,21 @@ fn split_not_had(
     Ok(larger)
 }
 
-// Whether no candidate has the copy's size, and no line reports one.
+// Whether no candidate has the copy's size, and no line reports a candidate.
 fn is_behind(is_reached: bool, forks: &[ForkLine], larger: &[(u64, Hash)]) -> bool
     ensures { IsBehindTest result is_reached forks.now larger.now }
 {
     !is_reached && forks.is_empty() && larger.is_empty()
 }
 
-// The point, if it is to be reported.
+// The point, if it is reported.
 fn point_if(is_reported: bool, point: Option<(u64, Hash)>) -> Option<(u64, Hash)>
     ensures { result ≡ (if is_reported then point else None) }
 {
     if is_reported { point } else { None }
 }
 
-/// What the run came to: an answer, or where the copy is still empty the fault of the greatest candidate.
+/// The result of the run. If the copy is still empty, the fault of the greatest candidate.
 pub(crate) fn report(
     alloc: Global,
     run: Run,

@@ -36,7 +36,7 @@ use std::alloc::{AllocError, Global};
 use tlog_hash::{Hash, TreeHash};
 use tlog_tiles::Path;
 
-// What a fault of a bringing says of the candidate, or why the run ends.
+// The meaning of a fault of `bring_copy`: the outcome for the candidate, or the fault that ends the run.
 fn turn_of(fault: BringFault) -> Result<Outcome, FollowFault>
     ensures after { IfOk result (λ turn. (digest : List ℕ → List ℕ) (origin : List ℕ)
         (candidate : Candidate) (old new : Option (List Put)) → CopyStays digest origin old new
@@ -60,7 +60,7 @@ fn turn_of(fault: BringFault) -> Result<Outcome, FollowFault>
         BringFault::NoFile => Ok(Outcome::NotHad(FollowFault::NoFile)),
         BringFault::Source => Ok(Outcome::NotHad(FollowFault::Source)),
         BringFault::Collision => Ok(Outcome::NotHad(FollowFault::Collision)),
-        // A candidate is a checkpoint of the origin, and it is larger than the copy that was read.
+        // A candidate is a checkpoint of the origin and larger than the copy that was read, so another run changed the copy.
         BringFault::BadCheckpoint => Err(FollowFault::CopyInUse),
         BringFault::NotLarger => Err(FollowFault::CopyInUse),
         BringFault::CopyDamaged => Err(FollowFault::CopyDamaged),
@@ -106,7 +106,7 @@ fn bring<H: TreeHash, D: ReadableShelf, S: Source + Drop>(
     }
 }
 
-// The turn of a candidate that contradicts the copy: a fork, if one of the places has the files of its proof.
+// The turn of a candidate that contradicts the copy. It is a fork if one of the places has the files of the proof.
 fn contradict<H: TreeHash, S: Source + Drop>(
     alloc: Global,
     places: &mut Places<S>,
@@ -161,14 +161,14 @@ fn take_larger<H: TreeHash, D: ReadableShelf, S: Source + Drop>(
     }
 }
 
-// Whether a candidate is of no entries, and its root is not the hash of the empty list.
+// Whether a candidate has no entries, but its root is not the hash of the empty list.
 fn has_false_root<H: TreeHash>(candidate: &Candidate) -> bool
     ensures { IsTrue result ↔ HasFalseRoot H.digest candidate.now }
 {
     candidate.size.0 == 0 && candidate.root != H::empty()
 }
 
-// What comes of bringing an empty copy to a candidate. Rows and bundles contradict no empty copy: if some did, another run has put a
+// The outcome of bringing an empty copy to a candidate. No row or bundle contradicts an empty copy. If one did, another run has put a
 // checkpoint.
 fn over_none(turn: Outcome) -> Result<Outcome, FollowFault>
     ensures same { IfOk result (λ now. now ≡ turn) }
@@ -185,7 +185,7 @@ fn over_none(turn: Outcome) -> Result<Outcome, FollowFault>
     }
 }
 
-// The turn of a candidate where the copy is empty.
+// The turn of a candidate if the copy is empty.
 fn take_first<H: TreeHash, D: ReadableShelf, S: Source + Drop>(
     alloc: Global,
     origin: &str,
@@ -218,7 +218,7 @@ fn take_first<H: TreeHash, D: ReadableShelf, S: Source + Drop>(
     over_none(turn)
 }
 
-// The root that a candidate of the copy's size has to have, or of no entries.
+// The root that a candidate of the copy's size, or without entries, has to have.
 fn root_due<H: TreeHash>(copy: &Candidate, size: u64) -> Hash
     ensures copy { size ≡ copy.now.size.0 → result ≡ copy.now.root }
     ensures none { size ≢ copy.now.size.0 → result ≡ H.digest [] }
@@ -230,7 +230,7 @@ fn root_due<H: TreeHash>(copy: &Candidate, size: u64) -> Hash
     }
 }
 
-// Whether a candidate is of the copy's size or of no entries, so that its root is known.
+// Whether a candidate has the copy's size or no entries, so that its root is known.
 fn has_due_root(copy: &Candidate, candidate: &Candidate) -> bool
     ensures due { IsTrue result → (candidate.now.size.0 ≡ 0)
         ⊎ (candidate.now.size.0 ≡ copy.now.size.0) }
@@ -240,7 +240,7 @@ fn has_due_root(copy: &Candidate, candidate: &Candidate) -> bool
     candidate.size.0 == 0 || candidate.size.0 == copy.size.0
 }
 
-// The turn of a candidate of the copy's size or of no entries.
+// The turn of a candidate with the copy's size or without entries.
 fn compare_root<H: TreeHash>(copy: &Candidate, candidate: &Candidate) -> Outcome
     requires upto { candidate.now.size.0 ≤ copy.now.size.0 }
     requires due { (candidate.now.size.0 ≡ 0) ⊎ (candidate.now.size.0 ≡ copy.now.size.0) }
@@ -295,7 +295,7 @@ fn is_less(first: &[u8], second: &[u8]) -> bool
     first < second
 }
 
-// Whether a candidate has the copy's size and root, and a note that is less.
+// Whether a candidate has the copy's size and root, and a lesser note.
 fn has_lesser_note(copy: &Candidate, candidate: &Candidate) -> bool
     ensures point { IsTrue result → IsOnePoint copy.now candidate.now }
     ensures less { IsTrue result → IsNoteUpTo (note_of candidate.now) (note_of copy.now) }
@@ -310,7 +310,7 @@ fn is_same(first: &[u8], second: &[u8]) -> bool
     first == second
 }
 
-// Puts the note of a candidate in place of the copy's, if that is still there.
+// Replaces the copy's note by that of a candidate, if the shelf still has it.
 fn put_note<D: ReadableShelf>(
     shelf: &mut D,
     copy: &Candidate,
@@ -332,7 +332,7 @@ fn put_note<D: ReadableShelf>(
     Ok(())
 }
 
-// The turn of a candidate of the copy's size and root, whose note is put in place of the copy's.
+// The turn of a candidate with the copy's size and root. Its note replaces the copy's note.
 fn renote<H: TreeHash, D: ReadableShelf>(
     origin: &str,
     shelf: &mut D,
@@ -359,7 +359,7 @@ fn renote<H: TreeHash, D: ReadableShelf>(
     Ok(Outcome::Brought)
 }
 
-// The turn of a candidate that is not larger than the copy. The shelf stays as it is.
+// The turn of a candidate that is not larger than the copy. It does not change the shelf.
 fn compare<H: TreeHash, D: ReadableShelf>(
     alloc: Global,
     origin: &str,
@@ -383,7 +383,7 @@ fn compare<H: TreeHash, D: ReadableShelf>(
     take_smaller::<H, D>(alloc, shelf, copy, candidate)
 }
 
-// What comes of the turn of a candidate. One that is as the copy, with a note that is less by its bytes, gives the copy that note.
+// The outcome of the turn of a candidate. A candidate with the copy's size and root gives the copy its note, if its bytes are less.
 fn turn_for<H: TreeHash, D: ReadableShelf, S: Source + Drop>(
     alloc: Global,
     origin: &str,
@@ -427,7 +427,7 @@ fn turn_for<H: TreeHash, D: ReadableShelf, S: Source + Drop>(
     take_larger::<H, D, S>(alloc, origin, shelf, places, copy, candidate)
 }
 
-// Lets a candidate have its turn.
+// Runs the turn of a candidate.
 fn take_turn<H: TreeHash, D: ReadableShelf, S: Source + Drop>(
     alloc: Global,
     origin: &str,
@@ -478,7 +478,7 @@ fn is_repeated(candidates: &[Candidate], i: usize) -> bool
     is_same_point(&candidates[i - 1], &candidates[i])
 }
 
-// Lets a candidate of a list have its turn, unless the one before it has its size and root.
+// Runs the turn of a candidate of a list, unless the candidate before it has its size and root.
 #[tactic(auto, using(crate::proofs::Kept::head_at))]
 fn take_turn_at<H: TreeHash, D: ReadableShelf, S: Source + Drop>(
     alloc: Global,
@@ -525,7 +525,7 @@ fn take_turn_at<H: TreeHash, D: ReadableShelf, S: Source + Drop>(
     take_turn::<H, D, S>(alloc, origin, shelf, places, run, &candidates[i])
 }
 
-// Lets each candidate have its turn, the greatest first. If several have one size and root, only the first is tried.
+// Runs the turn of each candidate, the greatest first. If several have one size and root, only the first has a turn.
 fn take_turns<H: TreeHash, D: ReadableShelf, S: Source + Drop>(
     alloc: Global,
     origin: &str,
@@ -569,7 +569,7 @@ fn take_turns<H: TreeHash, D: ReadableShelf, S: Source + Drop>(
     Ok(run)
 }
 
-// The one candidate that was given.
+// The only candidate: the given note.
 #[tactic(auto, using(crate::proofs::Kept::one_open, crate::proofs::Kept::one_rises))]
 fn given_candidate(
     alloc: Global,
@@ -597,7 +597,7 @@ fn given_candidate(
     Ok(candidates)
 }
 
-// The candidates: the note that was given, or those of the places.
+// The candidates: the given note, or else those of the places.
 fn candidates_of<S: Source + Drop>(
     alloc: Global,
     origin: &str,
@@ -625,16 +625,17 @@ fn candidates_of<S: Source + Drop>(
     }
 }
 
-/// Brings the copy on the shelf to the newest checkpoint that the places give, as far as they have its files, and compares each
-/// other candidate with it.
+/// Brings the copy on the shelf to the newest checkpoint whose files the places have, and compares each other candidate with it.
 ///
-/// A candidate is a note that opens under the keys and whose text is a checkpoint of the origin: the note that is given, else what
-/// each place answers for its checkpoint. Candidates have their turn by falling size, then rising root; of several of one size and
-/// root the first by its bytes counts. Where that is less than the copy's own note, it is put in its place. The copy is brought to a larger one, as by `bring_copy`. Of a smaller one the root is compared with
-/// that of the copy's first entries, from verified files of the copy. A larger one that contradicts the copy is a fork where a place
-/// has the files of the proof; otherwise it is `larger`, as one that could not be had.
+/// A candidate is a note that opens under the keys and whose text is a checkpoint of the origin: the given note, or else each place's
+/// answer to the request for its checkpoint. The turns go by falling size, then rising root. If several candidates have one size and root,
+/// only the one with the least note has a turn. If it has the copy's size and root, and a lesser note, its note replaces the copy's.
 ///
-/// At each moment a whole copy is there, whatever the places answer.
+/// The copy is brought to a larger candidate, as by `bring_copy`. The root of a smaller candidate is compared with that of the copy's first
+/// entries, from verified files of the copy. A larger candidate that contradicts the copy is a fork if a place has the files of the proof.
+/// Else it is one of `larger`, like a candidate whose files no place has.
+///
+/// At each moment the shelf has a whole copy, for all answers of the places.
 ///
 /// ```text
 /// let done = follow::<Sha256Tree, MemShelf, ListSource<Sha256Tree>>(alloc, "ex", &keys, &mut shelf, &mut places, None)?;
@@ -645,12 +646,12 @@ fn candidates_of<S: Source + Drop>(
 ///
 /// # Errors
 ///
-/// - `CopyDamaged`: what is on the shelf is no copy of a log of the origin, or a file that is wanted for a smaller candidate
-///   lacks or is false. `ShelfFault`: the shelf failed. `CopyInUse`: another run put a checkpoint meanwhile.
-/// - `Head`: the given note is no candidate, or the first place's, where no place gives one. `NoCheckpoint`, `Source`: no place gives
-///   a candidate, and the first has none, or failed.
-/// - Where the copy was empty and still is, the fault of the greatest candidate: `NoFile`; `Source`, if a place failed; `Contradiction`,
-///   if it has no entries, and its root is not the hash of the empty list.
+/// - `CopyDamaged`: the shelf has a checkpoint, but not a copy of a log of the origin. Or a file that a smaller candidate needs is missing
+///   or false. `ShelfFault`: the shelf failed. `CopyInUse`: another run put a checkpoint in the meantime.
+/// - `Head`: the given note is no candidate. Or no place gives a candidate, and this is the reason for the first place's note.
+///   `NoCheckpoint`, `Source`: no place gives a candidate, and the first place lacks a checkpoint, or failed.
+/// - If the copy was empty and still is, the fault of the greatest candidate: `NoFile`; `Source`, if a place failed; `Contradiction`,
+///   if it has no entries and its root is not the hash of the empty list.
 /// - `OutOfMemory`: memory was refused.
 #[tactic(auto, using(crate::proofs::Kept::heads_open))]
 pub fn follow<H: TreeHash, D: ReadableShelf, S: Source + Drop>(

@@ -1,4 +1,4 @@
--- What a copy answers is what a mirror with its checkpoint does.
+-- The reports on a copy are those of a mirror with its checkpoint.
 use Rattle.std.proofs.Common.{◌≡◌, ℕ, ◌<◌, length, refl, arith}
 use Rattle.std.proofs.lemmas.Bool.{lt-ltb, le-ltb, le-leb, eq-eqb, ne_eqb}
 use Rattle.tlog_proof.specs.declared.make.ProofFault.TheVariants.{NoSuchSize, NoSuchIndex, FirstIsZero, Backwards, OutOfMemory}

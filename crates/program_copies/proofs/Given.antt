@@ -1,4 +1,4 @@
--- Faults of the files that a copy is compared with.
+-- Faults of the files with which a copy is compared.
 use Rattle.std.proofs.Common.{◌≡◌, ℕ, List, Option, Err}
 use Rattle.signed_note.specs.Keys.{Key}
 use Rattle.mirror_folders.specs.Shelf.{Put}
@@ -11,7 +11,7 @@ use Rattle.program_copies.specs.declared.fault.CopyAskFault.{CopyAskFault}
 use Rattle.program_copies.specs.declared.fault.CopyAskFault.TheVariants.{Copy, Heads, Ask}
 
 module _ (origin : List ℕ) (keys : List Key) (files : Option (List NamedFile)) (names : List (List ℕ)) where
-  -- where no heads are given, nothing is reported, for that reason
+  -- if the tree heads cannot be read, nothing is reported, for that reason
   pub given_fault : (digest : List ℕ → List ℕ) (held : Option (List Put)) (fault : CopyAskFault) →
       GivesHeads origin keys files names (Err fault) → ReportsCompared origin keys files names digest held (Err fault)
   given_fault digest held (Copy (Origin f)) h = h
@@ -22,7 +22,7 @@ module _ (origin : List ℕ) (keys : List Key) (files : Option (List NamedFile))
   given_fault digest held (Heads f) h = h
   given_fault digest held (Ask f) h = absurd h
 
-  -- and no shelf failed
+  -- and the shelf did not fail
   pub given_counts : (old new : ℕ) (fault : CopyAskFault) → GivesHeads origin keys files names (Err fault) →
       new ≡ old → CountsAsk {T = Printout} old new (Err fault)
   given_counts old new (Copy (Origin f)) h same = same

@@ -26,7 +26,7 @@ use Rattle.program_copies.specs.declared.fault.CopyAskFault.TheVariants as askin
 use Rattle.copy_reader.specs.declared.fault.CopyFault.{CopyFault}
 use Rattle.copy_reader.specs.declared.fault.CopyFault.TheVariants.{Origin, Head, CopyDamaged, ShelfFault, OutOfMemory}
 
--- where a read of a copy that was opened ended by a fault, that is why
+-- if a read of an opened copy ended by a fault, this is the reason
 pub read_refused : {T : Type 0} (digest : List ℕ → List ℕ) (origin : List ℕ) (keys : List Key) (held after : Option (List Put))
     (old new : Reader) (claim : List (List ℕ) → T → Type 0) (a b : ℕ) (fault : CopyFault) → KeepsRecord held after →
     OpensWhole digest origin held (Some old) → CountsRead {T = T} a b (Err fault) →
@@ -38,7 +38,7 @@ read_refused digest origin keys held after old new claim a b (CopyDamaged path) 
 read_refused digest origin keys held after old new claim a b ShelfFault kept opens counts reads = tt
 read_refused digest origin keys held after old new claim a b OutOfMemory kept opens counts reads = tt
 
--- what was compared with the log that was opened was compared with that of each whole copy
+-- the comparisons with the opened log are those with the log of each whole copy
 pub compared_whole : (digest : List ℕ → List ℕ) (origin : List ℕ) (held after : Option (List Put)) (reader : Reader) (size : ℕ)
     (root : List ℕ) (given : Option (List (ℕ × List ℕ))) (report : Printout) → KeepsRecord held after →
     OpensWhole digest origin held (Some reader) →
@@ -52,25 +52,25 @@ compared_whole digest origin held after reader size root given report kept opens
   status = c.status;
 }
 
--- the point of a copy that was opened
+-- the size and root of an opened copy
 pub opened_has : (digest : List ℕ → List ℕ) (origin : List ℕ) (keys : List Key) (held : Option (List Put)) (opened : Option Reader) →
     OpensCopy digest origin keys held (Ok opened) → HasPoint origin keys held (option_map reader_point opened)
 opened_has digest origin keys held None h = h
 opened_has digest origin keys held (Some reader) h = h
 
--- the checkpoint of a copy that was opened
+-- the checkpoint of an opened copy
 pub opened_checkpoint : (digest : List ℕ → List ℕ) (origin : List ℕ) (keys : List Key) (held : Option (List Put)) (opened : Option Reader)
     (reader : Reader) → OpensCopy digest origin keys held (Ok opened) → opened ≡ Some reader →
     HasCheckpoint origin keys held reader.edge.size reader.root
 opened_checkpoint digest origin keys held opened reader h is = subst (λ o. OpensCopy digest origin keys held (Ok o)) is h
 
--- the folder that was opened has what the folder of that name held
+-- the opened folder has the content of the folder of that name
 pub opens_there : (digest : List ℕ → List ℕ) (origin : List ℕ) (keys : List Key) (x y : Option (List Put))
     (result : Result (Option Reader) CopyFault) → x ≡ y → OpensCopy digest origin keys x result →
     OpensCopy digest origin keys y result
 opens_there digest origin keys x y result e h = subst (λ held. OpensCopy digest origin keys held result) e h
 
--- an answer that ended by a fault of the shelf, or since memory was refused
+-- an answer that ended by a fault of the shelf, or by refused memory
 pub ends_by : {T : Type 0} (fault : CopyFault) (result : Result T CopyFault) → IsErr result × IsErrAnd result (λ f. f ≡ fault) →
     IsShelfFailure fault → (claim : T → Type 0) → GivesOr IsShelfFailure result claim
 ends_by fault (Ok x) is h claim = absurd (false≢true is.0)
@@ -92,17 +92,17 @@ module _ {T : Type 0} (view : T → List ℕ) (digest : List ℕ → List ℕ) (
     small : (entries : List (List ℕ)) → IsProvable digest old held entries → old.edge.size ≤ MAX_SIZE
     small entries p = subst (λ n. n ≤ MAX_SIZE) (sym p.is_read.0.size_is) p.small
 
-    -- what is read of a log is a proof of the definitions
+    -- a proof that is read from a log is that of the definitions
     pub read_true : (text : T) → ReadsProof (Ok text) → (entries : List (List ℕ)) → IsProvable digest old held entries →
         IsTrueText digest ask entries (view text)
     read_true text reads entries p = (reads (small entries p) entries p.is_read.0 p.is_read.1).answer
 
-    -- where it ends by a fault, the shelf failed or memory was refused
+    -- if the read ended by a fault, the shelf failed or memory was refused
     pub read_fails : (fault : CopyFault) → ReadsProof (Err fault) → (entries : List (List ℕ)) →
         IsProvable digest old held entries → IsShelfFailure fault
     read_fails fault reads entries p = (reads (small entries p) entries p.is_read.0 p.is_read.1).answer
 
--- a fault that was passed on
+-- a fault that was returned unchanged
 pub passed_on : {T : Type 0} (P : CopyFault → Type 0) (fault : CopyFault) (result : Result T CopyFault) →
     IsErr result × IsErrAnd result (λ f. f ≡ fault) → P fault → IfErr result P
 passed_on P fault (Ok x) is h = tt
@@ -119,7 +119,7 @@ read_fault T a b OutOfMemory counts = tt
 module _ (digest : List ℕ → List ℕ) (origin : List ℕ) (keys : List Key) (held after : Option (List Put)) (reader : Reader)
     (kept : KeepsRecord held after) (opens : OpensWhole digest origin held (Some reader))
     (checkpoint : HasCheckpoint origin keys held reader.edge.size reader.root) (ask : Ask) where
-  -- the log of a whole copy is the one that was opened
+  -- the log of a whole copy is the opened one
   provable : (entries : List (List ℕ)) → HoldsWhole digest origin held entries → IsProvable digest reader after entries
   provable entries w = record {
     is_read = (opens w.0 entries w.1, files_later digest held after kept entries w.1.files);
@@ -135,7 +135,7 @@ module _ (digest : List ℕ → List ℕ) (origin : List ℕ) (keys : List Key) 
   proof_refused ShelfFault r = tt
   proof_refused OutOfMemory r = tt
 
-  -- what is reported of the log that was opened is reported of the copy
+  -- a report on the opened log is a report on the copy
   pub proof_of_copy : (result : Result Printout CopyAskFault) →
       ReportsAsk digest reader.edge.size reader.root (IsProvable digest reader after) ask result →
       ReportsProof digest origin keys held ask result

@@ -1,4 +1,4 @@
--- What `compare` reports of a copy.
+-- The reports of `compare` on a copy.
 use Rattle.std.specs.Prelude.{◌≡◌, ◌≢◌, ℕ, ◌<◌, ◌≤◌, List, [], ◌∷◌, All, map, Option, Some, None, Result, Ok, Err, ⊤}
 use Rattle.signed_note.specs.Keys.{Key}
 use Rattle.mirror_folders.specs.Shelf.{Put}
@@ -27,26 +27,26 @@ use Rattle.program_copies.specs.declared.fault.CopyAskFault.{CopyAskFault}
 use Rattle.program_copies.specs.declared.fault.CopyAskFault.TheVariants as asking
 
 module _ (digest : List ℕ → List ℕ) (size : ℕ) (root : List ℕ) where
-  -- what is said of a head is so of the log of that size and root: the root of as many of its entries is the head's, or another,
-  -- which is told, or it has fewer
+  -- a line about a tree head is right for the log of that size and root. Same: the log has this root at that size. Fork: it has
+  -- another root, which the line reports. Otherwise the log is smaller
   abbrev pub IsComparedTo : Compared → Type 0
   IsComparedTo (Same n r) = (n ≤ size) × IsRootOf digest size root n r
   IsComparedTo (Fork n r own) = (n ≤ size) × IsRootOf digest size root n own × (own ≢ r)
   IsComparedTo (Larger n r) = size < n
 
-  -- the heads, one for one, are compared so
+  -- the tree heads are compared, one line for each
   pub record AreCompared (heads : List (ℕ × List ℕ)) (compared : List Compared) : Type 0 where
     pub heads_are : map compared_point compared ≡ map point_of heads
     pub each : All IsComparedTo compared
 
--- the heads that are compared: those that are given, or else the copy's own
+-- the tree heads to compare: the given ones, or else the copy's own
 abbrev pub heads_of : Option (List (ℕ × List ℕ)) → ℕ → List ℕ → List (ℕ × List ℕ)
 heads_of None size root = (size, root) ∷ []
 heads_of (Some heads) size root = heads
 
 module _ (digest : List ℕ → List ℕ) (size : ℕ) (root : List ℕ) (given : Option (List (ℕ × List ℕ)))
     (IsLog : List (List ℕ) → Type 0) where
-  -- the report on the heads that are given; with the entries of such a log they are compared as a mirror compares them
+  -- the report on the given tree heads. If the shelf has such a log, they are compared as a mirror compares them
   pub record IsComparisonOf (report : Printout) : Type 0 where
     pub compared : List Compared
     pub are : AreCompared digest size root (heads_of given size root) compared
@@ -58,7 +58,7 @@ module _ (digest : List ℕ → List ℕ) (size : ℕ) (root : List ℕ) (given 
 abbrev pub IsLogRead : (List ℕ → List ℕ) → Reader → Option (List Put) → List (List ℕ) → Type 0
 IsLogRead digest reader held entries = IsReaderOf digest entries reader × HasFilesOf digest entries held
 
--- why no mirror of the origin is made, to which the files' checkpoints would belong
+-- the reason why there can be no mirror of the origin, to which the files' checkpoints would belong
 abbrev pub IsNoMirror : List ℕ → CopyFault → Type 0
 IsNoMirror origin (Origin fault) = ¬ IsOrigin origin
 IsNoMirror origin (Head fault) = ⊥
@@ -67,7 +67,7 @@ IsNoMirror origin ShelfFault = ⊥
 IsNoMirror origin NoMemory = ⊤
 
 module _ (origin : List ℕ) (keys : List Key) (files : Option (List NamedFile)) (names : List (List ℕ)) where
-  -- the heads that are given: those of the files, and none where no file is named
+  -- the given tree heads: those of the files, or None if no file is named
   abbrev pub GivesHeads : Result (Option (List (ℕ × List ℕ))) CopyAskFault → Type 0
   GivesHeads (Ok None) = names ≡ []
   GivesHeads (Ok (Some heads)) = (names ≢ []) × ReadsHeads origin keys files names (Ok heads)
@@ -76,7 +76,7 @@ module _ (origin : List ℕ) (keys : List Key) (files : Option (List NamedFile))
   GivesHeads (Err (asking.Ask fault)) = ⊥
 
   module _ (digest : List ℕ → List ℕ) (held : Option (List Put)) where
-    -- the report on the heads that are given, compared with the log of the copy's checkpoint
+    -- the report on the given tree heads, compared with the log of the copy's checkpoint
     pub record IsComparedPrint (report : Printout) : Type 0 where
       pub size : ℕ
       pub root : List ℕ
@@ -85,7 +85,7 @@ module _ (origin : List ℕ) (keys : List Key) (files : Option (List NamedFile))
       pub gives : GivesHeads (Ok given)
       pub is : IsComparisonOf digest size root given (HoldsWhole digest origin held) report
 
-    -- what each answer of the reporter says
+    -- the facts at each answer of the reporter
     abbrev pub ReportsCompared : Result Printout CopyAskFault → Type 0
     ReportsCompared (Ok report) = IsComparedPrint report
     ReportsCompared (Err (asking.Copy fault)) = IsRefused digest origin keys held fault

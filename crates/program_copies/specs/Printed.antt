@@ -1,4 +1,4 @@
--- What is reported of a copy, and what is printed of the report.
+-- The reports on a copy, and their output.
 use Rattle.std.specs.Prelude.{◌≡◌, ◌⊎◌, ℕ, List, Option, Result, Ok, Err, ⊤}
 use Rattle.std.specs.Io.KnownBytes.{Appends, Keeps}
 use Rattle.byte_streams.specs.Streams.{AppendsPrefix}
@@ -9,7 +9,7 @@ use Rattle.copy_reader.specs.Faults.{CountsFault}
 use Rattle.program_copies.specs.declared.fault.CopyAskFault.{CopyAskFault}
 use Rattle.program_copies.specs.declared.fault.CopyAskFault.TheVariants.{Copy, Heads, Ask}
 
--- the shelf's count of failures rises by one at a ShelfFault, and stays at any other answer
+-- the shelf's number of failures rises by one at a ShelfFault, and does not change at any other answer
 abbrev pub CountsAsk : {T : Type 0} → ℕ → ℕ → Result T CopyAskFault → Type 0
 CountsAsk old new (Ok x) = new ≡ old
 CountsAsk old new (Err (Copy fault)) = CountsFault old new fault
@@ -23,7 +23,7 @@ IsWriteFault (Heads fault) = ⊥
 IsWriteFault (Ask (Report fault)) = ⊥
 IsWriteFault (Ask WriteFault) = ⊤
 
--- the exit status is one of a command that was done: 0, or 3 for a no
+-- the exit status of a command that finished: 0, or 3 for a negative result
 abbrev pub IsStatus : ℕ → Type 0
 IsStatus status = (status ≡ 0) ⊎ (status ≡ 3)
 
@@ -31,25 +31,25 @@ abbrev pub HasStatus : Printout → Type 0
 HasStatus report = IsStatus report.status
 
 module _ (old new : Option (List ℕ)) (recorded : Result Printout CopyAskFault) where
-  -- the report was written whole, and the exit status is its own
+  -- the report was written whole, and the exit status is that of the report
   pub record PrintsWhole (status : ℕ) : Type 0 where
     pub report : Printout
     pub recorded_is : recorded ≡ Ok report
     pub written : Appends old new (printed report)
     pub status_is : status ≡ report.status
 
-  -- a prefix of the report was written, as a write that failed leaves it
+  -- a prefix of the report was written, since a write failed
   pub record PrintsPrefix : Type 0 where
     pub report : Printout
     pub recorded_is : recorded ≡ Ok report
     pub written : AppendsPrefix old new (printed report)
 
-  -- what each answer says of a report, and of what was written: at a fault nothing, or a prefix where a write failed
+  -- the report and the output at each answer. At a fault nothing is written, or a prefix if a write failed
   abbrev pub PrintsText : Result ℕ CopyAskFault → Type 0
   PrintsText (Ok status) = PrintsWhole status
   PrintsText (Err fault) = ((recorded ≡ Err fault) × Keeps old new) ⊎ (IsWriteFault fault × PrintsPrefix)
 
--- what was answered and written is a report of which that is said
+-- the answer and the output are those of a report for which "Reports" holds
 pub record Prints (Reports : Result Printout CopyAskFault → Type 0) (old new : Option (List ℕ))
     (answer : Result ℕ CopyAskFault) : Type 0 where
   pub recorded : Result Printout CopyAskFault

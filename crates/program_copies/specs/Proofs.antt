@@ -1,4 +1,4 @@
--- What `prove` reports of a copy.
+-- The reports of `prove` on a copy.
 use Rattle.std.specs.Prelude.{◌≡◌, ℕ, ◌<◌, ◌≤◌, List, length, Option, Result, Ok, Err}
 use Rattle.signed_note.specs.Keys.{Key}
 use Rattle.tlog_shape.specs.declared.TheConstants.{MAX_SIZE}
@@ -23,8 +23,7 @@ use Rattle.program_copies.specs.Comparisons.{IsLogRead}
 use Rattle.program_copies.specs.declared.fault.CopyAskFault.{CopyAskFault}
 use Rattle.program_copies.specs.declared.fault.CopyAskFault.TheVariants as asking
 
--- of a log of that size what is asked for is refused, with the first fault that applies, as `asked_proof` of tlog_proof
--- refuses it of a list
+-- for a log of that size the request is refused, with the first fault that applies, as `asked_proof` of tlog_proof refuses it for a list
 abbrev pub IsRefusedOf : Ask → ℕ → ProofFault → Type 0
 IsRefusedOf (AskInclusion n i) size proving.NoSuchSize = size < n
 IsRefusedOf (AskInclusion n i) size proving.NoSuchIndex = (n ≤ size) × (n ≤ i)
@@ -44,18 +43,18 @@ pub record IsProvable (digest : List ℕ → List ℕ) (reader : Reader) (held :
   pub small : length entries ≤ MAX_SIZE
 
 module _ (digest : List ℕ → List ℕ) (size : ℕ) (root : List ℕ) (IsLog : List (List ℕ) → Type 0) where
-  -- the report is the text of a proof that was asked for, and is accepted. Of such a log it is the proof of the definitions
+  -- the report is the text of a requested and accepted proof. If the shelf has such a log, it is the proof of the definitions
   pub record PrintsProof (ask : Ask) (report : Printout) : Type 0 where
     pub is : IsProofOf digest size root ask (printed report)
     pub whole : (entries : List (List ℕ)) → IsLog entries → IsTrueText digest ask entries (printed report)
     pub status : report.status ≡ 0
 
-  -- the fault is one of reading files. Of such a log it is that the shelf failed, or memory was refused
+  -- the fault is one of reading files. If the shelf has such a log, the shelf failed, or memory was refused
   pub record IsReadOf (fault : CopyFault) : Type 0 where
     pub is : IsReadFault fault
     pub whole : (entries : List (List ℕ)) → IsLog entries → IsShelfFailure fault
 
-  -- what each answer of a reporter on a log of that size and root says
+  -- the facts at each answer of a reporter on a log of that size and root
   abbrev pub ReportsAsk : Ask → Result Printout CopyAskFault → Type 0
   ReportsAsk ask (Ok report) = PrintsProof ask report
   ReportsAsk ask (Err (asking.Copy fault)) = IsReadOf fault
@@ -68,22 +67,22 @@ module _ (digest : List ℕ → List ℕ) (size : ℕ) (root : List ℕ) (IsLog 
 
 module _ (digest : List ℕ → List ℕ) (origin : List ℕ) (keys : List Key) (held : Option (List Put)) (ask : Ask)
   where
-    -- the report is the proof that was asked for, which is accepted against the copy's checkpoint, or against the root of as many
-    -- of its entries. Of a whole copy it is the proof of the definitions
+    -- the report is the requested proof. It is accepted against the copy's checkpoint, or against the root of its first entries of the
+    -- requested size. If the copy is whole, it is the proof of the definitions
     pub record IsProofPrint (report : Printout) : Type 0 where
       pub size : ℕ
       pub root : List ℕ
       pub checkpoint : HasCheckpoint origin keys held size root
       pub is : PrintsProof digest size root (HoldsWhole digest origin held) ask report
 
-    -- the copy has a checkpoint, of a size of which what is asked for is refused
+    -- the copy has a checkpoint, and the request is refused for its size
     pub record RefusesAsk (fault : ProofFault) : Type 0 where
       pub size : ℕ
       pub root : List ℕ
       pub checkpoint : HasCheckpoint origin keys held size root
       pub refused : IsRefusedOf ask size fault
 
-    -- what each answer of the reporter says
+    -- the facts at each answer of the reporter
     abbrev pub ReportsProof : Result Printout CopyAskFault → Type 0
     ReportsProof (Ok report) = IsProofPrint report
     ReportsProof (Err (asking.Copy fault)) = IsRefused digest origin keys held fault

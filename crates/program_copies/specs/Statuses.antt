@@ -1,4 +1,4 @@
--- What `status` reports of a copy: the text of a mirror that holds its checkpoint, complete, and no other.
+-- The reports of `status` on a copy: the text of a mirror with only the checkpoint's tree head, which is complete.
 use Rattle.std.specs.Prelude.{◌≡◌, ℕ, List, Option, Some, None, Result, Ok, Err}
 use Rattle.signed_note.specs.Keys.{Key}
 use Rattle.mirror_folders.specs.Shelf.{Put}
@@ -15,12 +15,12 @@ use Rattle.program_copies.specs.declared.fault.CopyAskFault.TheVariants.{Copy, H
 abbrev pub reader_point : Reader → Point
 reader_point reader = record { size = reader.edge.size; root = reader.root }
 
--- the exit status: 0 where something is served, 3 where nothing is
+-- the exit status: 0 if something is served, else 3
 abbrev pub status_of : Option Point → ℕ
 status_of None = 3
 status_of (Some point) = 0
 
--- the report is that of a mirror with that head, or of one that holds nothing
+-- the report is that of a mirror with that tree head, or of one without any
 pub record IsStatusOf (origin : List ℕ) (point : Option Point) (report : Printout) : Type 0 where
   pub text : printed report ≡ copy_status origin point
   pub status : report.status ≡ status_of point
@@ -38,7 +38,7 @@ module _ (origin : List ℕ) (keys : List Key) (held : Option (List Put)) where
     pub is : IsStatusOf origin point report
 
 module _ (digest : List ℕ → List ℕ) (origin : List ℕ) (keys : List Key) (held : Option (List Put)) where
-  -- what each answer of the reporter says
+  -- the facts at each answer of the reporter
   abbrev pub ReportsStatus : Result Printout CopyAskFault → Type 0
   ReportsStatus (Ok report) = IsStatusPrint origin keys held report
   ReportsStatus (Err (Copy fault)) = IsRefused digest origin keys held fault

@@ -1,4 +1,4 @@
-//! Checkpoints compared with a copy.
+//! Compares checkpoints with a copy.
 ghost use Rattle.std.specs.Prelude.{◌≡◌, ◌↔◌, ⊤, All, IfErr, IfOk, IsTrue, map, option_map};
 ghost use Rattle.tlog_text.specs.Answers.{seen};
 ghost use Rattle.mirror_sources.specs.Recorded.{KeepsRecord};
@@ -33,7 +33,7 @@ fn is_same(first: &Hash, second: &Hash) -> bool
     first == second
 }
 
-// A head, compared with the log.
+// Compares a tree head with the log.
 #[tactic(auto, using(log_reader::proofs::Kept::kept_once))]
 fn compare_one<H: TreeHash, D: ReadableShelf>(
     alloc: Global,
@@ -67,7 +67,7 @@ fn compare_one<H: TreeHash, D: ReadableShelf>(
     }
 }
 
-// Each of the heads, compared with the log.
+// Compares each of the tree heads with the log.
 #[tactic(auto, using(log_reader::proofs::Kept::kept_twice, log_reader::proofs::Kept::kept_once))]
 fn compare_all<H: TreeHash, D: ReadableShelf>(
     alloc: Global,
@@ -90,7 +90,7 @@ fn compare_all<H: TreeHash, D: ReadableShelf>(
     Ok(compared)
 }
 
-// The heads that are given, or else the log's own.
+// The given tree heads, or else the log's own.
 fn heads_or_own<H: TreeHash>(
     alloc: Global,
     reader: &LogReader<H>,
@@ -109,7 +109,7 @@ fn heads_or_own<H: TreeHash>(
     }
 }
 
-// The report on what was compared.
+// The report on the comparisons.
 fn compared_report(alloc: Global, compared: &[Compared]) -> Result<Report, AllocError>
     ensures text { IfOk result (λ report. printed report ≡ compared_text compared.now) }
     ensures status { IfOk result (λ report. report.status ≡ compare_status compared.now) }
@@ -119,7 +119,7 @@ fn compared_report(alloc: Global, compared: &[Compared]) -> Result<Report, Alloc
     Ok(Report { text, status })
 }
 
-// The report on the heads that are given, or else on the log's own.
+// The report on the given tree heads, or else on the log's own.
 fn compare_report<H: TreeHash, D: ReadableShelf>(
     alloc: Global,
     shelf: &mut D,
@@ -139,7 +139,7 @@ fn compare_report<H: TreeHash, D: ReadableShelf>(
     Ok(compared_report(alloc, &compared)?)
 }
 
-// The heads of the files, and none where no file is named.
+// The tree heads of the files. None: no file is named.
 fn given_heads<H: TreeHash, F: NamedFiles>(
     files: &F,
     alloc: Global,
@@ -201,9 +201,9 @@ fn compare_text<H: TreeHash, F: NamedFiles, D: NamedFolders>(
     }
 }
 
-/// Prints a line for each checkpoint in the files, compared with the copy, or where no file is named for the copy's own: `same`,
-/// `fork` or `larger`, as `compare` prints them of a state with the copy's checkpoint. Answers the exit status: 0, or 3 where a line is not
-/// `same`. Each root that a line is about is shown by verified rows.
+/// Compares each checkpoint in the files with the copy, and prints a line for it: `same`, `fork` or `larger`. If no file is named, it
+/// compares the copy's own checkpoint. The lines are those of `compare` for a state with the copy's checkpoint. Each root in a line is
+/// shown by verified rows. Returns the exit status: 0, or 3 if a line is not `same`.
 ///
 /// ```text
 /// compare_copy::<Sha256Tree, _, _, _>(&files, &mut folders, alloc, "example.com/log", &keys, "log", &["seen.note"], &mut output)?
@@ -212,9 +212,12 @@ fn compare_text<H: TreeHash, F: NamedFiles, D: NamedFolders>(
 ///
 /// # Errors
 ///
-/// In this order: `Copy`, with the faults of `open_copy`; `Heads`, with those of `read_heads`; `Ask`, with `NothingComplete` where the
-/// copy is empty; `Copy`, with `CopyDamaged` or `ShelfFault`, where a tile that a root is made of is missing, false or not to be
-/// read; `Ask`, with `WriteFault`. Nothing is written but at a `WriteFault`, where a prefix of the text is.
+/// In this order:
+/// - `Copy`, with the faults of `open_copy`.
+/// - `Heads`, with the faults of `read_heads`.
+/// - `Ask` with `NothingComplete`: the copy is empty.
+/// - `Copy` with `CopyDamaged` or `ShelfFault`: a tile that a root needs is missing, false or unreadable.
+/// - `Ask` with `WriteFault`: a prefix of the text was written. At each other fault nothing is written.
 pub fn compare_copy<H: TreeHash, F: NamedFiles, D: NamedFolders, W: Write>(
     files: &F,
     folders: &mut D,

@@ -1,4 +1,4 @@
-//! Why a copy answers nothing.
+//! The reasons why a copy gives no report.
 ghost use Rattle.std.specs.Prelude.{◌≡◌};
 ghost use Rattle.program_copies.specs.declared.fault.CopyAskFault.TheVariants as asking;
 
@@ -7,17 +7,17 @@ use program_commands::HeadFilesFault;
 use program_reports::AskFault;
 use thiserror::Error;
 
-/// Why nothing is answered of a copy, in the order of the steps. It prints the name of the innermost variant.
+/// The reason why a copy gives no report, in the order of the steps. It prints as the name of the innermost variant.
 #[derive(Debug, Drop, PartialEq, Eq, Clone, Copy, Error)]
 pub enum CopyAskFault {
-    /// The copy is not read.
+    /// The copy could not be read.
     #[error(transparent)]
     Copy(CopyFault),
-    /// No checkpoints are read of the files that are named. It comes before `Ask`, and before a `Copy` that is no fault of the
-    /// copy's checkpoint or of its edge.
+    /// The checkpoints of the named files could not be read. This comes before `Ask`. It also comes before each `Copy` that is not a fault
+    /// of the copy's checkpoint or of its edge.
     #[error(transparent)]
     Heads(HeadFilesFault),
-    /// Nothing is reported, or the report is not written.
+    /// There is nothing to report, or the report could not be written.
     #[error(transparent)]
     Ask(AskFault),
 }

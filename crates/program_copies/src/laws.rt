@@ -1,12 +1,13 @@
 //! Laws of the definitions that the contracts cite.
 ghost use Rattle.program_copies.specs.Laws.{RefusesAsMirror, PrintsAsMirror};
 
-/// What is refused of a copy, `asked_proof` refuses with the same fault of each list of as many entries, as `prove` of a state does.
+/// If a request is refused for a copy, `asked_proof` refuses it with the same fault for each list of that size, like `prove` of a state.
 pub fn refusals_law()
     ensures { RefusesAsMirror }
 {}
 
-/// The status of a copy is that of each mirror that has the copy's head alone, complete and served, or none.
+/// The status of a copy is that of each mirror whose only tree head is the copy's, complete and served. Without a checkpoint, it is that of
+/// a mirror without tree heads.
 pub fn status_law()
     ensures { PrintsAsMirror }
 {}

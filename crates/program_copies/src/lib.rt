@@ -1,4 +1,4 @@
-//! What a copy answers: a folder with the files of one log. The checkpoint and some verified rows of it are read.
+//! Commands over a copy, which is a folder with the files of one log. They read the checkpoint and some verified rows.
 //!
 //! ```text
 //! let mut folders = DirShelf::new(&rt, alloc, ".");

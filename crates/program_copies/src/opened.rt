@@ -1,4 +1,4 @@
-//! A copy in a folder, opened.
+//! Opens a copy in a folder.
 ghost use Rattle.std.specs.Prelude.{IfOk, OnOk, map};
 ghost use Rattle.mirror_sources.specs.Recorded.{KeepsRecord};
 ghost use Rattle.copy_reader.specs.Copies.{LeavesPuts, OpensCopy};
@@ -14,8 +14,8 @@ use std::alloc::Global;
 use tlog_hash::TreeHash;
 use tlog_mirror::NewFault;
 
-/// Opens the folder, and the log that it is a copy of: its checkpoint opens under the keys, and the rows of its edge lead to its
-/// root. None where the folder has no checkpoint: then the copy is empty.
+/// Opens the folder and its log. The log's checkpoint has to open under the keys, and the rows of its edge have to lead to its root. None:
+/// the folder has no checkpoint, so the copy is empty.
 ///
 /// ```text
 /// let opened = open_copy::<Sha256Tree, _>(&mut folders, alloc, "example.com/log", &keys, "log")?;
@@ -24,9 +24,8 @@ use tlog_mirror::NewFault;
 ///
 /// # Errors
 ///
-/// The first that applies: `Origin`, as of `Mirror::new`; `ShelfFault`, where a file is not to be read; `Head`, with the fault of
-/// `check_head`, where the checkpoint does not open; `CopyDamaged`, where a partial tile is missing or false. `OutOfMemory`
-/// where memory was refused.
+/// The first that applies. `Origin`, as for `Mirror::new`. `ShelfFault`: a file cannot be read. `Head`, with the fault of `check_head`: the
+/// checkpoint does not open. `CopyDamaged`: a partial tile is missing or false. `OutOfMemory`: memory was refused.
 pub fn open_copy<H: TreeHash, D: NamedFolders>(
     folders: &mut D,
     alloc: Global,

@@ -1,4 +1,4 @@
-//! Reports on a copy, printed.
+//! Prints reports on a copy.
 ghost use Rattle.std.specs.Prelude.{IfErr, IfOk, OnErr, OnOk};
 ghost use Rattle.std.specs.Io.KnownBytes.{Appends, Keeps};
 ghost use Rattle.byte_streams.specs.Streams.{AppendsPrefix};
@@ -20,7 +20,7 @@ fn write_report<W: Write>(output: &mut W, report: &Report) -> Result<(), StreamF
     write_whole(output, report.text.as_bytes())
 }
 
-/// Writes the report, and answers its exit status; or its fault, and then nothing is written.
+/// Writes the report, and returns its exit status. If there is only a fault, returns that and writes nothing.
 pub(crate) fn print_text<W: Write>(
     output: &mut W,
     recorded: Result<Report, CopyAskFault>,

@@ -22,7 +22,7 @@ use std::io::Write;
 use tlog_hash::TreeHash;
 use tlog_proof::{Ask, ProofFault};
 
-// Why what is asked for is refused of a log of that size, if it is.
+// Checks that a log of that size has the requested entry or sizes.
 fn refusal(ask: Ask, size: u64) -> Result<(), ProofFault>
     ensures ok { OnOk result (IsWithin ask size) }
     ensures err { IfErr result (IsRefusedOf ask size) }
@@ -52,7 +52,7 @@ fn refusal(ask: Ask, size: u64) -> Result<(), ProofFault>
     }
 }
 
-// The report that is the proof that is asked for, of the files of the shelf.
+// The report with the requested proof, from the files of the shelf.
 fn read_report<H: TreeHash, D: ReadableShelf>(
     alloc: Global,
     shelf: &mut D,
@@ -71,7 +71,7 @@ fn read_report<H: TreeHash, D: ReadableShelf>(
     Ok(Report { text, status: 0 })
 }
 
-// That report, or why what is asked for is refused.
+// That report, or the reason why the request is refused.
 #[tactic(auto, using(log_reader::proofs::Kept::kept_once))]
 fn ask_reader<H: TreeHash, D: ReadableShelf>(
     alloc: Global,
@@ -122,9 +122,9 @@ fn text_of_proof<H: TreeHash, D: NamedFolders>(
     ask_reader::<H, D>(alloc, folders, &mut reader, ask)
 }
 
-/// Prints a proof of the copy's entries, as `prove` prints it of a state with the copy's checkpoint, and answers the exit status,
-/// 0. The proof is made of verified rows, and accepted before it is printed: against the root of the copy's checkpoint, or where
-/// a smaller size is asked for against the root of as many entries.
+/// Prints a proof of the copy's entries, as `prove` does for a state with the copy's checkpoint. The proof is made of verified rows. Before
+/// it is printed, it is checked against the root of the copy's checkpoint, or against the root of the requested smaller size. Returns the
+/// exit status, 0.
 ///
 /// ```text
 /// let ask = Ask::Inclusion { size: 257, index: 2 };
@@ -133,10 +133,14 @@ fn text_of_proof<H: TreeHash, D: NamedFolders>(
 ///
 /// # Errors
 ///
-/// In this order: `Copy`, with the faults of `open_copy`; `Ask`, with `NothingComplete` where the copy is empty, and then
-/// with the first of `NoSuchSize`, `NoSuchIndex`, `FirstIsZero` and `Backwards` that applies; `Copy`, with `CopyDamaged` or
-/// `ShelfFault`, where a tile of the proof is missing, false or not to be read; `Ask`, with `WriteFault`. `Copy`, with `OutOfMemory`, where memory was
-/// refused. Nothing is written but at a `WriteFault`, where a prefix of the text is.
+/// In this order:
+/// - `Copy`, with the faults of `open_copy`.
+/// - `Ask` with `NothingComplete`: the copy is empty.
+/// - `Ask` with the first of `NoSuchSize`, `NoSuchIndex`, `FirstIsZero` and `Backwards` that applies.
+/// - `Copy` with `CopyDamaged` or `ShelfFault`: a tile of the proof is missing, false or unreadable.
+/// - `Ask` with `WriteFault`: a prefix of the text was written. At each other fault nothing is written.
+///
+/// At any time, `Copy` with `OutOfMemory`: memory was refused.
 pub fn prove_copy<H: TreeHash, D: NamedFolders, W: Write>(
     folders: &mut D,
     alloc: Global,

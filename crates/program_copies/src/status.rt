@@ -18,7 +18,7 @@ use std::alloc::{AllocError, Global};
 use std::io::Write;
 use tlog_hash::{Hash, TreeHash};
 
-// The report on a copy of that size and root, or on an empty one.
+// The report on a copy of that size and root, or on an empty copy.
 fn status_report(
     alloc: Global,
     origin: &str,
@@ -34,7 +34,7 @@ fn status_report(
     Ok(Report { text, status })
 }
 
-// The size and root of the log that was opened, if there is one.
+// The size and root of the opened log, if there is one.
 fn opened_point<H: TreeHash>(opened: Option<LogReader<H>>) -> Option<(u64, Hash)>
     ensures { option_map point_of result ≡ option_map reader_point opened }
 {
@@ -72,8 +72,8 @@ fn status_of_copy<H: TreeHash, D: NamedFolders>(
     }
 }
 
-/// Prints the origin and the copy's checkpoint, as `status` prints them of a state with that checkpoint alone, complete; of an
-/// empty copy `served none`. Answers the exit status: 0, or 3 where the copy is empty.
+/// Prints the origin and the copy's checkpoint, as `status` does for a state with only its tree head, which is complete. For an empty
+/// copy it prints `served none`. Returns the exit status: 0, or 3 if the copy is empty.
 ///
 /// ```text
 /// status_copy::<Sha256Tree, _, _>(&mut folders, alloc, "example.com/log", &keys, "log", &mut output)?;
@@ -84,8 +84,8 @@ fn status_of_copy<H: TreeHash, D: NamedFolders>(
 ///
 /// # Errors
 ///
-/// In this order: `Copy`, with the faults of `open_copy`; `Ask`, with `WriteFault`. Nothing is written but at a `WriteFault`,
-/// where a prefix of the text is.
+/// In this order: `Copy`, with the faults of `open_copy`; `Ask` with `WriteFault`, after a prefix of the text was written. At each other
+/// fault nothing is written.
 pub fn status_copy<H: TreeHash, D: NamedFolders, W: Write>(
     folders: &mut D,
     alloc: Global,

@@ -1,4 +1,4 @@
--- What a run says of its note, of the copy, of the output and of the evidence.
+-- The facts about the note, the copy, the output and the evidence of a run.
 use Rattle.std.proofs.Common.{◌≡◌, inr, ℕ, List, IfErr, IfOk, Option, Some, None, Result, Ok, Err, sym, subst, ◌∙◌}
 use Rattle.std.specs.Io.KnownBytes.{Keeps}
 use Rattle.std.proofs.lemmas.List.Elements.{All-weaker}
@@ -26,7 +26,7 @@ use Rattle.program_follow.specs.Following.{HonestSuffices, PrintsSettled, Reache
 use Rattle.program_follow.specs.declared.fault.FollowRunFault.{FollowRunFault}
 use Rattle.program_follow.specs.declared.fault.FollowRunFault.TheVariants.{File, OutOfMemory, Follow, WriteFault, Evidence}
 
--- the note that was given is that of the named file
+-- the given note is that of the named file
 pub note_had : {S : Type 0} (may : S → Path → Option (List ℕ) → Type 0) (recorded : Option (List NamedFile))
     (name : Option (List ℕ)) (places : Places S) (given : Option (List ℕ)) → ReadsNote recorded name (Ok given) →
     (note : List ℕ) → IsGivenOrMayGive may given places note → IsNoteOf may recorded name places note
@@ -52,7 +52,7 @@ module _ (digest : List ℕ → List ℕ) (origin : List ℕ) (keys : List Key) 
       CopyFollowed digest origin keys other held put done
   copy_had done copy = record { whole = follows_had copy.whole; brought = copy.brought; forks = copy.forks }
 
-  -- the copy was followed, and then it was told
+  -- the copy was followed, and then the result was written
   pub follows_recorded : (done : Followed) (r : Result ℕ FollowRunFault) → CopyFollowed digest origin keys so held put done →
       PrintsDone forks done recorded left old new r →
       Follows digest origin keys other forks held before put recorded left old new r
@@ -64,7 +64,7 @@ module _ (digest : List ℕ → List ℕ) (origin : List ℕ) (keys : List Key) 
   follows_recorded done (Err WriteFault) copy tells = record { done = done; copy = copy_had done copy; tells = tells }
   follows_recorded done (Err (Evidence fault)) copy tells = record { done = done; copy = copy_had done copy; tells = tells }
 
-  -- it was not followed, and nothing was told
+  -- the copy was not followed, and nothing was written
   pub follows_ended : (fault : FollowRunFault) → FollowsIn digest origin keys so held before put (Err fault) →
       Keeps old new → left ≡ recorded → Follows digest origin keys other forks held before put recorded left old new (Err fault)
   follows_ended (File fault) copy text files = absurd copy
@@ -73,7 +73,7 @@ module _ (digest : List ℕ → List ℕ) (origin : List ℕ) (keys : List Key) 
   follows_ended WriteFault copy text files = absurd copy
   follows_ended (Evidence fault) copy text files = absurd copy
 
-  -- what a run says of notes that were had so, it says of notes that were had in a wider sense
+  -- a fact about a run with notes for which "so" holds is a fact for each weaker condition
   pub follows_weaker : (r : Result ℕ FollowRunFault) →
       Follows digest origin keys so forks held before put recorded left old new r →
       Follows digest origin keys other forks held before put recorded left old new r
@@ -85,7 +85,7 @@ module _ (digest : List ℕ → List ℕ) (origin : List ℕ) (keys : List Key) 
   follows_weaker (Err (Evidence fault)) h = record { done = h.done; copy = copy_had h.done h.copy; tells = h.tells }
 
 module _ (forks : Option (List ℕ)) (done : Followed) (recorded left : Option (List NamedFile)) (old new : Option (List ℕ)) where
-  -- what is told after a run counts no failure
+  -- the output after a run counts no failure
   pub recorded_counts : (r : Result ℕ FollowRunFault) (count counted : ℕ) → PrintsDone forks done recorded left old new r →
       counted ≡ count → CountsRun count counted r
   recorded_counts (Ok status) count counted tells same = same
@@ -96,7 +96,7 @@ module _ (forks : Option (List ℕ)) (done : Followed) (recorded left : Option (
   recorded_counts (Err WriteFault) count counted tells same = same
   recorded_counts (Err (Evidence fault)) count counted tells same = same
 
--- an answer that says so of candidates that were gathered so says it of those of the run, and that is what is printed
+-- a fact about the gathered candidates holds for the candidates of the run, and for the printed result
 pub says_printed : {S : Type 0} (digest : List ℕ → List ℕ) (origin : List ℕ) (keys : List Key)
     (may : S → Path → Option (List ℕ) → Type 0) (places left_places : Places S) (files : Option (List NamedFile))
     (name given : Option (List ℕ)) (held put : Option (List Put)) (forks : Option (List ℕ)) (done : Followed)
@@ -124,7 +124,7 @@ says_printed digest origin keys may places left_places files name given held put
 says_printed digest origin keys may places left_places files name given held put forks done recorded left old new
     (Err fault) reads says tells = tt
 
--- ---- why following ends
+-- ---- the reasons why `follow` ends
 
 module _ (digest : List ℕ → List ℕ) {S : Type 0} (may : S → Path → Option (List ℕ) → Type 0) (origin : List ℕ)
     (keys : List Key) (held : Option (List Put)) (x y : Places S) (recorded : Option (List NamedFile)) (name : Option (List ℕ))
@@ -137,7 +137,7 @@ module _ (digest : List ℕ → List ℕ) {S : Type 0} (may : S → Path → Opt
       EndsFollowing digest may origin keys held x y recorded name fault
   ends_so fault ends = record { given = given; reads = reads; ends = ends }
 
-  -- the text was refused memory, after the copy was followed
+  -- memory for the text was refused, after the copy was followed
   pub ends_recorded : (forks : Option (List ℕ)) (done : Followed) (from left : Option (List NamedFile)) (old new : Option (List ℕ))
       (r : Result ℕ FollowRunFault) → PrintsDone forks done from left old new r →
       IfErr r (λ e. (fault : FollowFault) → e ≡ Follow fault →
@@ -167,7 +167,7 @@ module _ (digest : List ℕ → List ℕ) {S : Type 0} (may : S → Path → Opt
   abbrev Suffices : Result ℕ FollowRunFault → Type 0
   Suffices r = SufficesForRun digest may origin keys held put x y recorded name old new r
 
-  -- what was told after the copy was followed
+  -- the output after the copy was followed
   reaches_told : (so : Followed → Type 0) (forks : Option (List ℕ)) (done : Followed) (from left : Option (List NamedFile))
       (r : Result ℕ FollowRunFault) → IsFollowed digest origin held put done → so done →
       PrintsDone forks done from left old new r → ReachesRun digest origin held put old new so r
@@ -190,7 +190,7 @@ module _ (digest : List ℕ → List ℕ) {S : Type 0} (may : S → Path → Opt
   for_run (Err WriteFault) h = h
   for_run (Err (Evidence f)) h = h
 
-  -- the copy was followed, and then it was told
+  -- the copy was followed, and then the result was written
   pub suffices_recorded : (forks : Option (List ℕ)) (done : Followed) (from left : Option (List NamedFile))
       (r : Result ℕ FollowRunFault) → IsFollowed digest origin held put done →
       ((h : Greatest) → ReachesLog digest h.entries h.size (Ok done)) → ((h : Among) → ReachesSize h.size (Ok done)) →
@@ -210,7 +210,7 @@ module _ (digest : List ℕ → List ℕ) {S : Type 0} (may : S → Path → Opt
   ended_in so WriteFault h = absurd h
   ended_in so (Evidence f) h = absurd h
 
-  -- it was not followed, and nothing was told
+  -- the copy was not followed, and nothing was written
   pub suffices_ended : (fault : FollowRunFault) →
       ((h : Greatest) → ReachesIn (λ f. ReachesLog digest h.entries h.size (Ok f)) (Err fault)) →
       ((h : Among) → ReachesIn (λ f. ReachesSize h.size (Ok f)) (Err fault)) → Suffices (Err fault)
@@ -221,7 +221,7 @@ module _ (digest : List ℕ → List ℕ) {S : Type 0} (may : S → Path → Opt
     reaches = λ h. ended_in (λ f. ReachesSize h.size (Ok f)) fault (size h);
   })
 
--- where the folder holds the same
+-- the folder has the same content
 module _ (digest : List ℕ → List ℕ) {S : Type 0} (may : S → Path → Option (List ℕ) → Type 0) (origin : List ℕ)
     (x y : Places S) (so : List Candidate → Type 0) (r : Result Followed FollowFault) where
   pub greatest_same : (a b : Option (List Put)) → b ≡ a →
@@ -243,7 +243,7 @@ module _ (digest : List ℕ → List ℕ) {S : Type 0} (may : S → Path → Opt
   spares_same failed asked a b same h =
       subst (λ o. IfErr r (λ e. e ≡ following.NoFile → SparesGreatest digest may failed asked origin o x y so)) same h
 
--- what is told after the copy was followed does not end so
+-- the output after the copy was followed does not end by this fault
 pub spares_told : (Q : Type 0) (forks : Option (List ℕ)) (done : Followed) (from left : Option (List NamedFile))
     (old new : Option (List ℕ)) (r : Result ℕ FollowRunFault) → PrintsDone forks done from left old new r →
     IfErr r (λ e. e ≡ Follow following.NoFile → Q)

@@ -1,4 +1,4 @@
--- Files put one after the other.
+-- Files that are put one after another.
 use Rattle.std.proofs.Common.{◌≡◌, ℕ, ◌+◌, ◌<◌, List, [], ◌∷◌, ◌++◌, length, take, drop, get_or, Option, Some, None}
 use Rattle.std.proofs.Common.{Result, Ok, Err, refl, sym, ap, subst, ◌∙◌, inl, inr}
 use Rattle.std.specs.Prelude.{is_some}
@@ -10,7 +10,7 @@ use Rattle.program_files.specs.Named.{NamedFile, HasContents, LacksFile, Records
 use Rattle.program_files.specs.declared.fault.NamedFault.{NamedFault}
 use Rattle.program_follow.specs.Evidence.{PutsEach, PutsFiles, PutsFront, RecordsEach}
 
--- ---- nothing, and one after the other
+-- ---- no files, and files in order
 
 pub recorded_nothing : (recorded : Option (List NamedFile)) → RecordsEach [] recorded recorded
 recorded_nothing None = tt
@@ -54,7 +54,7 @@ front_both xs ys old between new first second = record {
   recorded = recorded_both xs second.front old between new first second.recorded;
 }
 
--- a call that ended early after others that did not
+-- a call that ended early, after calls that did not
 pub front_more : (xs ys : List NamedFile) (old new : Option (List NamedFile)) → PutsFront xs old new →
     PutsFront (xs ++ ys) old new
 front_more xs ys old new first = record {
@@ -84,7 +84,7 @@ pub put_kept : (recorded : Option (List NamedFile)) (file : NamedFile) (there : 
 put_kept None file there stands = tt
 put_kept (Some puts) file there stands = (puts, inl (ap is_some stands, refl), refl)
 
--- ---- the files of one after another
+-- ---- the files of each fork in order
 
 module _ {X : Type 0} (files_of : X → List NamedFile) (xs : List X) (i : ℕ) (x : X) (within : i < length xs)
     (at : x ≡ get_or xs i x) where

@@ -1,4 +1,4 @@
--- The evidence of forks as files: their names, their bytes, and how they are put. The names are own.
+-- The evidence of forks as files: their names, their bytes, and the puts. No standard defines these names.
 use Rattle.std.specs.Prelude.{◌≡◌, ◌⊎◌, ℕ, List, [], ◌∷◌, ◌++◌, length, codes, Bool, true, false, ◌&&◌, nat_le, is_some}
 use Rattle.std.specs.Prelude.{if◌then◌else◌, Option, Some, None, Result, Ok, Err, ⊤}
 use Rattle.std.specs.Fmt.{decimal}
@@ -15,7 +15,7 @@ use Rattle.program_files.specs.declared.fault.NamedFault.{NamedFault}
 
 -- ---- names
 
--- a size and a root as a file's name has them, the root as 64 hexadecimal digits in lower case
+-- a size and a root in the form of a file's name: the root is 64 hexadecimal digits in lower case
 abbrev pub point_name : ℕ → List ℕ → List ℕ → List ℕ
 point_name size root rest = decimal size ++ (codes "-" ++ (encode_lower root ++ rest))
 
@@ -35,13 +35,13 @@ proof_place folder line =
 abbrev pub note_file : List ℕ → Candidate → NamedFile
 note_file folder note = (note_place folder note.size.0 note.root, note.note.items)
 
--- the proof is one of consistency, with numbers and a path that a text may have
+-- the proof is a consistency proof, and a text can have its numbers and its path
 abbrev pub is_writable_fork : Proof → Bool
 is_writable_fork (Inclusion size index root leaf path) = false
 is_writable_fork (Consistency first first_root second second_root path) =
     (nat_le first MAX_SIZE && nat_le second MAX_SIZE) && nat_le (length path) 64
 
--- the text of a proof, as `check` reads it
+-- the text of a proof, in the form that `check` reads
 abbrev pub proof_text : Proof → List ℕ
 proof_text proof = title_of proof ++ 10 ∷ lines_of proof
 
@@ -55,44 +55,44 @@ abbrev pub proof_files : List ℕ → ForkLine → Option Proof → List NamedFi
 proof_files folder line None = []
 proof_files folder line (Some proof) = proof_file folder line proof
 
--- both notes of a fork, and its proof
+-- both notes of a fork and its proof
 abbrev pub fork_files : List ℕ → ForkLine → List NamedFile
 fork_files folder line =
     note_file folder line.small ∷ (note_file folder line.large ∷ proof_files folder line line.proof)
 
--- the files of all forks, where a folder is named for them
+-- the files of all forks, if a folder is named for them
 abbrev pub evidence_of : Option (List ℕ) → List ForkLine → List NamedFile
 evidence_of None lines = []
 evidence_of (Some folder) lines = flat_map (fork_files folder) lines
 
 -- ---- puts
 
--- a file that is there is left as it is, and one that is not there is put; no other is written
+-- an existing file is unchanged, a missing one is put, and no other file is written
 abbrev pub PutsMissing : NamedFile → List NamedFile → List NamedFile → Type 0
 PutsMissing file old new =
     ((is_some (contents_of old file.0) ≡ true) × (new ≡ old))
     ⊎ ((contents_of old file.0 ≡ None) × (new ≡ old ++ file ∷ []))
 
--- each of the files, one after the other
+-- each of the files in order
 abbrev pub PutsEach : List NamedFile → List NamedFile → List NamedFile → Type 0
 PutsEach [] old new = new ≡ old
 PutsEach (file ∷ files) old new =
     (between : List NamedFile) × PutsMissing file old between × PutsEach files between new
 
--- the same, as far as it is recorded
+-- the same, if the files are recorded
 abbrev pub RecordsEach : List NamedFile → Option (List NamedFile) → Option (List NamedFile) → Type 0
 RecordsEach files None new = ⊤
 RecordsEach files (Some old) None = ⊥
 RecordsEach files (Some old) (Some new) = PutsEach files old new
 
--- a front of the files, and no others
+-- the first of the files were put, and no others
 pub record PutsFront (files : List NamedFile) (old new : Option (List NamedFile)) : Type 0 where
   pub front : List NamedFile
   pub rest : List NamedFile
   pub files_are : files ≡ front ++ rest
   pub recorded : RecordsEach front old new
 
--- what each answer of a call that puts the files says: all of them, or where it ends early a front
+-- the files that a call has put, by its answer: all of them, or the first ones if it ended early
 abbrev pub PutsFiles : {T : Type 0} → List NamedFile → Option (List NamedFile) → Option (List NamedFile) →
     Result T NamedFault → Type 0
 PutsFiles files old new (Ok x) = RecordsEach files old new

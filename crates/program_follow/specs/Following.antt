@@ -1,4 +1,4 @@
--- What a run of `follow` reads, puts into its folder, writes to its output, and leaves as evidence.
+-- The files that a run of `follow` reads, its puts into the folder, its output, and the evidence.
 use Rattle.std.specs.Prelude.{◌≡◌, ℕ, All, List, Option, Some, None, Result, Ok, Err, ⊤}
 use Rattle.std.specs.Io.KnownBytes.{Appends, Keeps}
 use Rattle.byte_streams.specs.Streams.{AppendsPrefix}
@@ -26,7 +26,7 @@ use Rattle.program_follow.specs.Text.{followed_lines, followed_status_of}
 use Rattle.program_follow.specs.declared.fault.FollowRunFault.{FollowRunFault}
 use Rattle.program_follow.specs.declared.fault.FollowRunFault.TheVariants.{File, OutOfMemory, Follow, WriteFault, Evidence}
 
--- ---- the note that is given
+-- ---- the given note
 
 -- the bytes of the named file, if one is named
 abbrev pub ReadsNote : Option (List NamedFile) → Option (List ℕ) → Result (Option (List ℕ)) NamedFault → Type 0
@@ -36,7 +36,7 @@ ReadsNote recorded (Some name) (Ok None) = ⊥
 ReadsNote recorded (Some name) (Ok (Some bytes)) = HasContents recorded name bytes
 ReadsNote recorded (Some name) (Err fault) = ReadsShort recorded name (Err fault)
 
--- the named file was read, or that is the fault
+-- the named file was read, or its fault is the answer
 abbrev pub ReadsGiven : {T : Type 0} → Option (List NamedFile) → Option (List ℕ) → Result T FollowRunFault → Type 0
 ReadsGiven recorded name (Err (File fault)) = ReadsNote recorded name (Err fault)
 ReadsGiven recorded name (Err OutOfMemory) = (note : Option (List ℕ)) × ReadsNote recorded name (Ok note)
@@ -45,7 +45,7 @@ ReadsGiven recorded name (Err WriteFault) = (note : Option (List ℕ)) × ReadsN
 ReadsGiven recorded name (Err (Evidence fault)) = (note : Option (List ℕ)) × ReadsNote recorded name (Ok note)
 ReadsGiven recorded name (Ok x) = (note : Option (List ℕ)) × ReadsNote recorded name (Ok note)
 
--- the note of the named file, or where none is named one that a place may give for its checkpoint
+-- the note is that of the named file. If none is named, it is one that a place may give for its checkpoint
 abbrev pub IsNoteOf : {S : Type 0} → (S → Path → Option (List ℕ) → Type 0) → Option (List NamedFile) →
     Option (List ℕ) → Places S → List ℕ → Type 0
 IsNoteOf may recorded None places note = MayGive may places note
@@ -53,7 +53,7 @@ IsNoteOf may recorded (Some name) places note = HasContents recorded name note
 
 -- ---- the candidates
 
--- the candidates are the note of the named file, or where none is named exactly the notes that the places gave and that open
+-- the candidates are the note of the named file. If none is named, they are exactly the notes that the places gave and that open
 pub record AreRunCandidates {S : Type 0} (may : S → Path → Option (List ℕ) → Type 0) (origin : List ℕ) (keys : List Key)
     (old new : Places S) (recorded : Option (List NamedFile)) (name : Option (List ℕ)) (candidates : List Candidate)
     : Type 0 where
@@ -61,7 +61,7 @@ pub record AreRunCandidates {S : Type 0} (may : S → Path → Option (List ℕ)
   pub reads : ReadsNote recorded name (Ok given)
   pub are : AreCandidates may origin keys old new given candidates
 
--- a fault of following comes for its reason, where the note is that of the named file, if one is named
+-- a fault of `follow` has its reason, with the note of the named file, if one is named
 pub record EndsFollowing (digest : List ℕ → List ℕ) {S : Type 0} (may : S → Path → Option (List ℕ) → Type 0)
     (origin : List ℕ) (keys : List Key) (held : Option (List Put)) (old new : Places S) (recorded : Option (List NamedFile))
     (name : Option (List ℕ)) (fault : FollowFault) : Type 0 where
@@ -69,8 +69,8 @@ pub record EndsFollowing (digest : List ℕ → List ℕ) {S : Type 0} (may : S 
   pub reads : ReadsNote recorded name (Ok given)
   pub ends : EndsFor digest may origin keys held old new given fault
 
--- where following ended as NoFile, no place failed in the bringing of the greatest candidate. The candidates are the note of the
--- named file, or where none is named those of the places
+-- if `follow` ended by NoFile, no place failed while the copy was brought to the greatest candidate. The candidates are the note
+-- of the named file or, if none is named, those of the places
 pub record SparesFollowing (digest : List ℕ → List ℕ) {S : Type 0} (may : S → Path → Option (List ℕ) → Type 0)
     (failed : S → ℕ) (asked : S → Option (List Path)) (origin : List ℕ) (keys : List Key) (held : Option (List Put))
     (old new : Places S) (recorded : Option (List NamedFile)) (name : Option (List ℕ)) : Type 0 where
@@ -78,7 +78,7 @@ pub record SparesFollowing (digest : List ℕ → List ℕ) {S : Type 0} (may : 
   pub reads : ReadsNote recorded name (Ok given)
   pub spares : SparesGreatest digest may failed asked origin held old new (AreCandidates may origin keys old new given)
 
--- what was printed says of each candidate how it was settled
+-- the output states for each candidate how it was settled
 pub record PrintsSettled (digest : List ℕ → List ℕ) (origin : List ℕ) (so : List Candidate → Type 0)
     (held put : Option (List Put)) (old new : Option (List ℕ)) : Type 0 where
   pub done : Followed
@@ -89,14 +89,14 @@ pub record PrintsSettled (digest : List ℕ → List ℕ) (origin : List ℕ) (s
 
 module _ (digest : List ℕ → List ℕ) (origin : List ℕ) (keys : List Key) (so : List ℕ → Type 0)
     (held : Option (List Put)) where
-  -- over what the folder held a whole copy stood at each moment, under notes that were had so; in the end it has the
-  -- size and the root of the answer; each fork line shows that no log has both of its checkpoints
+  -- at each moment the folder had a whole copy, under notes for which "so" holds. At the end the copy has the size and the root of the
+  -- answer. Each fork line shows that no log has both of its checkpoints
   pub record CopyFollowed (put : Option (List Put)) (done : Followed) : Type 0 where
     pub whole : FollowsCandidates digest origin keys so held put
     pub brought : IsFollowed digest origin held put done
     pub forks : All (ShowsLine digest) done.forks.items
 
-  -- what was put over what the folder held; nothing where the folder was not opened
+  -- the puts into the folder. There are none if the folder was not opened
   abbrev pub FollowsIn : Option (List Put) → Option (List Put) → Result Followed FollowRunFault → Type 0
   FollowsIn before put (Ok done) = CopyFollowed put done
   FollowsIn before put (Err (File fault)) = ⊥
@@ -105,7 +105,7 @@ module _ (digest : List ℕ → List ℕ) (origin : List ℕ) (keys : List Key) 
   FollowsIn before put (Err WriteFault) = ⊥
   FollowsIn before put (Err (Evidence fault)) = ⊥
 
--- the folder's count of failures rises by one at its fault, and at no other
+-- the folder's number of failures rises by one at its fault, and at no other
 abbrev pub CountsRun : {T : Type 0} → ℕ → ℕ → Result T FollowRunFault → Type 0
 CountsRun old new (Ok x) = new ≡ old
 CountsRun old new (Err (File fault)) = new ≡ old
@@ -114,29 +114,29 @@ CountsRun old new (Err (Follow fault)) = CountsFollowFault old new fault
 CountsRun old new (Err WriteFault) = new ≡ old
 CountsRun old new (Err (Evidence fault)) = new ≡ old
 
--- ---- the output, and the evidence
+-- ---- the output and the evidence
 
--- an answer of a call that put all files
+-- the answer of a call that put all files
 abbrev pub files_put : Result (Unit {0}) NamedFault
 files_put = Ok tt
 
--- an answer of a call that ended early
+-- the answer of a call that ended early
 abbrev pub files_failed : NamedFault → Result (Unit {0}) NamedFault
 files_failed fault = Err fault
 
 module _ (forks : Option (List ℕ)) (done : Followed) (recorded : Option (List NamedFile)) (left : Option (List NamedFile))
     (old new : Option (List ℕ)) where
-  -- the text was written whole, and the evidence was put, as by that answer
+  -- the text was written whole, and the evidence was put according to the answer
   pub record PrintsAllText (answer : Result (Unit {0}) NamedFault) : Type 0 where
     pub text : Appends old new (followed_lines done)
     pub evidence : PutsFiles (evidence_of forks done.forks.items) recorded left answer
 
-  -- the text was written whole, all of the evidence was put, and the status is that of what came of following
+  -- the text was written whole, all of the evidence was put, and the status is that of the result
   pub record PrintsAll (status : ℕ) : Type 0 where
     pub whole : PrintsAllText files_put
     pub status_is : status ≡ followed_status_of done
 
-  -- a front of the text was written, and no file
+  -- a prefix of the text was written, and no file
   pub record PrintsFront : Type 0 where
     pub text : AppendsPrefix old new (followed_lines done)
     pub files : left ≡ recorded
@@ -147,7 +147,7 @@ module _ (forks : Option (List ℕ)) (done : Followed) (recorded : Option (List 
     pub text : Keeps old new
     pub files : left ≡ recorded
 
-  -- what each answer says of what was written: first the text, and then the evidence of the forks
+  -- the output at each answer: first the text, and then the evidence of the forks
   abbrev pub PrintsDone : Result ℕ FollowRunFault → Type 0
   PrintsDone (Ok status) = PrintsAll status
   PrintsDone (Err (File fault)) = ⊥
@@ -158,7 +158,7 @@ module _ (forks : Option (List ℕ)) (done : Followed) (recorded : Option (List 
 
 -- ---- one honest place
 
--- the answer says so; or following ended since the folder failed, or memory was refused
+-- "so" holds for the answer. Or `follow` ended since the folder failed, or memory was refused
 abbrev pub ReachesIn : (Followed → Type 0) → Result Followed FollowRunFault → Type 0
 ReachesIn so (Ok done) = so done
 ReachesIn so (Err (File fault)) = ⊥
@@ -169,14 +169,14 @@ ReachesIn so (Err (Evidence fault)) = ⊥
 
 module _ (digest : List ℕ → List ℕ) (origin : List ℕ) (held put : Option (List Put)) (old new : Option (List ℕ))
     (so : Followed → Type 0) where
-  -- the copy was followed, its answer says so, and of it this was written
+  -- the copy was followed, "so" holds for its answer, and this text was written for it
   pub record CopyReaches (text : Followed → Type 0) : Type 0 where
     pub done : Followed
     pub brought : IsFollowed digest origin held put done
     pub is_so : so done
     pub written : text done
 
-  -- the copy was followed, and its answer says so, whatever came of the output and the evidence; or following ended since the
+  -- the copy was followed, and "so" holds for its answer, for all results of the output and the evidence. Or `follow` ended since the
   -- folder failed, or memory was refused
   abbrev pub ReachesRun : Result ℕ FollowRunFault → Type 0
   ReachesRun (Ok status) = CopyReaches (λ done. Appends old new (followed_lines done))
@@ -189,8 +189,8 @@ module _ (digest : List ℕ → List ℕ) (origin : List ℕ) (held put : Option
 module _ (digest : List ℕ → List ℕ) {S : Type 0} (may : S → Path → Option (List ℕ) → Type 0) (origin : List ℕ)
     (keys : List Key) (held put : Option (List Put)) (places left : Places S) (recorded : Option (List NamedFile))
     (name : Option (List ℕ)) (old new : Option (List ℕ)) where
-  -- where one place is honest, and the greatest candidate is of its log, the copy is followed to it; where any is, the copy
-  -- has at least its size. The candidates are the note of the named file, or where none is named those of the places
+  -- if one place is honest, and the greatest candidate is of its log, the copy is brought to it. If another candidate is, the copy has at
+  -- least its size. The candidates are the note of the named file or, if none is named, those of the places
   pub record HonestSuffices (answer : Result ℕ FollowRunFault) : Type 0 where
     pub given : Option (List ℕ)
     pub reads : ReadsNote recorded name (Ok given)
@@ -201,7 +201,7 @@ module _ (digest : List ℕ → List ℕ) {S : Type 0} (may : S → Path → Opt
         (h : IsHonestAmong digest may put places left origin held (AreCandidates may origin keys places left given)) →
         ReachesRun digest origin held put old new (λ done. ReachesSize h.size (Ok done)) answer
 
-  -- so it is if the named file was read
+  -- this holds if the named file was read
   abbrev pub SufficesForRun : Result ℕ FollowRunFault → Type 0
   SufficesForRun (Ok status) = HonestSuffices (Ok status)
   SufficesForRun (Err (File fault)) = ⊤
@@ -215,7 +215,7 @@ module _ (digest : List ℕ → List ℕ) {S : Type 0} (may : S → Path → Opt
 module _ (digest : List ℕ → List ℕ) (origin : List ℕ) (keys : List Key) (so : List ℕ → Type 0) (forks : Option (List ℕ))
     (held before put : Option (List Put)) (recorded : Option (List NamedFile)) (left : Option (List NamedFile))
     (old new : Option (List ℕ)) where
-  -- the copy was followed, and what came of it was written, as by that answer
+  -- the copy was followed, and the result was written according to the answer
   pub record FollowsAndTells (answer : Result ℕ FollowRunFault) : Type 0 where
     pub done : Followed
     pub copy : CopyFollowed digest origin keys so held put done
@@ -227,14 +227,14 @@ module _ (digest : List ℕ → List ℕ) (origin : List ℕ) (keys : List Key) 
     pub text : Keeps old new
     pub files : left ≡ recorded
 
-  -- the copy was followed as far as it went, and nothing was written
+  -- the copy was followed until the fault, and nothing was written
   pub record FollowsOnly : Type 0 where
     pub copy : FollowsCandidates digest origin keys so held put
     pub text : Keeps old new
     pub files : left ≡ recorded
 
-  -- what each answer of the command says: the file of the note is read first, then the folder is opened and the copy is
-  -- followed, then the text is written, and last the evidence
+  -- the effects at each answer of the command. First the file of the note is read. Then the folder is opened and the copy is followed.
+  -- Then the text is written, and last the evidence
   abbrev pub Follows : Result ℕ FollowRunFault → Type 0
   Follows (Ok status) = FollowsAndTells (Ok status)
   Follows (Err (File fault)) = LeavesAll

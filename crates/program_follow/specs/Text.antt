@@ -1,4 +1,4 @@
--- What the command `follow` prints, and with which status it ends.
+-- The output of the command `follow`, and its exit status.
 use Rattle.std.specs.Prelude.{ℕ, List, [], ◌∷◌, ◌++◌, codes, Option, Some, None, Bool, true, false, ◌&&◌, if◌then◌else◌}
 use Rattle.std.specs.Fmt.{decimal}
 use Rattle.std.specs.List.{flat_map}
@@ -26,17 +26,17 @@ abbrev pub behind_line : Option (ℕ × List ℕ) → List ℕ
 behind_line None = []
 behind_line (Some point) = codes "behind " ++ (point_text point.0 point.1 ++ 10 ∷ [])
 
--- all lines: what the copy has, the forks, what could not be had, and the greatest candidate where all are smaller
+-- all lines: the copy, the forks, the larger candidates to which it could not be brought, and the greatest candidate if all are smaller
 abbrev pub followed_lines : Followed → List ℕ
 followed_lines done =
     followed_line done.size done.root done.old
     ++ (flat_map fork_line done.forks.items ++ (flat_map larger_line done.larger.items ++ behind_line done.behind))
 
--- there are none
+-- the list is empty
 abbrev pub is_none_of : {X : Type 0} → List X → Bool
 is_none_of [] = true
 is_none_of (x ∷ xs) = false
 
--- the exit status: 0 where there is neither a fork nor a candidate that could not be had, else 3
+-- the exit status: 0 if there is neither a fork nor a larger candidate to which the copy could not be brought, else 3
 abbrev pub followed_status_of : Followed → ℕ
 followed_status_of done = if is_none_of done.forks.items && is_none_of done.larger.items then 0 else 3

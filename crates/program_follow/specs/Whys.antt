@@ -1,9 +1,9 @@
--- The lines that say what was wrong at places.
+-- The lines about places at which something was wrong.
 use Rattle.std.specs.Prelude.{◌≡◌, ℕ, List, All}
 use Rattle.std.specs.List.{flat_map}
 use Rattle.program_files.specs.Why.{IsWhyLine}
 
--- the text is lines that say why, one after the other
+-- the text consists of lines with reasons
 pub record AreWhyLines (text : List ℕ) : Type 0 where
   pub lines : List (List ℕ)
   pub each : All IsWhyLine lines

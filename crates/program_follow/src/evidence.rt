@@ -9,10 +9,10 @@ use std::alloc::{AllocError, Global};
 use tlog_proof::{Proof, write_text};
 use tlog_shape::MAX_SIZE;
 
-// How many hashes a proof that is written has at most.
+// The maximum number of hashes in a proof that is written.
 const MOST_HASHES: usize = 64;
 
-// Where the note of a checkpoint lies in a folder.
+// The path of a checkpoint's note in a folder.
 fn place_of_note(alloc: Global, folder: &str, note: &Candidate) -> Result<String, AllocError>
     ensures { IfOk result (λ place. string_bytes place
         ≡ note_place folder.now note.now.size.0 note.now.root) }
@@ -22,7 +22,7 @@ fn place_of_note(alloc: Global, folder: &str, note: &Candidate) -> Result<String
     format!(in alloc; "{folder}/{size}-{root}-0.note")
 }
 
-// Where the proof of a fork lies in a folder.
+// The path of a fork's proof in a folder.
 fn place_of_proof(alloc: Global, folder: &str, line: &ForkLine) -> Result<String, AllocError>
     ensures { IfOk result (λ place. string_bytes place ≡ proof_place folder.now line.now) }
 {
@@ -33,7 +33,7 @@ fn place_of_proof(alloc: Global, folder: &str, line: &ForkLine) -> Result<String
     format!(in alloc; "{folder}/{small}-{small_root}-{large}-{large_root}.proof")
 }
 
-// Whether a proof is one that can be written: of sizes and a path that a text may have. A proof of consistency that holds is.
+// Whether a proof can be written: a text can have its sizes and its path. This holds for each accepted consistency proof.
 fn is_writable(proof: &Proof) -> bool
     ensures { result ≡ is_writable_fork proof.now }
 {
@@ -48,7 +48,7 @@ fn is_writable(proof: &Proof) -> bool
     }
 }
 
-// Puts a file that is not there yet. One that is there keeps its bytes.
+// Puts a file if it is missing. An existing file keeps its bytes.
 fn put_missing<F: NamedFiles>(files: &mut F, place: &str, bytes: &[u8]) -> Result<(), NamedFault>
     ensures { PutsFiles ((place.now, bytes.now) ∷ []) (F.puts files.old) (F.puts files.new)
         result }
@@ -99,7 +99,7 @@ fn put_text<F: NamedFiles>(
     put_missing(files, &place, text.as_bytes())
 }
 
-// Puts the proof of a fork into the folder, where the fork has one.
+// Puts the proof of a fork into the folder, if the fork has one.
 fn put_proof<F: NamedFiles>(
     files: &mut F,
     alloc: Global,
@@ -115,7 +115,7 @@ fn put_proof<F: NamedFiles>(
     }
 }
 
-// Puts the evidence of a fork into the folder: both notes, and the proof.
+// Puts the evidence of a fork into the folder: both notes and the proof.
 fn put_fork<F: NamedFiles>(
     files: &mut F,
     alloc: Global,
@@ -163,21 +163,21 @@ fn put_into<F: NamedFiles>(
     match put_forks(files, alloc, folder, lines) {
         Ok(()) => files.flush(folder),
         Err(fault) => {
-            // What was put stays: why the evidence is not whole comes first.
+            // The files that were put stay. The fault of the put is more important than one of this flush.
             let _flushed = files.flush(folder);
             Err(fault)
         }
     }
 }
 
-/// Writes the evidence of forks into a folder, which is made where it is missing: of each fork both notes, as `SIZE-ROOT-0.note`, and
-/// where it has a proof `SMALL-ROOT-LARGE-ROOT.proof`, the roots as 64 hexadecimal digits in lower case. A file that is there keeps
-/// its bytes. Where there is no fork, or no folder, nothing is touched.
+/// Writes the evidence of forks into a folder. The folder is made if it is missing. For each fork it puts both notes as `SIZE-ROOT-0.note`,
+/// and a proof, if there is one, as `SMALL-ROOT-LARGE-ROOT.proof`. The roots are 64 hexadecimal digits in lower case. An existing file
+/// keeps its bytes. Without forks, or without a folder, nothing is changed.
 ///
 /// # Errors
 ///
-/// `FileFault`, where the folder is not made, a file is not written, or what is under its name is no plain file, or the files are not
-/// flushed; `OutOfMemory`, where memory is refused. What was put before stays.
+/// `FileFault`: the folder could not be made, a file could not be written, a file's name belongs to something else than a plain file, or
+/// the files could not be flushed. `OutOfMemory`: memory was refused. Files that were put before stay.
 pub(crate) fn write_evidence<F: NamedFiles>(
     files: &mut F,
     alloc: Global,

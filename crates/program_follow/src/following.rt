@@ -1,4 +1,4 @@
-//! The command `follow`: a copy in a folder, brought to the newest checkpoint of some places.
+//! The command `follow`: brings a copy in a folder to the newest checkpoint of some places.
 ghost use Rattle.std.specs.Prelude.{◌≡◌, ◌⊎◌, All, IfErr, IfOk, Ok, map, option_map};
 ghost use Rattle.tlog_text.specs.Answers.{seen};
 ghost use Rattle.mirror_follow.specs.Blame.{CountsFollow, IsGivenOrMayGive};
@@ -28,22 +28,22 @@ use std::alloc::Global;
 use std::io::Write;
 use tlog_hash::TreeHash;
 
-/// What is followed, and where to.
+/// The log to follow, and the folders of the result.
 #[derive(Clone, Copy)]
 pub struct Following<'a> {
     /// The origin of the log.
     pub origin: &'a str,
     /// The folder of the copy.
     pub folder: &'a str,
-    /// The file of the note that is followed, where no place is asked for one.
+    /// The file of the note to follow, if the places are not asked for checkpoints.
     pub checkpoint: Option<&'a str>,
-    /// The folder that the evidence of forks is written to, if any.
+    /// The folder for the evidence of forks, if any.
     pub forks: Option<&'a str>,
-    /// Whether lines say how far the work is.
+    /// Whether lines of progress are written.
     pub progress: bool,
 }
 
-// The note that is given: the bytes of its file, if one is named.
+// The given note: the bytes of its file, if one is named.
 fn read_given<F: NamedFiles>(files: &F, name: Option<&str>) -> Result<Option<Vec<u8>>, NamedFault>
     ensures { ReadsNote (F.puts files.now) (option_map (λ name. name.now) name.entry)
         (seen (option_map (λ bytes. bytes.items)) result) }
@@ -57,7 +57,7 @@ fn read_given<F: NamedFiles>(files: &F, name: Option<&str>) -> Result<Option<Vec
     }
 }
 
-// Begins the lines of progress, if these are asked for.
+// Begins the lines of progress, if they are requested.
 fn begin_lines<D: CountedFolders>(folders: &mut D, progress: bool)
     ensures puts { D.puts folders.new ≡ D.puts folders.old }
     ensures failed { D.failed folders.new ≡ D.failed folders.old }
@@ -67,7 +67,7 @@ fn begin_lines<D: CountedFolders>(folders: &mut D, progress: bool)
     }
 }
 
-// Ends the lines of progress of an answer, if these are asked for.
+// Ends the lines of progress of an answer, if they are requested.
 fn end_lines<D: CountedFolders>(
     folders: &mut D,
     progress: bool,
@@ -83,7 +83,7 @@ fn end_lines<D: CountedFolders>(
     }
 }
 
-// Follows the places into the folder that is open, with lines of progress if these are asked for.
+// Follows the places into the open folder, with lines of progress if they are requested.
 fn follow_reporting<H: TreeHash, D: CountedFolders, S: Source + Drop>(
     folders: &mut D,
     alloc: Global,
@@ -175,7 +175,7 @@ fn follow_into<H: TreeHash, D: CountedFolders, S: Source + Drop>(
     }
 }
 
-// Writes the text of what came of following, and then the evidence of its forks. Answers the exit status.
+// Writes the text of the result, and then the evidence of its forks. Returns the exit status.
 fn report_done<F: NamedFiles, W: Write>(
     files: &mut F,
     alloc: Global,
@@ -201,12 +201,12 @@ fn report_done<F: NamedFiles, W: Write>(
     }
 }
 
-/// Brings the copy in the folder to the newest checkpoint that the places give, as `mirror_follow::follow` does. Then what came of it is
-/// written to the output, as `followed_text` has it, and last the evidence of each fork, where a folder is named for it: both notes, as
-/// `SIZE-ROOT-0.note`, and the proof, as `SMALL-ROOT-LARGE-ROOT.proof`, which the command `check` reads. A file that is there keeps
-/// its bytes. Answers the exit status: 3 where there is a fork, or a candidate that could not be had, else 0.
+/// Brings the copy in the folder to the newest checkpoint that the places give, as `mirror_follow::follow` does. Then writes the result to
+/// the output, in the form of `followed_text`. Last, if a folder for evidence is named, writes the evidence of each fork: both notes as
+/// `SIZE-ROOT-0.note`, and the proof, which the command `check` reads, as `SMALL-ROOT-LARGE-ROOT.proof`. An existing file keeps its bytes.
+/// Returns the exit status: 3 if there is a fork, or a larger candidate to which the copy could not be brought, else 0.
 ///
-/// Where a file of a note is named, that note is the one candidate, and no place is asked for a checkpoint.
+/// If the file of a note is named, that note is the only candidate, and no place is asked for its checkpoint.
 ///
 /// ```text
 /// let following = Following { origin: "ex", folder: "log", checkpoint: None, forks: Some("forks"), progress: false };
@@ -215,9 +215,9 @@ fn report_done<F: NamedFiles, W: Write>(
 ///
 /// # Errors
 ///
-/// In this order: `File`, where the named file of a note is not read; `OutOfMemory`, where memory for the folder's name was refused;
-/// nothing is put then. `Follow`, those of `mirror_follow::follow`; what was put before it stays. `WriteFault`, where the output cannot
-/// be written. `Evidence`, where the output was written, and the evidence was not, or only a part of it.
+/// In this order. `File`: the named file of a note could not be read. `OutOfMemory`: memory for the folder's name was refused. Nothing is
+/// put at these two. `Follow`, with the faults of `mirror_follow::follow`: files that were put before stay. `WriteFault`: the output could
+/// not be written. `Evidence`: the output was written, but not all of the evidence.
 pub fn run_follow<H: TreeHash, F: NamedFiles, D: CountedFolders, S: Source + Drop, W: Write>(
     files: &mut F,
     folders: &mut D,

@@ -1,8 +1,8 @@
-//! The work of the command `follow`: a copy of a log in a folder is brought to the newest checkpoint of some places. What came of
-//! it is printed, and the evidence of each fork is written as files.
+//! The work of the command `follow`: brings a copy of a log in a folder to the newest checkpoint of some places. Prints the result, and
+//! writes the evidence of each fork as files.
 //!
 //! ```text
-//! let mut places = Places::new(alloc);   // each of the sources is added to it
+//! let mut places = Places::new(alloc);   // then each source is added to it
 //! run_follow::<Sha256Tree, _, _, _, _>(&mut files, &mut folders, alloc, &keys, &following, &mut places, &mut output)?
 //! // 0, and the output is: followed 600 CtTvclx+BXrchsWIiLJB6woH1kdkUrIootoUMsQZBJA= from 257
 //! ```

@@ -1,4 +1,4 @@
-//! The places of a run: folders and servers, by the names that the words give them.
+//! The places of a run: folders and servers, with their names from the command line.
 ghost use Rattle.std.specs.Prelude.{◌≡◌, IfOk};
 
 use mirror_client::{Dial, FailedGet, HttpSource};
@@ -8,33 +8,33 @@ use std::alloc::{AllocError, Global};
 use std::fs::Files;
 use tlog_tiles::Path;
 
-// Where the files of a place lie.
+// The files of a place.
 #[derive(Drop)]
 enum Kind<'a, R: Files, D: Dial + Drop> {
     Folder(DirSource<'a, R>),
     Server(HttpSource<D>),
 }
 
-/// Why a get of a place failed.
+/// The reason why a get from a place failed.
 #[derive(Debug, Drop, Clone, Copy)]
 pub(crate) enum FailedAt {
     File(FailedFile),
     Get(FailedGet),
 }
 
-/// What a place answered for its checkpoint.
+/// The answer of a place to the request for its checkpoint.
 #[derive(Drop)]
 pub(crate) enum Answered {
-    /// It was not asked, or the get failed.
+    /// There was no request, or the get failed.
     Nothing,
-    /// It has none.
+    /// The place lacks a checkpoint.
     NotFound,
-    /// These bytes.
+    /// The checkpoint's bytes.
     Note(Vec<u8>),
 }
 
-/// A place of a run: a folder, or a server. It keeps its name, why its first get failed, and what it answered for the checkpoint, so
-/// that `places_why` can say what was wrong with it. Of what it answers nothing is known.
+/// A place of a run: a folder, or a server. It keeps its name, the reason why its first get failed, and its answer for the checkpoint.
+/// `places_why` needs these to report what was wrong at the place. Contracts state nothing about its answers.
 ///
 /// ```text
 /// places.add(PlaceSource::of_folder(alloc, "log", DirSource::new(&rt, alloc, "log"))?)?;
@@ -64,11 +64,11 @@ impl<'a, R: Files, D: Dial + Drop> PlaceSource<'a, R, D> {
         })
     }
 
-    /// The folder of that name.
+    /// A place over the folder of that name.
     ///
     /// # Errors
     ///
-    /// Memory was refused.
+    /// `AllocError`: memory was refused.
     pub fn of_folder(
         alloc: Global,
         name: &str,
@@ -77,31 +77,31 @@ impl<'a, R: Files, D: Dial + Drop> PlaceSource<'a, R, D> {
         PlaceSource::new(alloc, name, Kind::Folder(source))
     }
 
-    /// The server that the words name so.
+    /// A place over the server of that name.
     ///
     /// # Errors
     ///
-    /// Memory was refused.
+    /// `AllocError`: memory was refused.
     pub fn of_server(alloc: Global, name: &str, source: HttpSource<D>) -> Result<Self, AllocError> {
         PlaceSource::new(alloc, name, Kind::Server(source))
     }
 
-    /// Its name.
+    /// The name of the place.
     pub fn name(&self) -> &str {
         self.name.as_str()
     }
 
-    /// Why its first get failed.
+    /// The reason why its first get failed.
     pub(crate) fn first_failed(&self) -> Option<FailedAt> {
         self.first_failed
     }
 
-    /// What it answered for its checkpoint, when it was asked first.
+    /// Its first answer for the checkpoint.
     pub(crate) fn answered(&self) -> &Answered {
         &self.answered
     }
 
-    // Asks the folder or the server.
+    // Gets the file from the folder or the server.
     fn fetch(&mut self, path: &Path) -> Result<Option<Vec<u8>>, SourceFault>
         ensures { self.new.failures ≡ self.old.failures }
     {
@@ -111,7 +111,7 @@ impl<'a, R: Files, D: Dial + Drop> PlaceSource<'a, R, D> {
         }
     }
 
-    // Why the last get failed.
+    // The reason why the last get failed.
     fn last_failed(&self) -> Option<FailedAt> {
         match &self.kind {
             Kind::Folder(source) => match source.last_failed() {
@@ -125,7 +125,7 @@ impl<'a, R: Files, D: Dial + Drop> PlaceSource<'a, R, D> {
         }
     }
 
-    // Keeps what was answered for the checkpoint, the first time. Where memory for it is refused, nothing is kept.
+    // Keeps the first answer for the checkpoint. If memory for it is refused, nothing is kept.
     fn keep_answer(&mut self, path: &Path, found: &Option<Vec<u8>>)
         ensures { self.new.failures ≡ self.old.failures }
     {

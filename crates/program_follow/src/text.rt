@@ -1,4 +1,4 @@
-//! The text of what came of following.
+//! The text of the result of `follow`.
 ghost use Rattle.std.specs.Prelude.{◌≡◌, ◌++◌, ◌∷◌, ◌⊎◌, [], IfOk, OnOk, string_bytes};
 ghost use Rattle.std.specs.List.{flat_map};
 ghost use Rattle.mirror_model.specs.Texts.{point_text};
@@ -9,8 +9,8 @@ use std::alloc::{AllocError, Global};
 use tlog_hash::Hash;
 use tlog_text::{push_hash, push_number};
 
-/// What came of following, a line each: what the copy has now and how many entries it had before, each fork with the smaller
-/// checkpoint first, each candidate that could not be had, and the greatest candidate where all are smaller. Roots are in
+/// The result of `follow`, with these lines. First the copy's size, root and old size. Then each fork, with the smaller checkpoint first.
+/// Then each larger candidate to which the copy could not be brought. Last the greatest candidate, if all are smaller. Roots are in
 /// standard base64.
 ///
 /// ```text
@@ -20,7 +20,7 @@ use tlog_text::{push_hash, push_number};
 ///
 /// # Errors
 ///
-/// Memory was refused.
+/// `AllocError`: memory was refused.
 pub fn followed_text(alloc: Global, followed: &Followed) -> Result<String, AllocError>
     ensures { IfOk result (λ text. string_bytes text ≡ followed_lines followed.now) }
 {
@@ -32,7 +32,7 @@ pub fn followed_text(alloc: Global, followed: &Followed) -> Result<String, Alloc
     Ok(text)
 }
 
-/// The exit status: 3 where there is a fork, or a candidate that could not be had, else 0.
+/// The exit status: 3 if there is a fork, or a larger candidate to which the copy could not be brought, else 0.
 ///
 /// ```text
 /// followed_status(&done) // 0
@@ -60,7 +60,7 @@ fn push_point(text: &mut String, size: u64, root: &Hash) -> Result<(), AllocErro
     push_hash(text, root)
 }
 
-// Adds what the copy has, and had before.
+// Adds the line of the copy: its size, root and old size.
 fn push_followed(text: &mut String, size: u64, root: &Hash, old: u64) -> Result<(), AllocError>
     ensures { OnOk result (string_bytes text.new ≡ string_bytes text.old
         ++ followed_line size root.now old) }
@@ -94,7 +94,7 @@ fn push_forks(text: &mut String, lines: &[ForkLine]) -> Result<(), AllocError>
     Ok(())
 }
 
-// Adds a word, a size and a root, on a line of their own.
+// Adds a line with a word, a size and a root.
 fn push_line(text: &mut String, word: &str, size: u64, root: &Hash) -> Result<(), AllocError>
     ensures { OnOk result (string_bytes text.new ≡ string_bytes text.old
         ++ (word.now ++ (point_text size root.now ++ 10 ∷ []))) }
@@ -104,7 +104,7 @@ fn push_line(text: &mut String, word: &str, size: u64, root: &Hash) -> Result<()
     text.push_str("\n")
 }
 
-// Adds a line for each candidate that could not be had.
+// Adds a line for each larger candidate to which the copy could not be brought.
 fn push_larger(text: &mut String, points: &[(u64, Hash)]) -> Result<(), AllocError>
     ensures { OnOk result (string_bytes text.new ≡ string_bytes text.old
         ++ flat_map larger_line points.now) }
@@ -115,7 +115,7 @@ fn push_larger(text: &mut String, points: &[(u64, Hash)]) -> Result<(), AllocErr
     Ok(())
 }
 
-// Adds the line of the greatest candidate, where all are smaller.
+// Adds the line of the greatest candidate, if all are smaller.
 fn push_behind(text: &mut String, behind: &Option<(u64, Hash)>) -> Result<(), AllocError>
     ensures { OnOk result (string_bytes text.new ≡ string_bytes text.old
         ++ behind_line behind.now) }

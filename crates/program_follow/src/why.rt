@@ -1,4 +1,4 @@
-//! What `--why` says of places.
+//! The lines of `--why` about places.
 ghost use Rattle.std.specs.Prelude.{IfOk, OnOk, string_bytes};
 ghost use Rattle.program_files.specs.Why.{IsWhyLine};
 ghost use Rattle.program_follow.specs.Whys.{AreWhyLines};
@@ -14,7 +14,7 @@ use std::alloc::{AllocError, Global};
 use std::fs::Files;
 use tlog_tiles::Path;
 
-// What is wrong with a file.
+// The reason why a file is wrong.
 fn reason_of_get(alloc: Global, reason: &Reason) -> Result<String, AllocError> {
     match reason {
         Reason::Connection(error) | Reason::Stream(error) => system_reason(alloc, error),
@@ -22,7 +22,7 @@ fn reason_of_get(alloc: Global, reason: &Reason) -> Result<String, AllocError> {
     }
 }
 
-// Why the first get of a place failed.
+// The reason why the first get from a place failed.
 fn reason_of_failed(alloc: Global, failed: Option<FailedAt>) -> Result<String, AllocError> {
     match failed {
         Some(FailedAt::File(file)) => system_reason(alloc, &file.error),
@@ -31,7 +31,7 @@ fn reason_of_failed(alloc: Global, failed: Option<FailedAt>) -> Result<String, A
     }
 }
 
-// What is wrong with the first file of a place that is.
+// The reason why the first wrong file of a place is wrong.
 fn reason_of_file<'a, R: Files, D: Dial + Drop>(
     alloc: Global,
     source: &PlaceSource<'a, R, D>,
@@ -44,7 +44,7 @@ fn reason_of_file<'a, R: Files, D: Dial + Drop>(
     }
 }
 
-// What is wrong with the checkpoint that a place answered, if anything: it is not there, or its note is no candidate.
+// The reason why a place's checkpoint is wrong, if it is: it is missing, or its note is no candidate.
 fn reason_of_note<'a, R: Files, D: Dial + Drop>(
     alloc: Global,
     origin: &str,
@@ -62,7 +62,7 @@ fn reason_of_note<'a, R: Files, D: Dial + Drop>(
     }
 }
 
-// The line of a file of a place, and what is wrong with it.
+// The line about a file of a place, with a reason.
 fn line_of(alloc: Global, name: &str, path: &Path, reason: &str) -> Result<String, AllocError>
     ensures { IfOk result (λ line. IsWhyLine (string_bytes line)) }
 {
@@ -70,7 +70,7 @@ fn line_of(alloc: Global, name: &str, path: &Path, reason: &str) -> Result<Strin
     why_line(alloc, &thing, reason)
 }
 
-// Adds the line of the first thing that was wrong at a place, if anything was.
+// Adds the line about the first thing that was wrong at a place, if anything was.
 #[tactic(auto, using(crate::proofs::Whys::whys_more))]
 fn push_place<'a, R: Files, D: Dial + Drop>(
     alloc: Global,
@@ -97,7 +97,7 @@ fn push_place<'a, R: Files, D: Dial + Drop>(
     Ok(())
 }
 
-/// What was wrong at the places of a run, in their order: for each at which something was, one line of the first such thing. Each
+/// The lines about the places of a run, in order. Each place at which something was wrong has one line, about the first such thing. Each
 /// line has at most 200 bytes with its newline, and no control character.
 ///
 /// ```text
@@ -109,7 +109,7 @@ fn push_place<'a, R: Files, D: Dial + Drop>(
 ///
 /// # Errors
 ///
-/// Memory was refused.
+/// `AllocError`: memory was refused.
 #[tactic(auto, using(crate::proofs::Whys::no_whys))]
 pub fn places_why<'a, R: Files, D: Dial + Drop>(
     alloc: Global,

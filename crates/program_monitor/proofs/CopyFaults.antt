@@ -1,4 +1,4 @@
--- What faults of a copy are to `entries`.
+-- The faults of `entries` for the faults of a copy.
 use Rattle.std.proofs.Common.{◌≡◌, ℕ, List, Option, Err}
 use Rattle.signed_note.specs.Keys.{Key}
 use Rattle.mirror_folders.specs.Shelf.{Put}
@@ -19,7 +19,7 @@ module _ (digest : List ℕ → List ℕ) (origin : List ℕ) (keys : List Key) 
   refuses ShelfFault is h = tt
   refuses OutOfMemory is h = tt
 
-  -- why it is not opened
+  -- the reason why the copy is not opened
   pub refuses_copy : (fault : CopyFault) (answer : CopyEntriesFault) → answer ≡ by_copy fault → IsOfShelf fault →
       IsRefused digest origin keys held fault → RefusesCopy digest origin keys held answer
   refuses_copy fault answer e is h = rw e (refuses fault is h)
@@ -31,7 +31,7 @@ counts old new (CopyDamaged path) h = h
 counts old new ShelfFault h = h
 counts old new OutOfMemory h = h
 
--- it counts alike
+-- both faults count the same failures
 pub counts_copy : (old new : ℕ) (fault : CopyFault) (answer : CopyEntriesFault) → answer ≡ by_copy fault →
     CountsRefused old new fault → CountsFault old new answer
 counts_copy old new fault answer e h = rw e (counts old new fault h)
@@ -55,7 +55,7 @@ read_files T old new (CopyDamaged path) h = tt
 read_files T old new ShelfFault h = tt
 read_files T old new OutOfMemory h = tt
 
--- a fault of reading files is one of files that are read
+-- a fault of reading a log is one of reading files
 pub of_files : (T : Type 0) (old new : ℕ) (fault : CopyFault) (answer : CopyEntriesFault) → answer ≡ by_copy fault →
     CountsRead {T = T} old new (Err fault) → IsOfFiles answer
 of_files T old new fault answer e h = rw e (read_files T old new fault h)
@@ -67,7 +67,7 @@ undamaged (CopyDamaged path) h = absurd h
 undamaged ShelfFault h = tt
 undamaged OutOfMemory h = tt
 
--- where the shelf failed, or memory was refused, no file is called missing or false
+-- if the shelf failed, or memory was refused, the fault is not CopyDamaged
 pub undamaged_answer : (fault : CopyFault) (answer : CopyEntriesFault) → answer ≡ by_copy fault → IsShelfFailure fault →
     IsUndamaged answer
 undamaged_answer fault answer e h = rw e (undamaged fault h)

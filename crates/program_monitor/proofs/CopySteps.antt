@@ -12,7 +12,7 @@ use Rattle.program_monitor.specs.Shown.{AppendsFrom, AreShownFrom, BeginsFrom, I
 use Rattle.program_monitor.proofs.Parts.{entries_begin, entries_on, prefix_whole, text_none}
 use Rattle.program_monitor.proofs.ShownBundles.{shown_bundle, shown_on, shown_part}
 
--- a part of a bundle has as many entries as are asked for
+-- a part of a bundle has the requested number of entries
 part_count : (size at next : ℕ) (entries : List (List ℕ)) → length entries ≡ bundle_width size (at / 256) → next ≤ size →
     at < next → next ≤ 256 * (at / 256) + 256 → length (part (at % 256) (next - at) entries) ≡ next - at
 part_count size at next entries count within rises same =
@@ -30,7 +30,7 @@ module _ (digest : List ℕ → List ℕ) (edge : Edge) (base64 : Bool) where
     written = subst (λ (w : List ℕ). Appends a a w) (sym (text_none base64)) (Appends-nil a);
   }
 
-  -- one bundle more
+  -- one more bundle
   pub shown_then : (hashes : HasEdgeHashes edge) (from at to next : ℕ) (bytes : List ℕ) (a b c : Option (List ℕ)) → to ≤ edge.size →
       WritesShown digest edge base64 from at a b → IsShownBundle digest edge (at / 256) bytes → IsNext at to next →
       AppendsFrom bytes edge.size at base64 b c next → WritesShown digest edge base64 from next a c
@@ -49,7 +49,7 @@ module _ (digest : List ℕ → List ℕ) (edge : Edge) (base64 : Bool) where
         written = entries_on base64 a b c w.entries new w.written (more found.0 found.1);
       }
 
-  -- the writing of one bundle more ended early
+  -- the writing of one more bundle ended early
   pub shown_early : (hashes : HasEdgeHashes edge) (from at to : ℕ) (bytes : List ℕ) (a b c : Option (List ℕ)) → to ≤ edge.size →
       at < to → WritesShown digest edge base64 from at a b → IsShownBundle digest edge (at / 256) bytes →
       BeginsFrom bytes edge.size at to base64 b c → WritesSomeShown digest edge base64 from to a c
@@ -71,7 +71,7 @@ module _ (digest : List ℕ → List ℕ) (edge : Edge) (base64 : Bool) where
         written = entries_begin base64 a b c w.entries new w.written ends.2;
       }
 
-  -- no bundle more was read
+  -- no more bundles were read
   pub shown_stop : (from at to : ℕ) (a b : Option (List ℕ)) → at ≤ to → WritesShown digest edge base64 from at a b →
       WritesSomeShown digest edge base64 from to a b
   shown_stop from at to a b upto w = record {

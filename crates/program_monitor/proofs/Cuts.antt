@@ -30,7 +30,7 @@ lines_text base64 es is =
     sym (flat_map-map entry_line (λ (e : Bor (List ℕ)). e.now) es)
     ∙ ap (λ b. entries_text b (map (λ (e : Bor (List ℕ)). e.now) es)) (sym is)
 
--- entries that are cut out are as short as all are
+-- cut entries are as short as all entries are
 pub cut_fits : (es : List (Bor (List ℕ))) (s n : ℕ) → All (λ (e : List ℕ). length e < 2 ^ 16) (map (λ (e : Bor (List ℕ)). e.now) es) →
     (k : ℕ) (d : Bor (List ℕ)) → k < length (take n (drop s es)) → length (slice_index_or (take n (drop s es)) k d).now < 65536
 cut_fits es s n fits k d lt =
@@ -45,7 +45,7 @@ cut_fits es s n fits k d lt =
     (All-get_or (λ (e : List ℕ). length e < 65536) (map now es) (s + k) d.now
     (subst (λ m. s + k < m) (sym (length-map es now)) within) fits))
 
--- the entries that were cut out are those of each list that the bytes are a bundle of
+-- the cut entries are those of each list whose bundle is these bytes
 pub cut_same : (width s n : ℕ) (bytes : List ℕ) (es : List (Bor (List ℕ))) (entries : List (List ℕ)) →
     IsBundle width bytes (map (λ (e : Bor (List ℕ)). e.now) es) → IsBundle width bytes entries →
     map (λ (e : Bor (List ℕ)). e.now) (take n (drop s es)) ≡ part s n entries

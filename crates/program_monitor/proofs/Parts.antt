@@ -1,4 +1,4 @@
--- Parts of a list of entries, one after the other, and their texts.
+-- Consecutive parts of a list of entries, and their texts.
 use Rattle.std.proofs.Common.{◌≡◌, ℕ, zero, suc, ◌+◌, ◌-◌, ◌≤◌, List, [], ◌∷◌, ◌++◌, length, take, drop, Bool, true, false}
 use Rattle.std.proofs.Common.{Option, refl, sym, ap, ◌∙◌, subst, arith}
 use Rattle.std.specs.Io.KnownBytes.{Appends}
@@ -22,7 +22,7 @@ take_on {A} (suc m) n (x ∷ xs) =
     let e : suc (m + n) ≡ suc m + n = omega arith in
     ap (λ (w : List A). x ∷ w) (take_on m n xs) ∙ ap (λ i. take i (x ∷ xs)) e
 
--- a part, and the one behind it
+-- a part, and the next part
 pub part_on : {A : Type 0} (from m n : ℕ) (xs : List A) → part from m xs ++ part (from + m) n xs ≡ part from (m + n) xs
 part_on {A} from m n xs =
     ap (λ (ys : List A). take m (drop from xs) ++ take n ys) (sym (drop-drop m from xs)) ∙ take_on m n (drop from xs)

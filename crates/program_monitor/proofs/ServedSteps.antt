@@ -1,4 +1,4 @@
--- Entries that are served, written bundle after bundle.
+-- Served entries, written bundle after bundle.
 use Rattle.std.proofs.Common.{◌≡◌, ℕ, zero, suc, ◌+◌, ◌-◌, ◌*◌, ◌/◌, ◌%◌, ◌^◌, ◌<◌, ◌≤◌, min, All, List, [], ◌∷◌, ◌++◌, length, drop, map}
 use Rattle.std.proofs.Common.{Bool, Option, sym, ap, ◌∙◌, subst, arith}
 use Rattle.std.specs.Io.KnownBytes.{Appends}
@@ -26,7 +26,7 @@ tagged [] e (k, lt, is) = absurd (omega (arith, lt))
 tagged (x ∷ es) e (zero, lt, is) = (0, omega arith, ap (λ (y : List ℕ). 0 ∷ y) is)
 tagged (x ∷ es) e (suc k, lt, is) = let r = tagged es e (k, omega (arith, lt), is) in (suc r.0, omega (arith, r.1), r.2)
 
--- the entries of a tree that is held are short where all that are held are
+-- the entries of a held tree are short if all held entries are
 pub short_list : (digest : List ℕ → List ℕ) (held : Strings) →
     ((entry : List ℕ) → Has held (0 ∷ entry) → length entry ≤ 65535) → (size : ℕ) (root : List ℕ) (entries : List (List ℕ)) →
     IsTreeOf digest held size root entries → AreShort entries
@@ -40,7 +40,7 @@ short_list digest held few size root entries tree =
         omega (arith, upto)
 
 module _ (entries : List (List ℕ)) (short : All (λ e. length e < 2 ^ 16) entries) (base64 : Bool) where
-  -- the bytes of a bundle of these entries are one of its width
+  -- the bytes of a bundle of these entries are a bundle of its width
   pub served_bundle : (index : ℕ) (bytes : List ℕ) → 256 * index < length entries →
       bytes ≡ bundle_bytes entries index (bundle_width (length entries) index) →
       IsBundle (bundle_width (length entries) index) bytes (part (256 * index) (bundle_width (length entries) index) entries)
@@ -67,7 +67,7 @@ module _ (entries : List (List ℕ)) (short : All (λ e. length e < 2 ^ 16) entr
       ∙ ap (λ n. part n (next - at) entries) (e ∙ sym f))
       ∙ (part_on from (at - from) (next - at) entries ∙ ap (λ n. part from n entries) g)
 
-  -- one bundle more
+  -- one more bundle
   pub served_then : (from at to next : ℕ) (bytes : List ℕ) (a b c : Option (List ℕ)) → from ≤ at → to ≤ length entries →
       bytes ≡ bundle_bytes entries (at / 256) (bundle_width (length entries) (at / 256)) →
       WritesAll entries base64 from at a b → IsNext at to next → AppendsFrom bytes (length entries) at base64 b c next →
@@ -78,7 +78,7 @@ module _ (entries : List (List ℕ)) (short : All (λ e. length e < 2 ^ 16) entr
       (joined from at next low n.rises (omega (arith, n.within, within)) n.same)
       (entries_on base64 a b c _ _ w (more _ found))
 
-  -- the writing of one bundle more ended early
+  -- the writing of one more bundle ended early
   pub served_early : (from at to : ℕ) (bytes : List ℕ) (a b c : Option (List ℕ)) → from ≤ at → at < to → to ≤ length entries →
       bytes ≡ bundle_bytes entries (at / 256) (bundle_width (length entries) (at / 256)) →
       WritesAll entries base64 from at a b → BeginsFrom bytes (length entries) at to base64 b c →
@@ -95,7 +95,7 @@ module _ (entries : List (List ℕ)) (short : All (λ e. length e < 2 ^ 16) entr
             (entries_begin base64 a b c _ _ w ends.2);
       }
 
-  -- no bundle more was read
+  -- no more bundles were read
   pub served_stop : (from at to : ℕ) (a b : Option (List ℕ)) → at ≤ to → WritesAll entries base64 from at a b →
       WritesFirst entries base64 from to a b
   served_stop from at to a b upto w = record { upto = at; within = upto; written = prefix_whole a b _ w }

@@ -1,4 +1,4 @@
--- How many entries a bundle has that is shown, and that these are shown.
+-- A shown bundle has its number of entries, and they are shown.
 use Rattle.std.proofs.Common.{◌≡◌, ℕ, ◌+◌, ◌-◌, ◌*◌, ◌/◌, ◌%◌, ◌^◌, ◌<◌, ◌≤◌, min, List, [], ◌∷◌, ◌++◌, length, get_or, drop}
 use Rattle.std.proofs.Common.{◌⊎◌, inl, inr, refl, sym, ap, ◌∙◌, subst, arith}
 use Rattle.std.proofs.lemmas.Bool.{cases_lt}
@@ -13,7 +13,7 @@ use Rattle.program_monitor.specs.Texts.{bundle_width}
 use Rattle.program_monitor.specs.Shown.{AreShownFrom, IsShownEntry}
 
 module _ (digest : List ℕ → List ℕ) (edge : Edge) (hashes : HasEdgeHashes edge) where
-  -- a hash of a row lies before the edge of the level below
+  -- a hash of a row is before the edge of the level below
   pub hash_below : (level index : ℕ) (way : List (List (List ℕ))) → IsWay digest edge (level + 1) (index / 256) way →
       index % 256 < length (row_of_way edge (level + 1) way) → index < edge_index_of edge.size level
   hash_below level index [] w lt =
@@ -30,7 +30,7 @@ module _ (digest : List ℕ → List ℕ) (edge : Edge) (hashes : HasEdgeHashes 
       hash_below 0 index full.shown.way full.shown.is_way
       (subst (λ (row : List (List ℕ)). index % 256 < length row) full.shown.row_is full.within)
 
-  -- the bytes of a bundle that is shown are one of its width
+  -- the bytes of a shown bundle are a bundle of its width
   pub shown_bundle : (index : ℕ) (bytes : List ℕ) → 256 * index < edge.size → IsShownBundle digest edge index bytes →
       (entries : List (List ℕ)) × IsBundle (bundle_width edge.size index) bytes entries
   shown_bundle index bytes lt (inl end) =
@@ -44,7 +44,7 @@ module _ (digest : List ℕ → List ℕ) (edge : Edge) (hashes : HasEdgeHashes 
       (full.has_leaves.entries, subst (λ w. IsBundle w bytes full.has_leaves.entries) width full.has_leaves.is_bundle)
 
 module _ (digest : List ℕ → List ℕ) (edge : Edge) where
-  -- the entries of a bundle that is shown, from a number on
+  -- the entries of a shown bundle, from a number on
   pub shown_part : (at c : ℕ) (bytes : List ℕ) (width : ℕ) (entries : List (List ℕ)) → IsShownBundle digest edge (at / 256) bytes →
       width ≤ 256 → IsBundle width bytes entries → AreShownFrom digest edge at (part (at % 256) c entries)
   shown_part at c bytes width entries shown most is k lt =
@@ -77,7 +77,7 @@ module _ (digest : List ℕ → List ℕ) (edge : Edge) where
       (sym (get_or-append_right xs ys (length xs) k [] refl high))
       (subst (λ n. IsShownEntry digest edge n (get_or ys (k - length xs) [])) e (q (k - length xs) (omega (arith, lt, len, high))))
 
-  -- entries that are shown, and those behind them
+  -- shown entries, and the next shown entries
   pub shown_on : (from : ℕ) (xs ys : List (List ℕ)) → AreShownFrom digest edge from xs →
       AreShownFrom digest edge (from + length xs) ys → AreShownFrom digest edge from (xs ++ ys)
   shown_on from xs ys p q k lt = shown_at from xs ys p q k lt (cases_lt k (length xs))

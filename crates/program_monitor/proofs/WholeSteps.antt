@@ -20,7 +20,7 @@ use Rattle.program_monitor.specs.declared.fault.CopyEntriesFault.TheVariants.{No
 pub width_is : (n index : ℕ) → row_width n 0 index ≡ bundle_width n index
 width_is n index = let one : n / 1 ≡ n = omega arith in omega (arith, one)
 
--- no bundle more was read
+-- no more bundles were read
 pub ends_early : {T : Type 0} (entries : List (List ℕ)) (base64 : Bool) (from to : ℕ) (old new : Option (List ℕ))
     (fault : CopyEntriesFault) (result : Result T CopyEntriesFault) → IsErr result × IsErrAnd result (λ f. f ≡ fault) →
     IsUndamaged fault → WritesFirst entries base64 from to old new → EndsWritten entries base64 from to old new result
@@ -29,7 +29,7 @@ ends_early entries base64 from to old new fault (Err f) is fine w = (subst IsUnd
 
 module _ (digest : List ℕ → List ℕ) (origin : List ℕ) (keys : List Key) (held : Option (List Put)) (from to : ℕ)
     (base64 : Bool) (old new : Option (List ℕ)) where
-  -- the copy was opened, and entries of it were written
+  -- the copy was opened, and some of its entries were written
   module _ {T : Type 0} (edge : Edge) (opened : IsOpenCopy digest origin keys held edge) (rises : from ≤ to)
       (within : to ≤ edge.size) where
     pub answers_written : (result : Result T CopyEntriesFault) → OnOk result (WritesShown digest edge base64 from to old new) →
@@ -82,7 +82,7 @@ module _ (digest : List ℕ → List ℕ) (origin : List ℕ) (keys : List Key) 
           whole = λ note entries w. (whole note entries w).1;
         })
 
--- the folder that was opened has what the folder of that name held
+-- the opened folder has the content of the folder of that name
 pub answers_moved : {T : Type 0} (digest : List ℕ → List ℕ) (origin : List ℕ) (keys : List Key) (x y : Option (List Put))
     (from to : ℕ) (base64 : Bool) (old new : Option (List ℕ)) (result : Result T CopyEntriesFault) → x ≡ y →
     AnswersCopied digest origin keys x from to base64 old new result → AnswersCopied digest origin keys y from to base64 old new result

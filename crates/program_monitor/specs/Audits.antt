@@ -1,4 +1,4 @@
--- What the command `audit` says of a source, and what it writes.
+-- The facts that the command `audit` states about a source, and its output.
 use Rattle.std.specs.Prelude.{◌≡◌, ℕ, List, Option, Result, Ok, Err}
 use Rattle.std.specs.Io.KnownBytes.{Appends, Keeps}
 use Rattle.byte_streams.specs.Streams.{AppendsPrefix}
@@ -30,14 +30,14 @@ module _ (digest : List ℕ → List ℕ) (origin : List ℕ) (keys : List Key)
     pub ordered : IsReadInOrder size may later asked now
     pub written : AppendsPrefix old new (audited_line size root)
 
-  -- what each answer of the command says: at a fault of the audit, which names a wrong file, nothing is written
+  -- the facts at each answer of the command. At a fault of the audit, which names a wrong file, nothing is written
   abbrev pub RunsAudit : Result ℕ AuditRunFault → Type 0
   RunsAudit (Ok status) = (status ≡ 0) × PrintsAudited
   RunsAudit (Err WriteFault) = BeginsAudited
   RunsAudit (Err (Audit fault)) =
       IsForAbsence may fault × NamesWrong digest origin keys may later asked now fault × Keeps old new
 
--- the source is blamed as the audit blames it
+-- the command ends by Source as the audit does
 abbrev pub BlamesRun : ℕ → ℕ → Result ℕ AuditRunFault → Type 0
 BlamesRun old new (Ok status) = new ≡ old
 BlamesRun old new (Err WriteFault) = new ≡ old

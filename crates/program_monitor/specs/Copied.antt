@@ -1,4 +1,4 @@
--- What the command `entries` reads of a copy, and what it writes.
+-- The reads of the command `entries` from a copy, and its output.
 use Rattle.std.specs.Prelude.{◌≡◌, ◌⊎◌, ℕ, ◌<◌, ◌≤◌, List, Bool, Option, None, Result, Ok, Err, ⊤}
 use Rattle.std.specs.Io.KnownBytes.{Keeps}
 use Rattle.signed_note.specs.Keys.{Key}
@@ -17,7 +17,7 @@ use Rattle.program_monitor.specs.declared.fault.CopyEntriesFault.{CopyEntriesFau
 use Rattle.program_monitor.specs.declared.fault.CopyEntriesFault.TheVariants.{NothingComplete, Head, CopyDamaged, ShelfFault}
 use Rattle.program_monitor.specs.declared.fault.CopyEntriesFault.TheVariants.{NoSuchSize, Backwards, WriteFault, OutOfMemory}
 
--- the fault of the command that a copy's is; no fault of an origin comes
+-- the fault of the command for a fault of a copy. Origin never comes
 abbrev pub by_copy : CopyFault → CopyEntriesFault
 by_copy (copy.Origin fault) = CopyDamaged Checkpoint
 by_copy (copy.Head fault) = Head fault
@@ -25,7 +25,7 @@ by_copy (copy.CopyDamaged path) = CopyDamaged path
 by_copy copy.ShelfFault = ShelfFault
 by_copy copy.OutOfMemory = OutOfMemory
 
--- the shelf's count of failures rises by a ShelfFault, and by nothing else
+-- the shelf's number of failures rises only at a ShelfFault
 abbrev pub CountsFault : ℕ → ℕ → CopyEntriesFault → Type 0
 CountsFault old new NothingComplete = new ≡ old
 CountsFault old new (Head fault) = new ≡ old
@@ -36,12 +36,12 @@ CountsFault old new Backwards = new ≡ old
 CountsFault old new WriteFault = new ≡ old
 CountsFault old new OutOfMemory = new ≡ old
 
--- the same of an answer
+-- the same for an answer
 abbrev pub CountsCopy : {T : Type 0} → ℕ → ℕ → Result T CopyEntriesFault → Type 0
 CountsCopy old new (Ok x) = new ≡ old
 CountsCopy old new (Err fault) = CountsFault old new fault
 
--- the fault is one of files that are read
+-- the fault is one of reading files
 abbrev pub IsOfFiles : CopyEntriesFault → Type 0
 IsOfFiles NothingComplete = ⊥
 IsOfFiles (Head fault) = ⊥
@@ -52,7 +52,7 @@ IsOfFiles Backwards = ⊥
 IsOfFiles WriteFault = ⊥
 IsOfFiles OutOfMemory = ⊤
 
--- the fault is one of files that are read, or of writing
+-- the fault is one of reading files, or of writing
 abbrev pub IsOfWriting : CopyEntriesFault → Type 0
 IsOfWriting NothingComplete = ⊥
 IsOfWriting (Head fault) = ⊥
@@ -63,7 +63,7 @@ IsOfWriting Backwards = ⊥
 IsOfWriting WriteFault = ⊤
 IsOfWriting OutOfMemory = ⊤
 
--- the fault says of no file that it is missing or false
+-- the fault is not CopyDamaged
 abbrev pub IsUndamaged : CopyEntriesFault → Type 0
 IsUndamaged NothingComplete = ⊤
 IsUndamaged (Head fault) = ⊤
@@ -74,7 +74,7 @@ IsUndamaged Backwards = ⊤
 IsUndamaged WriteFault = ⊤
 IsUndamaged OutOfMemory = ⊤
 
--- entries of a list were written, or the first of them, and then no file was called missing or false
+-- the entries of a list were written, or a prefix of them was. In the latter case the fault is not CopyDamaged
 abbrev pub EndsWritten : {T : Type 0} → List (List ℕ) → Bool → ℕ → ℕ → (old new : Option (List ℕ)) →
     Result T CopyEntriesFault → Type 0
 EndsWritten entries base64 from to old new (Ok x) = WritesAll entries base64 from to old new
@@ -82,7 +82,7 @@ EndsWritten entries base64 from to old new (Err fault) =
     IsUndamaged fault × WritesFirst entries base64 from to old new
 
 module _ (digest : List ℕ → List ℕ) (origin : List ℕ) (keys : List Key) (held : Option (List Put)) where
-  -- why a copy is not opened, of what the folder holds
+  -- the reason why a copy is not opened, by the content of the folder
   abbrev pub RefusesCopy : CopyEntriesFault → Type 0
   RefusesCopy NothingComplete = RecordsRead held Checkpoint None
   RefusesCopy (Head fault) = RefusesCheckpoint origin keys held fault
@@ -93,7 +93,7 @@ module _ (digest : List ℕ → List ℕ) (origin : List ℕ) (keys : List Key) 
   RefusesCopy WriteFault = ⊥
   RefusesCopy OutOfMemory = ⊤
 
-  -- the note that stands as the checkpoint opens under the keys, and the edge leads to its root
+  -- the folder's checkpoint is a note that opens under the keys, and the edge leads to its root
   pub record IsOpenCopy (edge : Edge) : Type 0 where
     pub root : List ℕ
     pub checkpoint : HasCheckpoint origin keys held edge.size root
@@ -101,7 +101,7 @@ module _ (digest : List ℕ → List ℕ) (origin : List ℕ) (keys : List Key) 
     pub leads : hash_of_edge digest edge ≡ root
 
   module _ (from to : ℕ) (base64 : Bool) (old new : Option (List ℕ)) where
-    -- the copy's entries from FROM up to TO were written; those of a whole copy are its log's
+    -- the copy's entries from FROM up to TO were written. If the copy is whole, they are its log's entries
     pub record WritesCopied : Type 0 where
       pub edge : Edge
       pub opened : IsOpenCopy edge
@@ -111,7 +111,7 @@ module _ (digest : List ℕ → List ℕ) (origin : List ℕ) (keys : List Key) 
       pub whole : (note : List ℕ) (entries : List (List ℕ)) → IsWholeCopy digest origin note entries held →
           WritesAll entries base64 from to old new
 
-    -- the copy has so many entries, and the writing of them ended early
+    -- the copy has TO entries, and the writing of them ended early
     pub record WritesSomeCopied : Type 0 where
       pub edge : Edge
       pub opened : IsOpenCopy edge
@@ -134,7 +134,7 @@ module _ (digest : List ℕ → List ℕ) (origin : List ℕ) (keys : List Key) 
       pub within : to ≤ edge.size
       pub falls : to < from
 
-    -- what each answer of the command says of what the folder held, and of what was written
+    -- the facts about the folder and the output at each answer of the command
     abbrev pub AnswersCopied : {T : Type 0} → Result T CopyEntriesFault → Type 0
     AnswersCopied (Ok x) = WritesCopied
     AnswersCopied (Err NothingComplete) = RefusesCopy NothingComplete × Keeps old new

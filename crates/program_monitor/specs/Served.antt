@@ -1,4 +1,4 @@
--- What the command `entries` writes of the entries that a mirror serves.
+-- The output of the command `entries` for the entries that a mirror serves.
 use Rattle.std.specs.Prelude.{◌⊎◌, ℕ, ◌-◌, ◌<◌, ◌≤◌, List, length, Bool, Option, None, Result, Ok, Err}
 use Rattle.std.specs.Io.KnownBytes.{Appends, Keeps}
 use Rattle.byte_streams.specs.Streams.{AppendsPrefix}
@@ -11,12 +11,12 @@ use Rattle.program_monitor.specs.declared.fault.StateEntriesFault.{StateEntriesF
 use Rattle.program_monitor.specs.declared.fault.StateEntriesFault.TheVariants.{NothingComplete, NoSuchSize, Backwards}
 use Rattle.program_monitor.specs.declared.fault.StateEntriesFault.TheVariants.{WriteFault, OutOfMemory}
 
--- the entries of a list from the one number up to the other were written
+-- the entries of a list from the first number up to the second were written
 abbrev pub WritesAll : List (List ℕ) → Bool → ℕ → ℕ → Option (List ℕ) → Option (List ℕ) → Type 0
 WritesAll entries base64 from to old new =
     Appends old new (entries_text base64 (part from (to - from) entries))
 
--- a prefix of the text of the entries up to some number was written, which is at most TO
+-- a prefix of the text of the entries up to some number was written. The number is at most TO
 pub record WritesFirst (entries : List (List ℕ)) (base64 : Bool) (from to : ℕ)
     (old new : Option (List ℕ)) : Type 0 where
   pub upto : ℕ
@@ -25,7 +25,7 @@ pub record WritesFirst (entries : List (List ℕ)) (base64 : Bool) (from to : �
 
 module _ (digest : List ℕ → List ℕ) (v : View) (from to : ℕ) (base64 : Bool)
     (old new : Option (List ℕ)) where
-  -- the entries that are served from FROM up to TO were written
+  -- the served entries from FROM up to TO were written
   pub record WritesServed : Type 0 where
     pub entries : List (List ℕ)
     pub served : IsServedList digest v entries
@@ -33,7 +33,7 @@ module _ (digest : List ℕ → List ℕ) (v : View) (from to : ℕ) (base64 : B
     pub within : to ≤ length entries
     pub written : WritesAll entries base64 from to old new
 
-  -- so many are served, and the writing of them ended early
+  -- the mirror serves TO entries, and the writing of them ended early
   pub record WritesSomeServed : Type 0 where
     pub entries : List (List ℕ)
     pub served : IsServedList digest v entries
@@ -41,20 +41,20 @@ module _ (digest : List ℕ → List ℕ) (v : View) (from to : ℕ) (base64 : B
     pub within : to ≤ length entries
     pub written : WritesFirst entries base64 from to old new
 
-  -- fewer than TO are served
+  -- the mirror serves fewer than TO entries
   pub record HasFewer : Type 0 where
     pub entries : List (List ℕ)
     pub served : IsServedList digest v entries
     pub fewer : length entries < to
 
-  -- TO are served, and FROM is larger
+  -- the mirror serves TO entries, and FROM is larger
   pub record HasBackwards : Type 0 where
     pub entries : List (List ℕ)
     pub served : IsServedList digest v entries
     pub within : to ≤ length entries
     pub falls : to < from
 
-  -- what each answer of the command says of what is served, and of what was written
+  -- the facts about the served entries and the output at each answer of the command
   abbrev pub AnswersServed : {T : Type 0} → Result T StateEntriesFault → Type 0
   AnswersServed (Ok x) = WritesServed
   AnswersServed (Err NothingComplete) = SaysServed digest v None × Keeps old new

@@ -6,19 +6,19 @@ use Rattle.base64.specs.GeneralPurpose.{encode_of}
 use Rattle.mirror_model.specs.Texts.{point_text}
 use Rattle.tlog_tiles.specs.Bundle.{bundle_text}
 
--- `audited SIZE ROOT`, the root in standard base64
+-- `audited SIZE ROOT`, with the root in standard base64
 abbrev pub audited_line : ℕ → List ℕ → List ℕ
 audited_line size root = codes "audited " ++ point_text size root ++ 10 ∷ []
 
--- an entry in standard base64, on a line of its own
+-- an entry in standard base64, on its own line
 abbrev pub entry_line : List ℕ → List ℕ
 entry_line entry = encode_of standard entry ++ 10 ∷ []
 
--- the entries one after the other: in base64 a line each, or each after its two-byte length
+-- the entries in order: in base64 with a line each, or each after its two-byte length
 abbrev pub entries_text : Bool → List (List ℕ) → List ℕ
 entries_text true entries = flat_map entry_line entries
 entries_text false entries = bundle_text entries
 
--- how many entries the bundle of an index has, of so many in all
+-- the number of entries in the bundle of an index, in a log of that size
 abbrev pub bundle_width : ℕ → ℕ → ℕ
 bundle_width size index = min (size - 256 * index) 256

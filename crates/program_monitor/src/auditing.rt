@@ -1,4 +1,4 @@
-//! The command `audit`: a whole log at a source, and the line that says so.
+//! The command `audit`: reads a whole log at a source, and prints a line about it.
 ghost use Rattle.std.specs.Prelude.{◌≡◌, IfOk, map, string_bytes};
 ghost use Rattle.program_monitor.specs.Audits.{BlamesRun, RunsAudit};
 ghost use Rattle.program_monitor.specs.Texts.{audited_line};
@@ -26,8 +26,8 @@ fn audited_text(alloc: Global, audited: &Audited) -> Result<String, AllocError>
     Ok(text)
 }
 
-/// Reads a whole log at the source, as `mirror_audit::audit` does, and writes the line `audited SIZE ROOT`, the root in standard
-/// base64. Answers the exit status, which is 0.
+/// Reads a whole log at the source, as `mirror_audit::audit` does, and writes the line `audited SIZE ROOT`, with the root in standard
+/// base64. Returns the exit status, which is 0.
 ///
 /// ```text
 /// run_audit::<Sha256Tree, _, _>(alloc, "example.com/log", &keys, &mut source, &mut output)?
@@ -36,8 +36,8 @@ fn audited_text(alloc: Global, audited: &Audited) -> Result<String, AllocError>
 ///
 /// # Errors
 ///
-/// `Audit`: those of `mirror_audit::audit`, and `OutOfMemory` where memory for the line was refused; nothing is written then.
-/// `WriteFault`: a write failed or took no byte; a prefix of the line may have been written.
+/// `Audit`: the faults of `mirror_audit::audit`, and `OutOfMemory` if memory for the line was refused. Nothing is written then.
+/// `WriteFault`: a write failed, or wrote no byte. A prefix of the line may have been written.
 pub fn run_audit<H: TreeHash, S: Source, W: Write>(
     alloc: Global,
     origin: &str,

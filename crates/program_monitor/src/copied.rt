@@ -1,4 +1,4 @@
-//! The command `entries` over a copy: entries of the log in a folder, each verified before it is written.
+//! The command `entries` over a copy: writes entries of the log in a folder, each one verified first.
 ghost use Rattle.std.specs.Prelude.{◌≡◌, ◌<◌, ◌≤◌, ℕ, List, IfErr, OnErr, OnOk, map};
 ghost use Rattle.mirror_sources.specs.Recorded.{KeepsRecord};
 ghost use Rattle.log_reader.specs.Ways.{HasEdgeHashes};
@@ -20,7 +20,7 @@ use std::alloc::Global;
 use std::io::Write;
 use tlog_hash::TreeHash;
 
-// Writes the entries, a bundle at a time.
+// Writes the entries, bundle after bundle.
 fn write_copied<H: TreeHash, D: ReadableShelf, W: Write>(
     shelf: &mut D,
     alloc: Global,
@@ -82,9 +82,9 @@ fn write_range<H: TreeHash, D: ReadableShelf, W: Write>(
     done
 }
 
-/// Writes entries of the copy in the folder, in their order. A copy is a log's files as it publishes them. Each bundle is
-/// verified up to the root of the copy's checkpoint, which opens under the keys, before its entries are written. Memory holds
-/// one bundle, and one row a level, whatever the size of the log.
+/// Writes entries of the copy in the folder, in order. A copy is a log's files as the log publishes them. Before its entries are written,
+/// each bundle is verified up to the root of the copy's checkpoint, which has to open under the keys. Memory holds one bundle, and one row
+/// a level, for all sizes of the log.
 ///
 /// ```text
 /// let range = EntryRange { from: 599, to: 600, base64: true };
@@ -94,12 +94,22 @@ fn write_range<H: TreeHash, D: ReadableShelf, W: Write>(
 ///
 /// # Errors
 ///
-/// In this order: `NothingComplete`, where the folder has no checkpoint; `Head`, where that does not open under the keys, as
-/// `log_reader::open_head` says; `CopyDamaged`, where a row of the edge is missing or the rows do not lead to the root;
-/// `NoSuchSize`, where there are fewer entries than `range.to`; `Backwards`, where `range.from` is larger than that. Nothing is
-/// written then. While entries are written: `CopyDamaged`, where a file is missing or does not lead to the root, and
-/// `WriteFault`, where a write fails or takes no byte. At any time: `ShelfFault`, where a file cannot be read, and
-/// `OutOfMemory`. What was written before stays, and is right.
+/// In this order, and before anything is written:
+/// - `NothingComplete`: the folder has no checkpoint.
+/// - `Head`: the checkpoint does not open under the keys, with the fault of `log_reader::open_head`.
+/// - `CopyDamaged`: a row of the edge is missing, or the rows do not lead to the root.
+/// - `NoSuchSize`: the copy has fewer than `range.to` entries.
+/// - `Backwards`: `range.from` is larger than `range.to`.
+///
+/// While entries are written:
+/// - `CopyDamaged`: a file is missing, or does not lead to the root.
+/// - `WriteFault`: a write failed, or wrote no byte.
+///
+/// At any time:
+/// - `ShelfFault`: a file cannot be read.
+/// - `OutOfMemory`: memory was refused.
+///
+/// The entries that were written before stay, and are right.
 pub fn entries_of_copy<H: TreeHash, D: NamedFolders, W: Write>(
     folders: &mut D,
     alloc: Global,

@@ -13,14 +13,14 @@ use std::alloc::{AllocError, Global};
 use std::io::Write;
 use tlog_tiles::{read_bundle, write_bundle};
 
-/// Why the entries of a bundle were not written.
+/// The reason why the entries of a bundle were not written.
 #[derive(Drop)]
 pub(crate) enum CutFault {
     WriteFault,
     OutOfMemory,
 }
 
-/// Which entries of a bundle are meant: of as many as its width, those from `skip` up to `end`.
+/// Some entries of a bundle of that width: those from `skip` up to `end`.
 #[derive(Drop)]
 pub(crate) struct Cut {
     pub(crate) width: u32,
@@ -87,7 +87,7 @@ fn write_entries<W: Write>(
     }
 }
 
-/// Writes these entries of a bundle. All of them, each after its length, are the bundle's own bytes, which are not copied.
+/// Writes these entries of a bundle. If all of them are written with their lengths, the bundle's own bytes are written without a copy.
 pub(crate) fn write_cut<W: Write>(
     alloc: Global,
     bytes: &[u8],
@@ -108,7 +108,7 @@ pub(crate) fn write_cut<W: Write>(
     if !base64 && cut.skip == 0 && cut.end == cut.width as usize {
         return write_bytes(output, bytes);
     }
-    // The bytes are a bundle of that width, so nothing but memory can be lacking.
+    // The bytes are a bundle of that width, so only memory can be refused.
     let Ok(entries) = read_bundle(alloc, cut.width, bytes) else {
         return Err(CutFault::OutOfMemory);
     };

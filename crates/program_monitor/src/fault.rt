@@ -1,4 +1,4 @@
-//! Why an audit printed nothing, and why entries were not written.
+//! The reasons why an audit printed nothing, and why entries were not written.
 ghost use Rattle.std.specs.Prelude.{◌≡◌};
 ghost use Rattle.program_monitor.specs.Copied.{by_copy};
 
@@ -8,71 +8,71 @@ use mirror_model::TakeFault;
 use thiserror::Error;
 use tlog_tiles::Path;
 
-/// Why an audit printed no line. It prints the name of the innermost variant, as `FalseFile`.
+/// The reason why an audit printed no line. It prints as the name of the innermost variant, for example `FalseFile`.
 #[derive(Debug, Drop, PartialEq, Eq, Clone, Copy, Error)]
 pub enum AuditRunFault {
-    /// The log is not whole, or the audit could not go on. `NoFile` and `FalseFile` carry the path.
+    /// The log is not whole, or the audit could not continue. `NoFile` and `FalseFile` carry the path.
     #[error(transparent)]
     Audit(AuditFault),
-    /// A write failed, or took no byte. A prefix of the line may have been written.
+    /// A write failed, or wrote no byte. A prefix of the line may have been written.
     #[error("WriteFault")]
     WriteFault,
 }
 
-/// Why entries of a mirror were not written, or not all. It prints its variant's name.
-/// Of 600 entries those up to 601 are `NoSuchSize`.
+/// The reason why some entries of a mirror were not written. It prints as its variant's name.
+/// For example, the entries up to 601 of a log of 600 are `NoSuchSize`.
 #[derive(Debug, Drop, PartialEq, Eq, Clone, Copy, Error)]
 pub enum StateEntriesFault {
-    /// No head is complete, so nothing is served.
+    /// No tree head is complete, so nothing is served.
     #[error("NothingComplete")]
     NothingComplete,
-    /// Fewer entries are served than the number that they are asked for up to.
+    /// The mirror serves fewer entries than the end of the range.
     #[error("NoSuchSize")]
     NoSuchSize,
-    /// The first number is larger than the second.
+    /// The start of the range is larger than its end.
     #[error("Backwards")]
     Backwards,
-    /// A write failed, or took no byte. What was written before stays.
+    /// A write failed, or wrote no byte. Entries that were written before stay.
     #[error("WriteFault")]
     WriteFault,
-    /// Memory was refused. What was written before stays.
+    /// Memory was refused. Entries that were written before stay.
     #[error("OutOfMemory")]
     OutOfMemory,
 }
 
-/// Why entries of a copy were not written, or not all. It prints its variant's name, and of a checkpoint that does not open
-/// the innermost.
-/// A copy without `tile/entries/001` is `CopyDamaged` with that path, once the entries before it are written.
+/// The reason why some entries of a copy were not written. It prints as its variant's name, or, for a checkpoint that does not open, as
+/// that of the innermost variant. A copy without `tile/entries/001` gives `CopyDamaged` with that path, after the entries before it are
+/// written.
 #[derive(Debug, Drop, PartialEq, Eq, Clone, Copy, Error)]
 pub enum CopyEntriesFault {
     /// The folder has no checkpoint: the copy is empty.
     #[error("NothingComplete")]
     NothingComplete,
-    /// The checkpoint does not open under the keys, or is none of the origin. `OutOfMemory` never comes here.
+    /// The checkpoint does not open under the keys, or is not one of the origin. `OutOfMemory` never comes here.
     #[error(transparent)]
     Head(TakeFault),
-    /// The file is missing, and of a partial one its full one too, or it does not lead to the root. Of the rows of the edge it
-    /// is the lowest, and the checkpoint where there are none. What was written before stays.
+    /// The file is missing (for a partial file, its full file too), or it does not lead to the root. For edge rows, the path is that of the
+    /// lowest row, or the checkpoint's if there are none. Entries that were written before stay.
     #[error("CopyDamaged")]
     CopyDamaged(Path),
-    /// A file could not be read. What was written before stays.
+    /// A file could not be read. Entries that were written before stay.
     #[error("ShelfFault")]
     ShelfFault,
-    /// The copy has fewer entries than the number that they are asked for up to.
+    /// The copy has fewer entries than the end of the range.
     #[error("NoSuchSize")]
     NoSuchSize,
-    /// The first number is larger than the second.
+    /// The start of the range is larger than its end.
     #[error("Backwards")]
     Backwards,
-    /// A write failed, or took no byte. What was written before stays.
+    /// A write failed, or wrote no byte. Entries that were written before stay.
     #[error("WriteFault")]
     WriteFault,
-    /// Memory was refused. What was written before stays.
+    /// Memory was refused. Entries that were written before stay.
     #[error("OutOfMemory")]
     OutOfMemory,
 }
 
-/// What a fault of a copy is to `entries`. No fault of an origin comes.
+/// The fault of `entries` for a fault of a copy. `Origin` never comes.
 pub(crate) fn fault_of(fault: CopyFault) -> CopyEntriesFault
     ensures { result ≡ by_copy fault }
 {

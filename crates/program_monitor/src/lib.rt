@@ -1,7 +1,7 @@
-//! What a monitor asks of a log: whether all of it is at a place, and its entries.
+//! The commands of a monitor: `audit` checks that a place has a whole log, and `entries` writes its entries.
 //!
-//! `run_audit` reads a whole log at a source. `entries_of_state` writes entries that a mirror serves, and
-//! `entries_of_copy` those of a copy in a folder, each bundle verified up to the root first.
+//! `run_audit` reads a whole log at a source. `entries_of_state` writes entries that a mirror serves. `entries_of_copy` writes those of a
+//! copy in a folder, and verifies each bundle up to the root first.
 //!
 //! ```text
 //! run_audit::<Sha256Tree, _, _>(alloc, "example.com/log", &keys, &mut source, &mut output)?;

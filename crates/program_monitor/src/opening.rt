@@ -1,4 +1,4 @@
-//! A copy, opened, and its bundles.
+//! A copy is opened, and its bundles are read.
 ghost use Rattle.std.specs.Prelude.{◌≡◌, ◌*◌, ◌<◌, IfErr, IfOk, Some, length, map};
 ghost use Rattle.tlog_tiles.specs.Tiles.{bundle_bytes};
 ghost use Rattle.mirror_sources.specs.Recorded.{KeepsRecord};
@@ -15,7 +15,7 @@ use signed_note::Verifier;
 use std::alloc::Global;
 use tlog_hash::TreeHash;
 
-/// Opens the copy on the shelf: its checkpoint, under the keys, and the rows of the edge, which lead to its root.
+/// Opens the copy on the shelf: its checkpoint has to open under the keys, and the rows of its edge have to lead to its root.
 #[tactic(auto, using(crate::proofs::CopyFaults::refuses_copy, crate::proofs::CopyFaults::counts_copy))]
 pub(crate) fn open_copy<H: TreeHash, D: ReadableShelf>(
     shelf: &mut D,
@@ -42,7 +42,7 @@ pub(crate) fn open_copy<H: TreeHash, D: ReadableShelf>(
     }
 }
 
-/// The bytes of a bundle of the copy, verified.
+/// The verified bytes of a bundle of the copy.
 #[tactic(auto, using(crate::proofs::CopyFaults::of_files, crate::proofs::CopyFaults::counts_read))]
 pub(crate) fn bundle_on<H: TreeHash, D: ReadableShelf>(
     shelf: &mut D,

@@ -1,16 +1,16 @@
-//! Which entries are asked for.
+//! The requested entries.
 
-/// Which entries are asked for, and how each is written.
+/// The requested entries, and their form.
 ///
 /// ```text
 /// EntryRange { from: 255, to: 257, base64: false }   // the entries 255 and 256, each after its two-byte length
 /// ```
 #[derive(Debug, Drop, PartialEq, Eq, Clone, Copy)]
 pub struct EntryRange {
-    /// The number of the first entry, from 0 on.
+    /// The number of the first entry. Entries count from 0.
     pub from: u64,
-    /// The number behind the last entry.
+    /// The number after that of the last entry.
     pub to: u64,
-    /// Whether each entry is a line in standard base64; else it follows its length, two bytes big-endian.
+    /// True: each entry is a line in standard base64. False: it follows its length, two bytes big-endian.
     pub base64: bool,
 }

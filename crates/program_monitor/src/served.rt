@@ -1,4 +1,4 @@
-//! The command `entries` over a state: entries that a mirror serves.
+//! The command `entries` over a state: writes entries that a mirror serves.
 ghost use Rattle.std.specs.Prelude.{◌≡◌, ◌≤◌, ℕ, List, OnErr, OnOk};
 ghost use Rattle.mirror_model.specs.TrueLaws.{AreShort};
 ghost use Rattle.tlog_mirror.specs.Tops.{IsListOf};
@@ -14,7 +14,7 @@ use tlog_hash::TreeHash;
 use tlog_mirror::{Mirror, TopRanges};
 use tlog_proof::Ranges;
 
-// Writes the entries, a bundle at a time.
+// Writes the entries, bundle after bundle.
 fn write_served<H: TreeHash, W: Write>(
     alloc: Global,
     top: &TopRanges<'_, H>,
@@ -47,7 +47,7 @@ fn write_served<H: TreeHash, W: Write>(
     Ok(())
 }
 
-// Writes entries that are served, of a mirror that has noted what is held of each head.
+// Writes served entries of a mirror that has noted the held part of each tree head.
 fn write_range<H: TreeHash, W: Write>(
     alloc: Global,
     mirror: &Mirror<H>,
@@ -60,7 +60,7 @@ fn write_range<H: TreeHash, W: Write>(
     let Some(top) = mirror.top_ranges() else {
         return Err(StateEntriesFault::NothingComplete);
     };
-    // What is held is sound, so each entry is short.
+    // The held strings are sound, so each entry is short.
     let _held = mirror.strings();
     let size = top.size();
     if range.to > size {
@@ -76,19 +76,19 @@ fn write_range<H: TreeHash, W: Write>(
     }
 }
 
-/// Writes entries that are served, in their order, a bundle at a time. The mirror notes first what is held of each head, so that
-/// no tree is walked twice; what it holds stays.
+/// Writes served entries in order, bundle after bundle. First the mirror notes the held part of each tree head, so that no tree is walked
+/// twice. The mirror keeps all that it has.
 ///
 /// ```text
 /// let range = EntryRange { from: 599, to: 600, base64: true };
-/// entries_of_state(alloc, &mut mirror, &range, &mut output)?   // of C(600): Alc=
+/// entries_of_state(alloc, &mut mirror, &range, &mut output)?   // for C(600): Alc=
 /// ```
 ///
 /// # Errors
 ///
-/// In this order: `NothingComplete`, where nothing is served; `NoSuchSize`, where fewer entries are served than `range.to`;
-/// `Backwards`, where `range.from` is larger than that. Nothing is written then. `WriteFault`, where a write fails or takes no
-/// byte. `OutOfMemory` at any time. What was written before these two stays.
+/// In this order, and before anything is written. `NothingComplete`: nothing is served. `NoSuchSize`: fewer than `range.to` entries are
+/// served. `Backwards`: `range.from` is larger than `range.to`. Later `WriteFault`: a write failed, or wrote no byte. `OutOfMemory` comes
+/// at any time. Entries that were written before these two stay.
 pub fn entries_of_state<H: TreeHash, W: Write>(
     alloc: Global,
     mirror: &mut Mirror<H>,

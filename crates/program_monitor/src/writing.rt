@@ -8,7 +8,7 @@ use crate::range::EntryRange;
 use std::alloc::Global;
 use std::io::Write;
 
-/// How many entries the bundle of the entry of that number has, in a log of that size.
+/// The number of entries in the bundle of entry `at`, in a log of that size.
 pub(crate) fn width_at(size: u64, at: u64) -> u32
     requires { at < size }
     ensures width { result ≡ bundle_width size (at / 256) }
@@ -18,8 +18,7 @@ pub(crate) fn width_at(size: u64, at: u64) -> u32
     (size - at / 256 * 256).min(256) as u32
 }
 
-/// Writes the requested entries of the bundle of the entry of that number, from that one on, and answers
-/// the number behind the last.
+/// Writes the requested entries of the bundle of entry `at`, from that entry on. Returns the number after that of the last one.
 pub(crate) fn write_from<W: Write>(
     alloc: Global,
     bytes: &[u8],

@@ -1,4 +1,4 @@
-//! Tests of verified reads, in a crate of their own, since a crate's tests are checked together with the crate again.
+//! Tests of verified reads. They have their own crate, since a check of tests also checks all of their crate.
 #![tactic(auto)]
 
 #[cfg(test)]

@@ -1,7 +1,7 @@
 //! Logs in memory.
 //!
-//! C(n) is the log of the numbers from 0 on, n of them, each in two bytes, big-endian, of the origin `ex`. F(n) is C(n) but
-//! for entry 2, which is the byte 78.
+//! C(n) is the log of the n numbers from 0 on, each in two bytes, big-endian, with origin `ex`. F(n) is C(n) except entry 2, which is the
+//! byte 78.
 ghost use Rattle.std.specs.Prelude.{◌<◌, ◌^◌, map, IfOk, length};
 ghost use Rattle.mirror_model.specs.TrueLaws.{AreShort};
 
@@ -12,7 +12,7 @@ use std::test::Fail;
 use tlog_hash::Sha256Tree;
 use tlog_tiles::Path;
 
-// An entry: its number in two bytes, or in a forked log the byte 78 as entry 2.
+// An entry: its number in two bytes. In a forked log, entry 2 is the byte 78.
 fn entry(alloc: Global, number: u32, forked: bool) -> Result<Vec<u8>, AllocError>
     ensures { IfOk result (λ e. length e.items < 2 ^ 16) }
 {
@@ -23,7 +23,7 @@ fn entry(alloc: Global, number: u32, forked: bool) -> Result<Vec<u8>, AllocError
     Vec::from_slice(alloc, &number.to_be_bytes())
 }
 
-// The first entries, as a list.
+// The first entries of a log.
 fn entries(alloc: Global, count: u32, forked: bool) -> Result<Vec<Vec<u8>>, AllocError>
     ensures { IfOk result (λ entries. AreShort (map (λ e. e.items) entries.items)) }
 {
@@ -34,7 +34,7 @@ fn entries(alloc: Global, count: u32, forked: bool) -> Result<Vec<Vec<u8>>, Allo
     Ok(entries)
 }
 
-/// The log C(n), or F(n).
+/// The log C(n) or F(n).
 pub(crate) fn log_of(
     alloc: Global,
     count: u32,
@@ -45,7 +45,7 @@ pub(crate) fn log_of(
     Ok(ListSource::new(alloc, "ex", entries, key)?)
 }
 
-/// What is wrong with a file.
+/// The change of a file.
 #[derive(Clone, Copy, PartialEq, Eq, Debug)]
 pub(crate) enum Change {
     Gone,
@@ -53,7 +53,7 @@ pub(crate) enum Change {
     Other,
 }
 
-/// A log one of whose files is changed.
+/// A log with one changed file.
 #[derive(Drop)]
 pub(crate) struct Changed {
     pub(crate) log: ListSource<Sha256Tree>,

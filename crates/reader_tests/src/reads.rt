@@ -1,4 +1,4 @@
-//! Roots, proofs and files of small logs, and each file changed.
+//! Roots, proofs and files of small logs, and reads with one changed file each.
 use crate::logs::{Change, Changed, log_of};
 use log_reader::{LogReader, ReadFault};
 use mirror_sources::Source;
@@ -22,7 +22,7 @@ const ROOT_300: &str = "YyO3RA9T90I4DGBqDCfl1IR8gY+LHcAdHucdWirFtGc=";
 
 const ROOT_600: &str = "CtTvclx+BXrchsWIiLJB6woH1kdkUrIootoUMsQZBJA=";
 
-// The root that a log had at a size.
+// The root of a log at a smaller size.
 fn root_at<S: Source>(
     alloc: Global,
     reader: &mut LogReader<Sha256Tree>,
@@ -35,7 +35,7 @@ fn root_at<S: Source>(
     Ok(reader.prefix(alloc, source, size)?.root())
 }
 
-// The proof from a size to all.
+// The proof from a size to all entries.
 fn proof_from<S: Source>(
     alloc: Global,
     reader: &mut LogReader<Sha256Tree>,
@@ -48,7 +48,7 @@ fn proof_from<S: Source>(
     Ok(reader.consistency(alloc, source, first)?)
 }
 
-// Whether a proof is one of consistency from that root, by so many hashes.
+// Whether a proof is a consistency proof from that root, with `count` hashes.
 fn is_proof(proof: &Proof, root: &Hash, count: usize) -> bool {
     match proof {
         Proof::Consistency {
@@ -60,7 +60,7 @@ fn is_proof(proof: &Proof, root: &Hash, count: usize) -> bool {
     }
 }
 
-// The roots that C(600) had at sizes before, and the proof from 300 to 600.
+// The roots of C(600) at smaller sizes, and the proof from 300 to 600.
 #[test]
 fn copy_fork_smaller(rt: HostRuntime) -> Result<(), Fail> {
     let alloc = rt.alloc();
@@ -96,7 +96,7 @@ fn copy_fork_larger(rt: HostRuntime) -> Result<(), Fail> {
     Ok(())
 }
 
-// Proofs of the entries of C(600), of which some are near the edges of tiles.
+// Proofs of entries of C(600), some of them near the edges of tiles.
 #[test]
 fn inclusion_each(rt: HostRuntime) -> Result<(), Fail> {
     let alloc = rt.alloc();
@@ -154,7 +154,7 @@ const READ: [Path; 5] = [
     },
 ];
 
-// Each file that is read, taken away, cut by a byte and with another first byte: refused.
+// Each file that is read is refused if it is missing, a byte short, or has another first byte.
 #[test]
 fn copy_damaged(rt: HostRuntime) -> Result<(), Fail> {
     let alloc = rt.alloc();

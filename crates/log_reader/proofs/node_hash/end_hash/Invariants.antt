@@ -3,7 +3,7 @@ use Rattle.log_reader.specs.EdgeRows.{RowIsTrue}
 use Rattle.log_reader.specs.Nodes.{IsHashFrom}
 use Rattle.log_reader.proofs.node_hash.end_hash.Given as goal
 
--- the hash of what lies behind the whole blocks of the level
+-- the hash of the entries after the whole blocks of the level
 abbrev pub invariant-loop-below : goal.invariant-loop-below
 invariant-loop-below g l =
     (entries : List (List ℕ)) → l.edge.size ≡ length entries →

@@ -3,7 +3,7 @@ use Rattle.tlog_tiles.specs.Bundle.{bundle_text}
 use Rattle.mirror_model.specs.TrueLaws.{AreShort}
 use Rattle.mirror_audit.proofs.part.len_of_entries.Given as goal
 
--- what is left are the entries from the counter on
+-- the rest has the entries from the counter on
 abbrev pub invariant-loop : goal.invariant-loop
 invariant-loop l =
     (entries : List (List ℕ)) (rest : List ℕ) → length entries ≡ l.count → AreShort entries →

@@ -241,7 +241,7 @@ bring_tile-returns-clause-asks g t c =
     c.args.places.now c.find.new.places c.find.ensures.asks)
     c.bring_row.ensures.asks
 
--- ---- what was put was taken
+-- ---- each put was taken
 
 pub bring_row-returns-in_default-clause-taken : goal.bring_row-returns-in_default-clause-taken
 bring_row-returns-in_default-clause-taken g t c =

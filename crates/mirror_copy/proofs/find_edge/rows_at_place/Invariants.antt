@@ -8,7 +8,7 @@ use Rattle.mirror_copy.specs.Taken.{IsRowFrom, MayGive}
 use Rattle.mirror_copy.specs.TrueAnswers.{OfTruePlace}
 use Rattle.mirror_copy.proofs.find_edge.rows_at_place.Given as goal
 
--- the rows so far are of bytes that the place gave, and true where it gives true files alone
+-- the rows so far come from bytes that the place gave. They are true if it gives only true files
 abbrev pub invariant-loop-level : goal.invariant-loop-level
 invariant-loop-level g l = record {
   asks : AsksPlaces g.S.Source.may_answer g.S.Source.failed g.S.Source.asked (IsEdgeTile l.size) l.fn.places l.places;

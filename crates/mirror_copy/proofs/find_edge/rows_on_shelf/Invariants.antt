@@ -4,7 +4,7 @@ use Rattle.mirror_copy.specs.Found.{IsRowRead}
 use Rattle.log_reader.proofs.RowLists.{items_of}
 use Rattle.mirror_copy.proofs.find_edge.rows_on_shelf.Given as goal
 
--- the rows so far are as they stand on the shelf
+-- the rows so far are as they are on the shelf
 abbrev pub invariant-loop-level : goal.invariant-loop-level
 invariant-loop-level g l = record {
   counted : g.D.Shelf.failed l.shelf ≡ g.D.Shelf.failed l.fn.shelf;

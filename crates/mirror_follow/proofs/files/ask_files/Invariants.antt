@@ -1,6 +1,6 @@
 use Rattle.mirror_follow.specs.Blame.{AsksAny}
 use Rattle.mirror_follow.proofs.files.ask_files.Given as goal
 
--- the places were asked so far
+-- the requests to the places so far
 abbrev pub invariant-loop-path : goal.invariant-loop-path
 invariant-loop-path g l = AsksAny g.S.Source.may_answer g.S.Source.failed g.S.Source.asked l.initial.places l.places

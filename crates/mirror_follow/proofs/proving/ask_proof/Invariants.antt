@@ -1,6 +1,6 @@
 use Rattle.mirror_follow.specs.Blame.{AsksAny}
 use Rattle.mirror_follow.proofs.proving.ask_proof.Given as goal
 
--- the places were asked so far
+-- the requests to the places so far
 abbrev pub invariant-loop-i : goal.invariant-loop-i
 invariant-loop-i g l = AsksAny g.S.Source.may_answer g.S.Source.failed g.S.Source.asked l.initial.places l.places

@@ -5,7 +5,7 @@ use Rattle.mirror_follow.specs.Taken.{SplitsLacked}
 use Rattle.mirror_follow.specs.declared.candidate.Candidate.{Candidate}
 use Rattle.mirror_follow.proofs.report.split_not_had.Given as goal
 
--- each line so far shows a fork, where each did before; and what the candidates so far came to
+-- if each earlier line showed a fork, each line so far does. The candidates so far became fork lines or larger ones
 abbrev pub invariant-loop-candidate : goal.invariant-loop-candidate
 invariant-loop-candidate l = record {
   shows : (digest : List ℕ → List ℕ) → ShowsEach digest l.initial.forks.items → ShowsEach digest l.forks.items;

@@ -8,7 +8,7 @@ use Rattle.copy_reader.specs.WholeCopies.{HasFilesOf}
 use Rattle.program_copies.specs.Comparisons.{IsComparedTo}
 use Rattle.program_copies.proofs.compare.compare_all.Given as goal
 
--- the heads so far are compared, and nothing was put
+-- the tree heads so far are compared, and nothing was put
 abbrev pub invariant-loop-head : goal.invariant-loop-head
 invariant-loop-head g l = record {
   edge : l.reader.edge ≡ l.initial.reader.edge;
