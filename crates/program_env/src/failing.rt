@@ -1,4 +1,4 @@
-//! What of a run's files, folders, sources and streams failed, and why. Contracts see nothing of it.
+//! Which file, folder, source or stream of a run failed, and why. Contracts see nothing of it.
 use mirror_client::{Dial, FailedGet, HttpSource};
 use mirror_folders::{DirShelf, DirSource, FailedFile, MemShelf};
 use mirror_progress::{CountedFolders, CountingShelf};
@@ -17,17 +17,17 @@ pub enum Failed {
     File(FailedFile),
     /// A file of a server.
     Get(FailedGet),
-    /// A stream.
+    /// A stream. It has no name.
     Stream(io::Error),
 }
 
-/// What a run works on, which keeps why it failed.
+/// A part of the environment that keeps its last failure.
 ///
 /// ```text
 /// Why::of_failed(alloc, "log", folders.last_failed()?) // log/tile/0/000: No space left on device
 /// ```
 pub trait Failing {
-    /// What failed last; None if nothing did, or it is not kept.
+    /// The last failure; None if there was none, or if it was not kept.
     fn last_failed(&self) -> Option<Failed>;
 }
 
@@ -40,7 +40,7 @@ impl<'a, R: Files> Failing for SystemFiles<'a, R> {
     }
 }
 
-// Files in memory fail where memory is refused alone.
+// Files in memory fail only if memory is refused.
 impl Failing for MemoryFiles {
     fn last_failed(&self) -> Option<Failed> {
         None
