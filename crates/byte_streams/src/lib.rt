@@ -1,11 +1,11 @@
-//! The bytes of a stream as one piece of memory, and such a piece written whole.
+//! Reads the bytes of a stream into one piece of memory, and writes such a piece completely.
 //!
-//! `read_all` takes a reader's bytes up to a limit, by a limited number of reads; `write_whole` writes
-//! all the bytes that it is given. Both go on after an interruption, and both say what was taken or
-//! written where they fail, which `read_to_end` and `write_all` of std do not.
+//! `read_all` takes a reader's bytes up to a limit, by a limited number of reads. `write_whole` writes
+//! all the bytes that it is given. Both go on after an interruption. The contracts of both also say which
+//! bytes were taken or written before a failure. `read_to_end` and `write_all` of std do not.
 //!
 //! ```text
-//! // Every byte of the reader, of which 8,193 at most are taken.
+//! // All bytes of the reader, but at most 8,193.
 //! let bytes = read_all(alloc, &mut reader, 8193, u64::MAX)?;
 //! write_whole(&mut writer, &bytes)?;
 //! ```

@@ -1,4 +1,4 @@
-//! A reader's bytes as one piece of memory.
+//! Reads a stream into one piece of memory.
 ghost use Rattle.std.specs.Prelude.{◌≡◌, ◌≢◌, ◌≤◌, IfErr, IfOk, IfSome, take, vec_len};
 ghost use Rattle.std.specs.Io.KnownBytes.{Consumes};
 ghost use Rattle.byte_streams.specs.Streams.{TakesAtMost};
@@ -7,18 +7,18 @@ use crate::fault::StreamFault;
 use std::alloc::Global;
 use std::io::{ErrorKind, Read};
 
-/// How many bytes one read asks for at most.
+/// The greatest number of bytes that one read asks for.
 pub const CHUNK: usize = 65_536;
 
-/// The reader's bytes, to its end or until there are `most` of them. No more are taken from it. It is
-/// read `reads` times at most, and asked for `CHUNK` bytes at most each time.
+/// Reads the bytes of the reader to its end, or until there are `most` of them. It takes no more bytes.
+/// It reads at most `reads` times, and asks for at most `CHUNK` bytes each time.
 ///
 /// # Errors
 ///
-/// `ReadFault` comes where a read fails for another reason than an interruption, which is tried again,
-/// and where after `reads` reads the reader has not ended and fewer than `most` bytes came.
-/// `OutOfMemory` comes where the bytes cannot be kept. `WriteFault` never comes. What was read before a
-/// fault is lost.
+/// `ReadFault` if a read fails. An interrupted read is no failure: it is repeated.
+/// `ReadFault` also if `reads` reads gave fewer than `most` bytes and the reader has not ended.
+/// `OutOfMemory` if there is no memory for the bytes. `WriteFault` never. After a fault the bytes that
+/// were read are lost.
 pub fn read_all<R: Read>(
     alloc: Global,
     reader: &mut R,

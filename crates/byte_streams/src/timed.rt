@@ -9,13 +9,13 @@ use std::marker::Model;
 use std::net::TcpStream;
 use std::time::{Clock, Duration, Instant};
 
-/// A stream of whose calls it can be said how long they wait.
-/// A `TcpStream` is one, by its timeouts.
+/// A stream whose reads and writes have a timeout.
+/// A `TcpStream` is one.
 pub trait BoundsWaits {
-    /// From now on a read that waits for longer fails. The time is not zero.
+    /// From now on a read fails if it waits longer than this time, which must not be zero.
     fn bound_reads(&self, wait: Duration) -> io::Result<()>;
 
-    /// From now on a write that waits for longer fails. The time is not zero.
+    /// From now on a write fails if it waits longer than this time, which must not be zero.
     fn bound_writes(&self, wait: Duration) -> io::Result<()>;
 }
 
@@ -29,7 +29,7 @@ impl BoundsWaits for TcpStream {
     }
 }
 
-// One handle of a connection may be read while another is written.
+// A reference suffices, so one handle of a connection may be read while another is written.
 impl BoundsWaits for &TcpStream {
     fn bound_reads(&self, wait: Duration) -> io::Result<()> {
         self.set_read_timeout(Some(wait))
@@ -40,8 +40,8 @@ impl BoundsWaits for &TcpStream {
     }
 }
 
-/// A stream that is read and written up to a deadline, however often: no call waits beyond it, and each
-/// later call fails. So the other end cannot hold its reader for longer by a byte now and then.
+/// A stream with one deadline for all its reads and writes. No call waits beyond the deadline, and each
+/// later call fails. So a peer that sends a byte now and then cannot hold the reader for longer.
 ///
 /// ```text
 /// let stream = TcpStream::connect(&rt, "log.example:80")?;
@@ -50,9 +50,9 @@ impl BoundsWaits for &TcpStream {
 /// let reply = read_all(alloc, &mut stream, most, u64::MAX)?; // ReadFault once 60 seconds have passed
 /// ```
 ///
-/// Its bytes are those of the stream, as they are. A call that is left no time fails with
-/// `ErrorKind::TimedOut`, and one that waits for too long as its stream does (`ErrorKind::WouldBlock`
-/// of a `TcpStream`).
+/// Its bytes are those of the inner stream. A call after the deadline fails with `ErrorKind::TimedOut`.
+/// A call that waits until the deadline fails with the error of the inner stream: for a `TcpStream`
+/// `ErrorKind::WouldBlock`.
 #[derive(Drop)]
 pub struct TimedStream<S: Drop, C: Clock + Drop> {
     stream: S,
@@ -66,7 +66,7 @@ impl<S: Drop, C: Clock + Drop> Model for TimedStream<S, C> {
     ghost view = { λ t. t.stream };
 }
 
-// What is left at that time before the end.
+// The time from `now` until the end; None if none is left.
 fn left_at(now: Instant, end: Instant) -> Option<Duration>
     ensures more { IfSome result (λ left. 0 < as_nanos left) }
     ensures until { IfSome result (λ left. instant_nanos now + as_nanos left ≡ instant_nanos end) }
@@ -76,7 +76,7 @@ fn left_at(now: Instant, end: Instant) -> Option<Duration>
     if left.is_zero() { None } else { Some(left) }
 }
 
-// The instant that is so long after now.
+// The instant at `time` after now.
 fn end_after<C: Clock>(clock: &C, time: Duration) -> io::Result<Instant> {
     match Instant::now(clock)?.checked_add(time) {
         Some(end) => Ok(end),
@@ -85,11 +85,11 @@ fn end_after<C: Clock>(clock: &C, time: Duration) -> io::Result<Instant> {
 }
 
 impl<S: Drop, C: Clock + Drop> TimedStream<S, C> {
-    /// That stream, with a deadline so long after now.
+    /// Wraps the stream. The deadline is at `time` after now.
     ///
     /// # Errors
     ///
-    /// The clock cannot be read, or ends before the deadline.
+    /// The clock cannot be read, or cannot represent the deadline.
     pub fn new(stream: S, clock: C, time: Duration) -> io::Result<TimedStream<S, C>>
         ensures { IfOk result (λ t. t ≡ stream) }
     {
@@ -97,11 +97,11 @@ impl<S: Drop, C: Clock + Drop> TimedStream<S, C> {
         Ok(TimedStream { stream, clock, end })
     }
 
-    /// Moves the deadline: it is so long after now. The stream moves no byte.
+    /// Moves the deadline to `time` after now. No byte of the stream moves.
     ///
     /// # Errors
     ///
-    /// The clock cannot be read, or ends before the deadline, which stays as it was.
+    /// The clock cannot be read, or cannot represent the deadline. Then the deadline does not change.
     pub fn restart(&mut self, time: Duration) -> io::Result<()>
         ensures { self.new ≡ self.old }
     {
@@ -109,7 +109,7 @@ impl<S: Drop, C: Clock + Drop> TimedStream<S, C> {
         Ok(())
     }
 
-    // The time that is left, which is not zero.
+    // The time until the deadline; an error if none is left.
     fn left(&self) -> io::Result<Duration>
         ensures { IfOk result (λ left. 0 < as_nanos left) }
     {

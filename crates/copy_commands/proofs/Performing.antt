@@ -1,4 +1,4 @@
--- What a command over copies does, of what its call did. The answers of the commands cite one lemma each.
+-- How a command over copies ends, given the answer of its call. The answers of the commands cite one lemma each.
 use Rattle.std.proofs.Common.{◌≡◌, ℕ, List, Option, Result, Ok, Err, IfErr, IfOk, Some, None, map}
 use Rattle.std.proofs.Common.{inl, refl, subst}
 use Rattle.std.specs.Borrow.{Bor}
@@ -59,7 +59,7 @@ module _ (digest : List ℕ → List ℕ) (keys : List Key) (key_bytes : List �
       rw same (performs digest keys key_bytes old new c files folders (Err (Copy fault)) tt
       quiet (is_done (Err (Copy fault)) (prints, leaves)))
 
--- checkpoints in files were compared with a copy; their names are lent
+-- checkpoints in files, by borrowed names, were compared with a copy
 pub prints_compared : (digest : List ℕ → List ℕ) (keys : List Key) (key_bytes : List ℕ) (old new : Moment)
     (c : CopyCompareWords) (names : List (Bor (List ℕ))) → names ≡ c.files.items → new.files ≡ old.files →
     (answer : Result ℕ CopyAskFault) → IfOk answer IsStatus →
@@ -97,7 +97,7 @@ module _ (digest : List ℕ → List ℕ) (keys : List Key) (key_bytes : List �
       rw same (performs digest keys key_bytes old new (order.Follow c) tt tt (Err (Follow fault)) tt
       (quiet_follow fault h) h)
 
--- a note that a place, or the file, may give is one that may be followed
+-- a note that a place or the file may give may be followed
 pub may_follow : {S : Type 0} (may : S → Path → Option (List ℕ) → Type 0) (recorded : Option (List NamedFile))
     (name : Option (List ℕ)) (places : Places S) (note : List ℕ) → IsNoteOf may recorded name places note →
     MayFollow recorded name note
@@ -160,7 +160,7 @@ module _ (digest : List ℕ → List ℕ) (keys : List Key) (key_bytes : List �
   quiet_serve OutOfMemory h other = h
   quiet_serve fault h other = absurd h
 
-  -- what a copy does where its port was printed so
+  -- the effect of serving a copy that ended with this fault
   serves_fault : (fault : RunFault) → ServesCopy digest keys key_bytes old new c (Err fault) →
       Executes digest keys key_bytes old new (order.CopyServe c) (Err fault)
   serves_fault WriteFault h = h

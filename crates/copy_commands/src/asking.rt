@@ -1,4 +1,4 @@
-//! What a report of a copy is to the program, and what its faults are about.
+//! The answers of commands that report on a copy, and the things that their faults are about.
 ghost use Rattle.std.specs.Prelude.{◌≡◌};
 ghost use Rattle.std.specs.Result.{result_map_both};
 
@@ -13,7 +13,7 @@ use std::alloc::Global;
 use tlog_proof::Ask;
 use tlog_tiles::Path;
 
-/// The answer of a command, of what a reporter on a copy answers. Of a proof that was asked for also its numbers are known.
+/// The answer of a command from the answer of a reporter on a copy. For a proof request, the reason can name its numbers.
 pub(crate) fn asked<R, F: RunFiles, D: RunFolders, I, O, E>(
     env: &Env<'_, '_, '_, '_, R, F, D, I, O, E>,
     copy: &CopyArgs<'_>,
@@ -31,7 +31,6 @@ pub(crate) fn asked<R, F: RunFiles, D: RunFolders, I, O, E>(
     }
 }
 
-// What the fault is about.
 fn why_of<R, F: RunFiles, D: RunFolders, I, O, E>(
     env: &Env<'_, '_, '_, '_, R, F, D, I, O, E>,
     copy: &CopyArgs<'_>,
@@ -55,7 +54,7 @@ fn why_of<R, F: RunFiles, D: RunFolders, I, O, E>(
     }
 }
 
-// What a fault of a copy is about: the origin, or a file of its folder.
+// The thing that a fault of a copy is about: the origin, or a file of its folder.
 fn why_of_copy<R, F: RunFiles, D: RunFolders, I, O, E>(
     env: &Env<'_, '_, '_, '_, R, F, D, I, O, E>,
     folder: &str,
@@ -71,7 +70,7 @@ fn why_of_copy<R, F: RunFiles, D: RunFolders, I, O, E>(
     }
 }
 
-/// The checkpoint of a folder, which is refused.
+/// Names the refused checkpoint of a folder.
 pub(crate) fn of_head<F: RunFiles>(
     alloc: Global,
     files: &F,
@@ -84,7 +83,7 @@ pub(crate) fn of_head<F: RunFiles>(
     }
 }
 
-/// A file of a folder.
+/// Names a file of a folder.
 pub(crate) fn of_file(alloc: Global, folder: &str, path: &Path) -> Option<Why> {
     Why::of_made(alloc, format!(in alloc; "{folder}/{path}"))
 }

@@ -1,4 +1,4 @@
-//! The command `audit`: a whole log at a place, read file by file.
+//! The command `audit`: it reads a complete log at a place, file by file.
 ghost use Rattle.std.specs.Prelude.{◌≡◌, map};
 ghost use Rattle.std.specs.Result.{result_map_both};
 ghost use Rattle.sha2.specs.Sha256.{sha256};
@@ -27,11 +27,11 @@ use std::rt::Clock;
 use tlog_hash::Sha256Tree;
 use tlog_tiles::Path;
 
-/// Reads a whole log at the place, file by file, and prints its size and root where each has its true bytes.
+/// Reads a complete log at the place, file by file, and prints its size and root if every file has its true bytes.
 ///
 /// # Errors
 ///
-/// `BadOrigin`, before anything is read; then those of `run_audit`.
+/// `BadOrigin` before anything is read; then those of `run_audit`.
 pub fn run<R, F: RunFiles, D: RunFolders, I: Read, O: Write, E: Write>(
     env: &mut Env<'_, '_, '_, '_, R, F, D, I, O, E>,
     key_bytes: &[u8],
@@ -55,7 +55,7 @@ where
     }
 }
 
-// The same, of an origin that is one.
+// The same after the origin was checked.
 fn audit_place<R, F: RunFiles, D: RunFolders, I: Read, O: Write, E: Write>(
     env: &mut Env<'_, '_, '_, '_, R, F, D, I, O, E>,
     key_bytes: &[u8],
@@ -96,7 +96,7 @@ where
     }
 }
 
-// The same, at this source.
+// The same for this source.
 fn audit_any<
     R,
     F: RunFiles,
@@ -125,7 +125,7 @@ where
     audited(env.alloc, audit, source, answer)
 }
 
-// The answer of the command, of what the audit answered.
+// The answer of the command from the answer of the audit.
 fn audited<S: Source + Failing + Drop>(
     alloc: Global,
     words: &Audit<'_>,
@@ -143,7 +143,7 @@ fn audited<S: Source + Failing + Drop>(
     }
 }
 
-// Audits the source, and reports how far that is where the words ask for it. The source is given back.
+// Audits the source, and reports the progress if the words ask for it. Returns the source, too.
 fn audit_source<S: Source + Drop, R: Clock + Eprint, W: Write>(
     rt: &R,
     alloc: Global,
@@ -163,7 +163,7 @@ fn audit_source<S: Source + Drop, R: Clock + Eprint, W: Write>(
     }
 }
 
-// Audits the source.
+// Audits the source, without progress reports. Returns the source, too.
 fn audit_silent<S: Source + Drop, W: Write>(
     alloc: Global,
     origin: &str,
@@ -179,7 +179,7 @@ fn audit_silent<S: Source + Drop, W: Write>(
     (answer, source)
 }
 
-// Audits the source, and reports how far that is.
+// Audits the source, with progress reports. Returns the source, too.
 fn audit_counted<S: Source + Drop, R: Clock + Eprint, W: Write>(
     rt: &R,
     alloc: Global,
@@ -202,7 +202,7 @@ fn audit_counted<S: Source + Drop, R: Clock + Eprint, W: Write>(
     (answer, source.into_source())
 }
 
-// What the fault is about: a file of the place.
+// The thing that the fault is about: a file of the place.
 fn why_of<S: Failing + Drop>(
     alloc: Global,
     place: &Place<'_>,

@@ -1,4 +1,4 @@
-//! The command `compare --dir`: checkpoints compared with a copy.
+//! The command `compare --dir`: it compares checkpoints with a copy.
 ghost use Rattle.std.specs.Prelude.{map};
 ghost use Rattle.sha2.specs.Sha256.{sha256};
 ghost use Rattle.program_env.specs.Envs.{IsSameEnv, moment};
@@ -13,7 +13,8 @@ use signed_note::Verifier;
 use std::io::{Read, Write};
 use tlog_hash::Sha256Tree;
 
-/// Prints of each checkpoint in the files whether the copy begins with its tree; of the copy's own where no file is named.
+/// Prints for each checkpoint in the files whether the copy's tree has its root at its size. If no file is named, it uses the
+/// copy's own checkpoint.
 ///
 /// # Errors
 ///

@@ -1,4 +1,4 @@
-//! The command `entries --dir`: entries of a copy.
+//! The command `entries --dir`: it writes entries of a copy.
 ghost use Rattle.std.specs.Prelude.{◌≡◌, map};
 ghost use Rattle.std.specs.Result.{result_map_both};
 ghost use Rattle.sha2.specs.Sha256.{sha256};
@@ -17,11 +17,11 @@ use signed_note::Verifier;
 use std::io::{Read, Write};
 use tlog_hash::Sha256Tree;
 
-/// Writes entries of the copy, a bundle at a time, each verified before.
+/// Writes entries of the copy, one entry bundle after another. Each is verified first.
 ///
 /// # Errors
 ///
-/// `BadOrigin`, before anything is read; then those of `entries_of_copy`.
+/// `BadOrigin` before anything is read; then those of `entries_of_copy`.
 pub fn run<R, F: RunFiles, D: RunFolders, I: Read, O: Write, E: Write>(
     env: &mut Env<'_, '_, '_, '_, R, F, D, I, O, E>,
     key_bytes: &[u8],
@@ -43,7 +43,7 @@ pub fn run<R, F: RunFiles, D: RunFolders, I: Read, O: Write, E: Write>(
     }
 }
 
-// The same, of an origin that is one.
+// The same after the origin was checked.
 fn write_entries<R, F: RunFiles, D: RunFolders, I: Read, O: Write, E: Write>(
     env: &mut Env<'_, '_, '_, '_, R, F, D, I, O, E>,
     key_bytes: &[u8],
@@ -73,7 +73,7 @@ fn write_entries<R, F: RunFiles, D: RunFolders, I: Read, O: Write, E: Write>(
     written(env, entries, answer)
 }
 
-// The answer of the command, of what the writer answered.
+// The answer of the command from the answer of the writer.
 fn written<R, F: RunFiles, D: RunFolders, I, O, E>(
     env: &Env<'_, '_, '_, '_, R, F, D, I, O, E>,
     entries: &CopyEntries<'_>,
@@ -90,7 +90,6 @@ fn written<R, F: RunFiles, D: RunFolders, I, O, E>(
     }
 }
 
-// What the fault is about.
 fn why_of<R, F: RunFiles, D: RunFolders, I, O, E>(
     env: &Env<'_, '_, '_, '_, R, F, D, I, O, E>,
     entries: &CopyEntries<'_>,

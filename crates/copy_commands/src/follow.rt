@@ -1,4 +1,4 @@
-//! The command `follow`: a copy brought to the newest checkpoint of its places.
+//! The command `follow`: it brings a copy to the newest checkpoint of its places.
 ghost use Rattle.std.specs.Prelude.{◌≡◌, map};
 ghost use Rattle.std.specs.Result.{result_map_both};
 ghost use Rattle.sha2.specs.Sha256.{sha256};
@@ -25,12 +25,12 @@ use std::rt::Clock;
 use tlog_hash::Sha256Tree;
 use tlog_tiles::Path;
 
-/// Brings the copy in the folder to the newest checkpoint of the places, and prints what came of it. The status is 3 where there
-/// is a fork, or a checkpoint that could not be had. With `--why` a line on standard error says of each place what was wrong first.
+/// Brings the copy in the folder to the newest checkpoint of the places, and prints the result. The status is 3 if there is a
+/// fork, or a checkpoint that could not be reached. With `--why`, a line on standard error names the first fault of each place.
 ///
 /// # Errors
 ///
-/// `BadOrigin`, before anything is read; then those of `run_follow`.
+/// `BadOrigin` before anything is read; then those of `run_follow`.
 pub fn run<R, F: RunFiles, D: RunFolders, I: Read, O: Write, E: Write>(
     env: &mut Env<'_, '_, '_, '_, R, F, D, I, O, E>,
     key_bytes: &[u8],
@@ -54,7 +54,7 @@ where
     }
 }
 
-// The same, of an origin that is one.
+// The same after the origin was checked.
 fn follow_places<R, F: RunFiles, D: RunFolders, I: Read, O: Write, E: Write>(
     env: &mut Env<'_, '_, '_, '_, R, F, D, I, O, E>,
     key_bytes: &[u8],
@@ -100,14 +100,14 @@ where
     followed(env, follow, lacked, answer)
 }
 
-// The path of the file that no place gave, if there is one. The places are let go.
+// The path of the file that no place gave, if there is one. Drops the places.
 fn lacked_of<S: Source + Drop>(places: Places<S>) -> Option<Path> {
     let lacked = places.lacked();
     drop(places);
     lacked
 }
 
-// The answer of the command, of what the follower answered.
+// The answer of the command from the answer of the follower.
 fn followed<R, F: RunFiles, D: RunFolders, I, O, E>(
     env: &Env<'_, '_, '_, '_, R, F, D, I, O, E>,
     follow: &Follow<'_>,
@@ -125,7 +125,7 @@ fn followed<R, F: RunFiles, D: RunFolders, I, O, E>(
     }
 }
 
-// What the fault is about: a named file, the note that was given, a file of the folder, or the folder.
+// The thing that the fault is about: a named file, the given note, a file of the folder, or the folder.
 fn why_of<R, F: RunFiles, D: RunFolders, I, O, E>(
     env: &Env<'_, '_, '_, '_, R, F, D, I, O, E>,
     follow: &Follow<'_>,
@@ -145,7 +145,7 @@ fn why_of<R, F: RunFiles, D: RunFolders, I, O, E>(
     }
 }
 
-// What a fault of the copy, or of its places, is about.
+// The thing that a fault of the copy or of its places is about.
 fn why_of_copy<R, F: RunFiles, D: RunFolders, I, O, E>(
     env: &Env<'_, '_, '_, '_, R, F, D, I, O, E>,
     folder: &str,
@@ -170,7 +170,7 @@ fn why_of_copy<R, F: RunFiles, D: RunFolders, I, O, E>(
     }
 }
 
-// Writes what was wrong at each place, where it is asked for, as far as the stream takes it.
+// Writes the fault of each place if the words ask for it, or a prefix of that text if the stream fails.
 fn write_places<R: Files + Clock + Net<Stream = TcpStream>, E: Write>(
     asked: bool,
     alloc: Global,

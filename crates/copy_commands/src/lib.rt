@@ -1,7 +1,7 @@
-//! The commands of `tlogmirror` that work on copies and places: one module a command.
+//! The commands of `tlogmirror` that use copies and places: one module for each command.
 //!
 //! ```text
-//! copy_commands::follow::run(&mut env, &key_bytes, &keys, &words)? // 0, or 3 where there is a fork, or a larger checkpoint
+//! copy_commands::follow::run(&mut env, &key_bytes, &keys, &words)? // 0, or 3 if there is a fork, or a larger checkpoint
 //! ```
 #![tactic(auto)]
 

@@ -1,4 +1,4 @@
-//! The places that the words of a command name, as sources.
+//! The places that a command names, as sources.
 ghost use Rattle.std.specs.Prelude.{◌≡◌, IfOk};
 
 use mirror_client::{HttpSource, Site, TcpDial};
@@ -15,8 +15,8 @@ use std::rt::Clock;
 /// A place of the system: a folder, or a server over TCP.
 pub(crate) type SystemPlace<'a, R> = PlaceSource<'a, R, TcpDial<&'a R>>;
 
-/// The source at a server, which is sent so many requests ahead at most. The words were judged by the rules of `Site`, so
-/// memory alone can be wanting.
+/// The source at a server, which gets at most `ahead` requests ahead of the one that is read. `Site` has already accepted these
+/// words, so only memory can be lacking.
 pub(crate) fn server_of<'a, R: Clock + Net<Stream = TcpStream>>(
     rt: &'a R,
     alloc: Global,
@@ -31,7 +31,7 @@ pub(crate) fn server_of<'a, R: Clock + Net<Stream = TcpStream>>(
     Ok(HttpSource::new(alloc, site, dial, ahead))
 }
 
-// The source at a place. A server is sent so many requests ahead at most.
+// The source at a place. A server gets at most `ahead` requests ahead.
 fn source_of<'a, R: Files + Clock + Net<Stream = TcpStream>>(
     rt: &'a R,
     alloc: Global,
@@ -56,7 +56,7 @@ fn source_of<'a, R: Files + Clock + Net<Stream = TcpStream>>(
     }
 }
 
-/// The places, in their order.
+/// The places, in order.
 pub(crate) fn places_of<'a, R: Files + Clock + Net<Stream = TcpStream>>(
     rt: &'a R,
     alloc: Global,

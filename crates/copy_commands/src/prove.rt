@@ -1,4 +1,4 @@
-//! The command `prove --dir`: a proof of a copy's entries.
+//! The command `prove --dir`: it prints a proof about a copy's entries.
 ghost use Rattle.std.specs.Prelude.{map};
 ghost use Rattle.sha2.specs.Sha256.{sha256};
 ghost use Rattle.program_env.specs.Envs.{IsSameEnv, moment};
@@ -13,7 +13,7 @@ use signed_note::Verifier;
 use std::io::{Read, Write};
 use tlog_hash::Sha256Tree;
 
-/// Prints a proof of the copy's entries, made of verified rows, which holds.
+/// Prints a valid proof about the copy's entries, made from verified rows.
 ///
 /// # Errors
 ///

@@ -1,4 +1,4 @@
-//! The command `serve --dir`: answers over HTTP, of a copy.
+//! The command `serve --dir`: it answers over HTTP from a copy.
 ghost use Rattle.std.specs.Prelude.{◌≡◌, map};
 ghost use Rattle.std.specs.Result.{result_map_both};
 ghost use Rattle.sha2.specs.Sha256.{sha256};
@@ -25,19 +25,23 @@ use std::rt::Clock;
 use std::time::Duration;
 use tlog_hash::Sha256Tree;
 
-// The seconds that a client has to send the head of its request.
+// The number of seconds in which a client has to send the head of its request.
 const HEAD_SECONDS: u64 = 10;
 
-// The seconds that a client has for all, so that 60 are left for the reply at least.
+// The number of seconds for a whole exchange, so at least 60 remain for the reply.
 const ALL_SECONDS: u64 = 70;
 
-/// Answers as many connections as are asked for, one after the other, from the copy in the folder. Its checkpoint is read at
-/// each, so the copy may grow meanwhile. A fault of one is written to standard error, and the next is answered.
+/// Answers the requested number of connections, one after another, from the copy in the folder. It reads the checkpoint for
+/// each, so the copy may grow meanwhile. A fault of one connection is written to standard error, and then the next is answered.
 ///
 /// # Errors
 ///
-/// In this order: `BadOrigin`, `PortFault` where the port cannot be had, `WriteFault` where the line of the port cannot be
-/// written, and `PortFault` where a connection cannot be accepted.
+/// In this order:
+///
+/// - `BadOrigin`;
+/// - `PortFault` if the port cannot be opened;
+/// - `WriteFault` if the line with the port cannot be written;
+/// - `PortFault` if a connection cannot be accepted.
 pub fn run<R, F: RunFiles, D: RunFolders, I: Read, O: Write, E: Write>(
     env: &mut Env<'_, '_, '_, '_, R, F, D, I, O, E>,
     key_bytes: &[u8],
@@ -73,7 +77,7 @@ where
     ))
 }
 
-// The status where all were answered.
+// The status 0 if all connections were answered.
 fn served(answer: Result<(), Error>) -> Result<u8, Error>
     ensures { result ≡ result_map_both (λ _. 0) (λ fault. fault) answer }
 {
@@ -83,7 +87,7 @@ fn served(answer: Result<(), Error>) -> Result<u8, Error>
     }
 }
 
-// Listens at the port, prints it, and answers as many connections as are asked for.
+// Listens at the port, prints it, and answers the requested number of connections.
 fn serve_copy<D: RunFolders, R, O: Write, E: Write>(
     rt: &R,
     alloc: Global,
@@ -109,7 +113,7 @@ where
     }
 }
 
-// Answers clients one after the other, as many as asked, while connections are accepted.
+// Answers the requested number of clients, one after another, while connections are accepted.
 fn answer_all<D: RunFolders, C: Clock, E: Write>(
     clock: &C,
     alloc: Global,
@@ -130,7 +134,7 @@ fn answer_all<D: RunFolders, C: Clock, E: Write>(
     Ok(())
 }
 
-// Answers one connection, which is cut off in time, whatever its client does. Where there is no clock that is a
+// Answers one connection, and ends it in time, whatever its client does. If the clock cannot be read, that is a
 // `ReadFault`.
 fn answer_one<D: RunFolders, C: Clock>(
     clock: &C,
@@ -150,7 +154,7 @@ fn answer_one<D: RunFolders, C: Clock>(
     answer_from_copy::<Sha256Tree, D, _, _>(alloc, folders, origin, &mut reader, &mut writer)
 }
 
-// Writes the line of the fault of an answer, as far as the stream takes it.
+// Writes the line of the fault of an answer, or a prefix of it if the stream fails.
 fn print_answer_fault<E: Write>(errors: &mut E, fault: CopyAnswerFault) {
     match fault {
         CopyAnswerFault::Http(fault) => print_fault(errors, fault),

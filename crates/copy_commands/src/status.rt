@@ -1,4 +1,4 @@
-//! The command `status --dir`: the checkpoint of a copy.
+//! The command `status --dir`: it prints the checkpoint of a copy.
 ghost use Rattle.std.specs.Prelude.{map};
 ghost use Rattle.sha2.specs.Sha256.{sha256};
 ghost use Rattle.program_env.specs.Envs.{IsSameEnv, moment};
@@ -12,7 +12,7 @@ use signed_note::Verifier;
 use std::io::{Read, Write};
 use tlog_hash::Sha256Tree;
 
-/// Prints the origin and the checkpoint of the copy, as of a state that holds that checkpoint alone, complete.
+/// Prints the origin and the checkpoint of the copy, like `status` for a state that holds only that checkpoint, complete.
 ///
 /// # Errors
 ///

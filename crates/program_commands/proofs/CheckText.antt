@@ -26,7 +26,7 @@ use Rattle.program_commands.specs.declared.check.CheckFault.TheVariants.{BadProo
 use Rattle.program_commands.specs.declared.check.CheckFault.TheVariants.{OutOfMemory}
 use Rattle.program_commands.specs.Check.{Judges}
 
--- ---- texts of proofs are ASCII
+-- ---- the text of a proof is ASCII
 
 literal_ascii : (bytes : List ℕ) → list_all (λ byte. nat_lt byte 128) bytes ≡ true → IsAscii bytes
 literal_ascii bytes all =
@@ -67,7 +67,7 @@ title_ascii : (proof : Proof) → IsAscii (title_of proof)
 title_ascii (Inclusion size index root leaf path) = literal_ascii (codes "inclusion") refl
 title_ascii (Consistency first first_root second second_root path) = literal_ascii (codes "consistency") refl
 
--- bytes that are the text of a proof are a text
+-- the text of a proof is UTF-8
 pub proof_is_utf8 : (text : List ℕ) (proof : Proof) → IsProofText text proof → IsUtf8 text
 proof_is_utf8 text proof is =
     IsUtf8-from_ascii text
@@ -77,7 +77,7 @@ proof_is_utf8 text proof is =
 
 -- ---- the first 8,193 bytes decide
 
--- the text of a proof is all of the input, where it is all of its first bytes
+-- if the first bytes of the input are the text of a proof, the input has no more bytes
 whole_input : (input : List ℕ) (proof : Proof) → IsProofText (take MAX_READ_LEN input) proof →
     take MAX_READ_LEN input ≡ input
 whole_input input proof is =

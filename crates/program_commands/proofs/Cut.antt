@@ -1,4 +1,4 @@
--- A bundle in the first bytes of an input.
+-- An entry bundle in the first bytes of an input.
 use Rattle.std.proofs.Common.{◌≡◌, ℕ, ◌+◌, ◌*◌, ◌-◌, ◌^◌, ◌<◌, ◌≤◌, List, [], ◌∷◌, ◌++◌, length, take, drop, All}
 use Rattle.std.proofs.Common.{Option, Some, None, Ok, Err, sym, ap, subst, ◌∙◌, append_assoc, arith}
 use Rattle.std.specs.Prelude.{IfSome}
@@ -26,7 +26,7 @@ entries_length (e ∷ es) h =
     let front : length (entry_text e) ≡ 2 + length e = length-append (to_be_bytes w16 (length e)) e in
     omega (arith, first, others, whole, front)
 
--- a bundle of 256 entries at most is short
+-- a bundle of at most 256 entries is shorter than the limit
 pub IsBundle-length : (width : ℕ) (bytes : List ℕ) (es : List (List ℕ)) → width ≤ 256 → IsBundle width bytes es →
     length bytes < MAX_READ_LEN
 IsBundle-length width bytes es le b =
@@ -34,7 +34,7 @@ IsBundle-length width bytes es le b =
     let e = ap length b.text in
     omega (arith, h, e, b.count, le)
 
--- a prefix of an input that fits into the part that was read is a prefix of that part
+-- a prefix of the input that is not longer than the part that was read is a prefix of this part
 front_of_part : (input front rest : List ℕ) (n : ℕ) → length front ≤ n → input ≡ front ++ rest →
     (others : List ℕ) × (take n input ≡ front ++ others)
 front_of_part input front rest n le e =

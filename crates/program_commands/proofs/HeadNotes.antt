@@ -1,4 +1,4 @@
--- Notes that are looked at one after another.
+-- Notes that are checked in order.
 use Rattle.std.proofs.Common.{◌≡◌, ℕ, ◌+◌, ◌<◌, List, [], ◌∷◌, ◌++◌, length, map, take, get_or, Err, sym, subst, ap, ◌∙◌}
 use Rattle.std.specs.List.{AllZip}
 use Rattle.std.proofs.lemmas.List.{map-append, take_more, take-map, get_or-map, length-map}
@@ -18,7 +18,7 @@ zip_push R (a ∷ xs) [] x y h r = absurd h
 zip_push R (a ∷ xs) (b ∷ ys) x y h r = (h.0, zip_push R xs ys x y h.1 r)
 
 module _ (origin : List ℕ) (keys : List Key) where
-  -- a checkpoint that opens is a head of its size and root
+  -- an open checkpoint is an open tree head of its size and root
   open_head : (note : List ℕ) (c : Checkpoint) → IsOpenCheckpoint note origin keys c →
       IsOpenHead note origin keys c.size c.root
   open_head note c o = record {
@@ -31,7 +31,7 @@ module _ (origin : List ℕ) (keys : List Key) where
   }
 
   module _ {A : Type 0} (bytes_of : A → List ℕ) (notes : List A) (i : ℕ) (d : A) (within : i < length notes) where
-    -- one note more
+    -- one more note
     pub opened_more : (heads grown : List (ℕ × List ℕ)) (c : Checkpoint) → grown ≡ heads ++ (c.size, c.root) ∷ [] →
         AreOpen origin keys (map bytes_of (take i notes)) heads →
         IsOpenCheckpoint (bytes_of (get_or notes i d)) origin keys c →

@@ -1,4 +1,4 @@
--- What a command leaves in files, from what it made.
+-- The files after a command, from what it made.
 use Rattle.std.proofs.Common.{ℕ, List, Option, Result, Ok, Err}
 use Rattle.mirror_sources.specs.Recorded.{KeepsRecord}
 use Rattle.signed_note.specs.Keys.{Key}
@@ -18,10 +18,10 @@ use Rattle.program_commands.specs.declared.fault.TakeFilesFault.TheVariants as t
 use Rattle.program_commands.specs.declared.fault.MergeFilesFault.{MergeFilesFault}
 use Rattle.program_commands.specs.declared.fault.MergeFilesFault.TheVariants as merging
 
--- A fault says the same whatever type its answer has: that is written `Unit` here.
+-- In these lemmas the type of a failed answer is `Unit`: a fault says the same for each type.
 
 module _ (digest : List ℕ → List ℕ) (origin : List ℕ) (keys : List Key) (recorded new : Option (List NamedFile)) where
-  -- nothing was taken, and nothing written
+  -- nothing was taken and nothing was written
   pub left_untaken :
       (state : Option (List ℕ)) (files : ItemFiles) (out : List ℕ) (fault : TakeFilesFault) →
       MakesTaken digest origin keys recorded state files (Err fault) → KeepsRecord recorded new →
@@ -31,7 +31,7 @@ module _ (digest : List ℕ → List ℕ) (origin : List ℕ) (keys : List Key) 
   left_untaken state files out (taking.Take fault) h kept = (h, kept)
   left_untaken state files out (taking.Out fault) h kept = absurd h
 
-  -- the same of a merge
+  -- the same for a merge
   pub left_unmerged :
       (first second out : List ℕ) (fault : MergeFilesFault) →
       MakesMerged digest origin keys recorded first second (Err fault) → KeepsRecord recorded new →
@@ -43,7 +43,7 @@ module _ (digest : List ℕ → List ℕ) (origin : List ℕ) (keys : List Key) 
 
 module _ (digest : List ℕ → List ℕ) (origin : List ℕ) (keys : List Key) (recorded : Option (List NamedFile))
     (state : Option (List ℕ)) (files : ItemFiles) where
-  -- a mirror was begun with, and no item was taken into it
+  -- there was a mirror, but it did not take the item
   pub begun_untaken :
       (before after : View) (fault : TakeFilesFault) → BeginsWith digest origin keys recorded state (Ok before) →
       TakesHeld digest keys recorded {T = Unit {0}} before files after (Err fault) →
@@ -64,7 +64,7 @@ module _ (digest : List ℕ → List ℕ) (origin : List ℕ) (keys : List Key) 
   written answer puts =
       record { view = view; listed = listed; heads = heads; opened = opened; has = has; order = order; puts = puts }
 
-  -- the notes of a mirror that was opened were put in that order
+  -- the notes of an open mirror were put in this order
   pub written_heads : (r : Result (Unit {0}) NotesFault) → PutsHeads folder heads recorded new r →
       WritesNotes digest origin keys recorded state folder new r
   written_heads (Ok x) h = written notes_put h

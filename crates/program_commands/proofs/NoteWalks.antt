@@ -1,4 +1,4 @@
--- A walk over a mirror's notes: what it has met, and the files of that.
+-- A walk over the notes of a mirror: the notes so far, and their files.
 use Rattle.std.proofs.Common.{◌≡◌, ℕ, suc, ◌+◌, ◌<◌, ◌≤◌, List, [], ◌∷◌, ◌++◌, Some, None, Result, Ok, Err, inl, inr, length, map, take, drop, All}
 use Rattle.std.proofs.Common.{refl, sym, ap, subst, ◌∙◌, get_or, arith}
 use Rattle.std.specs.Prelude.{Bool, cond, Contains, IfOk, count_by, option_map, sum, slice_get}
@@ -18,7 +18,7 @@ use Rattle.program_commands.specs.NoteFiles.{files_of}
 use Rattle.program_commands.specs.declared.note_list.HeadNote.{HeadNote as LentNote}
 use Rattle.program_commands.specs.declared.note_list.NoteFile.{NoteFile}
 
--- what passes a test of images is counted by the test of what they come of
+-- counting in a mapped list is counting in the list with the test after the map
 pub count_by-map :
     {X Y : Type 0} (p : Y → Bool) (f : X → Y) (xs : List X) →
     count_by p (map f xs) ≡ count_by (λ x. p (f x)) xs
@@ -26,7 +26,7 @@ count_by-map p f xs =
     sym (sum-map (λ y. cond (p y) 1 0) (map f xs)) ∙ ap sum (map-map (λ y. cond (p y) 1 0) f xs)
     ∙ sum-map (λ x. cond (p (f x)) 1 0) xs
 
--- the files of two lists of notes, one behind the other
+-- the files of two lists of notes, one after the other
 files_after-both :
     (before xs ys : List HeadNote) →
     files_after before (xs ++ ys) ≡ files_after before xs ++ files_after (before ++ xs) ys
@@ -43,7 +43,7 @@ module _ (heads : List HeadNote) (i : ℕ) (file : NamedFile) (at : IsFileAt hea
   here : get_or heads i at.head ≡ at.head
   here = get_or_from_slice_get heads i at.head at.head at.is_there
 
-  -- the file of one more note comes last
+  -- the file of one more note is the last one
   pub files_more : (files : List NamedFile) → files ≡ files_of (take i heads) → files ++ file ∷ [] ≡ files_of (take (i + 1) heads)
   files_more files so_far =
       let more : take (i + 1) heads ≡ take i heads ++ at.head ∷ [] =
@@ -52,7 +52,7 @@ module _ (heads : List HeadNote) (i : ℕ) (file : NamedFile) (at : IsFileAt hea
       ∙ ap (λ (f : NamedFile). files_of (take i heads) ++ f ∷ []) at.file_is
       ∙ sym (ap files_of more ∙ files_after-both [] (take i heads) (at.head ∷ []))
 
-  -- the file of each note is one of those of all
+  -- the file of each note is in the list of all files
   pub file_listed : Contains (files_of heads) file
   file_listed =
       let rest : List HeadNote = drop (suc i) heads in
@@ -70,7 +70,7 @@ module _ (heads : List HeadNote) (i : ℕ) (file : NamedFile) (at : IsFileAt hea
       (Contains-append_right (files_of (take i heads)) (own ∷ behind) own first) in
       subst (λ (f : NamedFile). Contains (files_of heads) f) (sym at.file_is) listed
 
--- the file that a note gets behind those before it is the one at its index
+-- the file that a note gets after the earlier notes is the file at its index
 pub file_found :
     {E : Type 0} (heads : List LentNote) (i : ℕ) (d : LentNote) (r : Result NoteFile E) → i < length heads →
     IfOk r (λ file. note_file file ≡ file_after (map head_note (take i heads)) (head_note (get_or heads i d))) →
@@ -87,7 +87,7 @@ file_found heads i d (Err fault) lt is = tt
 abbrev pub notes_of : List HeadNote → List (List ℕ)
 notes_of heads = map (λ (head : HeadNote). head.note) heads
 
--- the heads are the first so many notes of the view, with what they say
+-- these are the first `count` notes of the view, with their sizes and roots
 pub record MeetsFirst (v : View) (count : ℕ) (heads : List HeadNote) : Type 0 where
   pub are_heads : All IsHeadNote heads
   pub begin : (notes : List (List ℕ)) → ListsNotes v notes → notes_of heads ≡ take count notes
@@ -116,7 +116,7 @@ meets_more v count heads head is at met =
           all ∙ ap (λ (ns : List (List ℕ)). ns ++ head.note ∷ []) (met.begin notes lists) ∙ sym next;
     }
 
--- past the last note, they are all
+-- after the last note, these are all notes
 pub meets_all :
     (v : View) (count : ℕ) (heads : List HeadNote) → IsNoteAt v count None → MeetsFirst v count heads →
     HasHeads v heads

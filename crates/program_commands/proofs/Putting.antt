@@ -1,4 +1,4 @@
--- Notes put one after the other.
+-- Notes that are put in order.
 use Rattle.std.proofs.Common.{◌≡◌, ℕ, ◌+◌, ◌<◌, ◌≤◌, zero, suc, List, [], ◌∷◌, ◌++◌, length, map, take, drop, get_or}
 use Rattle.std.proofs.Common.{Option, Some, None, Result, Ok, Err, Bool, true, false, refl, sym, ap, subst, ◌∙◌, inl}
 use Rattle.std.proofs.Common.{inr, arith}
@@ -16,7 +16,7 @@ use Rattle.program_files.specs.declared.fault.NamedFault.{NamedFault}
 use Rattle.program_files.specs.declared.fault.NamedFault.TheVariants as named
 use Rattle.program_files.proofs.NamedLemmas.{kept_itself, newer_named, standing_push}
 
--- ---- what follows of puts
+-- ---- consequences of puts
 
 kept_newer : (test : Bool) (found : Option (List ℕ)) (bytes given : List ℕ) → (test ≡ true → found ≡ None) →
     found ≡ Some bytes → (if test then Some given else found) ≡ Some bytes
@@ -56,7 +56,7 @@ notes_stand_at (first ∷ files) old new file (suc k) puts lt at =
 pub notes_stand : NotesStand
 notes_stand files old new file puts listed = notes_stand_at files old new file listed.0 puts listed.1 listed.2
 
--- ---- as they are told
+-- ---- puts that may be recorded
 
 pub recorded_none : (old : Option (List NamedFile)) → IsRecorded (PutsEach []) old old
 recorded_none None = tt
@@ -92,7 +92,7 @@ pub put_same : {T : Type 0} (recorded : Option (List NamedFile)) (file : NamedFi
 put_same None file there x stands same = tt
 put_same (Some puts) file there x stands same = inl (stands ∙ ap Some same, refl)
 
--- a file that has other bytes
+-- a file with this name has other bytes
 pub other_recorded : (recorded : Option (List NamedFile)) (file : NamedFile) (there : List ℕ) → HasContents recorded file.0 there →
     (there ≡ file.1 → ⊥) → RecordsOther recorded file
 other_recorded None file there stands other = tt
@@ -106,7 +106,7 @@ pub put_other : (recorded : Option (List NamedFile)) (file : NamedFile) (there :
     HasContents recorded file.0 there → (there ≡ file.1 → ⊥) → PutsOne {T = Unit {0}} recorded recorded file (Err named.FileFault)
 put_other recorded file there stands other = (kept_itself recorded, other_recorded recorded file there stands other)
 
--- a file that is not read
+-- a file could not be read
 pub put_unread : (recorded : Option (List NamedFile)) (file : NamedFile) (fault : NamedFault) →
     FindsFile recorded file.0 (Err fault) → PutsOne {T = Unit {0}} recorded recorded file (Err fault)
 put_unread None file named.FileFault long = (tt, tt)

@@ -34,7 +34,7 @@ module _ (recorded : Option (List NamedFile)) (folder : List ℕ) where
       subst (λ f. Contains (map (in_folder folder) files) (in_folder folder f)) listed.2
       (named_here (in_folder folder) files listed.0 file listed.1)
 
-  -- a file of the name of a note has other bytes
+  -- a file with the name of a note has other bytes
   pub reorders_found :
       (old new : List HeadNote) (i : ℕ) (file : NamedFile) (there : List ℕ) → IsFileAt old i file → IsPermutation old new →
       HasContents recorded (in_folder folder file).0 there → (there ≡ file.1 → ⊥) → Reorders recorded folder old new

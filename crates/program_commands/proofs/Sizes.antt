@@ -1,4 +1,4 @@
--- How many strings a set has, and when a set that has no fewer is the same.
+-- The size of a set of strings, and when a subset of the same size is the same set.
 use Rattle.std.proofs.Common.{◌≡◌, ℕ, zero, suc, ◌+◌, ◌-◌, ◌≤◌, List, [], ◌∷◌, length, Bool, true, false, sym, refl, ap}
 use Rattle.std.proofs.Common.{◌∙◌, subst, arith, inl, inr, Some, None}
 use Rattle.std.specs.Prelude.{◌&&◌, ◌||◌, ◌≢◌, ◌↔◌, IsTrue, Option, cond, is_some, not, option_copied}
@@ -29,7 +29,7 @@ both : (a b c : Bool) → (b ≡ true → c ≡ true) → (a && b) ≡ true → 
 both true b c f h = f h
 both false b c f h = h
 
--- the same string taken out of both
+-- a subset remains a subset if the same string is removed from both sets
 less_within : (s t : Strings) (k : List ℕ) → IsWithin s t → IsWithin (remove s k) (remove t k)
 less_within s t k within q has =
     contains-remove nat_list_cmp_total t k q
@@ -49,14 +49,14 @@ first_item s k ks is =
     contains-items s k ∙ ap (list_any (eq_by_cmp (slice_cmp nat_cmp) k)) is
     ∙ ap (λ b. b || list_any (eq_by_cmp (slice_cmp nat_cmp) k) ks) (tied k)
 
--- a set that has a string has one at least
+-- a set that has a string is not empty
 has_some : (t : Strings) (k : List ℕ) → Has t k → 1 ≤ len t
 has_some t k has = elim (len t) as (λ n. len t ≡ n → 1 ≤ n) [
   | zero ↦ λ none. absurd (Has-empty k (subst (λ (u : Strings). Has u k) (empty_of_len t none) has))
   | suc m ↦ λ some. omega arith
 ] refl
 
--- what is within a set has no more
+-- a subset has at most as many strings
 at_most : (n : ℕ) (s t : Strings) → n ≤ len s → IsWithin s t → n ≤ len t
 at_most zero s t h within = omega arith
 at_most (suc n) s t h within =
@@ -74,7 +74,7 @@ at_most (suc n) s t h within =
           omega (arith, one, right, rest)
     ] refl
 
--- a set within another that has no more is that one
+-- a subset that has at least as many strings is the same set
 pub same_of_len : (s t : Strings) → IsWithin s t → len t ≤ len s → t ≡ s
 same_of_len s t within no_more = same_strings t s from within
   where
@@ -111,7 +111,7 @@ len_of_sorted (x ∷ xs) sorted =
     let rest = len_of_sorted xs sorted.1 in
     omega (arith, more, rest)
 
--- a view has as many notes as their list
+-- a view has as many notes as the list of its notes
 pub len_of_notes : (v : View) (notes : List (List ℕ)) → ListsNotes v notes → len v.notes ≡ length notes
 len_of_notes v notes lists =
     ap len (same_strings v.notes (from_list notes)
@@ -119,7 +119,7 @@ len_of_notes v notes lists =
     (λ q h. (lists.exact q).0 (listed_from_has notes q h)))
     ∙ len_of_sorted notes lists.sorted
 
--- past so many notes there is none
+-- if there is no note at an index, the view has at most that number of notes
 pub no_more_notes : (v : View) (i : ℕ) → IsNoteAt v i None → len v.notes ≤ i
 no_more_notes v i at =
     let count = len_of_notes v at.0 at.1 in
@@ -129,7 +129,7 @@ no_more_notes v i at =
     ] in
     omega (arith, count, past)
 
--- where there is a note of that number there are more
+-- if there is a note at an index, the view has more notes than that
 pub more_notes : (v : View) (i : ℕ) (note : List ℕ) → IsNoteAt v i (Some note) → i + 1 ≤ len v.notes
 more_notes v i note at =
     let count = len_of_notes v at.0 at.1 in
@@ -138,7 +138,7 @@ more_notes v i note at =
 
 -- ---- views
 
--- a view that holds what another does, and no more notes or strings, is that one
+-- if a view is a subview of another, and the other has no more notes or strings, they are the same
 pub same_view : (v w : View) → IsSubview v w → len w.notes ≤ len v.notes → len w.strings ≤ len v.strings → w ≡ v
 same_view v w sub notes strings =
     let o = sub.origin_is in
@@ -156,8 +156,7 @@ none_more : (v : View) (i : ℕ) (note : Option (Bor (List ℕ))) → IsNoteAt v
 none_more v i (Some note) at is = absurd (cc is)
 none_more v i None at is = no_more_notes v i at
 
--- a view that holds what an old one does, and as many strings, has gained something exactly where
--- there is one note more
+-- if a view contains an old one and has the same number of strings, it differs exactly if it has one more note
 pub gains_note : (old new : View) (holding : HeldCounts) (note : Option (Bor (List ℕ))) → IsHolding old holding →
     IsSubview old new → len new.strings ≡ holding.strings → IsNoteAt new holding.notes (option_copied note) →
     IsTrue (is_some note) ↔ (new ≢ old)
@@ -177,7 +176,7 @@ gains_note old new holding note held sub strings at = (
   ] refl,
 )
 
--- and where there is none it is the old one
+-- if it has no more notes, it is the old view
 pub same_unless : (old new : View) (holding : HeldCounts) (note : Option (Bor (List ℕ))) → IsHolding old holding →
     IsSubview old new → len new.strings ≡ holding.strings → IsNoteAt new holding.notes (option_copied note) →
     (IsTrue (is_some note) → ⊥) → new ≡ old

@@ -1,10 +1,10 @@
--- The answer of a call that gives nothing: that it was done, or why it was not.
+-- The answer of a call that returns nothing: success or a fault.
 use Rattle.std.specs.Prelude.{Result, Ok, Err}
 
--- it was done
+-- success
 abbrev pub done : {F : Type 0} → Result (Unit {0}) F
 done = Ok tt
 
--- it was not done, for that reason
+-- the fault
 abbrev pub failed : {F : Type 0} → F → Result (Unit {0}) F
 failed fault = Err fault

@@ -1,4 +1,4 @@
--- What the command `check` answers and writes.
+-- The answer and the output of the command `check`.
 use Rattle.std.specs.Prelude.{ℕ, List, Option, Result, Ok, Err, Bool, true, false, codes, ⊤}
 use Rattle.std.specs.Io.KnownBytes.{Appends}
 use Rattle.byte_streams.specs.Streams.{AppendsPrefix}
@@ -9,18 +9,18 @@ use Rattle.program_commands.specs.declared.check.CheckFault.{CheckFault}
 use Rattle.program_commands.specs.declared.check.CheckFault.TheVariants.{BadProofText, ReadFault}
 use Rattle.program_commands.specs.declared.check.CheckFault.TheVariants.{WriteFault, OutOfMemory}
 
--- the line that tells a verdict
+-- the line with the verdict
 abbrev pub verdict_text : Bool → List ℕ
 verdict_text true = codes "yes\n"
 verdict_text false = codes "no\n"
 
 module _ (digest : List ℕ → List ℕ) where
-  -- the input is the text of a proof, and this is whether the proof holds
+  -- the input is the text of a proof, and the verdict says whether the proof holds
   abbrev pub Verdict : List ℕ → Bool → Type 0
   Verdict input true = (proof : Proof) × IsProofText input proof × Holds digest proof
   Verdict input false = (proof : Proof) × IsProofText input proof × (¬ Holds digest proof)
 
-  -- what each answer of the command says of the input, and of what was written
+  -- the meaning of each answer of the command for the input and the output
   abbrev pub AnswersCheck : List ℕ → Option (List ℕ) → Option (List ℕ) → Result Bool CheckFault →
       Type 0
   AnswersCheck input old new (Ok verdict) =
@@ -31,7 +31,7 @@ module _ (digest : List ℕ → List ℕ) where
       (verdict : Bool) × Verdict input verdict × AppendsPrefix old new (verdict_text verdict)
   AnswersCheck input old new (Err OutOfMemory) = ⊤
 
-  -- what each answer of the judge says of the bytes
+  -- the meaning of each answer of the verifier for the bytes
   abbrev pub Judges : List ℕ → Result Bool CheckFault → Type 0
   Judges bytes (Ok verdict) = Verdict bytes verdict
   Judges bytes (Err BadProofText) = (proof : Proof) → ¬ IsProofText bytes proof

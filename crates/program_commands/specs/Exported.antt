@@ -1,4 +1,4 @@
--- What the command `export` makes of a state file, and what it puts into the folder.
+-- The command `export`: the mirror in a state file, and the files that it puts into the folder.
 use Rattle.std.specs.Prelude.{◌≡◌, ◌↔◌, ℕ, List, Option, None, Result, Ok, Err}
 use Rattle.signed_note.specs.Keys.{Key}
 use Rattle.mirror_model.specs.View.{View}
@@ -14,7 +14,7 @@ use Rattle.program_commands.specs.declared.fault.ExportFileFault.{ExportFileFaul
 use Rattle.program_commands.specs.declared.fault.ExportFileFault.TheVariants.{State, OutOfMemory}
 use Rattle.program_commands.specs.declared.fault.ExportFileFault.TheVariants.{Export}
 
--- the shelf's count of failures, as an export counts them
+-- how the shelf's count of failures changes in an export
 abbrev pub CountsFileExport : {T : Type 0} → ℕ → ℕ → Result T ExportFileFault → Type 0
 CountsFileExport old new (Ok x) = CountsExport old new done
 CountsFileExport old new (Err (State fault)) = new ≡ old
@@ -23,8 +23,7 @@ CountsFileExport old new (Err (Export fault)) = CountsExport old new (failed fau
 
 module _ (digest : List ℕ → List ℕ) (origin : List ℕ) (keys : List Key)
     (recorded : Option (List NamedFile)) (name : List ℕ) (held before put : Option (List Put)) where
-  -- a mirror was opened of the file, and what it serves was put, over what the folder held, as an
-  -- export with that answer puts it
+  -- the file gave a mirror, and its served files were put over what the folder held, as this answer of an export says
   pub record ExportsOpened (answer : Result (Unit {0}) ExportFault) : Type 0 where
     pub view : View
     pub opened : OpensFile digest origin keys recorded name (Ok view)
@@ -32,8 +31,7 @@ module _ (digest : List ℕ → List ℕ) (origin : List ℕ) (keys : List Key)
     pub nothing : (answer ≡ Err NothingComplete) ↔ SaysServed digest view None
     pub last : CheckpointIsLast digest view held put
 
-  -- what each answer of the command says: the file is opened first, and then the folder; nothing is
-  -- put where either is not
+  -- the meaning of each answer: the state file is read first, then the folder is opened; if one of these fails, nothing is put
   abbrev pub ExportsFile : {T : Type 0} → Result T ExportFileFault → Type 0
   ExportsFile (Ok x) = ExportsOpened done
   ExportsFile (Err (State fault)) =

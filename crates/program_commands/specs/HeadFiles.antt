@@ -1,4 +1,4 @@
--- What is read of files that each hold a signed note of the log's.
+-- Files that each hold a signed note of the log.
 use Rattle.std.specs.Prelude.{◌≡◌, ℕ, ◌<◌, List, length, take, get_or, Option, Result, Ok, Err}
 use Rattle.std.specs.List.{AllZip}
 use Rattle.signed_note.specs.Keys.{Key}
@@ -10,11 +10,11 @@ use Rattle.program_commands.specs.declared.fault.HeadFilesFault.{HeadFilesFault}
 use Rattle.program_commands.specs.declared.fault.HeadFilesFault.TheVariants.{File, Head}
 
 module _ (origin : List ℕ) (keys : List Key) where
-  -- the notes open under the keys, and are of the origin and of these sizes and roots, one for one
+  -- the notes open under the keys, and are checkpoints of this origin with these sizes and roots, in order
   abbrev pub AreOpen : List (List ℕ) → List (ℕ × List ℕ) → Type 0
   AreOpen notes heads = AllZip (λ note head. IsOpenHead note origin keys head.0 head.1) notes heads
 
-  -- one of the notes is refused, for that reason, and those before it are not
+  -- the first note that is refused, and the reason
   pub record RefusesNote (notes : List (List ℕ)) (fault : TakeFault) : Type 0 where
     pub at : ℕ
     pub note : List ℕ
@@ -24,13 +24,13 @@ module _ (origin : List ℕ) (keys : List Key) where
     pub before : AreOpen (take at notes) heads
     pub refused : ReadsHead note origin keys (Err fault)
 
-  -- the sizes and roots of the notes, or why the first that is refused is
+  -- the sizes and roots of the notes, or the reason why the first bad one is refused
   abbrev pub ChecksHeads : List (List ℕ) → Result (List (ℕ × List ℕ)) TakeFault → Type 0
   ChecksHeads notes (Ok heads) = AreOpen notes heads
   ChecksHeads notes (Err fault) = RefusesNote notes fault
 
-  -- the sizes and roots of the notes in the files of these names; or why one is not read; or, where
-  -- all are, why the first that is refused is
+  -- the sizes and roots of the notes in the files of these names; or the reason why a file was not read; or, if all
+  -- were read, the reason why the first bad note is refused
   abbrev pub ReadsHeads : Option (List NamedFile) → List (List ℕ) →
       Result (List (ℕ × List ℕ)) HeadFilesFault → Type 0
   ReadsHeads recorded names (Ok heads) =

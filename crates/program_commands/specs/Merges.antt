@@ -1,4 +1,4 @@
--- What the command `merge` makes of two state files, and what it leaves in them.
+-- The command `merge`: the mirrors of two state files, and the files that it leaves.
 use Rattle.std.specs.Prelude.{ℕ, List, Option, Result, Ok, Err}
 use Rattle.mirror_sources.specs.Recorded.{KeepsRecord}
 use Rattle.signed_note.specs.Keys.{Key}
@@ -15,7 +15,7 @@ use Rattle.program_commands.specs.declared.fault.MergeFilesFault.TheVariants.{Ou
 
 module _ (digest : List ℕ → List ℕ) (origin : List ℕ) (keys : List Key)
     (recorded : Option (List NamedFile)) (first second : List ℕ) where
-  -- both files were loaded, and the second was merged so into the first
+  -- both files gave mirrors, and the second one was merged into the first with this answer
   pub record MergesFiles (answer : Answer) (after : View) : Type 0 where
     pub before : View
     pub other : View
@@ -23,11 +23,11 @@ module _ (digest : List ℕ → List ℕ) (origin : List ℕ) (keys : List Key)
     pub second_is : OpensFile digest origin keys recorded second (Ok other)
     pub merges : Merges digest before other answer after
 
-  -- the first file was loaded
+  -- the first file gave a mirror
   abbrev pub OpensFirst : Type 0
   OpensFirst = (before : View) × OpensFile digest origin keys recorded first (Ok before)
 
-  -- the mirror of both, or the first reason why there is none
+  -- the merged mirror, or the first reason why there is none
   abbrev pub MakesMerged : Result View MergeFilesFault → Type 0
   MakesMerged (Ok after) = MergesFiles Done after
   MakesMerged (Err (First fault)) = OpensFile digest origin keys recorded first (Err fault)
@@ -37,7 +37,7 @@ module _ (digest : List ℕ → List ℕ) (origin : List ℕ) (keys : List Key)
       (after : View) × MergesFiles (merge_answer_of (failed fault)) after
   MakesMerged (Err (Out fault)) = ⊥
 
-  -- the new state was written to the file of that name; at a fault nothing was
+  -- the new state was written to the file of that name; after a fault nothing was written
   abbrev pub LeavesMerged : {T : Type 0} → List ℕ → Option (List NamedFile) →
       Result T MergeFilesFault → Type 0
   LeavesMerged out new (Ok x) =

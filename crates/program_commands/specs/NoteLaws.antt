@@ -1,10 +1,10 @@
--- What follows of notes that are put.
+-- Consequences of putting notes.
 use Rattle.std.specs.Prelude.{◌≡◌, ℕ, List, Contains, Some}
 use Rattle.program_files.specs.Named.{NamedFile}
 use Rattle.program_files.specs.Named.{contents_of}
 use Rattle.program_commands.specs.Notes.{PutsEach}
 
--- what a file has stays as it is
+-- each file keeps its bytes
 abbrev pub KeepsFiles : Type 0
 KeepsFiles =
     (files old new : List NamedFile) (name bytes : List ℕ) →
@@ -12,7 +12,7 @@ KeepsFiles =
     contents_of old name ≡ Some bytes →
     contents_of new name ≡ Some bytes
 
--- each file that is put or left stands in the end
+-- each file that was put or left has its bytes in the end
 abbrev pub NotesStand : Type 0
 NotesStand =
     (files old new : List NamedFile) (file : NamedFile) →

@@ -1,5 +1,4 @@
--- What the command `notes` puts into its folder. `PutsHeads` is cited by the contract of a private
--- function alone.
+-- The files that the command `notes` puts into its folder. Only the contract of a private function cites `PutsHeads`.
 use Rattle.std.specs.Prelude.{◌≡◌, ◌⊎◌, ℕ, ◌<◌, List, [], ◌∷◌, ◌++◌, length, map, codes, true}
 use Rattle.std.specs.Prelude.{is_some, Contains, Option, Some, None, Result, Ok, Err, ⊤}
 use Rattle.std.specs.List.Sorted.{IsPermutation}
@@ -17,41 +16,40 @@ use Rattle.program_commands.specs.declared.fault.NotesFault.{NotesFault}
 use Rattle.program_commands.specs.declared.fault.NotesFault.TheVariants.{State, OutOfMemory, Folder}
 use Rattle.program_commands.specs.declared.fault.NotesFault.TheVariants.{Note, Flush}
 
--- where the note of that name lies in a folder
+-- the path of the note with that name in a folder
 abbrev pub note_place : List ℕ → List ℕ → List ℕ
 note_place folder name = folder ++ (codes "/" ++ name)
 
--- the file, in a folder
+-- the file with its path in a folder
 abbrev pub in_folder : List ℕ → NamedFile → NamedFile
 in_folder folder file = (note_place folder file.0, file.1)
 
--- the files of notes in that order, in a folder
+-- the files of notes in that order, with their paths in a folder
 abbrev pub files_in : List ℕ → List HeadNote → List NamedFile
 files_in folder heads = map (in_folder folder) (files_of heads)
 
 -- ---- files that record what was put
 
--- a file that stands with these bytes is left, and one that is not there is put; no other is
--- written
+-- a file that is there with these bytes is left, a missing one is put, and no other file is written
 abbrev pub PutsOnce : NamedFile → List NamedFile → List NamedFile → Type 0
 PutsOnce file old new =
     ((contents_of old file.0 ≡ Some file.1) × (new ≡ old))
     ⊎ ((contents_of old file.0 ≡ None) × (new ≡ old ++ file ∷ []))
 
--- each of the files, one after the other
+-- each of the files, in order
 abbrev pub PutsEach : List NamedFile → List NamedFile → List NamedFile → Type 0
 PutsEach [] old new = new ≡ old
 PutsEach (file ∷ files) old new =
     (between : List NamedFile) × PutsOnce file old between × PutsEach files between new
 
--- there is a file of that name; these are not its bytes, unless they are too long to be read
+-- a file of that name is there, and has other bytes or is too long to be read
 pub record HasOther (puts : List NamedFile) (file : NamedFile) : Type 0 where
   pub present : is_some (contents_of puts file.0) ≡ true
   pub differs : contents_of puts file.0 ≡ Some file.1 → MAX_FILE_LEN < length file.1
 
--- ---- as far as it is recorded
+-- ---- if the puts are recorded
 
--- the puts before and after are so, where they are recorded
+-- `Holds` relates the puts before and after, if they are recorded
 abbrev pub IsRecorded : (List NamedFile → List NamedFile → Type 0) → Option (List NamedFile) →
     Option (List NamedFile) → Type 0
 IsRecorded Holds None new = ⊤
@@ -63,8 +61,7 @@ abbrev pub RecordsOther : Option (List NamedFile) → NamedFile → Type 0
 RecordsOther None file = ⊤
 RecordsOther (Some puts) file = HasOther puts file
 
--- the notes in another order, or in the same: in another only where, in the one before, a file of the
--- name of a note has other bytes
+-- the order of the notes is the same, or it changed because a file with the name of a note, in the old order, has other bytes
 pub record Reorders (recorded : Option (List NamedFile)) (folder : List ℕ) (old new : List HeadNote)
     : Type 0 where
   pub same_notes : IsPermutation old new
@@ -72,18 +69,18 @@ pub record Reorders (recorded : Option (List NamedFile)) (folder : List ℕ) (ol
       (new ≡ old)
       ⊎ ((file : NamedFile) × Contains (files_in folder old) file × RecordsOther recorded file)
 
--- why a note is not put
+-- the reason why a note is not put
 abbrev pub StopsAt : Option (List NamedFile) → NamedFile → NamedFault → Type 0
 StopsAt recorded file named.FileFault = RecordsOther recorded file
 StopsAt recorded file named.OutOfMemory = ⊤
 
--- one file is put or left, or all is as it was
+-- one file is put or left; after a fault nothing has changed
 abbrev pub PutsOne : {T : Type 0} → Option (List NamedFile) → Option (List NamedFile) →
     NamedFile → Result T NamedFault → Type 0
 PutsOne old new file (Ok x) = IsRecorded (PutsOnce file) old new
 PutsOne old new file (Err fault) = KeepsRecord old new × StopsAt old file fault
 
--- a front of the files was put or left; the next one was not, and all stayed as it was then
+-- the first files were put or left; the next one was not, and nothing has changed since then
 pub record PutsFront (files : List NamedFile) (old new : Option (List NamedFile))
     (fault : NamedFault) : Type 0 where
   pub before : List NamedFile
@@ -95,21 +92,21 @@ pub record PutsFront (files : List NamedFile) (old new : Option (List NamedFile)
   pub stops : StopsAt stopped file fault
   pub kept : KeepsRecord stopped new
 
--- the notes as they lie in the folder, or a front of them
+-- the notes are in the folder; after a fault, only the first ones
 abbrev pub PutsNotes : {T : Type 0} → List ℕ → List NamedFile → Option (List NamedFile) →
     Option (List NamedFile) → Result T NamedFault → Type 0
 PutsNotes folder notes old new (Ok x) = IsRecorded (PutsEach (map (in_folder folder) notes)) old new
 PutsNotes folder notes old new (Err fault) = PutsFront (map (in_folder folder) notes) old new fault
 
--- the answer of a call that put the notes
+-- the answer of a call that put all notes
 abbrev pub notes_put : Result (Unit {0}) NamedFault
 notes_put = Ok tt
 
--- an answer of a call that stopped at a note
+-- the answer of a call that stopped at a note
 abbrev pub notes_stopped : NamedFault → Result (Unit {0}) NamedFault
 notes_stopped fault = Err fault
 
--- what each answer of putting the notes in that order says: they are put, and then flushed
+-- the meaning of each answer of putting the notes in that order: first they are put, then they are flushed
 abbrev pub PutsHeads : {T : Type 0} → List ℕ → List HeadNote → Option (List NamedFile) →
     Option (List NamedFile) → Result T NotesFault → Type 0
 PutsHeads folder heads old new (Ok x) = PutsNotes folder (files_of heads) old new notes_put
@@ -123,12 +120,12 @@ PutsHeads folder heads old new (Err (Flush fault)) =
 
 module _ (digest : List ℕ → List ℕ) (origin : List ℕ) (keys : List Key)
     (recorded : Option (List NamedFile)) (state folder : List ℕ) (new : Option (List NamedFile)) where
-  -- the state file was loaded
+  -- the state file gave a mirror
   abbrev pub OpensState : Type 0
   OpensState = (view : View) × OpensFile digest origin keys recorded state (Ok view)
 
-  -- the state file was loaded, and its notes were put so: in the order of `note_files`, but where a
-  -- file of the name of one has other bytes
+  -- the state file gave a mirror, and its notes were put with this answer; their order is that of `note_files`, unless a file
+  -- with the name of a note has other bytes
   pub record WritesThese (answer : Result (Unit {0}) NamedFault) : Type 0 where
     pub view : View
     pub listed : List HeadNote
@@ -138,7 +135,7 @@ module _ (digest : List ℕ → List ℕ) (origin : List ℕ) (keys : List Key)
     pub order : Reorders recorded folder listed heads
     pub puts : PutsNotes folder (files_of heads) recorded new answer
 
-  -- what each answer of `notes` says of its state file, and of what it put into the folder
+  -- the meaning of each answer of `notes` for its state file and for the files that it put into the folder
   abbrev pub WritesNotes : {T : Type 0} → Result T NotesFault → Type 0
   WritesNotes (Ok x) = WritesThese notes_put
   WritesNotes (Err (State fault)) =

@@ -1,5 +1,4 @@
--- What the command `root` answers and writes. `MakesRoot` is cited by the contracts of private
--- functions alone.
+-- The answer and the output of the command `root`. Only contracts of private functions cite `MakesRoot`.
 use Rattle.std.specs.Prelude.{◌≡◌, ℕ, List, ◌∷◌, ◌++◌, Option, Result, Ok, Err, codes, ⊤}
 use Rattle.std.specs.Io.KnownBytes.{Appends}
 use Rattle.std.specs.Fmt.{decimal}
@@ -12,19 +11,19 @@ use Rattle.program_commands.specs.declared.root.RootFault.TheVariants.{BundleSho
 use Rattle.program_commands.specs.declared.root.RootFault.TheVariants.{ReadFault, WriteFault}
 use Rattle.program_commands.specs.declared.root.RootFault.TheVariants.{OutOfMemory}
 
--- the two lines that tell a size and a root, the root in standard base64
+-- the two lines with a size and a root, the root in standard base64
 abbrev pub root_text : ℕ → List ℕ → List ℕ
 root_text size root =
     codes "size " ++ (decimal size ++ (codes "\nroot " ++ (base64_of root ++ codes "\n")))
 
 module _ (digest : List ℕ → List ℕ) where
-  -- the text is that of the bundle of that width which all of the input is
+  -- the complete input is a bundle of that width, and the text is the one for it
   pub record IsTextOf (width : ℕ) (input text : List ℕ) : Type 0 where
     pub entries : List (List ℕ)
     pub is_bundle : IsBundle width input entries
     pub text_is : text ≡ root_text width (mth digest entries)
 
-  -- what each answer of the command says of the input, and of what was written
+  -- the meaning of each answer of the command for the input and the output
   abbrev pub AnswersRoot : {T : Type 0} → ℕ → List ℕ → Option (List ℕ) → Option (List ℕ) →
       Result T RootFault → Type 0
   AnswersRoot width input old new (Ok x) =
@@ -38,7 +37,7 @@ module _ (digest : List ℕ → List ℕ) where
       (text : List ℕ) × IsTextOf width input text × AppendsPrefix old new text
   AnswersRoot width input old new (Err OutOfMemory) = ⊤
 
-  -- what each answer of the maker of the text says of the input
+  -- the meaning of each answer of the maker of the text for the input
   abbrev pub MakesRoot : ℕ → List ℕ → Result (List ℕ) RootFault → Type 0
   MakesRoot width input (Ok text) = IsTextOf width input text
   MakesRoot width input (Err BundleShort) = (rest : List ℕ) → ¬ HasBundle width input rest

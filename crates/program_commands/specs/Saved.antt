@@ -1,14 +1,14 @@
--- A file that has the state of a mirror already, so that it need not be written again.
+-- A file that already has the state of a mirror, so that it need not be written again.
 use Rattle.std.specs.Prelude.{◌≡◌, ℕ, List, Option, Some}
 use Rattle.mirror_model.specs.View.{View}
 use Rattle.mirror_state.specs.StateText.{StateText}
 use Rattle.program_files.specs.Named.{NamedFile, HasContents}
 
--- the file of that name has the state of the view, as it is written
+-- the file of that name has the state of the view, in the bytes that a save writes
 abbrev pub HoldsState : View → List ℕ → Option (List NamedFile) → Type 0
 HoldsState v name recorded = (text : List ℕ) × StateText v text × HasContents recorded name text
 
--- the file that is to be written is the one that is named, and has the state of the view
+-- the file to write is the one that was read, and it has the state of the view
 pub record IsSaved (state : Option (List ℕ)) (v : View) (out : List ℕ) (recorded : Option (List NamedFile))
     : Type 0 where
   pub named : state ≡ Some out

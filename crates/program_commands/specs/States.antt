@@ -1,4 +1,4 @@
--- What is made of state files, and what is left in them.
+-- Mirrors from state files, and the states that are written to files.
 use Rattle.std.specs.Prelude.{◌≡◌, ◌≢◌, ℕ, List, [], ◌∷◌, Option, Some, None, Result, Ok, Err, ⊤}
 use Rattle.mirror_sources.specs.Recorded.{AddsToRecord}
 use Rattle.signed_note.specs.Keys.{Key}
@@ -17,13 +17,12 @@ use Rattle.program_commands.specs.declared.fault.StateFault.TheVariants.{Origin,
 
 module _ (digest : List ℕ → List ℕ) (origin : List ℕ) (keys : List Key)
     (recorded : Option (List NamedFile)) where
-  -- some bytes, which the file of that name has, are loaded so
+  -- the file of that name has some bytes, and loading them gives this answer
   abbrev pub LoadsFile : List ℕ → Result View LoadFault → Type 0
   LoadsFile name answer =
       (bytes : List ℕ) × HasContents recorded name bytes × Loads digest origin keys bytes answer
 
-  -- the origin is judged first, then the file is read, and then it is loaded: its bytes are there, so
-  -- that no read fails any more
+  -- first the origin is checked, then the file is read, and then its bytes are loaded; no read fails while they are loaded
   abbrev pub OpensFile : List ℕ → Result View StateFault → Type 0
   OpensFile name (Ok v) = IsOrigin origin × LoadsFile name (Ok v)
   OpensFile name (Err (Origin made.BadOrigin)) = ¬ IsOrigin origin
@@ -32,7 +31,7 @@ module _ (digest : List ℕ → List ℕ) (origin : List ℕ) (keys : List Key)
   OpensFile name (Err (Load fault)) =
       IsOrigin origin × LoadsFile name (Err fault) × (fault ≢ ReadFault)
 
-  -- the mirror of a file, where one is named, and else one that holds nothing
+  -- the mirror of the named file, or an empty one if no file is named
   abbrev pub BeginsWith : Option (List ℕ) → Result View StateFault → Type 0
   BeginsWith (Some name) answer = OpensFile name answer
   BeginsWith None (Ok v) = IsOrigin origin × (v ≡ nothing origin)
@@ -40,12 +39,12 @@ module _ (digest : List ℕ → List ℕ) (origin : List ℕ) (keys : List Key)
   BeginsWith None (Err (Origin made.OutOfMemory)) = ⊤
   BeginsWith None (Err other) = ⊥
 
--- the state of the view was written to the file of that name, and nothing else was
+-- the state of the view was written to the file of that name, and nothing else was written
 abbrev pub WritesState : View → List ℕ → Option (List NamedFile) → Option (List NamedFile) → Type 0
 WritesState v name old new =
     (text : List ℕ) × StateText v text × AddsToRecord old new ((name, text) ∷ [])
 
--- it was written, or nothing was
+-- the state was written; after a fault nothing was written
 abbrev pub SavesFile : {T : Type 0} → View → List ℕ → Option (List NamedFile) →
     Option (List NamedFile) → Result T NamedFault → Type 0
 SavesFile v name old new (Ok x) = WritesState v name old new

@@ -1,4 +1,4 @@
--- What the command `take` makes of files, and what it leaves in them.
+-- The command `take`: the item in the files, and the state that it leaves.
 use Rattle.std.specs.Prelude.{◌≡◌, ◌≤◌, ℕ, List, [], ◌∷◌, map, Option, Result, Ok, Err, ⊤}
 use Rattle.mirror_sources.specs.Recorded.{KeepsRecord}
 use Rattle.signed_note.specs.Keys.{Key}
@@ -19,19 +19,19 @@ use Rattle.program_commands.specs.declared.fault.TakeFilesFault.{TakeFilesFault}
 use Rattle.program_commands.specs.declared.fault.TakeFilesFault.TheVariants.{State, Item as Unread}
 use Rattle.program_commands.specs.declared.fault.TakeFilesFault.TheVariants.{Take, Out}
 
--- the width that stands beside the file of a tile or a bundle is one from 1 to 256
+-- the width for the file of a tile or a bundle is from 1 to 256
 abbrev pub NamesWidth : ItemFiles → Type 0
 NamesWidth (Head note rows) = ⊤
 NamesWidth (Tile width file) = (1 ≤ width) × (width ≤ 256)
 NamesWidth (Bundle width file) = (1 ≤ width) × (width ≤ 256)
 
--- the files' names
+-- the names of the files
 abbrev pub item_names : ItemFiles → List (List ℕ)
 item_names (Head note rows) = note.now ∷ map (λ row. row.now) rows.now
 item_names (Tile width file) = file.now ∷ []
 item_names (Bundle width file) = file.now ∷ []
 
--- the files hold the item, as far as it is recorded
+-- the files hold the item, if the puts are recorded
 abbrev pub HoldItem : Option (List NamedFile) → ItemFiles → Item → Type 0
 HoldItem recorded (Head note rows) (item.Head bytes edge) =
     HasContents recorded note.now bytes × HaveContents recorded (map (λ row. row.now) rows.now) edge
@@ -42,8 +42,7 @@ HoldItem recorded (Bundle width file) (item.Bundle size bytes) =
 HoldItem recorded files other = ⊥
 
 module _ (digest : List ℕ → List ℕ) (keys : List Key) (recorded : Option (List NamedFile)) where
-  -- the item that the files hold was taken with that answer, which is the first refusal that applies
-  -- to an item of its kind
+  -- the files hold an item, and taking it gave this answer; a fault is the first that applies to an item of its kind
   pub record TakesOf (before : View) (files : ItemFiles) (answer : Result (Unit {0}) TakeFault)
       (after : View) : Type 0 where
     pub item : Item
@@ -51,7 +50,7 @@ module _ (digest : List ℕ → List ℕ) (keys : List Key) (recorded : Option (
     pub takes : Takes digest keys before item (answer_of answer) after
     pub judged : JudgesItem digest keys before.origin item answer
 
-  -- the files are read, and then the item is taken
+  -- first the files are read, and then the item is taken
   abbrev pub TakesHeld : {T : Type 0} → View → ItemFiles → View → Result T TakeFilesFault → Type 0
   TakesHeld before files after (Ok x) = TakesOf before files done after
   TakesHeld before files after (Err (Unread fault)) = FailsToRead recorded (item_names files) fault
@@ -60,13 +59,13 @@ module _ (digest : List ℕ → List ℕ) (keys : List Key) (recorded : Option (
 
 module _ (digest : List ℕ → List ℕ) (origin : List ℕ) (keys : List Key)
     (recorded : Option (List NamedFile)) (state : Option (List ℕ)) (files : ItemFiles) where
-  -- a mirror was begun with, and the item that the files hold was taken into it with that answer
+  -- there was a mirror, and it took the item in the files with this answer
   pub record TakesBegun (answer : Result (Unit {0}) TakeFault) (after : View) : Type 0 where
     pub before : View
     pub begun : BeginsWith digest origin keys recorded state (Ok before)
     pub taken : TakesOf digest keys recorded before files answer after
 
-  -- a mirror was begun with
+  -- there was a mirror to begin with
   abbrev pub HasBegun : Type 0
   HasBegun = (before : View) × BeginsWith digest origin keys recorded state (Ok before)
 
@@ -78,7 +77,7 @@ module _ (digest : List ℕ → List ℕ) (origin : List ℕ) (keys : List Key)
   MakesTaken (Err (Take fault)) = (after : View) × TakesBegun (failed fault) after
   MakesTaken (Err (Out fault)) = ⊥
 
-  -- the new state was written to the file of that name; at a fault nothing was
+  -- the new state was written to the file of that name; after a fault nothing was written
   abbrev pub LeavesTaken : {T : Type 0} → List ℕ → Option (List NamedFile) →
       Result T TakeFilesFault → Type 0
   LeavesTaken out new (Ok x) =

@@ -1,4 +1,4 @@
--- What the command `export --update` makes of a state file, and what it puts into the folder.
+-- The command `export --update`: the mirror in a state file, and the files that it puts into the folder.
 use Rattle.std.specs.Prelude.{◌≡◌, ◌↔◌, ℕ, List, Option, None, Result, Ok, Err}
 use Rattle.signed_note.specs.Keys.{Key}
 use Rattle.mirror_model.specs.View.{View}
@@ -14,7 +14,7 @@ use Rattle.program_commands.specs.declared.fault.UpdateFileFault.{UpdateFileFaul
 use Rattle.program_commands.specs.declared.fault.UpdateFileFault.TheVariants.{State, OutOfMemory}
 use Rattle.program_commands.specs.declared.fault.UpdateFileFault.TheVariants.{Update}
 
--- the shelf's count of failures, as an update counts them
+-- how the shelf's count of failures changes in an update
 abbrev pub CountsFileUpdate : {T : Type 0} → ℕ → ℕ → Result T UpdateFileFault → Type 0
 CountsFileUpdate old new (Ok x) = CountsUpdate old new done
 CountsFileUpdate old new (Err (State fault)) = new ≡ old
@@ -23,8 +23,8 @@ CountsFileUpdate old new (Err (Update fault)) = CountsUpdate old new (failed fau
 
 module _ (digest : List ℕ → List ℕ) (origin : List ℕ) (keys : List Key)
     (recorded : Option (List NamedFile)) (name : List ℕ) (held before put : Option (List Put)) where
-  -- a mirror was opened of the file, and what the folder lacks of what it serves was put, over what
-  -- the folder held, as an update with that answer puts it; a whole log stands there at each moment
+  -- the file gave a mirror, and the served files that the folder lacked were put over what it held, as this answer of an
+  -- update says; the folder has a complete log at each moment
   pub record UpdatesOpened (answer : Result (Unit {0}) UpdateFault) : Type 0 where
     pub view : View
     pub opened : OpensFile digest origin keys recorded name (Ok view)
@@ -32,8 +32,7 @@ module _ (digest : List ℕ → List ℕ) (origin : List ℕ) (keys : List Key)
     pub nothing : (answer ≡ Err NothingComplete) ↔ SaysServed digest view None
     pub whole : StaysWhole digest view held put answer
 
-  -- what each answer of the command says: the file is opened first, and then the folder; nothing is
-  -- put where either is not
+  -- the meaning of each answer: the state file is read first, then the folder is opened; if one of these fails, nothing is put
   abbrev pub UpdatesFile : {T : Type 0} → Result T UpdateFileFault → Type 0
   UpdatesFile (Ok x) = UpdatesOpened done
   UpdatesFile (Err (State fault)) =

@@ -1,4 +1,4 @@
-//! The command `check`: whether a proof holds, from bytes to text.
+//! The command `check`: it reads the bytes of a proof and says whether the proof holds.
 ghost use Rattle.std.specs.Prelude.{◌≡◌, ◌≢◌, IfErr, IfSome};
 ghost use Rattle.std.specs.Io.KnownBytes.{Keeps};
 ghost use Rattle.sha2.specs.Sha256.{sha256};
@@ -13,7 +13,7 @@ use thiserror::Error;
 use tlog_hash::Sha256Tree;
 use tlog_proof::{MAX_TEXT_LEN, TextFault, holds, read_text};
 
-/// How many bytes `check` takes at most: one more than the text of a proof may have.
+/// The greatest number of bytes that `check` takes: one more than the longest text of a proof.
 pub const MAX_READ_LEN: usize = MAX_TEXT_LEN + 1;
 
 /// Why `check` printed no verdict.
@@ -56,7 +56,7 @@ impl From<StreamFault> for CheckFault {
     }
 }
 
-// Whether the proof that the bytes are holds.
+// Whether the bytes are a proof that holds.
 fn proof_holds(alloc: Global, bytes: &[u8]) -> Result<bool, CheckFault>
     ensures { Judges sha256 bytes.now result }
 {
@@ -69,7 +69,7 @@ fn proof_holds(alloc: Global, bytes: &[u8]) -> Result<bool, CheckFault>
     }
 }
 
-// Whether the proof that the reader gives holds.
+// Whether the reader gives a proof that holds.
 fn verdict_of<R: Read>(alloc: Global, reader: &mut R) -> Result<bool, CheckFault>
     ensures verdict { IfSome (R.remaining reader.old) (λ input. Judges sha256 input result) }
     ensures limit { TakesAtMost MAX_READ_LEN (R.remaining reader.old) (R.remaining reader.new) }
@@ -84,16 +84,18 @@ fn text_of(verdict: bool) -> &'static str
     if verdict { "yes\n" } else { "no\n" }
 }
 
-/// Reads the text of an inclusion or consistency proof, to the reader's end, and writes whether the
-/// proof holds: `yes` or `no`, and a newline. It answers the same.
+/// Reads the text of an inclusion proof or consistency proof to the end of the reader, and writes whether
+/// the proof holds: `yes` or `no`, and a newline. It returns the same.
 ///
 /// # Errors
 ///
-/// `ReadFault` comes where a read fails, whatever was read before. `BadProofText` comes where all the
-/// bytes that the reader had to give are not the text of a proof, of which at most 8,193 are taken: so
-/// many are never one. Nothing is written then. `WriteFault` comes where a write fails or takes no
-/// byte, and then a prefix of the verdict was written. `OutOfMemory` comes where memory was refused, and
-/// nothing is written then.
+/// Only after a `WriteFault` text may have been written.
+///
+/// - `ReadFault`: a read failed, whatever was read before.
+/// - `BadProofText`: the bytes of the reader are not the text of a proof. It takes at most 8,193 bytes,
+///   which is more than any such text has.
+/// - `WriteFault`: a write failed or took no byte. A prefix of the verdict was written.
+/// - `OutOfMemory`: memory was refused.
 pub fn run_check<R: Read, W: Write>(
     alloc: Global,
     reader: &mut R,

@@ -1,4 +1,4 @@
-//! The command `export`: what the mirror in a state file serves, put into a folder.
+//! The command `export`: it puts the files that a state file's mirror serves into a folder.
 ghost use Rattle.std.specs.Prelude.{ℕ, List, Option, map};
 ghost use Rattle.signed_note.specs.Keys.{Key};
 ghost use Rattle.program_files.specs.Named.{NamedFile};
@@ -15,7 +15,7 @@ use std::alloc::Global;
 use tlog_hash::TreeHash;
 use tlog_mirror::Mirror;
 
-/// Puts all tiles, then all bundles, then the checkpoint that the mirror in the state file serves, into the folder.
+/// Puts all tiles, then all entry bundles, then the checkpoint that the mirror in the state file serves, into the folder.
 ///
 /// ```text
 /// let mut folders = DirShelf::new(&rt, alloc, ".");
@@ -24,8 +24,8 @@ use tlog_mirror::Mirror;
 ///
 /// # Errors
 ///
-/// In this order: `State`, those of `open_state`; `OutOfMemory`, where memory for the folder's name was refused; nothing is
-/// put then. `Export`, those of `mirror_export::export`. What was put before a fault stays.
+/// In this order: `State`, those of `open_state`; `OutOfMemory` if there is no memory for the folder's name. After these
+/// nothing was put. Then `Export`, those of `mirror_export::export`. Files that were put before a fault remain.
 pub fn run_export<H: TreeHash, F: NamedFiles, D: CountedFolders>(
     files: &F,
     folders: &mut D,
@@ -49,7 +49,7 @@ pub fn run_export<H: TreeHash, F: NamedFiles, D: CountedFolders>(
     }
 }
 
-// Opens the folder, and puts what the mirror of a state file serves into it.
+// Opens the folder, and puts the files that the mirror of a state file serves into it.
 fn export_into<H: TreeHash, D: CountedFolders>(
     alloc: Global,
     mirror: &Mirror<H>,

@@ -5,21 +5,21 @@ use program_files::NamedFault;
 use thiserror::Error;
 use tlog_mirror::{MergeFault, NewFault, TakeFault};
 
-/// Why there is no mirror of a state file. It prints the name of the innermost variant.
+/// Why a state file gave no mirror. It prints the name of the innermost variant.
 #[derive(Debug, Drop, PartialEq, Eq, Clone, Copy, Error)]
 pub enum StateFault {
-    /// No mirror may be of that origin.
+    /// The origin is invalid.
     #[error(transparent)]
     Origin(NewFault),
     /// The file was not read.
     #[error(transparent)]
     File(NamedFault),
-    /// Its bytes are not loaded.
+    /// The bytes of the file are not a valid state.
     #[error(transparent)]
     Load(LoadFault),
 }
 
-/// Why no item was taken, in the order in which they are found. It prints the name of the innermost variant.
+/// Why no item was taken. The variants are in the order of the checks. It prints the name of the innermost variant.
 #[derive(Debug, Drop, PartialEq, Eq, Clone, Copy, Error)]
 pub enum TakeFilesFault {
     /// There is no mirror to begin with.
@@ -36,28 +36,28 @@ pub enum TakeFilesFault {
     Out(NamedFault),
 }
 
-/// Why no checkpoints were read of files, in the order in which they are found. It prints the name of the innermost
+/// Why no checkpoints were read from files. The variants are in the order of the checks. It prints the name of the innermost
 /// variant.
 #[derive(Debug, Drop, PartialEq, Eq, Clone, Copy, Error)]
 pub enum HeadFilesFault {
     /// A file was not read.
     #[error(transparent)]
     File(NamedFault),
-    /// What a file holds is no checkpoint of the log that opens under the keys.
+    /// A file holds no checkpoint of the log that opens under the keys.
     #[error(transparent)]
     Head(TakeFault),
 }
 
-/// Why two states were not merged, in the order in which they are found. It prints the name of the innermost variant.
+/// Why two states were not merged. The variants are in the order of the checks. It prints the name of the innermost variant.
 #[derive(Debug, Drop, PartialEq, Eq, Clone, Copy, Error)]
 pub enum MergeFilesFault {
-    /// There is no mirror of the first file.
+    /// The first file gave no mirror.
     #[error(transparent)]
     First(StateFault),
-    /// There is none of the second.
+    /// The second file gave no mirror.
     #[error(transparent)]
     Second(StateFault),
-    /// The second was refused.
+    /// The second mirror was refused.
     #[error(transparent)]
     Merge(MergeFault),
     /// The new state was not written.
@@ -65,39 +65,38 @@ pub enum MergeFilesFault {
     Out(NamedFault),
 }
 
-/// Why a state file was not exported, in the order in which they are found. It prints the name of the innermost variant.
+/// Why a state file was not exported. The variants are in the order of the checks. It prints the name of the innermost variant.
 #[derive(Debug, Drop, PartialEq, Eq, Clone, Copy, Error)]
 pub enum ExportFileFault {
-    /// There is no mirror of the file.
+    /// The file gave no mirror.
     #[error(transparent)]
     State(StateFault),
     /// Memory for the folder's name was refused.
     #[error("OutOfMemory")]
     OutOfMemory,
-    /// Nothing is served, or not all of it was put.
+    /// Nothing is served, or not all files were put.
     #[error(transparent)]
     Export(ExportFault),
 }
 
-/// Why a folder was not brought up to date, in the order in which they are found. It prints the name of the innermost
-/// variant.
+/// Why a folder was not updated. The variants are in the order of the checks. It prints the name of the innermost variant.
 #[derive(Debug, Drop, PartialEq, Eq, Clone, Copy, Error)]
 pub enum UpdateFileFault {
-    /// There is no mirror of the file.
+    /// The file gave no mirror.
     #[error(transparent)]
     State(StateFault),
     /// Memory for the folder's name was refused.
     #[error("OutOfMemory")]
     OutOfMemory,
-    /// The folder was not brought up to date.
+    /// The folder was not updated.
     #[error(transparent)]
     Update(UpdateFault),
 }
 
-/// Why not all notes were written, in the order in which they are found. It prints the name of the innermost variant.
+/// Why not all notes were written. The variants are in the order of the checks. It prints the name of the innermost variant.
 #[derive(Debug, Drop, PartialEq, Eq, Clone, Copy, Error)]
 pub enum NotesFault {
-    /// There is no mirror of the state file.
+    /// The state file gave no mirror.
     #[error(transparent)]
     State(StateFault),
     /// Memory for the list of notes was refused.
@@ -106,10 +105,10 @@ pub enum NotesFault {
     /// The folder was not made.
     #[error(transparent)]
     Folder(NamedFault),
-    /// A note was not written, or what is under its name is no plain file or has other bytes.
+    /// A note was not written, or its name is of something else than a plain file with its bytes.
     #[error(transparent)]
     Note(NamedFault),
-    /// All notes were written, and not flushed to the device.
+    /// All notes were written, but they were not flushed to the device.
     #[error(transparent)]
     Flush(NamedFault),
 }

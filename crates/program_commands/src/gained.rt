@@ -1,4 +1,4 @@
-//! Whether a mirror has gained something.
+//! Whether a mirror gained something.
 ghost use Rattle.std.specs.Prelude.{◌≡◌, ◌≢◌, ◌↔◌, IfOk, IsTrue};
 ghost use Rattle.std.specs.FinSet as set;
 ghost use Rattle.mirror_model.specs.Complete.{IsLawful};
@@ -9,16 +9,15 @@ use std::alloc::AllocError;
 use tlog_hash::TreeHash;
 use tlog_mirror::Mirror;
 
-/// How much a mirror holds.
+/// The number of notes and strings in a mirror.
 #[derive(Debug, Drop, PartialEq, Eq, Clone, Copy)]
 pub struct HeldCounts {
-    /// How many notes.
+    /// The number of notes.
     pub notes: usize,
-    /// How many strings.
+    /// The number of strings.
     pub strings: usize,
 }
 
-// How many notes the mirror holds.
 fn count_notes<H: TreeHash>(mirror: &Mirror<H>) -> Result<usize, AllocError>
     ensures { IfOk result (λ count. count ≡ set.len mirror.now.view.notes) }
 {
@@ -27,21 +26,21 @@ fn count_notes<H: TreeHash>(mirror: &Mirror<H>) -> Result<usize, AllocError>
             return Ok(i);
         };
     }
-    // No memory holds that many.
+    // No memory can hold that many.
     Err(AllocError)
 }
 
-/// How much the mirror holds, which is lawful. It takes no memory.
+/// The number of notes and strings in the mirror. The mirror is lawful. This allocates nothing.
 ///
 /// ```text
 /// let before = holding_of(&mirror)?;
-/// // the mirror takes what it is given
-/// if has_gained(&mirror, &before) { /* it holds a note or a string more */ }
+/// // the mirror takes some items
+/// if has_gained(&mirror, &before) { /* it holds at least one more note or string */ }
 /// ```
 ///
 /// # Errors
 ///
-/// More notes than a `usize` counts, which no memory holds.
+/// The mirror has more notes than a `usize` counts, which no memory can hold.
 pub fn holding_of<H: TreeHash>(mirror: &Mirror<H>) -> Result<HeldCounts, AllocError>
     ensures holds { IfOk result (IsHolding mirror.now.view) }
     ensures lawful { IsLawful H.digest mirror.now.view }
@@ -51,8 +50,8 @@ pub fn holding_of<H: TreeHash>(mirror: &Mirror<H>) -> Result<HeldCounts, AllocEr
     Ok(HeldCounts { notes, strings })
 }
 
-/// Whether a mirror that held so much has gained a note or a string. What it held it has to hold still. It takes no
-/// memory.
+/// Whether a mirror has gained a note or a string since it held these numbers. It must still hold all that it held then. This
+/// allocates nothing.
 pub fn has_gained<H: TreeHash>(mirror: &Mirror<H>, before: &HeldCounts) -> bool
     ensures gained { (old : View) → IsHolding old before.now → IsSubview old mirror.now.view
         → (IsTrue result ↔ (mirror.now.view ≢ old)) }

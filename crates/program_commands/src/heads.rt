@@ -1,4 +1,4 @@
-//! The checkpoints that `compare` is given: files that each hold a signed note.
+//! The checkpoints for `compare`: files that each hold a signed note.
 ghost use Rattle.std.specs.Prelude.{map};
 ghost use Rattle.tlog_text.specs.Answers.{seen};
 ghost use Rattle.program_commands.specs.HeadFiles.{ChecksHeads, ReadsHeads};
@@ -12,8 +12,8 @@ use std::alloc::Global;
 use tlog_hash::{Hash, TreeHash};
 use tlog_mirror::{Mirror, TakeFault};
 
-/// The sizes and roots of the checkpoints in these files, in their order. Each file holds a signed note, which has to
-/// open under the keys and to be of the mirror's origin. No edge is asked for, and nothing is taken.
+/// The sizes and roots of the checkpoints in these files, in order. Each file holds a signed note, which must open under the
+/// keys and must have the mirror's origin. It needs no right edge, and the mirror takes nothing.
 ///
 /// ```text
 /// read_heads(&files, alloc, &mirror, &keys, &["other.note"])?   // [(400, root)]
@@ -21,8 +21,8 @@ use tlog_mirror::{Mirror, TakeFault};
 ///
 /// # Errors
 ///
-/// In this order: `File`, where one of the files is not read; `Head`, with the fault of `Mirror::check_head` at the first
-/// note that has one. The files are given the name of that file, and the origin at `OtherOrigin`.
+/// In this order: `File` if one of the files is not read; `Head` with the fault of `Mirror::check_head` for the first note
+/// that has one. The name of that file is kept in the files, with the origin for `OtherOrigin`.
 pub fn read_heads<H: TreeHash, F: NamedFiles>(
     files: &F,
     alloc: Global,
@@ -46,7 +46,7 @@ pub fn read_heads<H: TreeHash, F: NamedFiles>(
     }
 }
 
-// Gives the files the name of the first whose note is refused, and of one of another origin that origin.
+// Keeps the name of the first file whose note is refused. If the note has another origin, the reason says which.
 fn keep_name<H: TreeHash, F: NamedFiles>(
     files: &F,
     alloc: Global,
@@ -66,7 +66,7 @@ fn keep_name<H: TreeHash, F: NamedFiles>(
     }
 }
 
-// Of which origin a note is, where it is refused for that.
+// The reason for a note of another origin: it says which origin. None for another fault.
 fn origin_reason(alloc: Global, note: &[u8], fault: TakeFault) -> Option<String> {
     if fault != TakeFault::OtherOrigin {
         return None;
@@ -75,7 +75,7 @@ fn origin_reason(alloc: Global, note: &[u8], fault: TakeFault) -> Option<String>
     format!(in alloc; "its origin is {origin}").ok()
 }
 
-// The size and root of each of the notes.
+// The sizes and roots of the notes.
 fn check_notes<H: TreeHash>(
     alloc: Global,
     mirror: &Mirror<H>,

@@ -1,13 +1,13 @@
 //! The files of an item.
 
-/// Which files have an item, by their names.
+/// The names of the files that have an item.
 ///
 /// ```text
 /// ItemFiles::Bundle { width: 3, file: "log/tile/entries/000.p/3" }
 /// ```
 #[derive(Debug, Drop, PartialEq, Eq, Clone, Copy)]
 pub enum ItemFiles<'a> {
-    /// A head: the file of its note, and those of the rows of its size's edge, lowest level first.
+    /// A checkpoint: the file of its note, and the files of its right edge's rows, lowest level first.
     Head {
         /// The file of the note.
         note: &'a str,
@@ -16,16 +16,16 @@ pub enum ItemFiles<'a> {
     },
     /// A tile of `width` hashes.
     Tile {
-        /// How many, 1 to 256.
+        /// The number of hashes, 1 to 256.
         width: u32,
         /// The file of its row.
         file: &'a str,
     },
-    /// A bundle of `width` entries.
+    /// An entry bundle of `width` entries.
     Bundle {
-        /// How many, 1 to 256.
+        /// The number of entries, 1 to 256.
         width: u32,
-        /// Its file.
+        /// The file of the bundle.
         file: &'a str,
     },
 }

@@ -1,7 +1,7 @@
-//! What the commands over streams and over named files do: `root` and `check`, and `take`, `merge`, `export`, with
-//! `--update` too, and `notes`.
+//! The commands over streams, `root` and `check`, and the commands over named files: `take`, `merge`, `export`,
+//! `export --update` and `notes`.
 //!
-//! Those over files work over any `NamedFiles`: the files of the system, or files in memory that record what was put.
+//! The commands over files use any `NamedFiles`: the files of the system, or files in memory that record what was put.
 //!
 //! ```text
 //! run_root::<Sha256Tree, _, _>(alloc, 3, &mut input, &mut output)?;      // size 3, and its root

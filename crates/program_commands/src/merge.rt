@@ -1,4 +1,4 @@
-//! The command `merge`: what a second mirror holds is taken into a first.
+//! The command `merge`: it merges a second mirror into a first.
 ghost use Rattle.std.specs.Prelude.{ℕ, List, map};
 ghost use Rattle.tlog_text.specs.Answers.{seen};
 ghost use Rattle.program_commands.specs.Merges.{LeavesMerged, MakesMerged};
@@ -12,8 +12,7 @@ use std::alloc::Global;
 use tlog_hash::TreeHash;
 use tlog_mirror::Mirror;
 
-/// Merges the mirror in the second state file into that in the first, and writes the state of what comes of it to the
-/// file `out`.
+/// Merges the mirror of the second state file into that of the first, and writes the state of the result to the file `out`.
 ///
 /// ```text
 /// run_merge::<Sha256Tree, _>(&mut files, alloc, "example.com/log", &keys, "a.state", "b.state", "both.state")?;
@@ -21,9 +20,9 @@ use tlog_mirror::Mirror;
 ///
 /// # Errors
 ///
-/// In this order: `First`, those of `open_state` at the first file; `Second`, those at the second; `Merge`, with `Collision`
-/// where two different strings of the two share a digest; `Out`, where the state is not written. All files are then as
-/// they were.
+/// In this order: `First`, those of `open_state` for the first file; `Second`, those for the second; `Merge`, with `Collision`
+/// if two different strings of the two mirrors share a digest; `Out` if the state is not written. After a fault all files are
+/// unchanged.
 pub fn run_merge<H: TreeHash, F: NamedFiles>(
     files: &mut F,
     alloc: Global,
@@ -45,7 +44,7 @@ pub fn run_merge<H: TreeHash, F: NamedFiles>(
     }
 }
 
-// The mirror of the first file, with that of the second merged into it.
+// The mirror of the first file, after that of the second was merged into it.
 fn mirror_of_both<H: TreeHash, F: NamedFiles>(
     files: &F,
     alloc: Global,
@@ -70,7 +69,7 @@ fn mirror_of_both<H: TreeHash, F: NamedFiles>(
     }
 }
 
-// Merges the mirror of the second file into that of a first.
+// Merges the mirror of the second file into the first mirror.
 fn merge_file<H: TreeHash, F: NamedFiles>(
     files: &F,
     alloc: Global,

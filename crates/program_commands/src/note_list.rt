@@ -11,14 +11,14 @@ use tlog_mirror::Mirror;
 /// A note as a file.
 #[derive(Debug, Drop)]
 pub struct NoteFile<'a> {
-    /// `SIZE-ROOT-NUMBER.note`: the size and the root that the note says, the root as 64 hexadecimal digits in lower case,
-    /// and the note's number from 0 among those of that size and root.
+    /// `SIZE-ROOT-NUMBER.note`: the size and the root of the note, and its number. The root has 64 hexadecimal digits in lower
+    /// case. The notes of one size and root are numbered from 0.
     pub name: String,
-    /// The note's bytes, as they came.
+    /// The bytes of the note, as they were received.
     pub bytes: &'a [u8],
 }
 
-// A note, with the size and the root that it says.
+// A note with its size and root.
 #[derive(Drop)]
 pub(crate) struct HeadNote<'a> {
     pub(crate) bytes: &'a [u8],
@@ -26,7 +26,7 @@ pub(crate) struct HeadNote<'a> {
     pub(crate) root: Hash,
 }
 
-// The note of those bytes. A mirror holds no others than heads, so that nothing but `OutOfMemory` comes here.
+// The note with those bytes. A mirror holds only checkpoints, so the only fault is `OutOfMemory`.
 fn read_head_note(alloc: Global, bytes: &[u8]) -> Result<HeadNote<'_>, AllocError>
     ensures note { IfOk result (λ head. head.bytes.now ≡ bytes.now) }
     ensures head { IfOk result (λ head. IsHeadNote (head_note head)) }
@@ -45,7 +45,7 @@ fn read_head_note(alloc: Global, bytes: &[u8]) -> Result<HeadNote<'_>, AllocErro
     })
 }
 
-// How many of these are of that size and root.
+// The number of these notes with that size and root.
 fn count_alike(others: &[HeadNote], head: &HeadNote) -> usize
     ensures { result ≡ count_by (λ other. is_alike (head_note other) (head_note head.now))
         others.now }
@@ -64,7 +64,7 @@ fn name_of(alloc: Global, size: u64, root: &Hash, number: usize) -> Result<Strin
     format!(in alloc; "{size}-{root}-{number}.note")
 }
 
-// The file of a note that follows these.
+// The file of a note after these notes.
 fn file_of<'a>(
     alloc: Global,
     before: &[HeadNote<'a>],
@@ -93,7 +93,7 @@ pub(crate) fn file_at<'a>(
     file_of(alloc, &heads[..i], &heads[i])
 }
 
-// The files of the notes, in their order.
+// The files of the notes, in order.
 pub(crate) fn files_of<'a>(
     alloc: Global,
     heads: &[HeadNote<'a>],
@@ -108,7 +108,7 @@ pub(crate) fn files_of<'a>(
     Ok(files)
 }
 
-// The notes that a mirror holds, in their order.
+// The notes that a mirror holds, in order.
 pub(crate) fn head_notes<H: TreeHash>(
     alloc: Global,
     mirror: &Mirror<H>,
@@ -122,11 +122,11 @@ pub(crate) fn head_notes<H: TreeHash>(
         };
         heads.push(read_head_note(alloc, bytes)?)?;
     }
-    // No memory holds that many.
+    // No memory can hold that many.
     Err(AllocError)
 }
 
-/// The notes that a mirror holds, as files: each note once, by their bytes, as they came.
+/// The notes that a mirror holds, as files. Each note is there once, sorted by its bytes and with its bytes unchanged.
 ///
 /// ```text
 /// for file in &note_files(alloc, &mirror)? {

@@ -6,8 +6,8 @@ use signed_note::Note;
 use std::alloc::Global;
 use tlog_checkpoint::read;
 
-/// How many entries a checkpoint has, by its note, of which no signature is looked at. None where the bytes are no note of
-/// a checkpoint, or memory was refused.
+/// The size of a checkpoint in its note. It verifies no signature. None if the bytes are not the note of a checkpoint, or if
+/// memory was refused.
 ///
 /// ```text
 /// checkpoint_size(alloc, note) // Some(3)
@@ -25,8 +25,8 @@ pub fn checkpoint_size(alloc: Global, note: &[u8]) -> Option<u64>
     }
 }
 
-/// The origin that a note names, where it is the note of a checkpoint, of which no signature is looked at. None where it
-/// is not, or memory was refused.
+/// The origin of a checkpoint in its note. It verifies no signature. None if the bytes are not the note of a checkpoint, or if
+/// memory was refused.
 ///
 /// ```text
 /// checkpoint_origin(alloc, note) // Some("example.com/log")

@@ -1,4 +1,4 @@
-//! The command `notes`: each note of the mirror in a state file, as a file of its own.
+//! The command `notes`: it writes each note of a state file's mirror to a file of its own.
 ghost use Rattle.std.specs.Prelude.{◌≡◌, ◌<◌, ℕ, IfOk, IfSome, List, length, map, string_bytes};
 ghost use Rattle.signed_note.specs.Keys.{Key};
 ghost use Rattle.program_commands.specs.NoteFiles.{head_note, note_file};
@@ -14,10 +14,12 @@ use std::alloc::{AllocError, Global};
 use tlog_hash::TreeHash;
 use tlog_mirror::Mirror;
 
-/// Writes each note of the mirror in the state file into the folder, which is made where it is missing: as the file of
-/// the name that `note_files` gives it. A note that is there under any number of its size and root is left as it is; the
-/// one that `note_files` gives that number gets another of the same size and root, which no note of the mirror has there.
-/// All are flushed to the device in the end.
+/// Writes each note of the mirror in the state file to the folder, under the name that `note_files` gives it. It makes the
+/// folder if it is missing.
+///
+/// A note that is already there, under any number of its size and root, is left. If `note_files` gives that number to another
+/// note, this one gets another number of the same size and root. The folder has no note of the mirror under that number. In
+/// the end all files are flushed to the device.
 ///
 /// ```text
 /// run_notes::<Sha256Tree, _>(&mut files, alloc, "example.com/log", &keys, "log.state", "notes")?;
@@ -25,9 +27,11 @@ use tlog_mirror::Mirror;
 ///
 /// # Errors
 ///
-/// In this order: `State`, those of `open_state`; `OutOfMemory`, where memory for the list is refused; `Folder`, where the
-/// folder is not made; `Note`, with `FileFault` where a note is not written, or what is under its name is no plain file or
-/// has other bytes, and the notes before it are then written; `Flush`, where all are written and not flushed.
+/// In this order: `State`, those of `open_state`; `OutOfMemory` if there is no memory for the list; `Folder` if the folder is
+/// not made; `Note`; `Flush` if all notes are written, but not flushed.
+///
+/// `Note` has `FileFault` if a note is not written, or if its name is of something else than a plain file with its bytes. Then
+/// the notes before it are written.
 pub fn run_notes<H: TreeHash, F: NamedFiles>(
     files: &mut F,
     alloc: Global,
@@ -49,7 +53,7 @@ pub fn run_notes<H: TreeHash, F: NamedFiles>(
     }
 }
 
-// Writes each note of the mirror of a state file into the folder.
+// Writes each note of the mirror of a state file to the folder.
 fn write_notes<H: TreeHash, F: NamedFiles>(
     files: &mut F,
     alloc: Global,
@@ -73,8 +77,8 @@ fn write_notes<H: TreeHash, F: NamedFiles>(
     }
 }
 
-// Puts the notes in an order in which their names are those of the files that have them: a note that lies there under
-// another number than its own keeps that, and the one of that number gets its own.
+// Orders the notes so that each gets the name of the file that already has it. A note that is in the folder under another
+// number keeps that number, and the note of that number gets its number.
 fn order_as_found<F: NamedFiles>(
     files: &F,
     alloc: Global,
@@ -90,7 +94,7 @@ fn order_as_found<F: NamedFiles>(
     Ok(())
 }
 
-// Exchanges a note with the one that the file under its name has.
+// If the file with the note's name has the bytes of another note, exchanges the two notes.
 fn exchange_found<F: NamedFiles>(
     files: &F,
     alloc: Global,
@@ -114,14 +118,14 @@ fn exchange_found<F: NamedFiles>(
             }
         }
         Err(NamedFault::OutOfMemory) => return Err(AllocError),
-        // A file that is not read stops the notes where its own is put.
+        // If a file cannot be read, putting its note will fail later.
         _ => {}
     }
     Ok(())
 }
 
-// The index of a note that has these bytes, of the size and root of the one at that index. Behind it is looked first:
-// there they are where one note came before all others.
+// The index of a note with these bytes, and with the size and root of the note at index `i`. It looks after `i` first:
+// if only one note was added before all others, the wanted note is there.
 fn index_of(heads: &[HeadNote], i: usize, bytes: &[u8]) -> Option<usize>
     requires { i < length heads.now }
     ensures { IfSome result (λ j. j < length heads.now) }
@@ -140,12 +144,12 @@ fn index_of(heads: &[HeadNote], i: usize, bytes: &[u8]) -> Option<usize>
     None
 }
 
-// Whether a note is of that one's size and root, and has these bytes.
+// Whether a note has these bytes, and the size and root of the other note.
 fn is_head(other: &HeadNote, head: &HeadNote, bytes: &[u8]) -> bool {
     other.size == head.size && other.root == head.root && other.bytes == bytes
 }
 
-// Puts each of the notes into the folder, and flushes what was put.
+// Puts each of the notes into the folder, and flushes the folder.
 fn put_heads<F: NamedFiles>(
     files: &mut F,
     alloc: Global,
@@ -164,7 +168,7 @@ fn put_heads<F: NamedFiles>(
             Err(fault) => Err(NotesFault::Flush(fault)),
         },
         Err(fault) => {
-            // What was put stands: why the notes end comes first.
+            // The files that were put remain. The first fault is reported.
             let _flushed = files.flush(folder);
             Err(NotesFault::Note(fault))
         }
@@ -203,14 +207,14 @@ fn put_note<F: NamedFiles>(
     put_once(files, alloc, &place, note.bytes)
 }
 
-// Where the note of that name lies.
+// The path of the note with that name.
 fn note_path(alloc: Global, folder: &str, name: &str) -> Result<String, AllocError>
     ensures { IfOk result (λ place. string_bytes place ≡ note_place folder.now name.now) }
 {
     format!(in alloc; "{folder}/{name}")
 }
 
-// Puts a file that is not there yet. One that is there with these bytes is left as it is.
+// Puts a file that is missing. If it is there with these bytes, it is left.
 fn put_once<F: NamedFiles>(
     files: &mut F,
     alloc: Global,
@@ -233,7 +237,7 @@ fn put_once<F: NamedFiles>(
     }
 }
 
-// Gives the files what is wrong with the one of that name, which has other bytes.
+// Keeps the name of a file that has other bytes, with the reason.
 fn keep_other<F: NamedFiles>(files: &F, alloc: Global, name: &str) {
     if let Ok(reason) = String::from_str(alloc, "it has other bytes") {
         files.keep_reason(name, reason);

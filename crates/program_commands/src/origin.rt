@@ -1,4 +1,4 @@
-//! The origin of a command, which is judged before any file of it is opened.
+//! The origin of a command. It is checked before any file is opened.
 ghost use Rattle.std.specs.Prelude.{◌≡◌, OnOk};
 ghost use Rattle.mirror_model.specs.Origin.{IsOrigin};
 
@@ -6,7 +6,7 @@ use std::alloc::Global;
 use tlog_hash::Sha256Tree;
 use tlog_mirror::{Mirror, NewFault};
 
-/// Whether a mirror may be of that origin, by the rule of `Mirror::new`.
+/// Checks that a mirror may have that origin, by the rule of `Mirror::new`.
 ///
 /// ```text
 /// check_origin(alloc, "example.com/log")?;
@@ -15,8 +15,8 @@ use tlog_mirror::{Mirror, NewFault};
 ///
 /// # Errors
 ///
-/// `BadOrigin` exactly where the origin is empty, has more than 65,535 bytes, or has a character below U+0020.
-/// `OutOfMemory` where memory was refused.
+/// `BadOrigin` exactly if the origin is empty, has more than 65,535 bytes, or has a character below U+0020.
+/// `OutOfMemory` if memory was refused.
 pub fn check_origin(alloc: Global, origin: &str) -> Result<(), NewFault>
     ensures lawful { OnOk result (IsOrigin origin.now) }
     ensures bad_origin { result ≡ Err NewFault.BadOrigin → ¬ IsOrigin origin.now }

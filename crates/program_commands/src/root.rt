@@ -1,4 +1,4 @@
-//! The command `root`: the tree hash of one bundle, from bytes to text.
+//! The command `root`: it reads the bytes of an entry bundle and writes its tree hash.
 ghost use Rattle.std.specs.Prelude.{◌≡◌, ◌≢◌, ◌≤◌, IfErr, IfOk, IfSome, string_bytes};
 ghost use Rattle.std.specs.Io.KnownBytes.{Keeps};
 ghost use Rattle.tlog_text.specs.Answers.{seen};
@@ -15,8 +15,8 @@ use tlog_hash::{Hash, TreeHash, tree_hash};
 use tlog_text::push_hash;
 use tlog_tiles::{BundleFault, MAX_BUNDLE_LEN, read_bundle};
 
-/// How many bytes `root` takes at most: one more than the largest bundle has, which is 256 entries of
-/// 65,535 bytes, each after its length of two bytes. So many are no bundle of any width.
+/// The greatest number of bytes that `root` takes: one more than the longest entry bundle has, which is
+/// 256 entries of 65,535 bytes, each after its length of two bytes. An input of that length is no bundle of any width.
 pub const MAX_READ_LEN: usize = MAX_BUNDLE_LEN + 1;
 
 /// Why `root` printed no root.
@@ -80,7 +80,7 @@ fn text_of(alloc: Global, width: u32, root: &Hash) -> Result<String, AllocError>
     Ok(text)
 }
 
-// The text of the bundle that the reader gives.
+// The text for the bundle from the reader.
 fn root_report<H: TreeHash, R: Read>(
     alloc: Global,
     width: u32,
@@ -96,16 +96,18 @@ fn root_report<H: TreeHash, R: Read>(
     Ok(text_of(alloc, width, &tree_hash::<H>(&entries))?)
 }
 
-/// Reads a bundle of `width` entries, to the reader's end, and writes its size and the tree hash of
-/// its entries (RFC 6962, section 2.1) in standard base64, as the two lines `size W` and `root ROOT`.
+/// Reads an entry bundle of `width` entries to the end of the reader. It writes the size, and the tree hash
+/// of the entries (RFC 6962, section 2.1) in standard base64, as the two lines `size W` and `root ROOT`.
 ///
 /// # Errors
 ///
-/// `ReadFault` comes where a read fails, whatever was read before. `BundleShort` and `BundleLong` are
-/// those of `read_bundle` on all the bytes that the reader had to give, of which at most 16,777,473
-/// are taken: so many are never a bundle. Nothing is written before the whole text is made.
-/// `WriteFault` comes where a write fails or takes no byte, and then a prefix of the text was written.
-/// `OutOfMemory` comes where memory was refused, and nothing is written then.
+/// Only after a `WriteFault` text may have been written.
+///
+/// - `ReadFault`: a read failed, whatever was read before.
+/// - `BundleShort` and `BundleLong`: as for `read_bundle` with all bytes of the reader. It takes at most
+///   16,777,473 bytes, which is more than any bundle has.
+/// - `WriteFault`: a write failed or took no byte. A prefix of the text was written.
+/// - `OutOfMemory`: memory was refused.
 pub fn run_root<H: TreeHash, R: Read, W: Write>(
     alloc: Global,
     width: u32,

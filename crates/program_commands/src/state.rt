@@ -1,4 +1,4 @@
-//! Mirrors read from state files, and written to them.
+//! Reads mirrors from state files, and writes their states.
 ghost use Rattle.std.specs.Prelude.{◌≡◌, ◌↔◌, IfOk, IsTrue, Some, map, option_map};
 ghost use Rattle.mirror_state.specs.StateText.{StateText};
 ghost use Rattle.tlog_text.specs.Answers.{seen};
@@ -22,9 +22,9 @@ use tlog_mirror::Mirror;
 ///
 /// # Errors
 ///
-/// The first that applies: `Origin`, as of `Mirror::new`; `File`, where the file is not read; `Load`, with the fault of
-/// `mirror_state::load_bytes`. `OutOfMemory` comes in each of them. The files are given which note a `StateHead` or a
-/// `StateEdge` is about, and the origin at `OtherOrigin`.
+/// The first that applies: `Origin`, as for `Mirror::new`; `File` if the file is not read; `Load`, with the fault of
+/// `mirror_state::load_bytes`. Each of them may hold `OutOfMemory`. The files keep which note a `StateHead` or a
+/// `StateEdge` is about, or the origin for `OtherOrigin`.
 pub fn open_state<H: TreeHash, F: NamedFiles>(
     files: &F,
     alloc: Global,
@@ -41,7 +41,7 @@ pub fn open_state<H: TreeHash, F: NamedFiles>(
     }
 }
 
-// The mirror in a state file, and whether the file has the bytes that a save of it writes.
+// The mirror in a state file, and whether the file has the bytes that a save of this mirror writes.
 fn open_as_saved<H: TreeHash, F: NamedFiles>(
     files: &F,
     alloc: Global,
@@ -72,7 +72,7 @@ fn open_as_saved<H: TreeHash, F: NamedFiles>(
     }
 }
 
-// Gives the files what is wrong with a state, by its name and bytes: its origin, or one of its notes.
+// Keeps what is wrong with a state, which is given by its name and bytes: its origin, or one of its notes.
 fn keep_reason<H: TreeHash, F: NamedFiles>(
     files: &F,
     alloc: Global,
@@ -95,13 +95,13 @@ fn keep_reason<H: TreeHash, F: NamedFiles>(
     }
 }
 
-// Of which origin a state is.
+// The reason for a state of another origin: it says which origin.
 fn origin_reason(alloc: Global, state: &[u8]) -> Option<String> {
     let origin = origin_in(state)?;
     format!(in alloc; "its origin is {origin}").ok()
 }
 
-// The origin of a state: it stands behind the eight bytes that a state begins with, and its own length in two.
+// The origin of a state. It follows the first eight bytes of the state, and its own length in two bytes.
 fn origin_in(state: &[u8]) -> Option<&str> {
     if state.len() < 10 {
         return None;
@@ -115,7 +115,7 @@ fn origin_in(state: &[u8]) -> Option<&str> {
     str::from_utf8(origin).ok()
 }
 
-// Which note a state is refused for.
+// The reason for a refused note of a state: it names the note.
 fn note_reason<H: TreeHash>(
     alloc: Global,
     origin: &str,
@@ -128,7 +128,7 @@ fn note_reason<H: TreeHash>(
     }
 }
 
-/// The mirror in a state file, where one is named, and else one that holds nothing.
+/// The mirror in the named state file, or an empty one if no file is named.
 ///
 /// ```text
 /// let mirror: Mirror<Sha256Tree> = open_or_new(&files, alloc, "example.com/log", &keys, None)?;
@@ -156,8 +156,8 @@ pub fn open_or_new<H: TreeHash, F: NamedFiles>(
     }
 }
 
-/// The mirror as of `open_or_new`, and whether the file `out` is the one that was read, and has the bytes that a save of the
-/// mirror writes. So while the mirror gains nothing, it need not be saved there.
+/// The mirror, as by `open_or_new`, and whether it is already saved in the file `out`: `out` is the file that was read, and it
+/// has the bytes that a save of the mirror writes. If so, the mirror need not be saved until it gains something.
 ///
 /// ```text
 /// let (mirror, is_saved): (Mirror<Sha256Tree>, bool) =
@@ -189,7 +189,7 @@ pub fn open_to_save<H: TreeHash, F: NamedFiles>(
     }
 }
 
-// The same, of the file of that name.
+// The same for the file of that name.
 fn open_named<H: TreeHash, F: NamedFiles>(
     files: &F,
     alloc: Global,
@@ -209,14 +209,14 @@ fn open_named<H: TreeHash, F: NamedFiles>(
     }
 }
 
-// Whether the two names are one.
+// Whether the two names are equal.
 fn is_one(name: &str, other: &str) -> bool
     ensures { IsTrue result ↔ (name.now ≡ other.now) }
 {
     name == other
 }
 
-// The text of the mirror's state. Memory alone can be wanting, since it goes into memory.
+// The text of the mirror's state. It goes to memory, so only memory can be lacking.
 fn state_text<H: TreeHash>(alloc: Global, mirror: &Mirror<H>) -> Result<Vec<u8>, AllocError>
     ensures { IfOk result (λ text. StateText mirror.now.view text.items) }
 {
@@ -227,7 +227,7 @@ fn state_text<H: TreeHash>(alloc: Global, mirror: &Mirror<H>) -> Result<Vec<u8>,
     }
 }
 
-/// Writes the mirror's state to the file of that name, which is replaced whole. It is not touched before the whole
+/// Writes the mirror's state to the file of that name, which is replaced completely. The file is not touched before the whole
 /// text is made.
 ///
 /// ```text
@@ -236,7 +236,7 @@ fn state_text<H: TreeHash>(alloc: Global, mirror: &Mirror<H>) -> Result<Vec<u8>,
 ///
 /// # Errors
 ///
-/// `FileFault` where it cannot be written, `OutOfMemory` where memory was refused.
+/// `FileFault` if the file cannot be written. `OutOfMemory` if memory was refused.
 pub fn write_state<H: TreeHash, F: NamedFiles>(
     files: &mut F,
     alloc: Global,

@@ -1,4 +1,4 @@
-//! The command `take`: what files hold is taken into a mirror.
+//! The command `take`: it takes files into a mirror.
 ghost use Rattle.std.specs.Prelude.{◌≤◌, List, map, option_map};
 ghost use Rattle.signed_note.specs.Keys.{Key};
 ghost use Rattle.tlog_text.specs.Answers.{seen};
@@ -15,8 +15,8 @@ use std::alloc::Global;
 use tlog_hash::TreeHash;
 use tlog_mirror::Mirror;
 
-/// Takes an item of files into the mirror in the state file, or into one that holds nothing where none is named, and
-/// writes its state to the file `out`.
+/// Takes an item from files into the mirror of the state file, or into an empty one if no state file is named. It writes the
+/// state to the file `out`.
 ///
 /// ```text
 /// let item = ItemFiles::Bundle { width: 3, file: "log/tile/entries/000.p/3" };
@@ -25,8 +25,8 @@ use tlog_mirror::Mirror;
 ///
 /// # Errors
 ///
-/// In this order: `State`, those of `open_or_new`; `Item`, where a file of the item is not read; `Take`, as of the mirror's own
-/// calls; `Out`, where the state is not written. All files are then as they were.
+/// In this order: `State`, those of `open_or_new`; `Item` if a file of the item is not read; `Take`, as for the mirror's own
+/// calls; `Out` if the state is not written. After a fault all files are unchanged.
 pub fn run_take<H: TreeHash, F: NamedFiles>(
     files: &mut F,
     alloc: Global,
@@ -49,7 +49,7 @@ pub fn run_take<H: TreeHash, F: NamedFiles>(
     }
 }
 
-// The mirror that is begun with, with the item of the files taken into it.
+// The first mirror, after it took the item in the files.
 fn mirror_with_item<H: TreeHash, F: NamedFiles>(
     files: &F,
     alloc: Global,
@@ -76,7 +76,7 @@ fn mirror_with_item<H: TreeHash, F: NamedFiles>(
     }
 }
 
-// Takes the item that files hold.
+// Takes the item in the files.
 fn take_item<H: TreeHash, F: NamedFiles>(
     files: &F,
     alloc: Global,
@@ -95,7 +95,7 @@ fn take_item<H: TreeHash, F: NamedFiles>(
     }
 }
 
-// Takes a head: the file of its note, and those of the rows of its size's edge.
+// Takes a checkpoint: the file of its note, and the files of its right edge's rows.
 fn take_head<H: TreeHash, F: NamedFiles>(
     files: &F,
     alloc: Global,
@@ -121,7 +121,7 @@ fn take_head<H: TreeHash, F: NamedFiles>(
     }
 }
 
-// Takes a tile, to which keys say nothing.
+// Takes a tile. It needs no keys, so the contract holds for all keys.
 fn take_tile<H: TreeHash, F: NamedFiles>(
     files: &F,
     alloc: Global,
@@ -144,7 +144,7 @@ fn take_tile<H: TreeHash, F: NamedFiles>(
     }
 }
 
-// Takes a bundle, to which keys say nothing.
+// Takes an entry bundle. It needs no keys, so the contract holds for all keys.
 fn take_bundle<H: TreeHash, F: NamedFiles>(
     files: &F,
     alloc: Global,

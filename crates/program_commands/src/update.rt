@@ -1,4 +1,4 @@
-//! The command `export --update`: a folder brought up to date with what the mirror in a state file serves.
+//! The command `export --update`: it updates a folder to the files that a state file's mirror serves.
 ghost use Rattle.std.specs.Prelude.{ℕ, List, Option, map};
 ghost use Rattle.signed_note.specs.Keys.{Key};
 ghost use Rattle.program_files.specs.Named.{NamedFile};
@@ -15,8 +15,8 @@ use std::alloc::Global;
 use tlog_hash::TreeHash;
 use tlog_mirror::Mirror;
 
-/// Brings the folder up to date with what the mirror in the state file serves: puts the tiles and bundles that the log
-/// of the folder's checkpoint lacks, and last the checkpoint. Where the folder has no checkpoint, all files are put.
+/// Updates the folder to the files that the mirror in the state file serves. It puts the tiles and entry bundles that the log
+/// of the folder's checkpoint lacks, and the checkpoint last. If the folder has no checkpoint, all files are put.
 ///
 /// ```text
 /// let mut folders = DirShelf::new(&rt, alloc, ".");
@@ -25,8 +25,8 @@ use tlog_mirror::Mirror;
 ///
 /// # Errors
 ///
-/// In this order: `State`, those of `open_state`; `OutOfMemory`, where memory for the folder's name was refused; nothing is
-/// put then. `Update`, those of `mirror_export::update`. What was put before a fault stays.
+/// In this order: `State`, those of `open_state`; `OutOfMemory` if there is no memory for the folder's name. After these
+/// nothing was put. Then `Update`, those of `mirror_export::update`. Files that were put before a fault remain.
 pub fn run_update<H: TreeHash, F: NamedFiles, D: CountedFolders>(
     files: &F,
     folders: &mut D,
@@ -50,7 +50,7 @@ pub fn run_update<H: TreeHash, F: NamedFiles, D: CountedFolders>(
     }
 }
 
-// Opens the folder, and brings it up to date with what the mirror of a state file serves.
+// Opens the folder, and updates it to the files that the mirror of a state file serves.
 fn update_into<H: TreeHash, D: CountedFolders>(
     alloc: Global,
     mirror: &Mirror<H>,

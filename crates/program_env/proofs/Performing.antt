@@ -1,4 +1,4 @@
--- What a command does, of what its call did: its answer is the call's, under a name. The answers of the commands cite one lemma each.
+-- How a command ends, given the answer of its call: the same answer as a `RunFault`. The answers of the commands cite one lemma each.
 use Rattle.std.proofs.Common.{◌≡◌, ◌≢◌, ℕ, List, Option, Result, Ok, Err, IfErr, IfOk, Bool, true, false}
 use Rattle.std.proofs.Common.{inl, inr, refl, subst, sym}
 use Rattle.std.specs.Io.KnownBytes.{Keeps}
@@ -17,19 +17,19 @@ use Rattle.program_env.specs.Performing.{Performs}
 use Rattle.program_env.specs.Works.{IsStatus, PrintsPort}
 use Rattle.program_env.proofs.Written.{keeps_itself}
 
--- nothing was written but at a write fault, whatever that is called
+-- the output is unchanged for every fault except the write fault, also under its name as a `RunFault`
 quiet_under : {E : Type 0} (name : E → RunFault) (write fault : E) (old new : Option (List ℕ)) →
     IsWriteFault (name write) → (fault ≢ write → Keeps old new) → (¬ IsWriteFault (name fault)) → Keeps old new
 quiet_under name write fault old new is h other = h (λ e. other (subst (λ f. IsWriteFault (name f)) (sym e) is))
 
--- a verdict's status
+-- a verdict gives an exit status
 pub verdict_is : (verdict : Bool) → IsStatus (verdict_status verdict)
 verdict_is true = inl refl
 verdict_is false = inr refl
 
 module _ (digest : List ℕ → List ℕ) (keys : List Key) (key_bytes : List ℕ) (old new : Moment) (c : Order)
     (files : LeavesFiles c old.files new.files) (folders : LeavesFolders c old.puts new.puts) where
-  -- it was done
+  -- the command was done
   pub performs_done : (status : ℕ) → IsStatus status → Executes digest keys key_bytes old new c (Ok status) →
       Performs digest keys key_bytes old new c (Ok status)
   performs_done status is does = record {
@@ -39,7 +39,7 @@ module _ (digest : List ℕ → List ℕ) (keys : List Key) (key_bytes : List �
     ends = record { status = is; quiet = tt };
   }
 
-  -- it was not done, for this reason, and nothing was written
+  -- the command failed for this reason, and wrote nothing
   pub performs_failed : (fault is : RunFault) → is ≡ fault → Keeps old.output new.output →
       Executes digest keys key_bytes old new c (Err fault) → Performs digest keys key_bytes old new c (Err is)
   performs_failed fault is same keeps does = rw same (record {
@@ -49,7 +49,7 @@ module _ (digest : List ℕ → List ℕ) (keys : List Key) (key_bytes : List �
     ends = record { status = tt; quiet = λ other. keeps };
   })
 
-  -- it was not done, and nothing was written but at its write fault
+  -- the command failed; it wrote to the output only if that write failed
   pub performs_part : {E : Type 0} (name : E → RunFault) (write fault : E) (is : RunFault) → is ≡ name fault →
       IsWriteFault (name write) → (fault ≢ write → Keeps old.output new.output) →
       Executes digest keys key_bytes old new c (Err (name fault)) → Performs digest keys key_bytes old new c (Err is)
@@ -60,7 +60,7 @@ module _ (digest : List ℕ → List ℕ) (keys : List Key) (key_bytes : List �
     ends = record { status = tt; quiet = quiet_under name write fault old.output new.output lets quiet };
   })
 
-  -- so it is of a call that says how it ends
+  -- the same from a call that says how it ends
   pub performs : (answer : Result ℕ RunFault) → IfOk answer IsStatus →
       IfErr answer (λ fault. (¬ IsWriteFault fault) → Keeps old.output new.output) →
       Executes digest keys key_bytes old new c answer → Performs digest keys key_bytes old new c answer
@@ -71,7 +71,7 @@ module _ (digest : List ℕ → List ℕ) (keys : List Key) (key_bytes : List �
     ends = record { status = status; quiet = quiet };
   }
 
--- nothing was written by `serve` but the line of its port
+-- `serve` wrote only the line of its port
 quiet_port : (port : ℕ) (old new : Option (List ℕ)) (fault : RunFault) → PrintsPort {T = Unit {0}} port old new (Err fault) →
     (¬ IsWriteFault fault) → Keeps old new
 quiet_port port old new WriteFault h other = absurd (other tt)
@@ -79,7 +79,7 @@ quiet_port port old new PortFault h other = absurd (other tt)
 quiet_port port old new OutOfMemory h other = h
 quiet_port port old new fault h other = absurd h
 
--- `serve` opened a mirror, and served it
+-- `serve` opened a mirror and served it
 pub serves : (digest : List ℕ → List ℕ) (keys : List Key) (key_bytes : List ℕ) (old new : Moment) (c : ServeWords) →
     new.files ≡ old.files → new.puts ≡ old.puts → (v : View) →
     OpensFile digest c.mirror.log.origin.now keys old.files c.mirror.state.now (Ok v) →
@@ -92,7 +92,7 @@ serves digest keys key_bytes old new c files folders v opened (Err fault) is sam
     rw same (performs digest keys key_bytes old new (order.Serve c) files folders (Err fault) tt
     (quiet_port c.port old.output new.output fault tells) (inr record { view = v; opened = opened; tells = tells }))
 
--- a command is the one that is executed
+-- an equal command does the same
 pub performs_same : (digest : List ℕ → List ℕ) (keys : List Key) (key_bytes : List ℕ) (old new : Moment)
     (command c : Order) (answer : Result ℕ RunFault) → command ≡ c →
     Performs digest keys key_bytes old new c answer → Performs digest keys key_bytes old new command answer

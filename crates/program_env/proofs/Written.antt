@@ -1,4 +1,4 @@
--- What was written, whether or not the writer took all.
+-- Bytes that were written, completely or in part.
 use Rattle.std.proofs.Common.{ℕ, List, length, Option, Some, None, Result, Ok, Err, refl, sym, subst, arith}
 use Rattle.std.specs.Prelude.{OnOk, OnErr}
 use Rattle.std.specs.Io.KnownBytes.{Appends, Keeps}

@@ -1,5 +1,4 @@
--- What each answer of `build` says of the key file, of the input, and of what was put into its
--- folder.
+-- The meaning of each answer of `build` for the key file, the input, and the files that were put into its folder.
 use Rattle.std.specs.Prelude.{◌≡◌, ℕ, List, Option, Some, None, Result, Ok, Err, IfSome, ⊤}
 use Rattle.signed_note.specs.Keys.{Key, Secret, secret_key}
 use Rattle.signed_note.specs.KeyFiles.{IsKeyFile}
@@ -18,31 +17,31 @@ use Rattle.program_env.specs.declared.fault.RunFault.{RunFault}
 use Rattle.program_env.specs.declared.fault.RunFault.TheVariants.{Build, Entries, NoSigningKey, Origin}
 use Rattle.program_env.specs.declared.fault.RunFault.TheVariants.{OutOfMemory}
 
--- the answer of a reader of entries that failed
+-- the result of a failed reader of entries
 abbrev pub no_entries : EntriesFault → Result (List (List ℕ)) EntriesFault
 no_entries fault = Err fault
 
--- no mirror may be of the origin, unless memory was refused
+-- the origin is refused: it is no origin, or memory was refused
 abbrev pub RefusesOrigin : List ℕ → NewFault → Type 0
 RefusesOrigin origin made.BadOrigin = ¬ IsOrigin origin
 RefusesOrigin origin made.OutOfMemory = ⊤
 
--- the bytes are lines of keys, of which this is the first of a shared secret, or none is
+-- the bytes are lines of keys, and this is the first shared secret among them; None if there is no shared secret
 pub record FindsSigner (bytes : List ℕ) (signer : Option Secret) : Type 0 where
   pub lines : List KeyLine
   pub are_lines : IsKeyFile bytes lines
   pub first_is : signer ≡ first_secret lines
 
--- the bytes are lines of keys, of which one is of a shared secret
+-- the bytes are lines of keys with at least one shared secret
 abbrev pub HasSigner : List ℕ → Type 0
 HasSigner bytes = (signer : Secret) × FindsSigner bytes (Some signer)
 
 module _
     (digest : List ℕ → List ℕ) (origin : List ℕ) (keys : List Key) (key_bytes : List ℕ)
     (held before put : Option (List Put)) where
-  -- the input is entries, where it is known, and a log of them was built over what the folder held,
-  -- signed by the first key of a shared secret, as the answer says: if that key is among the keys,
-  -- and no two strings of the log share a digest
+  -- a log of these entries was built over what the folder held, and signed with the first shared secret; the answer says how far;
+  -- an input that records its bytes has these entries; the log is known if the key is among the keys and no two strings of it
+  -- share a digest
   pub record BuildsInput (input : Option (List ℕ)) (answer : Result (Unit {0}) BuildFault)
       : Type 0 where
     pub signer : Secret
@@ -52,14 +51,13 @@ module _
     pub are_entries : IfSome input (λ bytes. AreEntries bytes entries)
     pub builds : BuildsLogUnder digest origin (secret_key signer) entries keys held put answer
 
-  -- the input is no entries, where it is known, as the fault says; what comes before it is well
+  -- the input has no entries, as the fault says, if its bytes are recorded; the key and the origin are valid
   pub record LacksEntries (input : Option (List ℕ)) (fault : EntriesFault) : Type 0 where
     pub has_signer : HasSigner key_bytes
     pub is_origin : IsOrigin origin
     pub reads : IfSome input (λ bytes. ReadsEntries bytes (no_entries fault))
 
-  -- what each answer says: a log of the input was built, or not; or the first reason why none was
-  -- begun, and then nothing was put
+  -- the meaning of each answer: a log was built, completely or in part, or the first fault before that, after which nothing was put
   abbrev pub BuildsFrom : Option (List ℕ) → Result (Unit {0}) RunFault → Type 0
   BuildsFrom input (Ok x) = BuildsInput input done
   BuildsFrom input (Err (Build fault)) = BuildsInput input (failed fault)

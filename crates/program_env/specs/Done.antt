@@ -1,5 +1,4 @@
--- What each answer of a command says of the input, of named files and folders, and of what was
--- written to standard output.
+-- The meaning of each answer of a command for the input, the named files and folders, and the bytes on standard output.
 use Rattle.std.specs.Prelude.{◌≡◌, ◌≤◌, ℕ, List, length, Option, Result, Ok, Err, Bool, true}
 use Rattle.std.specs.Prelude.{false, IfSome, None, Some, map, option_map, ⊤}
 use Rattle.std.specs.Io.KnownBytes.{Keeps}
@@ -75,8 +74,7 @@ use Rattle.program_env.specs.Named.{TakesWords}
 use Rattle.program_env.specs.Pulls.{PrintsPull}
 use Rattle.program_env.specs.Works.{AsksState, ComparesState, ServesState, PrintsPort}
 
--- the files that a command reads alone are left as they are; what the others leave is said by
--- `Executes`
+-- a command that only reads files leaves them unchanged; for the other commands `Executes` says what they leave
 abbrev pub LeavesFiles : Order → Option (List NamedFile) → Option (List NamedFile) → Type 0
 LeavesFiles (order.Take c) recorded left = ⊤
 LeavesFiles (order.Merge c) recorded left = ⊤
@@ -85,8 +83,7 @@ LeavesFiles (order.Notes c) recorded left = ⊤
 LeavesFiles (order.Follow c) recorded left = ⊤
 LeavesFiles other recorded left = left ≡ recorded
 
--- the commands that put nothing into a folder leave what was put as it was; what the others put is
--- said by `Executes`
+-- a command that puts nothing into a folder leaves the puts unchanged; for the other commands `Executes` says what they put
 abbrev pub LeavesFolders : Order → Option (List Put) → Option (List Put) → Type 0
 LeavesFolders (order.Build c) before put = ⊤
 LeavesFolders (order.Export c) before put = ⊤
@@ -99,13 +96,13 @@ LeavesFolders (order.CopyEntries c) before put = ⊤
 LeavesFolders (order.CopyServe c) before put = ⊤
 LeavesFolders other before put = put ≡ before
 
--- the exit status of a verdict: 3 for a no
+-- the exit status of a verdict: 3 for no
 abbrev pub verdict_status : Bool → ℕ
 verdict_status true = 0
 verdict_status false = 3
 
--- the fault comes where text may have been written: of a write that failed; of a port, whose line comes before its connections; of
--- evidence, which comes behind the text; of entries, which are written as they are read
+-- after these faults text may have been written: a write failed; a port failed, maybe after its line was written; the evidence,
+-- which follows the text, was not put; entries failed while they were written
 abbrev pub IsWriteFault : RunFault → Type 0
 IsWriteFault (Follow follow.WriteFault) = ⊤
 IsWriteFault (Follow (follow.Evidence fault)) = ⊤
@@ -124,21 +121,21 @@ IsWriteFault WriteFault = ⊤
 IsWriteFault PortFault = ⊤
 IsWriteFault other = ⊥
 
--- what words that ask for a command say of it besides: numbers are in their ranges, and an item has
--- a file
+-- the words of the command also guarantee that the numbers are in their ranges, and that an item has a file
 abbrev pub IsDoable : Order → Type 0
 IsDoable (order.Root c) = c.width ≤ 256
 IsDoable (order.Take c) =
     (1 ≤ c.width) × (c.width ≤ 256) × (1 ≤ length c.files.items)
 IsDoable other = ⊤
 
--- the note is that of the named file; where none is named it is any, since a place of the system may give any
+-- the note may be the one that is followed: the note of the named file; without a named file any note, because a place of the
+-- system may give any
 abbrev pub MayFollow : Option (List NamedFile) → Option (List ℕ) → List ℕ → Type 0
 MayFollow recorded None note = ⊤
 MayFollow recorded (Some name) note = HasContents recorded name note
 
--- a place of the system was audited with that answer. It records nothing and may answer anything, so this says that there are
--- such replies
+-- a place of the system was audited with this answer; such a place records nothing and may answer anything, so the statement
+-- is only that there are replies that lead to this answer
 abbrev pub AuditsPlace : (List ℕ → List ℕ) → List ℕ → List Key → Option (List ℕ) → Option (List ℕ) →
     Result ℕ AuditRunFault → Type 0
 AuditsPlace digest origin keys old new answer =
@@ -168,7 +165,7 @@ module _ (digest : List ℕ → List ℕ) (keys : List Key) (key_bytes : List �
 
   -- -- build
 
-  -- what an answer says of the key file's bytes, of the input, and of the folder that the words name
+  -- the meaning of an answer of `build` for the key file, the input, and the named folder
   abbrev pub BuildsOne : BuildWords → Result (Unit {0}) RunFault → Type 0
   BuildsOne c answer =
       BuildsFrom digest c.log.origin.now keys key_bytes (old.held c.folder.now) old.puts new.puts
@@ -189,7 +186,7 @@ module _ (digest : List ℕ → List ℕ) (keys : List Key) (key_bytes : List �
 
   -- -- merge
 
-  -- what an answer says of the files that the words name
+  -- the meaning of an answer of `merge` for the named files
   abbrev pub MergesTwo : MergeWords → Result (Unit {0}) MergeFilesFault → Type 0
   MergesTwo c answer =
       LeavesMerged digest c.mirror.log.origin.now keys old.files c.first.now c.second.now
@@ -223,7 +220,7 @@ module _ (digest : List ℕ → List ℕ) (keys : List Key) (key_bytes : List �
 
   -- -- export
 
-  -- what an answer says of the state file, and of the folder that the words name
+  -- the meaning of an answer of `export` for the state file and the named folder
   abbrev pub ExportsOne : FolderWords → Result (Unit {0}) ExportFileFault → Type 0
   ExportsOne c answer =
       ExportsFile digest c.mirror.log.origin.now keys old.files c.mirror.state.now
@@ -234,7 +231,7 @@ module _ (digest : List ℕ → List ℕ) (keys : List Key) (key_bytes : List �
   DoesExport c (Err (Export fault)) = ExportsOne c (failed fault) × Keeps old.output new.output
   DoesExport c (Err other) = ⊥
 
-  -- the same, of `export --update`
+  -- the same for `export --update`
   abbrev pub UpdatesOne : FolderWords → Result (Unit {0}) UpdateFileFault → Type 0
   UpdatesOne c answer =
       UpdatesFile digest c.mirror.log.origin.now keys old.files c.mirror.state.now
@@ -247,7 +244,7 @@ module _ (digest : List ℕ → List ℕ) (keys : List Key) (key_bytes : List �
 
   -- -- notes
 
-  -- what an answer says of the state file, and of the files in the folder
+  -- the meaning of an answer of `notes` for the state file and the files of the folder
   abbrev pub WritesInto : NotesWords → Result (Unit {0}) NotesFault → Type 0
   WritesInto c answer =
       WritesNotes digest c.mirror.log.origin.now keys old.files c.mirror.state.now c.folder.now
@@ -260,7 +257,7 @@ module _ (digest : List ℕ → List ℕ) (keys : List Key) (key_bytes : List �
 
   -- -- serve
 
-  -- what an answer says of the state file, and of what was written
+  -- the meaning of an answer of `serve` for the state file and the output
   abbrev pub ServesOne : ServeWords → Result (Unit {0}) RunFault → Type 0
   ServesOne c answer =
       ServesState digest keys old.files c.mirror.state.now c.mirror.log.origin.now c.port old.output
@@ -272,7 +269,7 @@ module _ (digest : List ℕ → List ℕ) (keys : List Key) (key_bytes : List �
 
   -- -- follow
 
-  -- what an answer says of the note that is given, of the folder of the copy, and of what was written
+  -- the meaning of an answer of `follow` for the given note, the folder of the copy, and the output
   abbrev pub FollowsOne : FollowWords → Result ℕ FollowRunFault → Type 0
   FollowsOne c answer =
       Follows digest c.copy.log.origin.now keys
@@ -305,7 +302,7 @@ module _ (digest : List ℕ → List ℕ) (keys : List Key) (key_bytes : List �
 
   -- -- status, compare, prove of a copy
 
-  -- the folder was opened or not, and what was put into it stays; the report was printed
+  -- a report on the copy was printed, or could not be; the earlier puts of the folder remain
   abbrev pub PrintsCopy : CopyArgs → (Result Printout CopyAskFault → Type 0) → Result ℕ CopyAskFault → Type 0
   PrintsCopy c Reports answer =
       Prints Reports old.output new.output answer × LeavesPuts (old.held c.folder.now) old.puts new.puts
@@ -329,7 +326,7 @@ module _ (digest : List ℕ → List ℕ) (keys : List Key) (key_bytes : List �
 
   -- -- entries
 
-  -- a mirror was opened of the state file, and what was answered and written is of its entries
+  -- the state file gave a mirror, and the answer and the output belong to its entries
   abbrev pub WritesEntries : EntriesWords → Result (Unit {0}) StateEntriesFault → Type 0
   WritesEntries c answer =
       (v : View) × OpensFile digest c.mirror.log.origin.now keys old.files c.mirror.state.now (Ok v) ×
@@ -343,7 +340,7 @@ module _ (digest : List ℕ → List ℕ) (keys : List Key) (key_bytes : List �
   DoesEntries c (Err (StateEntries fault)) = WritesEntries c (failed fault)
   DoesEntries c (Err other) = ⊥
 
-  -- the same of a copy
+  -- the same for a copy
   abbrev pub WritesCopyEntries : CopyEntriesWords → Result (Unit {0}) CopyEntriesFault → Type 0
   WritesCopyEntries c answer =
       AnswersCopied digest c.copy.log.origin.now keys (old.held c.copy.folder.now) c.range.from c.range.to
@@ -358,7 +355,7 @@ module _ (digest : List ℕ → List ℕ) (keys : List Key) (key_bytes : List �
 
   -- -- serve, of a copy
 
-  -- the line of the port was written, as by that answer, and nothing was put
+  -- the line of the port was written, as the answer says, and nothing was put
   abbrev pub ServesCopy : CopyServeWords → Result (Unit {0}) RunFault → Type 0
   ServesCopy c answer =
       PrintsPort c.port old.output new.output answer × LeavesPuts (old.held c.copy.folder.now) old.puts new.puts
@@ -370,8 +367,7 @@ module _ (digest : List ℕ → List ℕ) (keys : List Key) (key_bytes : List �
 
   -- ---- the list of the commands
 
-  -- what each answer of a command says of the input and of named files and folders, where they are
-  -- known, and of what was written
+  -- the meaning of each answer of a command for the input, the named files and folders, if these record, and for the output
   abbrev pub Executes : Order → Result ℕ RunFault → Type 0
   Executes (order.Root c) = DoesRoot c
   Executes order.Check = DoesCheck

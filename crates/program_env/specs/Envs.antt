@@ -1,19 +1,18 @@
--- What a command works on, as it is lent and comes back. The contracts of private functions alone
--- cite `IsSameEnv`.
+-- The environment of a command, which borrows it. Only contracts of private functions cite `IsSameEnv`.
 use Rattle.std.specs.Prelude.{◌≡◌, ℕ, List, Option}
 use Rattle.mirror_folders.specs.Shelf.{Put}
 use Rattle.program_files.specs.Named.{NamedFile}
 use Rattle.program_env.specs.Moment.{Moment}
 use Rattle.program_env.specs.declared.env.Env.{Env}
 
--- the streams that it borrows are still the same
+-- it still borrows the same streams
 abbrev pub IsSameEnv : {R F D I O E : Type 0} → Env R F D I O E → Env R F D I O E → Type 0
 IsSameEnv old new =
     (new.input.ghost_name ≡ old.input.ghost_name)
     × (new.output.ghost_name ≡ old.output.ghost_name)
     × (new.errors.ghost_name ≡ old.errors.ghost_name)
 
--- what is seen of it, by what is seen of its parts
+-- the moment of an environment, from the models of its parts
 abbrev pub moment : {R F D I O E : Type 0} → (F → Option (List NamedFile)) →
     (D → List ℕ → Option (List Put)) → (D → Option (List Put)) → (I → Option (List ℕ)) →
     (O → Option (List ℕ)) → Env R F D I O E → Moment

@@ -1,4 +1,4 @@
--- What the words of `take` ask for of named files.
+-- The words of `take` as named files.
 use Rattle.std.specs.Prelude.{◌≡◌, ℕ, List, ◌∷◌, map, Option, Result}
 use Rattle.std.specs.Prelude.{option_map}
 use Rattle.signed_note.specs.Keys.{Key}
@@ -11,7 +11,7 @@ use Rattle.program_commands.specs.declared.item.ItemFiles.{ItemFiles}
 use Rattle.program_commands.specs.declared.item.ItemFiles.TheVariants.{Head, Tile, Bundle}
 use Rattle.program_commands.specs.declared.fault.TakeFilesFault.{TakeFilesFault}
 
--- the names of files of a kind are those of the item: of a tile and a bundle the first
+-- the file names of this kind give this item; a tile or a bundle has only the first name
 abbrev pub AsksItem : Kind → ℕ → List (List ℕ) → ItemFiles → Type 0
 AsksItem kind.Head width names (Head note rows) = names ≡ note.now ∷ map (λ row. row.now) rows.now
 AsksItem kind.Tile width names (Tile size file) =
@@ -20,8 +20,7 @@ AsksItem kind.Bundle width names (Bundle size file) =
     (size ≡ width) × ((rest : List (List ℕ)) × (names ≡ file.now ∷ rest))
 AsksItem other width names item = ⊥
 
--- the item of the files that the words name was taken so, and its state left in the file that they
--- name
+-- the item from the named files was taken, and the state was written to the named file
 abbrev pub TakesWords : {T : Type 0} → (List ℕ → List ℕ) → List Key → Take →
     Option (List NamedFile) → Option (List NamedFile) → Result T TakeFilesFault → Type 0
 TakesWords digest keys take old new answer =

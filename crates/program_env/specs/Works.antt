@@ -1,5 +1,5 @@
--- What each answer of a command over a state file says of it, and of what was written to standard
--- output. `ComparesView` and `connection_fault` are cited by the contracts of private functions alone.
+-- The meaning of each answer of a command over a state file, for that file and for standard output. Only contracts of private
+-- functions cite `ComparesView` and `connection_fault`.
 use Rattle.std.specs.Prelude.{◌≡◌, ◌≢◌, ◌⊎◌, ℕ, List, [], ◌++◌, Option, Some, None, Result, Ok, Err}
 use Rattle.std.specs.Prelude.{codes, ⊤}
 use Rattle.std.specs.Fmt.{decimal}
@@ -22,7 +22,7 @@ use Rattle.program_env.specs.declared.fault.RunFault.{RunFault}
 use Rattle.program_env.specs.declared.fault.RunFault.TheVariants.{State, Ask, PortFault, Heads, OutOfMemory}
 use Rattle.program_env.specs.declared.fault.RunFault.TheVariants.{WriteFault}
 
--- the exit status is one of a command that was done: 0, or 3 for a no
+-- the exit status of a command that was done: 0, or 3 for no
 abbrev pub IsStatus : ℕ → Type 0
 IsStatus status = (status ≡ 0) ⊎ (status ≡ 3)
 
@@ -31,7 +31,7 @@ IsStatus status = (status ≡ 0) ⊎ (status ≡ 3)
 module _
     (digest : List ℕ → List ℕ) (keys : List Key) (recorded : Option (List NamedFile)) (name : List ℕ)
     (origin : List ℕ) (question : Question) (old new : Option (List ℕ)) where
-  -- a mirror was opened of the state file, and it answers what was answered and written
+  -- the state file gave a mirror, and the answer and the output belong to it
   abbrev pub AsksState : Result ℕ RunFault → Type 0
   AsksState (Ok status) =
       (v : View) × OpensFile digest origin keys recorded name (Ok v) ×
@@ -44,7 +44,7 @@ module _
 
 -- ---- compare
 
--- the heads that are given: those of the files, and none where no file is named
+-- the heads to compare: those of the named files, or None if no file is named
 abbrev pub FindsHeads : List Key → Option (List NamedFile) → List ℕ → List (List ℕ) →
     Result (Option (List (ℕ × List ℕ))) HeadFilesFault → Type 0
 FindsHeads keys recorded origin files (Ok None) = files ≡ []
@@ -55,8 +55,7 @@ FindsHeads keys recorded origin files (Err fault) = ReadsHeads origin keys recor
 module _
     (digest : List ℕ → List ℕ) (keys : List Key) (recorded : Option (List NamedFile)) (name : List ℕ)
     (origin : List ℕ) (files : List (List ℕ)) (old new : Option (List ℕ)) where
-  -- a mirror was opened of the state file, and what was answered and written is what it tells of the
-  -- heads that are given
+  -- the state file gave a mirror, and the answer and the output are its comparison with the given heads
   pub record OpensAndCompares (answer : Result ℕ AskFault) : Type 0 where
     pub view : View
     pub heads : Option (List (ℕ × List ℕ))
@@ -64,7 +63,7 @@ module _
     pub given : FindsHeads keys recorded view.origin files (Ok heads)
     pub answers : AnswersCompared digest view heads old new answer
 
-  -- what each answer of `compare` says of the files, and of what was written
+  -- the meaning of each answer of `compare` for the files and the output
   abbrev pub ComparesState : Result ℕ RunFault → Type 0
   ComparesState (Ok status) = OpensAndCompares (Ok status)
   ComparesState (Err (State fault)) = OpensFile digest origin keys recorded name (Err fault)
@@ -77,13 +76,13 @@ module _
 module _
     (digest : List ℕ → List ℕ) (keys : List Key) (recorded : Option (List NamedFile))
     (files : List (List ℕ)) (old new : Option (List ℕ)) where
-  -- heads are given, and what was answered and written is what a mirror of this view tells of them
+  -- heads are given, and the answer and the output are the comparison of this view with them
   pub record ComparesGiven (v : View) (answer : Result ℕ AskFault) : Type 0 where
     pub heads : Option (List (ℕ × List ℕ))
     pub given : FindsHeads keys recorded v.origin files (Ok heads)
     pub answers : AnswersCompared digest v heads old new answer
 
-  -- what each answer of `compare` says of a mirror of this view
+  -- the meaning of each answer of `compare` for a mirror with this view
   abbrev pub ComparesView : View → Result ℕ RunFault → Type 0
   ComparesView v (Ok status) = ComparesGiven v (Ok status)
   ComparesView v (Err (Heads fault)) = FindsHeads keys recorded v.origin files (Err fault)
@@ -98,12 +97,12 @@ connection_fault http.ReadFault = codes "ReadFault"
 connection_fault http.WriteFault = codes "WriteFault"
 connection_fault http.OutOfMemory = codes "OutOfMemory"
 
--- the line that tells where connections are accepted
+-- the line with the port at which connections are accepted
 abbrev pub listening_text : ℕ → List ℕ
 listening_text port = codes "listening 127.0.0.1:" ++ (decimal port ++ codes "\n")
 
--- what each answer of serving says of that line: it was written, or at a fault a prefix of it;
--- where the port cannot be had, or a connection be accepted, nothing or all of it
+-- the meaning of each answer of serving for that line: it was written, or a prefix of it at a write fault; if the port
+-- cannot be opened or a connection cannot be accepted, nothing or the complete line was written
 abbrev pub PrintsPort : {T : Type 0} → ℕ → Option (List ℕ) → Option (List ℕ) → Result T RunFault →
     Type 0
 PrintsPort port old new (Ok x) = Appends old new (listening_text port)
@@ -116,19 +115,18 @@ PrintsPort port old new (Err other) = ⊥
 module _
     (digest : List ℕ → List ℕ) (keys : List Key) (recorded : Option (List NamedFile)) (name : List ℕ)
     (origin : List ℕ) where
-  -- no mirror was opened of the state file, as the fault says
+  -- the state file gave no mirror, for the reason that the fault says
   abbrev pub OpensNothing : {T : Type 0} → Result T RunFault → Type 0
   OpensNothing (Err (State fault)) = OpensFile digest origin keys recorded name (Err fault)
   OpensNothing other = ⊥
 
   module _ (port : ℕ) (old new : Option (List ℕ)) where
-    -- a mirror was opened of the state file, and the port was told so
+    -- the state file gave a mirror, and the line of the port was written as the answer says
     pub record OpensAndTells {T : Type 0} (answer : Result T RunFault) : Type 0 where
       pub view : View
       pub opened : OpensFile digest origin keys recorded name (Ok view)
       pub tells : PrintsPort port old new answer
 
-    -- what each answer of `serve` says: a mirror was opened, and its port told; or none was, and
-    -- nothing was written
+    -- the meaning of each answer of `serve`: a mirror was opened and its port was printed, or there was no mirror and nothing was written
     abbrev pub ServesState : {T : Type 0} → Result T RunFault → Type 0
     ServesState answer = (OpensNothing answer × Keeps old new) ⊎ OpensAndTells answer

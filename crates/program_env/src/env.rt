@@ -1,23 +1,23 @@
-//! What a command works on.
+//! The environment of a command.
 ghost use Rattle.std.specs.Prelude.{◌≡◌};
 
 use std::alloc::Global;
 
-/// What a command works on: the runtime, named files, folders by their names, and the standard streams, which are lent. The
-/// whole is lent to the command.
+/// The environment of a command: the runtime, named files, folders by their names, and borrowed standard streams. The command
+/// borrows it as a whole.
 ///
 /// ```text
 /// let mut env = Env { rt: &rt, alloc, files, folders, input, output, errors };
-/// run_over(&mut env, &words)? // 0, or 3 for a no
+/// run_over(&mut env, &words)? // 0, or 3 for no
 /// env.files                   // as the command left them
 /// ```
 #[derive(Drop)]
 pub struct Env<'r, 'i, 'o, 'e, R, F, D, I, O, E> {
     /// The runtime.
     pub rt: &'r R,
-    /// What memory is taken from.
+    /// The allocator.
     pub alloc: Global,
-    /// The files that the words name.
+    /// The files that the words of the command name.
     pub files: F,
     /// The folders of logs that the words name.
     pub folders: D,
@@ -30,7 +30,7 @@ pub struct Env<'r, 'i, 'o, 'e, R, F, D, I, O, E> {
 }
 
 impl<'r, 'i, 'o, 'e, R, F: Drop, D: Drop, I, O, E> Env<'r, 'i, 'o, 'e, R, F, D, I, O, E> {
-    /// Lets the files and folders go. The streams are as they were.
+    /// Drops the files and folders. The streams do not change.
     pub fn let_go(self)
         ensures input { self.exit.1.1.1.1.0.now ≡ self.entry.input.now }
         ensures output { self.exit.1.1.1.1.1.0.now ≡ self.entry.output.now }

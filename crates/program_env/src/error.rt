@@ -1,4 +1,4 @@
-//! Why a command was not done, and what that is about.
+//! Why a command was not done, and what the reason is about.
 ghost use Rattle.std.specs.Prelude.{◌≡◌};
 
 use crate::failing::RunFiles;
@@ -8,8 +8,8 @@ use program_commands::StateFault;
 use std::alloc::Global;
 use std::marker::Model;
 
-/// Why a command was not done, and what that is about, where it is known. It is made where the fault is known, and contracts see
-/// the fault.
+/// Why a command was not done, and, if it is known, what the reason is about. It is made where the fault is found. Contracts
+/// see only the fault.
 #[derive(Drop)]
 pub struct Error {
     pub fault: RunFault,
@@ -25,7 +25,7 @@ impl Model for Error {
 }
 
 impl Error {
-    /// That fault, which is about this.
+    /// The fault, with the thing that it is about.
     pub fn new(fault: RunFault, why: Option<Why>) -> Error
         ensures { result ≡ fault }
     {
@@ -46,7 +46,7 @@ impl Error {
         Error::new(RunFault::WriteFault, Some(Why::Output))
     }
 
-    /// There is no mirror of the state file of that name.
+    /// The state file of that name gave no mirror.
     pub fn of_state<F: RunFiles>(
         alloc: Global,
         files: &F,
@@ -58,7 +58,7 @@ impl Error {
         Error::new(RunFault::State(fault), of_state(alloc, files, name, fault))
     }
 
-    /// The fault, and what it is about.
+    /// The fault, and the thing that it is about.
     pub fn into_parts(self) -> (RunFault, Option<Why>)
         ensures { result.0 ≡ self }
     {

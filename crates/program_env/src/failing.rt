@@ -28,7 +28,7 @@ pub enum Failed {
 /// Why::of_failed(alloc, "log", source.last_failed()?) // log/tile/0/000: Input/output error
 /// ```
 pub trait Failing {
-    /// What failed last; None if nothing did, or it is not kept.
+    /// The last failure; None if there was none, or if it was not kept.
     fn last_failed(&self) -> Option<Failed>;
 }
 
@@ -61,7 +61,7 @@ impl<S: Drop> Failing for WatchedStream<S> {
 
 /// Named files that keep what failed.
 pub trait RunFiles: NamedFiles {
-    /// What failed last; None if nothing did, or it is not kept.
+    /// The last failure; None if there was none, or if it was not kept.
     fn last_failed(&self) -> Option<Failed>;
 }
 
@@ -83,7 +83,7 @@ impl RunFiles for MemoryFiles {
 
 /// Folders by their names that keep what failed.
 pub trait RunFolders: CountedFolders {
-    /// What failed last; None if nothing did, or it is not kept.
+    /// The last failure; None if there was none, or if it was not kept.
     fn last_failed(&self) -> Option<Failed>;
 }
 

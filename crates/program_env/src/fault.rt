@@ -18,7 +18,7 @@ use tlog_mirror::NewFault;
 /// Why a command was not done. It prints the name of the innermost variant.
 #[derive(Debug, Drop, Error)]
 pub enum RunFault {
-    /// The words ask for no command.
+    /// The words are not those of a command.
     #[error(transparent)]
     Command(CommandFault),
     /// The key file was not read.
@@ -30,31 +30,31 @@ pub enum RunFault {
     /// The key file has no key that signs.
     #[error("NoSigningKey")]
     NoSigningKey,
-    /// The origin is none.
+    /// The origin is invalid.
     #[error(transparent)]
     Origin(NewFault),
-    /// There is no mirror of the state file.
+    /// The state file gave no mirror.
     #[error(transparent)]
     State(StateFault),
-    /// There are no checkpoints in the files that the words name.
+    /// The named files gave no checkpoints.
     #[error(transparent)]
     Heads(HeadFilesFault),
-    /// Standard input has no entries.
+    /// Standard input gave no entries.
     #[error(transparent)]
     Entries(EntriesFault),
-    /// Nothing was reported of a state.
+    /// There is no report on a state.
     #[error(transparent)]
     Ask(AskFault),
     /// A pull ended early.
     #[error(transparent)]
     Pull(PullFault),
-    /// The state that came of a pull was not written.
+    /// The state after a pull was not written.
     #[error(transparent)]
     Out(NamedFault),
-    /// No log was made.
+    /// No complete log was made.
     #[error(transparent)]
     Build(BuildFault),
-    /// The port cannot be had, or a connection cannot be accepted.
+    /// The port cannot be opened, or a connection cannot be accepted.
     #[error("PortFault")]
     PortFault,
     /// A write to standard output failed, or took no byte. A prefix of the text may have been written.
@@ -72,7 +72,7 @@ pub enum RunFault {
     /// `merge` wrote no state.
     #[error(transparent)]
     Merge(MergeFilesFault),
-    /// Not all was exported.
+    /// Not all files were exported.
     #[error(transparent)]
     Export(ExportFileFault),
     /// A folder was not brought up to date.
@@ -81,10 +81,10 @@ pub enum RunFault {
     /// Not all notes were written.
     #[error(transparent)]
     Notes(NotesFault),
-    /// A copy was not followed to its end.
+    /// A copy was not followed to the end.
     #[error(transparent)]
     Follow(FollowRunFault),
-    /// A log is not whole, or it was not read to its end.
+    /// The files of a log are wrong or missing, or the log was not read to the end.
     #[error(transparent)]
     Audit(AuditRunFault),
     /// Not all entries of a state were written.
@@ -93,7 +93,7 @@ pub enum RunFault {
     /// Not all entries of a copy were written.
     #[error(transparent)]
     CopyEntries(CopyEntriesFault),
-    /// Nothing was reported of a copy.
+    /// There is no report on a copy.
     #[error(transparent)]
     Copy(CopyAskFault),
     /// Memory was refused.

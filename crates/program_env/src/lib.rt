@@ -1,8 +1,8 @@
-//! What a command of `tlogmirror` works on, what its contract says, and why it was not done.
+//! The environment of a `tlogmirror` command, its contract, and the reasons why a command was not done.
 //!
 //! ```text
 //! let mut env = Env { rt: &rt, alloc, files, folders, input, output, errors };
-//! state_commands::status::run(&mut env, &key_bytes, &keys, &words)? // 0, or 3 where nothing is served
+//! state_commands::status::run(&mut env, &key_bytes, &keys, &words)? // 0, or 3 if nothing is served
 //! ```
 #![tactic(auto)]
 

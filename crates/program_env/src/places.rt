@@ -1,4 +1,4 @@
-//! What `--why` says of a place that a log is read from.
+//! The lines of `--why` about a place of a log.
 use crate::failing::Failing;
 use crate::served::of_origin_in;
 use crate::watched::WatchedSource;
@@ -8,7 +8,7 @@ use program_words::Place;
 use std::alloc::{AllocError, Global};
 use tlog_tiles::Path;
 
-/// The name of a place, as the words give it.
+/// The name of a place, as in the words of the command.
 pub fn place_name(alloc: Global, place: &Place<'_>) -> Result<String, AllocError> {
     match place {
         Place::Folder(folder) => String::from_str(alloc, folder),
@@ -16,7 +16,6 @@ pub fn place_name(alloc: Global, place: &Place<'_>) -> Result<String, AllocError
     }
 }
 
-// The name of a file of a place.
 fn file_name(alloc: Global, place: &Place<'_>, path: &Path) -> Result<String, AllocError> {
     match place {
         Place::Folder(folder) => format!(in alloc; "{folder}/{path}"),
@@ -24,12 +23,12 @@ fn file_name(alloc: Global, place: &Place<'_>, path: &Path) -> Result<String, Al
     }
 }
 
-/// The place.
+/// Names the place.
 pub fn of_place(alloc: Global, place: &Place<'_>) -> Option<Why> {
     Why::of_made(alloc, place_name(alloc, place))
 }
 
-/// A file of the place, and what is wrong with it.
+/// Names a file of the place, and says what is wrong with it.
 pub fn of_file(alloc: Global, place: &Place<'_>, path: &Path, reason: &str) -> Option<Why> {
     match file_name(alloc, place, path) {
         Ok(name) => Why::of_reason(alloc, &name, reason),
@@ -37,7 +36,7 @@ pub fn of_file(alloc: Global, place: &Place<'_>, path: &Path, reason: &str) -> O
     }
 }
 
-/// The file of the place that was not had when it failed, and why.
+/// Names the file of the place that its source could not get, and says why.
 pub fn of_source<S: Failing>(alloc: Global, place: &Place<'_>, source: &S) -> Option<Why> {
     let Ok(name) = place_name(alloc, place) else {
         return None;
@@ -45,7 +44,7 @@ pub fn of_source<S: Failing>(alloc: Global, place: &Place<'_>, source: &S) -> Op
     Why::of_failed(alloc, &name, source.last_failed()?)
 }
 
-/// The refused checkpoint of the place, and of one of another origin that origin.
+/// Names the refused checkpoint of the place. If it has another origin, the reason says which.
 pub fn of_refused<S: Drop>(
     alloc: Global,
     place: &Place<'_>,
@@ -61,7 +60,7 @@ pub fn of_refused<S: Drop>(
     }
 }
 
-/// The partial tile of the checkpoint's edge that the place lacks.
+/// Names the partial tile of the checkpoint's right edge that the place lacks.
 pub fn of_edge<S: Drop>(
     alloc: Global,
     place: &Place<'_>,

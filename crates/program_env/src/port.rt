@@ -1,4 +1,4 @@
-//! A port of the machine that clients connect to.
+//! The port that clients connect to.
 ghost use Rattle.std.specs.Prelude.{◌≡◌, IfOk, string_bytes};
 ghost use Rattle.byte_streams.specs.Streams.{AppendsPrefix};
 ghost use Rattle.program_env.specs.FaultLines.{fault_line};
@@ -13,7 +13,7 @@ use mirror_server::HttpFault;
 use std::alloc::{AllocError, Global};
 use std::io::{self, Write};
 
-/// The port cannot be had, or a connection was not accepted.
+/// The port cannot be opened, or a connection was not accepted.
 pub fn port_fault(alloc: Global, port: u16, error: &io::Error) -> Error
     ensures { result ≡ RunFault.PortFault }
 {
@@ -25,7 +25,7 @@ pub fn port_fault(alloc: Global, port: u16, error: &io::Error) -> Error
 ///
 /// # Errors
 ///
-/// `OutOfMemory`, where nothing was written; `WriteFault`, where a prefix of the line was.
+/// `OutOfMemory`: nothing was written. `WriteFault`: a prefix of the line was written.
 pub fn print_port<O: Write>(alloc: Global, port: u16, output: &mut O) -> Result<(), Error>
     ensures line { PrintsPort port (O.contents output.old) (O.contents output.new) result }
 {
@@ -38,7 +38,6 @@ pub fn print_port<O: Write>(alloc: Global, port: u16, output: &mut O) -> Result<
     }
 }
 
-// That line.
 fn listening_line(alloc: Global, port: u16) -> Result<String, AllocError>
     ensures { IfOk result (λ line. string_bytes line ≡ listening_text port) }
 {
@@ -56,7 +55,7 @@ fn fault_text(fault: HttpFault) -> &'static [u8]
     }
 }
 
-/// Writes the line of the fault of a connection, as far as the stream takes it.
+/// Writes the line of the fault of a connection, or a prefix of it if the stream fails.
 pub fn print_fault<E: Write>(errors: &mut E, fault: HttpFault)
     ensures { AppendsPrefix (E.contents errors.old) (E.contents errors.new)
         (fault_line (connection_fault fault)) }

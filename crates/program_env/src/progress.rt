@@ -1,9 +1,9 @@
-//! How far the work is, reported where the words ask for it.
+//! Progress reports, if the words ask for them.
 ghost use Rattle.std.specs.Prelude.{◌≡◌};
 
 use mirror_progress::{CountedFolders, Task};
 
-/// From now on the folders report how many files are put, where the words ask for it.
+/// From now on the folders report the number of files that were put, if the words ask for it.
 pub fn report_puts<D: CountedFolders>(folders: &mut D, progress: bool, task: Task)
     ensures puts { D.puts folders.new ≡ D.puts folders.old }
     ensures held { D.held folders.new ≡ D.held folders.old }
@@ -13,7 +13,7 @@ pub fn report_puts<D: CountedFolders>(folders: &mut D, progress: bool, task: Tas
     }
 }
 
-/// The work is done: a last line says how many files were put, where the words ask for it.
+/// The work is done: a last line reports the number of files that were put, if the words ask for it.
 pub fn report_end<D: CountedFolders>(folders: &mut D, progress: bool)
     ensures puts { D.puts folders.new ≡ D.puts folders.old }
     ensures held { D.held folders.new ≡ D.held folders.old }

@@ -1,4 +1,4 @@
-//! What `--why` says of what is asked for and not served, and of a note of another origin.
+//! The lines of `--why` about things that are asked for but not served, and about a note with another origin.
 use crate::failing::RunFiles;
 use crate::why::{Why, of_named};
 use mirror_model::TakeFault;
@@ -7,7 +7,7 @@ use std::alloc::Global;
 use tlog_proof::{Ask, ProofFault};
 use tlog_tiles::{Path, edge_paths};
 
-/// What a size over the served one is about: both, of that thing.
+/// Says that the requested size is larger than the served one, and names both.
 pub fn of_size(alloc: Global, thing: &str, size: u64, served: u64) -> Option<Why> {
     match format!(in alloc; "size {size} is asked for, {served} is served") {
         Ok(reason) => Why::of_reason(alloc, thing, &reason),
@@ -15,7 +15,7 @@ pub fn of_size(alloc: Global, thing: &str, size: u64, served: u64) -> Option<Why
     }
 }
 
-/// What entries from a number down to a smaller one are about: both, of that thing.
+/// Says that the range of entries ends before it begins, and names both numbers.
 pub fn of_backwards(alloc: Global, thing: &str, from: u64, to: u64) -> Option<Why> {
     match format!(in alloc; "entries from {from} to {to} are asked for") {
         Ok(reason) => Why::of_reason(alloc, thing, &reason),
@@ -23,7 +23,7 @@ pub fn of_backwards(alloc: Global, thing: &str, from: u64, to: u64) -> Option<Wh
     }
 }
 
-/// A checkpoint that the mirror in a state file does not hold, which is that thing.
+/// Says that the mirror of the state file `thing` does not hold a checkpoint of that size.
 pub fn of_unheld(alloc: Global, thing: &str, size: u64) -> Option<Why> {
     match format!(in alloc; "no checkpoint of size {size} and that root is held") {
         Ok(reason) => Why::of_reason(alloc, thing, &reason),
@@ -31,7 +31,7 @@ pub fn of_unheld(alloc: Global, thing: &str, size: u64) -> Option<Why> {
     }
 }
 
-/// What is wrong with the numbers of a proof, of a thing that serves that size. Of some faults the name says it.
+/// Says which number of a proof request is wrong. For some faults the name of the fault already says it.
 pub fn of_proof(
     alloc: Global,
     thing: &str,
@@ -55,7 +55,7 @@ pub fn of_proof(
     }
 }
 
-/// How many entries the copy in the folder has, by its checkpoint; 0 where that is not read.
+/// The size of the copy in the folder by its checkpoint, or 0 if that cannot be read.
 pub fn copy_size<F: RunFiles>(alloc: Global, files: &F, folder: &str) -> u64 {
     let Ok(name) = format!(in alloc; "{folder}/checkpoint") else {
         return 0;
@@ -66,7 +66,7 @@ pub fn copy_size<F: RunFiles>(alloc: Global, files: &F, folder: &str) -> u64 {
     }
 }
 
-/// What a refused note in a file is about: the file, and of a note of another origin that origin.
+/// Names the file of a refused note. If the note has another origin, the reason says which.
 pub fn of_note<F: RunFiles>(alloc: Global, files: &F, name: &str, fault: TakeFault) -> Option<Why> {
     match fault {
         TakeFault::OutOfMemory => None,
@@ -78,8 +78,8 @@ pub fn of_note<F: RunFiles>(alloc: Global, files: &F, name: &str, fault: TakeFau
     }
 }
 
-/// What a fault at checkpoints in files is about: the file that was not had, or the one whose note is refused, which
-/// `read_heads` gave to the files.
+/// Names the file of a checkpoint that was not read, or the one whose note is refused. For a refused note `read_heads` gave the
+/// reason to the files.
 pub fn of_heads<F: RunFiles>(alloc: Global, files: &F, fault: HeadFilesFault) -> Option<Why> {
     match fault {
         HeadFilesFault::File(fault) => of_named(alloc, files, fault),
@@ -88,7 +88,7 @@ pub fn of_heads<F: RunFiles>(alloc: Global, files: &F, fault: HeadFilesFault) ->
     }
 }
 
-/// A note of that name, and its origin.
+/// Names a note, and says its origin.
 pub fn of_origin_in(alloc: Global, name: &str, note: &[u8]) -> Option<Why> {
     let origin = checkpoint_origin(alloc, note)?;
     match format!(in alloc; "its origin is {origin}") {
@@ -97,7 +97,7 @@ pub fn of_origin_in(alloc: Global, name: &str, note: &[u8]) -> Option<Why> {
     }
 }
 
-// The partial tiles of the edge of the checkpoint in a file.
+// The size of the checkpoint in a file, and the partial tiles of its right edge.
 fn edge_of<F: RunFiles>(alloc: Global, files: &F, note: &str) -> Option<(u64, Vec<Path>)> {
     let Ok(bytes) = files.read(note) else {
         return None;
@@ -109,7 +109,7 @@ fn edge_of<F: RunFiles>(alloc: Global, files: &F, note: &str) -> Option<(u64, Ve
     }
 }
 
-/// How many rows the checkpoint in a file wants, which got others.
+/// Says how many rows the checkpoint in a file needs, and how many were given.
 pub fn of_edge_count<F: RunFiles>(
     alloc: Global,
     files: &F,
@@ -124,7 +124,7 @@ pub fn of_edge_count<F: RunFiles>(
     }
 }
 
-/// The first of the rows that has not the length of its partial tile, and which tile that is.
+/// Names the first row whose length is not that of its partial tile, and this tile.
 pub fn of_edge_length<F: RunFiles>(
     alloc: Global,
     files: &F,
@@ -143,7 +143,7 @@ pub fn of_edge_length<F: RunFiles>(
     None
 }
 
-// Whether a file has as many hashes as the tile is wide.
+// Whether the number of hashes in a file is the width of the tile. True if the file cannot be read.
 fn has_width<F: RunFiles>(files: &F, name: &str, path: Path) -> bool {
     match (files.read(name), path) {
         (Ok(bytes), Path::Tile { width, .. }) => bytes.len() == width as usize * 32,

@@ -1,4 +1,4 @@
-//! Sources that keep what `--why` says of them.
+//! Sources that keep what `--why` needs.
 ghost use Rattle.std.specs.Prelude.{◌≡◌};
 
 use crate::failing::{Failed, Failing};
@@ -6,8 +6,8 @@ use mirror_sources::{Source, SourceFault};
 use std::alloc::Global;
 use tlog_tiles::Path;
 
-/// A source that gives what another gives, and keeps its checkpoint, and which partial tile it lacked last. To contracts it is
-/// that source.
+/// A source that passes on the answers of another one. It keeps the checkpoint, and the partial tile that was missing last.
+/// Contracts see it as the other source.
 ///
 /// ```text
 /// let mut source = WatchedSource::new(alloc, DirSource::new(&rt, alloc, "log"));
@@ -16,7 +16,7 @@ use tlog_tiles::Path;
 /// ```
 #[derive(Drop)]
 pub struct WatchedSource<S: Drop> {
-    /// The source that is watched.
+    /// The inner source.
     pub source: S,
     alloc: Global,
     note: Option<Vec<u8>>,
@@ -24,7 +24,7 @@ pub struct WatchedSource<S: Drop> {
 }
 
 impl<S: Drop> WatchedSource<S> {
-    /// That source, of which nothing was asked yet. It takes no memory.
+    /// Wraps a source, before the first request. This allocates nothing.
     pub fn new(alloc: Global, source: S) -> WatchedSource<S>
         ensures { result.source ≡ source }
     {
@@ -36,7 +36,7 @@ impl<S: Drop> WatchedSource<S> {
         }
     }
 
-    /// The checkpoint that it gave last; None where it gave none, or memory to keep it was refused.
+    /// The last checkpoint that the source gave; None if it gave none, or if there was no memory to keep it.
     pub fn note(&self) -> Option<&[u8]> {
         match &self.note {
             Some(note) => Some(note.as_slice()),
@@ -44,12 +44,12 @@ impl<S: Drop> WatchedSource<S> {
         }
     }
 
-    /// The partial tile that it lacked last.
+    /// The last partial tile that was missing.
     pub fn lacked(&self) -> Option<Path> {
         self.lacked
     }
 
-    // Keeps what an answer says.
+    // Keeps what `--why` needs from an answer.
     fn keep(&mut self, path: &Path, found: &Option<Vec<u8>>)
         ensures { self.new.source ≡ self.old.source }
     {
@@ -95,14 +95,14 @@ impl<S: Failing + Drop> Failing for WatchedSource<S> {
     }
 }
 
-/// A source of which nothing is known, whatever is known of the one whose answers it gives.
+/// A source whose contracts say nothing, whatever is known of the source that it wraps.
 #[derive(Drop)]
 pub struct AnySource<S: Drop> {
     source: S,
 }
 
 impl<S: Drop> AnySource<S> {
-    /// The answers of that source.
+    /// Passes on the answers of that source.
     pub fn new(source: S) -> AnySource<S> {
         AnySource { source }
     }

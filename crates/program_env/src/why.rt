@@ -1,4 +1,4 @@
-//! What `--why` prints: the thing that a fault is about, and what is wrong with it.
+//! The output of `--why`: the thing that a fault is about, and what is wrong with it.
 ghost use Rattle.program_env.specs.Whys.{PrintsLine, PrintsWhy};
 
 use crate::failing::{Failed, RunFiles, RunFolders};
@@ -13,28 +13,28 @@ use std::io;
 use std::io::Write;
 use tlog_mirror::NewFault;
 
-/// What a fault is about.
+/// The thing that a fault is about.
 #[derive(Drop)]
 pub enum Why {
-    /// A thing by its name, and what is wrong with it; empty where no more is known.
+    /// A thing by its name, and what is wrong with it. The reason is empty if no more is known.
     Thing { thing: String, reason: String },
-    /// Standard input, which keeps why it failed.
+    /// Standard input. The stream keeps its failure.
     Input,
-    /// Standard output, likewise.
+    /// Standard output. The stream keeps its failure.
     Output,
 }
 
-/// What failed of the standard streams, where it is kept.
+/// The failures of the standard streams, if they are kept.
 #[derive(Drop)]
 pub struct FailedStreams {
-    /// Of standard input.
+    /// The failure of standard input.
     pub input: Option<Failed>,
-    /// Of standard output.
+    /// The failure of standard output.
     pub output: Option<Failed>,
 }
 
 impl FailedStreams {
-    /// None is kept.
+    /// No failure is kept.
     pub fn none() -> FailedStreams {
         FailedStreams {
             input: None,
@@ -44,12 +44,12 @@ impl FailedStreams {
 }
 
 impl Why {
-    /// Nothing but the thing is known.
+    /// Names a thing, without a reason.
     pub fn of_thing(alloc: Global, thing: &str) -> Option<Why> {
         Why::of_reason(alloc, thing, "")
     }
 
-    /// The same of a thing whose name was made.
+    /// The same for a name that was just made.
     pub fn of_made(alloc: Global, thing: Result<String, AllocError>) -> Option<Why> {
         match thing {
             Ok(thing) => Some(Why::Thing {
@@ -60,7 +60,7 @@ impl Why {
         }
     }
 
-    /// What is wrong with a thing.
+    /// Names a thing, and says what is wrong with it.
     pub fn of_reason(alloc: Global, thing: &str, reason: &str) -> Option<Why> {
         let Ok(thing) = String::from_str(alloc, thing) else {
             return None;
@@ -71,7 +71,7 @@ impl Why {
         Some(Why::Thing { thing, reason })
     }
 
-    // A thing, and an error of the system.
+    // Names a thing, with an error of the system as the reason.
     fn of_error(
         alloc: Global,
         thing: Result<String, AllocError>,
@@ -86,7 +86,7 @@ impl Why {
         Some(Why::Thing { thing, reason })
     }
 
-    /// What failed, and why. `whole` names the folder, the place or the stream that it is of; a named file has its own name.
+    /// Names what failed, with the reason. `whole` is the folder, place or stream that it belongs to; a named file has its own name.
     pub fn of_failed(alloc: Global, whole: &str, failed: Failed) -> Option<Why> {
         match failed {
             Failed::Name(failed) => of_name(alloc, failed),
@@ -96,13 +96,13 @@ impl Why {
         }
     }
 
-    /// A port that cannot be opened, or at which a connection was not accepted.
+    /// Names a port that cannot be opened, or at which a connection was not accepted.
     pub fn of_port(alloc: Global, port: u16, error: &io::Error) -> Option<Why> {
         Why::of_error(alloc, format!(in alloc; "127.0.0.1:{port}"), error)
     }
 }
 
-// A named file that was not read or not written, or whose bytes are refused.
+// Names a file that was not read or written, or whose bytes are refused.
 fn of_name(alloc: Global, failed: FailedName) -> Option<Why> {
     let FailedName { name, cause } = failed;
     if name.is_empty() {
@@ -117,13 +117,13 @@ fn of_name(alloc: Global, failed: FailedName) -> Option<Why> {
     }
 }
 
-// A file of a log in this folder.
+// Names a file of the log in this folder.
 fn of_file(alloc: Global, folder: &str, failed: &FailedFile) -> Option<Why> {
     let path = failed.path;
     Why::of_error(alloc, format!(in alloc; "{folder}/{path}"), &failed.error)
 }
 
-// A file of a log at this host, with what stands before its path.
+// Names a file of the log at this place: a host, with the prefix of its paths.
 fn of_get(alloc: Global, place: &str, failed: &FailedGet) -> Option<Why> {
     let path = failed.path;
     match &failed.reason {
@@ -154,7 +154,7 @@ fn host_of(place: &str) -> &str {
     }
 }
 
-/// Writes the line of what is known, if it is asked for. Of a standard stream what failed is given.
+/// Writes the line of `--why`, if the words ask for it and a thing is known. `streams` holds the failures of the standard streams.
 #[tactic(auto, using(crate::proofs::Whys::nothing_recorded, crate::proofs::Whys::asked_recorded))]
 pub fn print_why<E: Write>(
     alloc: Global,
@@ -172,7 +172,7 @@ pub fn print_why<E: Write>(
     }
 }
 
-// Writes that line.
+// Writes the line of a thing or of a standard stream.
 #[tactic(auto, using(crate::proofs::Whys::no_line))]
 fn print_line<E: Write>(alloc: Global, why: Why, streams: FailedStreams, errors: &mut E)
     ensures { PrintsLine (E.contents errors.old) (E.contents errors.new) }
@@ -197,7 +197,7 @@ fn write_stream<E: Write>(alloc: Global, name: &str, failed: Option<Failed>, err
     }
 }
 
-// Writes the line, as far as the stream takes it; none without memory for it.
+// Writes the line, or a prefix of it if the stream fails. Writes nothing if there is no memory for the line.
 #[tactic(auto, using(crate::proofs::Whys::no_line, crate::proofs::Whys::one_line))]
 fn write_why<E: Write>(alloc: Global, thing: &str, reason: &str, errors: &mut E)
     ensures { PrintsLine (E.contents errors.old) (E.contents errors.new) }
@@ -207,7 +207,7 @@ fn write_why<E: Write>(alloc: Global, thing: &str, reason: &str, errors: &mut E)
     }
 }
 
-/// What a fault at a named file is about: the file that was not had, and what the system said.
+/// Names the file that was not read or written, with the reason of the system.
 pub fn of_named<F: RunFiles>(alloc: Global, files: &F, fault: NamedFault) -> Option<Why> {
     match fault {
         NamedFault::FileFault => Why::of_failed(alloc, "", files.last_failed()?),
@@ -215,13 +215,13 @@ pub fn of_named<F: RunFiles>(alloc: Global, files: &F, fault: NamedFault) -> Opt
     }
 }
 
-/// What a fault at a folder of a log is about: the file that was not had, and what the system said.
+/// Names the file of a log's folder that failed, with the reason of the system.
 pub fn of_folder<D: RunFolders>(alloc: Global, folders: &D, folder: &str) -> Option<Why> {
     Why::of_failed(alloc, folder, folders.last_failed()?)
 }
 
-/// What a fault at a state file is about: the origin, the file that was not had, or the file whose bytes are no state, and
-/// which of its notes is refused.
+/// Names the cause of a state fault: the origin, the file that was not read, or the file whose bytes are no state. The reason
+/// then says which of its notes is refused.
 pub fn of_state<F: RunFiles>(
     alloc: Global,
     files: &F,
@@ -239,7 +239,7 @@ pub fn of_state<F: RunFiles>(
     }
 }
 
-/// What a fault at an origin is about.
+/// Names the option `--origin` if its value is refused.
 pub fn of_origin(alloc: Global, fault: NewFault) -> Option<Why> {
     match fault {
         NewFault::BadOrigin => Why::of_thing(alloc, "--origin"),

@@ -1,4 +1,4 @@
--- Files by their names: what stands after one more put, several files one after the other, what is kept.
+-- Files by their names: the bytes after one more put, several files in order, and unchanged records.
 use Rattle.std.proofs.Common.{◌≡◌, ℕ, suc, ◌+◌, ◌<◌, ◌≤◌, List, [], ◌∷◌, ◌++◌, length, map, take, get_or, Option, Some}
 use Rattle.std.proofs.Common.{None, Err, Bool, true, false, refl, sym, ap, ◌∙◌, arith}
 use Rattle.std.specs.Prelude.{if◌then◌else◌, Contains}
@@ -11,14 +11,14 @@ use Rattle.program_files.specs.Named.{FailsToRead, ReadsShort, last_put, content
 use Rattle.program_files.specs.declared.fault.NamedFault.{NamedFault}
 use Rattle.program_files.specs.declared.fault.NamedFault.TheVariants as named
 
--- what is told stays as it is
+-- a record keeps itself
 pub kept_itself : {X : Type 0} (recorded : Option (List X)) → KeepsRecord recorded recorded
 kept_itself None = tt
 kept_itself (Some xs) = refl
 
--- ---- what stands
+-- ---- the bytes of a name
 
--- a later put under the name is found in place of an earlier one
+-- one more put: its bytes if it has this name, else the bytes that were found before
 abbrev pub newer : Option (List ℕ) → NamedFile → List ℕ → Option (List ℕ)
 newer found file name = if bytes_eq file.0 name then Some file.1 else found
 
@@ -39,7 +39,7 @@ pub newer_other : (found : Option (List ℕ)) (file : NamedFile) (name : List �
     newer found file name ≡ found
 newer_other found file name other = ap (λ (t : Bool). if t then Some file.1 else found) other
 
--- one more element of a list that is gone through
+-- one more element of a list in a loop
 pub standing_more :
     {X : Type 0} (seen : X → NamedFile) (xs : List X) (i : ℕ) (x : X) (name : List ℕ) → i < length xs →
     x ≡ get_or xs i x →
@@ -84,24 +84,24 @@ pub named_behind : (first : List ℕ) (names : List (List ℕ)) (name : List ℕ
     Contains (first ∷ names) name
 named_behind first names name h = (suc h.0, omega (arith, h.1), h.2)
 
--- one of the files cannot be read
+-- one of the files cannot be read, so reading all of them fails
 pub read_failed : (recorded : Option (List NamedFile)) (names : List (List ℕ)) (name : List ℕ) (fault : NamedFault) →
     Contains names name → ReadsShort recorded name (Err fault) → FailsToRead recorded names fault
 read_failed recorded names name named.FileFault listed h = (name, listed, h)
 read_failed recorded names name named.OutOfMemory listed h = tt
 
--- a longer list of names has it too
+-- if reading some files fails, so does reading them after one more
 pub behind_failed : (recorded : Option (List NamedFile)) (first : List ℕ) (names : List (List ℕ)) (fault : NamedFault) →
     FailsToRead recorded names fault → FailsToRead recorded (first ∷ names) fault
 behind_failed recorded first names named.FileFault h = (h.0, named_behind first names h.0 h.1, h.2)
 behind_failed recorded first names named.OutOfMemory h = tt
 
--- the first file, or the only one
+-- the first file cannot be read, so reading all of them fails
 pub first_failed : (recorded : Option (List NamedFile)) (first : List ℕ) (names : List (List ℕ)) (fault : NamedFault) →
     ReadsShort recorded first (Err fault) → FailsToRead recorded (first ∷ names) fault
 first_failed recorded first names fault h = read_failed recorded (first ∷ names) first fault (0, omega arith, refl) h
 
--- ---- what was found
+-- ---- the bytes that were found
 
 module _ {X : Type 0} (seen : X → NamedFile) (xs : List X) (i : ℕ) (x : X) (name : List ℕ) (within : i < length xs)
     (at : x ≡ get_or xs i x) where

@@ -1,4 +1,4 @@
--- The line that tells why a command failed, as it is made.
+-- How the line that says why a command failed is made.
 use Rattle.std.proofs.Common.{◌≡◌, ℕ, ◌+◌, ◌<◌, List, [], ◌∷◌, ◌++◌, length, false, refl, arith, encode_utf8}
 use Rattle.std.proofs.lemmas.List.{append-nil, length-append}
 use Rattle.std.proofs.lemmas.Str.{NoCharPasses-append, length-encode}
@@ -7,15 +7,15 @@ use Rattle.std.specs.Str.{NoCharPasses}
 use Rattle.program_files.specs.Why.{IsWhyFront, IsWhyLine}
 use Rattle.program_files.specs.declared.why.TheConstants.{MAX_WHY_LEN}
 
--- a character that is no control character, alone
+-- one character that is no control character
 one_plain : (c : ℕ) → is_control c ≡ false → NoCharPasses is_control (encode_utf8 c)
 one_plain c h = (c ∷ [], append-nil (encode_utf8 c), (h, tt))
 
--- nothing
+-- the empty text may begin a line
 pub no_front : IsWhyFront []
 no_front = record { plain = ([], refl, tt); short = omega arith }
 
--- one character more, where there is room for it
+-- one more character, if the line has room for it
 pub longer_front : (front : List ℕ) (c : ℕ) → IsWhyFront front → is_control c ≡ false →
     length front + len_utf8 c < MAX_WHY_LEN → IsWhyFront (front ++ encode_utf8 c)
 longer_front front c is h room = record {
@@ -23,7 +23,7 @@ longer_front front c is h room = record {
   short = omega (arith, room, length-append front (encode_utf8 c), length-encode c);
 }
 
--- a newline at the end
+-- such a beginning with a newline at its end is a line
 pub ended_front : (front : List ℕ) → IsWhyFront front → IsWhyLine (front ++ 10 ∷ [])
 ended_front front is = record {
   text = front;

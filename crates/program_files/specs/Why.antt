@@ -1,10 +1,10 @@
--- The line that tells why a command failed.
+-- The line that says why a command failed.
 use Rattle.std.specs.Prelude.{◌≡◌, ℕ, ◌<◌, ◌≤◌, List, [], ◌∷◌, ◌++◌, length}
 use Rattle.std.specs.Char.{is_control}
 use Rattle.std.specs.Str.{NoCharPasses}
 use Rattle.program_files.specs.declared.why.TheConstants.{MAX_WHY_LEN}
 
--- one line, with the newline at its end: no longer than such a line may be, and of no other control
+-- one line with its newline, within the greatest length; the newline is its only control
 -- character
 pub record IsWhyLine (line : List ℕ) : Type 0 where
   pub text : List ℕ
@@ -12,7 +12,7 @@ pub record IsWhyLine (line : List ℕ) : Type 0 where
   pub is_line : line ≡ text ++ 10 ∷ []
   pub short : length line ≤ MAX_WHY_LEN
 
--- what such a line may begin with
+-- the beginning of such a line
 pub record IsWhyFront (text : List ℕ) : Type 0 where
   pub plain : NoCharPasses is_control text
   pub short : length text < MAX_WHY_LEN

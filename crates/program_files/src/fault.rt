@@ -1,10 +1,10 @@
-//! Why a named file is not read or not written.
+//! Why a named file was not read or not written.
 use thiserror::Error;
 
 /// Why a named file was not read, or not written. It prints its variant's name.
 #[derive(Debug, Drop, PartialEq, Eq, Clone, Copy, Error)]
 pub enum NamedFault {
-    /// It cannot be read or written, or has too many bytes.
+    /// The file cannot be read or written, or has too many bytes.
     #[error("FileFault")]
     FileFault,
     /// Memory was refused.

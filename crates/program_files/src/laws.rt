@@ -1,10 +1,10 @@
-//! The limits of public words, as numbers.
+//! The public limits as numbers.
 ghost use Rattle.std.specs.Prelude.{◌≡◌};
 
 use crate::named::MAX_FILE_LEN;
 use crate::why::MAX_WHY_LEN;
 
-/// A named file, a state apart, has at most 16,777,472 bytes, and a line that says why at most 200.
+/// A named file has at most 16,777,472 bytes, but a state may have more. A line that says why has at most 200.
 pub fn limits_law()
     ensures file { MAX_FILE_LEN ≡ 16777472 }
     ensures why { MAX_WHY_LEN ≡ 200 }

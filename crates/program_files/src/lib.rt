@@ -1,4 +1,4 @@
-//! Files by their names, as the commands read and write them: those of the system, and files in memory, which record
+//! Files by their names, as the commands read and write them: the files of the system, and files in memory that record
 //! what was put.
 //!
 //! ```text

@@ -8,13 +8,13 @@ use crate::named::{MAX_FILE_LEN, NamedFiles};
 use std::alloc::Global;
 use std::marker::Model;
 
-/// Files in memory: they record what was put, and never fail. Contracts see the list of what was put, the oldest first.
+/// Files in memory. They record what was put, and never fail. Contracts see them as the list of puts, the oldest first.
 ///
 /// ```text
 /// let mut files = MemoryFiles::new(alloc);
 /// files.replace("a.state", &text)?;
 /// run_notes::<Sha256Tree, _>(&mut files, alloc, "ex", &keys, "a.state", "notes")?;
-/// files.puts() // a.state, and then each note
+/// files.puts() // a.state, then each note
 /// ```
 #[derive(Drop)]
 pub struct MemoryFiles {
@@ -32,7 +32,7 @@ impl Model for MemoryFiles {
 }
 
 impl MemoryFiles {
-    /// No files. It takes no memory.
+    /// No files. This allocates nothing.
     pub fn new(alloc: Global) -> Self
         ensures { result ≡ [] }
     {
@@ -42,7 +42,7 @@ impl MemoryFiles {
         }
     }
 
-    /// What was put, the oldest first. It takes no memory.
+    /// The puts, the oldest first. This allocates nothing.
     pub fn puts(&self) -> &[(String, Vec<u8>)]
         ensures { map (λ put. (string_bytes put.0, put.1.items)) result.now ≡ self.now }
     {
@@ -56,7 +56,7 @@ fn is_named(put: &(String, Vec<u8>), name: &str) -> bool
     put.0.as_str() == name
 }
 
-// What was put last under the name.
+// The bytes that were put last under the name.
 fn bytes_under<'a>(puts: &'a [(String, Vec<u8>)], name: &str) -> Option<&'a [u8]>
     ensures { option_map (λ bytes. bytes.now) result
         ≡ contents_of (map (λ put. (string_bytes put.0, put.1.items)) puts.entry.now) name.now }

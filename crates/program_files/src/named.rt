@@ -2,14 +2,14 @@
 use crate::fault::NamedFault;
 use tlog_tiles::MAX_BUNDLE_LEN;
 
-/// How many bytes a named file may have, a state apart: as many as the longest valid bundle, which is 256 entries
-/// of 65,535 bytes, each after its length of two bytes.
+/// The greatest length of a named file in bytes; only a state may be longer. It is the length of the longest valid entry
+/// bundle: 256 entries of 65,535 bytes, each after its length of two bytes.
 pub const MAX_FILE_LEN: usize = MAX_BUNDLE_LEN;
 
 /// Files that are read and replaced by their names.
 ///
-/// Those that record what was put do not fail: of them a file is not read only where there is none, or it is too long, or
-/// memory was refused.
+/// Files that record what was put have no faults of their own. A read of them fails only if there is no such file, the file is
+/// too long, or memory was refused.
 pub trait NamedFiles {
     ghost use Rattle.std.specs.Prelude.{◌≡◌, ◌≤◌, Option, List, None, IfOk, option_map, vec_len};
     ghost use Rattle.tlog_text.specs.Answers.{seen};
@@ -17,54 +17,54 @@ pub trait NamedFiles {
     ghost use Rattle.program_files.specs.Named.{FindsFile, ReadsFile, ReadsShort, RecordsFolder, RecordsReplace};
     ghost use Rattle.program_files.specs.declared.named.TheConstants.{MAX_FILE_LEN};
 
-    /// What was put, the oldest first, where it is recorded. What was put last under a name is what its file has.
+    /// The puts, the oldest first, if they are recorded. The bytes of a file are those that were put last under its name.
     ghost puts: { Self → Option (List NamedFile) } = { λ _. None };
 
     /// The bytes of the file of that name.
     ///
     /// # Errors
     ///
-    /// `FileFault` where it cannot be read, or has more than 16,777,472 bytes; `OutOfMemory` where memory was refused.
+    /// `FileFault` if it cannot be read, or has more than 16,777,472 bytes. `OutOfMemory` if memory was refused.
     fn read(&self, name: &str) -> Result<Vec<u8>, NamedFault>
         ensures bytes { ReadsShort (puts self.now) name.now (seen (λ bytes. bytes.items) result) }
         ensures short { IfOk result (λ bytes. vec_len bytes ≤ MAX_FILE_LEN) };
 
-    /// The bytes of the file of a state, of which there may be any number.
+    /// The bytes of the file of a state. Their number has no limit.
     ///
     /// # Errors
     ///
-    /// `FileFault` where it cannot be read, `OutOfMemory` where memory was refused.
+    /// `FileFault` if it cannot be read. `OutOfMemory` if memory was refused.
     fn read_state(&self, name: &str) -> Result<Vec<u8>, NamedFault>
         ensures { ReadsFile (puts self.now) name.now (seen (λ bytes. bytes.items) result) };
 
-    /// The bytes of the plain file of that name, and None where nothing is there.
+    /// The bytes of the plain file of that name, or None if nothing has that name.
     ///
     /// # Errors
     ///
-    /// `FileFault` where what is there is no plain file, cannot be read, or has more than 16,777,472 bytes; `OutOfMemory`
-    /// where memory was refused.
+    /// `FileFault` if the name is of something else than a plain file, or if the file cannot be read or has more than
+    /// 16,777,472 bytes. `OutOfMemory` if memory was refused.
     fn find(&self, name: &str) -> Result<Option<Vec<u8>>, NamedFault>
         ensures { FindsFile (puts self.now) name.now
             (seen (option_map (λ bytes. bytes.items)) result) };
 
-    /// Replaces the file of that name whole, or makes it.
+    /// Replaces the complete file of that name, or makes it.
     ///
     /// # Errors
     ///
-    /// `FileFault` where it cannot be written, `OutOfMemory` where memory was refused. A plain file is then as it was.
+    /// `FileFault` if it cannot be written, `OutOfMemory` if memory was refused. Then a plain file is unchanged.
     fn replace(&mut self, name: &str, bytes: &[u8]) -> Result<(), NamedFault>
         ensures { RecordsReplace (puts self.old) (puts self.new) (name.now, bytes.now) result };
 
-    /// Makes the folder of that name, where it is missing, and opens it for `put`.
+    /// Makes the folder of that name if it is missing, and opens it for `put`.
     ///
     /// # Errors
     ///
-    /// `FileFault` where it cannot be made, `OutOfMemory` where memory was refused.
+    /// `FileFault` if it cannot be made. `OutOfMemory` if memory was refused.
     fn make_folder(&mut self, name: &str) -> Result<(), NamedFault>
         ensures made { RecordsFolder (puts self.old) result }
         ensures same { puts self.new ≡ puts self.old };
 
-    /// Puts the file of that name, which lies in the folder that was made last, as `replace` does; `flush` flushes it.
+    /// Puts the file of that name into the folder that was made last, as `replace` does. `flush` flushes it.
     ///
     /// # Errors
     ///
@@ -72,16 +72,16 @@ pub trait NamedFiles {
     fn put(&mut self, name: &str, bytes: &[u8]) -> Result<(), NamedFault>
         ensures { RecordsReplace (puts self.old) (puts self.new) (name.now, bytes.now) result };
 
-    /// Flushes to the device what was put into the folder of that name since it was made.
+    /// Flushes to the device the files that were put into the folder of that name since it was made.
     ///
     /// # Errors
     ///
-    /// `FileFault` where it cannot be flushed, `OutOfMemory` where memory was refused. What was put stands.
+    /// `FileFault` if the folder cannot be flushed, `OutOfMemory` if memory was refused. The files that were put remain.
     fn flush(&mut self, folder: &str) -> Result<(), NamedFault>
         ensures flushed { RecordsFolder (puts self.old) result }
         ensures same { puts self.new ≡ puts self.old };
 
-    /// What is wrong with the bytes of the file of that name, which was read; empty where no more is known. Files that say it to
-    /// people keep it. Contracts see nothing of it.
+    /// Says what is wrong with the bytes of the file of that name, which was read. The text is empty if no more is known. Files that
+    /// report to people keep it. Contracts see nothing of it.
     fn keep_reason(&self, name: &str, reason: String);
 }

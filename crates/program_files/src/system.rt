@@ -15,15 +15,15 @@ use std::fs::{Files, OpenOptions};
 use std::io::{ErrorKind, Write};
 use std::{fs, io};
 
-// How often the file of a state is read at most, for at most 65,536 bytes each time.
+// The greatest number of reads for the file of a state. Each read takes at most 65,536 bytes.
 const MOST_READS: u64 = 16_777_216;
 
 /// What is wrong with a named file or folder.
 #[derive(Debug, Drop)]
 pub enum Cause {
-    /// It was not read, not written or not made, and the system said this.
+    /// The system did not read, write or make it, and gave this error.
     System(io::Error),
-    /// It was read, and this is wrong with its bytes; empty where no more is known.
+    /// It was read, and this is wrong with its bytes. The text is empty if no more is known.
     Bytes(String),
 }
 
@@ -42,11 +42,11 @@ pub struct FailedName {
     pub cause: Cause,
 }
 
-/// The files of the system. What they have no contract says.
+/// The files of the system. No contract says what bytes they have.
 ///
-/// A file is replaced as `mirror_folders::replace_file` does. What is there and is no plain file, as a device, is
-/// written to as it is. A folder cannot be read or written, and an empty name is one of no file and of no folder.
-/// `last_failed` says which file was meant last, and what is wrong with it.
+/// A file is replaced as `mirror_folders::replace_file` does. If the name is of something else, such as a device, that is
+/// written directly. A folder cannot be read or written. An empty name names no file and no folder.
+/// `last_failed` says which file failed last, and why.
 ///
 /// ```text
 /// let files = SystemFiles::new(&rt, alloc);
@@ -72,26 +72,26 @@ impl<'a, R: Files> SystemFiles<'a, R> {
         }
     }
 
-    /// What came last: the cause of a `FileFault`, or what `keep_reason` was given. It is given once; None where nothing came, or
-    /// where memory for the name was refused.
+    /// The last failure: the cause of a `FileFault`, or the text that `keep_reason` got. A second call returns None. None also if
+    /// nothing failed, or if there was no memory for the name.
     pub fn last_failed(&self) -> Option<FailedName> {
         self.failed.take()
     }
 
-    // Keeps what is wrong with the file of that name.
+    // Keeps the name of a file and what is wrong with it.
     fn keep(&self, name: &str, cause: Cause) {
         if let Ok(name) = String::from_str(self.alloc, name) {
             self.failed.set(Some(FailedName { name, cause }));
         }
     }
 
-    // Keeps what a file that is not had came of, and says that it is not had.
+    // Keeps the error of the system for the name, and returns `FileFault`.
     fn refuse(&self, name: &str, error: io::Error) -> NamedFault {
         self.keep(name, Cause::System(error));
         NamedFault::FileFault
     }
 
-    // What an error of the system is, at that name.
+    // The fault for an error of the system at that name.
     fn fault(&self, name: &str, error: io::Error) -> NamedFault {
         if error.kind() == ErrorKind::OutOfMemory {
             NamedFault::OutOfMemory
@@ -101,7 +101,7 @@ impl<'a, R: Files> SystemFiles<'a, R> {
     }
 }
 
-// That a name is empty.
+// The error for an empty name.
 fn no_name() -> io::Error {
     io::Error::new(ErrorKind::InvalidInput, "it has no name")
 }
@@ -202,7 +202,7 @@ impl<'a, R: Files> NamedFiles for SystemFiles<'a, R> {
     }
 }
 
-// All the bytes of a file that is not too long: of one that is, no more are read than these and one.
+// All bytes of a file that is not too long. It reads at most one byte beyond the limit.
 fn read_short<R: Files>(files: &R, alloc: Global, name: &str) -> io::Result<Vec<u8>>
     ensures { IfOk result (λ bytes. vec_len bytes ≤ MAX_FILE_LEN) }
 {
@@ -213,8 +213,8 @@ fn read_short<R: Files>(files: &R, alloc: Global, name: &str) -> io::Result<Vec<
     }
 }
 
-// The bytes of a plain file that is not too long, and None where nothing is there. What is no plain file is not opened:
-// opening it could wait.
+// The bytes of a plain file that is not too long, or None if nothing has that name. It opens only a plain file:
+// opening anything else could wait.
 fn find_short<R: Files>(files: &R, alloc: Global, name: &str) -> io::Result<Option<Vec<u8>>> {
     let Ok(about) = fs::metadata(files, name) else {
         return Ok(None);
@@ -225,7 +225,7 @@ fn find_short<R: Files>(files: &R, alloc: Global, name: &str) -> io::Result<Opti
     Ok(Some(read_short(files, alloc, name)?))
 }
 
-// The folder of that name, which is made where it is missing.
+// Opens the folder of that name, and makes it first if it is missing.
 fn made_folder<'a, R: Files>(
     files: &'a R,
     alloc: Global,
@@ -235,7 +235,7 @@ fn made_folder<'a, R: Files>(
     FolderFiles::of(files, alloc, name)
 }
 
-// The bytes, if there are not too many.
+// The bytes, unless there are too many.
 fn not_long(bytes: Vec<u8>) -> io::Result<Vec<u8>>
     ensures { IfOk result (λ bytes. vec_len bytes ≤ MAX_FILE_LEN) }
 {
@@ -245,7 +245,7 @@ fn not_long(bytes: Vec<u8>) -> io::Result<Vec<u8>>
     Ok(bytes)
 }
 
-// All the bytes of a file that ends.
+// All bytes of a file that ends.
 fn read_long<R: Files>(files: &R, alloc: Global, name: &str) -> io::Result<Vec<u8>> {
     let mut file = WatchedStream::new(fs::open(files, name)?);
     match read_all(alloc, &mut file, usize::MAX, MOST_READS) {
@@ -254,8 +254,8 @@ fn read_long<R: Files>(files: &R, alloc: Global, name: &str) -> io::Result<Vec<u
     }
 }
 
-// Why a file that was opened was not read: what the system said. Memory that the system lacks for a read is no memory that was
-// refused.
+// The reason why an open file was not read: the error of the system. If the system lacked memory for a read, that is
+// no refused allocation.
 fn read_error(fault: StreamFault, said: Option<io::Error>) -> io::Error {
     if fault == StreamFault::OutOfMemory {
         return io::Error::from(ErrorKind::OutOfMemory);
@@ -266,7 +266,7 @@ fn read_error(fault: StreamFault, said: Option<io::Error>) -> io::Error {
     }
 }
 
-// Whether something is there that is no plain file.
+// Whether the name is of something that is no plain file.
 fn is_special<R: Files>(files: &R, name: &str) -> bool {
     match fs::metadata(files, name) {
         Ok(about) => !about.is_file(),

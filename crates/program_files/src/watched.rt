@@ -1,16 +1,17 @@
-//! A stream that keeps why it failed.
+//! A stream that keeps the reason of its last failure.
 ghost use Rattle.std.specs.Prelude.{◌≡◌};
 
 use std::io;
 use std::io::{Read, Write};
 use std::marker::Model;
 
-/// A stream whose bytes are those of another, and which keeps why the last call of that one failed. To contracts it is that stream.
+/// A stream that passes its bytes to another one, and keeps the error of the other stream's last call. Contracts see it as the
+/// other stream.
 ///
 /// ```text
 /// let mut output = WatchedStream::new(io::writer(&rt));
 /// if write_whole(&mut output, text).is_err() {
-///     output.last_failed() // No space left on device (os error 28); None where no byte was taken
+/// output.last_failed() // No space left on device (os error 28); None if no byte was taken
 /// }
 /// ```
 #[derive(Drop)]
@@ -26,7 +27,7 @@ impl<S: Drop> Model for WatchedStream<S> {
 }
 
 impl<S: Drop> WatchedStream<S> {
-    /// That stream, which has not failed yet.
+    /// Wraps the stream, without a failure yet.
     pub fn new(stream: S) -> WatchedStream<S>
         ensures { result ≡ stream }
     {
@@ -36,7 +37,7 @@ impl<S: Drop> WatchedStream<S> {
         }
     }
 
-    /// What the system said of the last call, where that failed.
+    /// The error of the system, if the last call failed.
     pub fn last_failed(&self) -> Option<io::Error> {
         self.error
     }

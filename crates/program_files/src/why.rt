@@ -6,16 +6,16 @@ ghost use Rattle.program_files.specs.Why.{IsWhyFront, IsWhyLine};
 use std::alloc::{AllocError, Global};
 use std::io;
 
-/// The greatest length of a line that says why a command failed, in bytes, with its newline.
+/// The greatest length of a line that says why a command failed, in bytes and with its newline.
 pub const MAX_WHY_LEN: usize = 200;
 
-// A name that is longer than both together is cut: only these many bytes of its front and of its end are printed.
+// Longer names than both together are cut: only this many bytes of the beginning and of the end are printed.
 const FRONT_LEN: usize = 36;
 
 const END_LEN: usize = 72;
 
-/// The line `THING: REASON`, or `THING` where there is no reason. Control characters stand as `\x1b`, by their number in
-/// hexadecimal; the middle of a long name is left out, which two dots tell; what is still too long is cut.
+/// The line `THING: REASON`, or `THING` if there is no reason. A control character is printed by its number in
+/// hexadecimal, as `\x1b`. Two dots replace the middle of a long name. A line that is still too long is cut.
 ///
 /// ```text
 /// why_line(alloc, "log.state", "No space left on device")?   // "log.state: No space left on device\n"
@@ -34,7 +34,7 @@ pub fn why_line(alloc: Global, thing: &str, reason: &str) -> Result<String, Allo
     Ok(line)
 }
 
-// The thing and the reason, with no control character.
+// The thing and the reason, without control characters.
 fn shown(alloc: Global, thing: &str, reason: &str) -> Result<String, AllocError> {
     let mut text = String::new(alloc);
     if thing.len() <= FRONT_LEN + END_LEN {
@@ -53,7 +53,7 @@ fn shown(alloc: Global, thing: &str, reason: &str) -> Result<String, AllocError>
     Ok(text)
 }
 
-// Adds a text, its control characters escaped.
+// Adds a text with its control characters escaped.
 fn push_shown(text: &mut String, more: &str) -> Result<(), AllocError> {
     for character in more.chars() {
         if character.is_control() {
@@ -66,7 +66,7 @@ fn push_shown(text: &mut String, more: &str) -> Result<(), AllocError> {
     Ok(())
 }
 
-// As much of the text as there is room for in a line, up to a control character: there is none in what is shown.
+// The longest beginning of the text that fits in a line, up to the first control character. A text of `shown` has none.
 #[tactic(auto, using(crate::proofs::Whys::no_front))]
 fn plain_front(alloc: Global, text: &str) -> Result<String, AllocError>
     ensures { IfOk result (λ front. IsWhyFront (string_bytes front)) }
@@ -80,7 +80,7 @@ fn plain_front(alloc: Global, text: &str) -> Result<String, AllocError>
     Ok(front)
 }
 
-// Adds a character to what a line begins with, if there is room for it, and it is no control character. Whether it was
+// Adds a character to the beginning of a line if it fits and is no control character. It returns whether the character was
 // added.
 #[tactic(auto, using(crate::proofs::Whys::longer_front))]
 fn push_plain(front: &mut String, character: char) -> Result<bool, AllocError>
@@ -94,7 +94,7 @@ fn push_plain(front: &mut String, character: char) -> Result<bool, AllocError>
     Ok(true)
 }
 
-/// What the system says of an error, without its number.
+/// The text of the system for an error, without its number.
 ///
 /// # Errors
 ///

@@ -1,4 +1,4 @@
--- What words that ask for a command say of its numbers.
+-- The numbers of a command are in their ranges.
 use Rattle.std.proofs.Common.{ℕ, ◌≤◌, List, length, Option, Some, None, arith}
 use Rattle.program_words.specs.Commands.{AsksFor, IsCount, IsNumberGiven, IsTakeWidth}
 use Rattle.program_words.specs.declared.commands.Command.{Command as Order}

@@ -1,4 +1,4 @@
--- A run of words of which all is known that they say, and one whose keys are not found.
+-- A run whose words are understood, and a run without keys.
 use Rattle.std.proofs.Common.{◌≡◌, ℕ, List, [], Option, Some, None, Result, Ok, Err, IfOk, inl, inr, refl, subst, sym}
 use Rattle.signed_note.specs.Keys.{Key}
 use Rattle.signed_note.specs.KeyFiles.{ReadsKeys}
@@ -26,7 +26,7 @@ doable words (Err fault) h = tt
 pub line_doable : (words : List (List ℕ)) (line : Line) → IsLine words line → IfOk line.command IsDoable
 line_doable words line h = doable words line.command h.command
 
--- what is found of the key file that the words name
+-- the key file that the words name was read
 pub keys_found : (printed : Option (List NamedFile)) (words : List (List ℕ)) (name : Option (List ℕ)) (bytes lent : List ℕ) →
     lent ≡ bytes → ReadsKeyFile words (Ok name) → FindsKeys printed name (Ok bytes) → AreKeyBytes printed words lent
 keys_found printed words (Some name) bytes lent same has finds =
@@ -60,7 +60,7 @@ module _ (digest : List ℕ → List ℕ) (now : Moment) (words : List (List ℕ
   lines_lack bytes fault are_bytes reads =
       keys_lack (KeyLines fault) record { bytes = bytes; are_bytes = are_bytes; reads = reads }
 
--- a run is one under the same keys, however they are listed
+-- a run under an equal list of keys
 pub runs_under : (digest : List ℕ → List ℕ) (keys all : List Key) (key_bytes : List ℕ) (words : List (List ℕ))
     (old new : Moment) (answer : Result ℕ RunFault) → keys ≡ all →
     Runs digest keys key_bytes words old new answer → Runs digest all key_bytes words old new answer

@@ -1,4 +1,4 @@
--- The keys of boxes that hold a verifier of one of two types, as they were made.
+-- The keys of boxed verifiers of two types, from how the boxes were made.
 use Rattle.std.proofs.Common.{◌≡◌, ◌⊎◌, inl, inr, List, [], ◌∷◌, ◌++◌, length, map, append_assoc, refl, sym, ap, subst}
 use Rattle.std.proofs.Common.{◌∙◌, arith}
 use Rattle.std.proofs.lemmas.List.{map-append, append-nil}
@@ -8,7 +8,7 @@ use Rattle.std.specs.DynBox.{dyn_box_with}
 use Rattle.std.specs.declared.dyn_box.DynBox.{DynBox}
 use Rattle.signed_note.specs.Keys.{Key}
 
--- the first type, or the second
+-- the index of one of two types
 abbrev pub Two : Type 0
 Two = Unit {0} ⊎ (Unit {0} ⊎ ⊥)
 
@@ -16,7 +16,7 @@ abbrev IsFirst : Two → Type 0
 IsFirst (inl u) = Unit {0}
 IsFirst (inr u) = ⊥
 
--- the key of a value, by its type
+-- the key of a value, from its type
 pub key_at : (F : Two → Type 0) → (F (inl tt) → Key) → (F (inr (inl tt)) → Key) → (i : Two) → F i → Key
 key_at F first second (inl u) x = first x
 key_at F first second (inr (inl u)) x = second x
@@ -44,7 +44,7 @@ module _ {F : Two → Type 0} (first : F (inl tt) → Key) (second : F (inr (inl
   made_second row same (inr (inl u)) y x h = ap second (row.inj y x (sym (same y) ∙ h.codes))
   made_second row same (inr (inr e)) y x h = absurd e
 
-  -- what any function that reads both types so says of boxes
+  -- the same for any function that reads the keys of both types in this way
   module _ {Z : Type 0} (read : DynBox Two Z F → Key)
       (firsts : (b : DynBox Two Z F) (x : F (inl tt)) → read (dyn_box_with b (inl tt) x) ≡ first x)
       (seconds : (b : DynBox Two Z F) (x : F (inr (inl tt))) → read (dyn_box_with b (inr (inl tt)) x) ≡ second x) where
@@ -59,7 +59,7 @@ module _ {F : Two → Type 0} (first : F (inl tt) → Key) (second : F (inr (inl
     all_boxes (b ∷ bs) =
         ap (λ k. k ∷ map read bs) (one_box b b.vtable b.value) ∙ ap (λ ks. key_in b ∷ ks) (all_boxes bs)
 
--- one more key, and one line less
+-- one more key was made, and one line fewer is left
 pub one_more : {A B : Type 0} (f : A → Key) (g : B → Key) (xs ys : List A) (x : A) (line : B) (lines rest : List B)
     (all : List Key) → ys ≡ xs ++ x ∷ [] → lines ≡ line ∷ rest → f x ≡ g line → map f xs ++ map g lines ≡ all →
     map f ys ++ map g rest ≡ all

@@ -1,4 +1,4 @@
--- The state of a mirror that was pulled into is loaded again.
+-- The state of a mirror after a pull loads again.
 use Rattle.std.proofs.Common.{◌≡◌, ◌∙◌, ℕ, List, Option, Some, None, Result, Ok, Err, refl, sym, subst, inl, inr}
 use Rattle.std.proofs.lemmas.Bool.{false≢true}
 use Rattle.std.specs.FinSet.{contains-empty}
@@ -19,12 +19,12 @@ use Rattle.program_library.specs.RunLaws.{PulledStatesAreLoaded}
 use Rattle.state_commands.proofs.Keeping.{grows_by_nothing}
 
 module _ (digest : List ℕ → List ℕ) (origin : List ℕ) (keys : List Key) where
-  -- a view of that origin, whose notes open under the keys
+  -- the view has this origin, and its notes open under the keys
   record IsOpen (v : View) : Type 0 where
     origin_is : v.origin ≡ origin
     opened : (note : List ℕ) → Has v.notes note → IsOpenNote origin keys note
 
-  -- so is that of a state file, and of a mirror that holds nothing
+  -- the view of a state file is such a view, and so is that of an empty mirror
   begins_open : (printed : Option (List NamedFile)) (state : Option (List ℕ)) (start : View) →
       BeginsWith digest origin keys printed state (Ok start) → IsOpen start
   begins_open printed (Some name) start begun =
@@ -34,7 +34,7 @@ module _ (digest : List ℕ → List ℕ) (origin : List ℕ) (keys : List Key) 
     opened = λ note has. absurd (let none = contains-empty (slice_cmp nat_cmp) note in false≢true (sym none ∙ has));
   }
 
-  -- a pull gains no other notes
+  -- all notes that a pull gains are such notes
   grown_open : (start v : View) → IsOpen start → Grows keys start v → IsOpen v
   grown_open start v begun grown = record {
     origin_is = sym grown.grows.origin_is ∙ begun.origin_is;

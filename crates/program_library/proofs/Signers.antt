@@ -1,4 +1,4 @@
--- The key that signs is among the keys of the key file.
+-- The signing key is among the keys of the key file.
 use Rattle.std.proofs.Common.{◌≡◌, ℕ, suc, List, [], ◌∷◌, Some, Contains, map, Result, Ok, Err, sym, ap, subst}
 use Rattle.std.proofs.Common.{◌∙◌, arith, is_some, unwrap_or}
 use Rattle.std.proofs.lemmas.List.{get_or-map, length-map}
@@ -18,7 +18,7 @@ abbrev lines_of : Result (List KeyLine) KeyFileFault → List KeyLine
 lines_of (Ok lines) = lines
 lines_of (Err fault) = []
 
--- bytes are the lines of one list of keys at most
+-- the lines of a key file follow from its bytes
 one_list : (bytes : List ℕ) (lines others : List KeyLine) → IsKeyFile bytes lines → IsKeyFile bytes others →
     lines ≡ others
 one_list bytes lines others h g =

@@ -1,4 +1,4 @@
--- What follows of a run under the keys of a key file, and of a pull.
+-- Consequences of a run under the keys of a key file, and of a pull.
 use Rattle.std.specs.Prelude.{ℕ, List, Option, Result, Some, Ok, Contains, map}
 use Rattle.signed_note.specs.Keys.{Key, Secret, secret_key}
 use Rattle.signed_note.specs.KeyFiles.{IsKeyFile}
@@ -14,7 +14,7 @@ use Rattle.program_words.specs.declared.place.Place.{Place}
 use Rattle.program_env.specs.Builds.{FindsSigner}
 use Rattle.program_env.specs.Pulls.{PullsFromFile}
 
--- the key that a key file signs with is among the keys of its lines, with their pins joined
+-- the signing key of a key file is among the keys of its lines, after the pins were joined
 abbrev pub SignersAreKeys : Type 0
 SignersAreKeys =
     (bytes : List ℕ) (lines joined : List KeyLine) (signer : Secret) →
@@ -23,8 +23,8 @@ SignersAreKeys =
     FindsSigner bytes (Some signer) →
     Contains (map key_of joined) (secret_key signer)
 
--- the state of a mirror that was pulled into is loaded as that mirror, under the same origin and
--- keys: whether the pull came to its end or not
+-- the state of a mirror after a pull loads as that mirror, under the same origin and keys, for a complete pull and for one that
+-- ended early
 abbrev pub PulledStatesAreLoaded : Type 0
 PulledStatesAreLoaded =
     (digest : List ℕ → List ℕ) (origin : List ℕ) (keys : List Key) (state : Option (List ℕ))

@@ -1,5 +1,5 @@
--- What a run of the program answers and writes. `FindsKeys`, `JoinsLines` and `ReadsJoined` are cited
--- by the contracts of private functions alone.
+-- The answer and the output of a run of the program. Only contracts of private functions cite `FindsKeys`, `JoinsLines`
+-- and `ReadsJoined`.
 use Rattle.std.specs.Prelude.{◌≡◌, ◌⊎◌, ℕ, List, [], Option, Some, None, Result, Ok, Err, map, ⊤}
 use Rattle.std.specs.Io.KnownBytes.{Keeps}
 use Rattle.signed_note.specs.Keys.{Key}
@@ -22,7 +22,7 @@ use Rattle.program_env.specs.Done.{Executes, LeavesFiles, LeavesFolders}
 
 module _ (digest : List ℕ → List ℕ) (keys : List Key) (key_bytes : List ℕ) (words : List (List ℕ))
     (old new : Moment) where
-  -- the words ask for a command, and this is its answer
+  -- the words are those of a command, and this is its answer
   pub record Obeys (answer : Result ℕ RunFault) : Type 0 where
     pub command : Order
     pub asked : AsksFor words command
@@ -30,7 +30,7 @@ module _ (digest : List ℕ → List ℕ) (keys : List Key) (key_bytes : List �
     pub files : LeavesFiles command old.files new.files
     pub folders : LeavesFolders command old.puts new.puts
 
-  -- the words ask for no command: this is the answer, nothing was written, and no file was changed
+  -- the words are those of no command: the answer says so, nothing was written, and no file was changed
   pub record RefusesWords (answer : Result ℕ RunFault) : Type 0 where
     pub fault : CommandFault
     pub answer_is : answer ≡ Err (Command fault)
@@ -39,83 +39,83 @@ module _ (digest : List ℕ → List ℕ) (keys : List Key) (key_bytes : List �
     pub files : new.files ≡ old.files
     pub folders : new.puts ≡ old.puts
 
-  -- what the answer of a run says of the words, of the input, and of what was written
+  -- the meaning of the answer of a run for the words, the input and the output
   abbrev pub Runs : Result ℕ RunFault → Type 0
   Runs answer = RefusesWords answer ⊎ Obeys answer
 
 -- ---- the key file
 
--- the keys of a reader of key files that failed
+-- the result of a failed reader of key files
 abbrev pub no_lines : KeyFileFault → Result (List KeyLine) KeyFileFault
 no_lines fault = Err fault
 
--- the key file's name, where the words give none
+-- the result of a reader that found no name of a key file
 abbrev pub no_name : CommandFault → Result (Option (List ℕ)) CommandFault
 no_name fault = Err fault
 
--- what each answer of the finder of the key file's name says of the words
+-- the meaning of each answer of the finder of the key file's name for the words
 abbrev pub NamesKeyFile : List (List ℕ) → Result (Option (List ℕ)) RunFault → Type 0
 NamesKeyFile words (Ok name) = ReadsKeyFile words (Ok name)
 NamesKeyFile words (Err (Command fault)) = ReadsKeyFile words (no_name fault)
 NamesKeyFile words (Err OutOfMemory) = ⊤
 NamesKeyFile words (Err other) = ⊥
 
--- the bytes of a file that was not read
+-- the result of a file that was not read
 abbrev pub no_bytes : NamedFault → Result (List ℕ) NamedFault
 no_bytes fault = Err fault
 
 module _ (printed : Option (List NamedFile)) (words : List (List ℕ)) where
-  -- the command that the words name has a key file, which has these bytes as far as files record it
+  -- the command that the words name has a key file with these bytes, if the files record them
   pub record NamesKeys (bytes : List ℕ) : Type 0 where
     pub name : List ℕ
     pub has : HasKeys words name
     pub tells : HasContents printed name bytes
 
-  -- the command that the words name has a key file, which is not read, as the fault says
+  -- the command that the words name has a key file, but the file was not read, as the fault says
   pub record LacksKeyFile (fault : NamedFault) : Type 0 where
     pub name : List ℕ
     pub has : HasKeys words name
     pub reads : ReadsShort printed name (no_bytes fault)
 
-  -- the bytes of the key file that the words name, or none where the command has no keys
+  -- the bytes of the key file that the words name; no bytes if the command has no keys
   abbrev pub AreKeyBytes : List ℕ → Type 0
   AreKeyBytes bytes = NamesKeys bytes ⊎ (HasNoKeys words × (bytes ≡ []))
 
-  -- the bytes of the key file are no lines of keys, as the fault says
+  -- the bytes of the key file are not lines of keys, as the fault says
   pub record LacksKeyLines (fault : KeyFileFault) : Type 0 where
     pub bytes : List ℕ
     pub are_bytes : AreKeyBytes bytes
     pub reads : ReadsKeys bytes (no_lines fault)
 
-  -- what a fault at the keys says of the words, and of their key file: BadArgument is none, since it
-  -- is told behind the key file's own faults
+  -- the meaning of a fault before the command for the words and their key file; it is never BadArgument, because that is found
+  -- after the faults of the key file
   abbrev pub FailsAtKeys : RunFault → Type 0
   FailsAtKeys (Command fault) = ReadsKeyFile words (no_name fault)
   FailsAtKeys (KeyFile fault) = LacksKeyFile fault
   FailsAtKeys (KeyLines fault) = LacksKeyLines fault
   FailsAtKeys other = ⊥
 
--- what each answer of the reader of the key file of this name says of it: its bytes, or none where there is no name
+-- the meaning of each answer of the reader of this key file: its bytes, or no bytes if there is no name
 abbrev pub FindsKeys : Option (List NamedFile) → Option (List ℕ) → Result (List ℕ) RunFault → Type 0
 FindsKeys printed (Some name) (Ok bytes) = HasContents printed name bytes
 FindsKeys printed None (Ok bytes) = bytes ≡ []
 FindsKeys printed (Some name) (Err (KeyFile fault)) = ReadsShort printed name (no_bytes fault)
 FindsKeys printed name (Err other) = ⊥
 
--- the bytes are those of a key file, whose lines come to these when their pins are joined
+-- the bytes are those of a key file, and its lines with their pins joined are these
 pub record JoinsLines (bytes : List ℕ) (joined : List KeyLine) : Type 0 where
   pub lines : List KeyLine
   pub are_lines : IsKeyFile bytes lines
   pub joins : JoinsPins lines joined
 
--- what each answer of the reader of the joined lines says
+-- the meaning of each answer of the reader of joined lines
 abbrev pub ReadsJoined : List ℕ → Result (List KeyLine) KeyFileFault → Type 0
 ReadsJoined bytes (Ok joined) = JoinsLines bytes joined
 ReadsJoined bytes (Err fault) = ReadsKeys bytes (no_lines fault)
 
 module _ (digest : List ℕ → List ℕ) (words : List (List ℕ)) (old new : Moment)
     (answer : Result ℕ RunFault) where
-  -- no keys were found: this is the answer, nothing was written, and no file was changed
+  -- no keys were found: the answer says so, nothing was written, and no file was changed
   pub record LacksKeys : Type 0 where
     pub fault : RunFault
     pub answer_is : answer ≡ Err fault
@@ -124,8 +124,7 @@ module _ (digest : List ℕ → List ℕ) (words : List (List ℕ)) (old new : M
     pub files : new.files ≡ old.files
     pub folders : new.puts ≡ old.puts
 
-  -- the run is one under keys under which a note opens exactly where it opens under those of the key
-  -- file's lines
+  -- the run used keys that open the same notes as the keys of the key file's lines
   pub record RunsUnder : Type 0 where
     pub bytes : List ℕ
     pub lines : List KeyLine
@@ -135,7 +134,6 @@ module _ (digest : List ℕ → List ℕ) (words : List (List ℕ)) (old new : M
     pub joins : JoinsPins lines joined
     pub runs : Runs digest (map key_of joined) bytes words old new answer
 
-  -- what the answer of a run that begins with the key file says: no keys were found, or the run is
-  -- one under its keys
+  -- the meaning of the answer of a run that begins with the key file: no keys were found, or the run used its keys
   abbrev pub RunsKeyed : Type 0
   RunsKeyed = LacksKeys ⊎ RunsUnder

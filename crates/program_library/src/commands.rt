@@ -18,11 +18,11 @@ use std::io::{Read, Write};
 use std::net::{Net, TcpListener, TcpStream};
 use std::rt::Clock;
 
-/// Executes the command, and answers the exit status.
+/// Runs the command, and returns the exit status.
 ///
 /// # Errors
 ///
-/// Those of the command, with what each is about.
+/// Those of the command, with the thing that each is about.
 pub(crate) fn run_command<R, F: RunFiles, D: RunFolders, I: Read, O: Write, E: Write>(
     env: &mut Env<'_, '_, '_, '_, R, F, D, I, O, E>,
     keys: &Keys<'_>,

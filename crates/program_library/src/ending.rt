@@ -1,4 +1,4 @@
-//! How the program ends: its exit status, and what it says on which stream.
+//! The end of the program: its exit status, and its last text.
 ghost use Rattle.std.specs.Prelude.{◌≡◌, IfOk, string_bytes};
 ghost use Rattle.byte_streams.specs.Streams.{AppendsPrefix};
 ghost use Rattle.program_library.specs.Endings.{PrintsEnding, IsFaultLine, PrintsRun, message_bytes};
@@ -9,7 +9,7 @@ use program_words::CommandFault;
 use std::alloc::{AllocError, Global};
 use std::io::Write;
 
-/// One of the two streams that the program writes.
+/// One of the two streams that the program writes to.
 #[derive(Debug, PartialEq, Eq, Clone, Copy)]
 pub enum Stream {
     /// Standard output.
@@ -18,17 +18,17 @@ pub enum Stream {
     Errors,
 }
 
-/// A text that was made, or one that takes no memory.
+/// A text that was allocated, or a fixed one.
 #[derive(Debug, Drop)]
 pub enum Message {
     /// A text of `clap`, or the line of a fault.
     Made(String),
-    /// A text of the program's own.
+    /// A fixed text of the program.
     Fixed(&'static str),
 }
 
 impl Message {
-    /// The text's bytes.
+    /// The bytes of the text.
     pub fn as_bytes(&self) -> &[u8]
         ensures { result.now ≡ message_bytes self.now }
     {
@@ -39,18 +39,18 @@ impl Message {
     }
 }
 
-/// How the program ends.
+/// The end of the program.
 #[derive(Debug, Drop)]
 pub struct ProgramEnd {
-    /// The exit status: 0 done, 1 a fault, 2 words that ask for nothing that can be done, 3 a no.
+    /// The exit status: 0 success, 1 a fault, 2 words that cannot be carried out, 3 the answer no.
     pub status: u8,
-    /// Where the text goes.
+    /// The stream for the text.
     pub stream: Stream,
-    /// What is said besides what the command wrote.
+    /// The text after the output of the command.
     pub text: Message,
 }
 
-// `tlogmirror: `, what the fault prints, and a newline.
+// The line `tlogmirror: NAME`, with the name of the fault.
 fn line_made(alloc: Global, fault: &RunFault) -> Result<String, AllocError>
     ensures { IfOk result (λ line. IsFaultLine (string_bytes line)) }
 {
@@ -58,7 +58,7 @@ fn line_made(alloc: Global, fault: &RunFault) -> Result<String, AllocError>
     format!(in alloc; "tlogmirror: {name}\n")
 }
 
-// The line that tells the fault. Without memory for it the fault is reported as `OutOfMemory`.
+// The line of the fault. If there is no memory for it, the line of `OutOfMemory`.
 fn line_of(alloc: Global, fault: &RunFault) -> Message
     ensures { IsFaultLine (message_bytes result) }
 {
@@ -70,9 +70,9 @@ fn line_of(alloc: Global, fault: &RunFault) -> Message
 
 /// How the program ends after this answer of a run.
 ///
-/// Help goes to standard output, and what is wrong with the words, as `clap` says it, to standard
-/// error. Each other fault is told on standard error as one line: `tlogmirror: ` and the fault's name,
-/// or `OutOfMemory` where there is no memory for that line.
+/// Help goes to standard output. What `clap` says about wrong words goes to standard error. Each other
+/// fault gives one line on standard error: `tlogmirror: ` and the name of the fault, or `OutOfMemory` if
+/// there is no memory for that line.
 pub fn ending_of(alloc: Global, answer: Result<u8, RunFault>) -> ProgramEnd
     ensures { PrintsRun answer result }
 {
@@ -98,10 +98,10 @@ pub fn ending_of(alloc: Global, answer: Result<u8, RunFault>) -> ProgramEnd
     }
 }
 
-/// Writes the text to its stream, and answers the exit status.
+/// Writes the text to its stream, and returns the exit status.
 ///
-/// Help that cannot be written is a fault: `tlogmirror: WriteFault` on the other stream, status 1.
-/// A fault that cannot be written leaves the status what it is.
+/// If help cannot be written, that is a fault: `tlogmirror: WriteFault` on standard error, status 1.
+/// If the line of a fault cannot be written, the status does not change.
 pub fn print_ending<O: Write, E: Write>(ending: &ProgramEnd, output: &mut O, errors: &mut E) -> u8
     ensures { PrintsEnding ending.now result (O.contents output.old) (O.contents output.new)
         (E.contents errors.old) (E.contents errors.new) }

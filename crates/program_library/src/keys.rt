@@ -9,24 +9,24 @@ use program_words::read_line;
 use signed_note::{KeyFileFault, KeyLine, Verifier, join_pins, read_keys};
 use std::alloc::Global;
 
-/// The keys of a run: the bytes of the key file, and its keys. Both are empty where the command has no keys.
+/// The keys of a run: the bytes of the key file, and its keys. Both are empty if the command has no keys.
 ///
 /// ```text
 /// let keys = Keys { bytes: &key_bytes, verifiers: &keys };
 /// ```
 #[derive(Drop)]
 pub struct Keys<'a> {
-    /// The bytes of the key file, of which `build` reads its signing key.
+    /// The bytes of the key file. `build` reads its signing key from them.
     pub bytes: &'a [u8],
     /// Its keys.
     pub verifiers: &'a [Box<dyn Verifier>],
 }
 
-/// The bytes of the key file of that name; none where the command has no keys.
+/// The bytes of the key file of that name; no bytes if the command has no keys.
 ///
 /// # Errors
 ///
-/// `KeyFile` where the file cannot be read.
+/// `KeyFile` if the file cannot be read.
 pub(crate) fn key_bytes<F: RunFiles>(
     files: &F,
     alloc: Global,
@@ -47,7 +47,7 @@ pub(crate) fn key_bytes<F: RunFiles>(
     }
 }
 
-/// The lines of the key file's bytes, with the pins of one name and id joined.
+/// The lines of the key file. All pins of one name and id are joined into one.
 pub(crate) fn joined_lines(alloc: Global, key_bytes: &[u8]) -> Result<Vec<KeyLine>, KeyFileFault>
     ensures { ReadsJoined key_bytes.now (seen (λ lines. lines.items) result) }
 {
@@ -61,7 +61,7 @@ pub(crate) fn joined_lines(alloc: Global, key_bytes: &[u8]) -> Result<Vec<KeyLin
     }
 }
 
-/// What a fault at the lines of that key file is about: the number of the bad line, and which common mistake it is.
+/// The thing that a fault of the key file's lines is about: the number of the bad line, and the common mistake in it.
 pub(crate) fn why_of_lines(
     alloc: Global,
     key_bytes: &[u8],
@@ -80,7 +80,7 @@ pub(crate) fn why_of_lines(
     }
 }
 
-// Which common mistake the line of that number is, from 1; nothing where it is none, or the bytes are no text.
+// The common mistake in the line of that number, counted from 1; empty if it is none, or if the bytes are no text.
 fn mistake_in(key_bytes: &[u8], number: usize) -> &'static str {
     let Ok(mut rest) = str::from_utf8(key_bytes) else {
         return "";
@@ -97,7 +97,7 @@ fn mistake_in(key_bytes: &[u8], number: usize) -> &'static str {
     }
 }
 
-// Which common mistake a whole line is.
+// The common mistake in a complete line; empty if it is none.
 fn mistake_of(line: &str) -> &'static str {
     if line.is_empty() {
         " is empty"
@@ -123,7 +123,7 @@ fn is_verifier_key(line: &str) -> bool {
     }
 }
 
-/// The name of the key file that the words give: the word of `--keys`, and None for `root` and `check`, which have none.
+/// The name of the key file in the words: the word after `--keys`, or None for `root` and `check`, which have none.
 ///
 /// ```text
 /// key_file(alloc, &words)   // Ok(Some("keys"))
@@ -131,8 +131,8 @@ fn is_verifier_key(line: &str) -> bool {
 ///
 /// # Errors
 ///
-/// `Command` with what `clap` finds, help too, and never with `BadArgument`: no other option is judged here.
-/// `OutOfMemory` where memory was refused for the name.
+/// `Command` with the fault or the help of `clap`, but never with `BadArgument`: this call checks no other option.
+/// `OutOfMemory` if memory was refused for the name.
 pub fn key_file(alloc: Global, words: &[String]) -> Result<Option<String>, RunFault>
     ensures { NamesKeyFile (map string_bytes words.now) (seen (option_map string_bytes) result) }
 {

@@ -1,10 +1,9 @@
-//! The work of each command of `tlogmirror`, over standard input and output, and over the files and folders that it is
-//! given by name.
+//! Runs a command of `tlogmirror` over standard input and output, and over files and folders by their names.
 //!
 //! ```text
 //! let (files, folders) = (MemoryFiles::new(alloc), MemShelf::new(alloc));
 //! let mut env = Env { rt: &rt, alloc, files, folders, input, output, errors };
-//! run_over(&mut env, &words)? // 0, or 3 for a no
+//! run_over(&mut env, &words)? // 0, or 3 for no
 //! ```
 #![tactic(auto)]
 

@@ -1,4 +1,4 @@
-//! One run: the words, the key file, and the command that the words ask for.
+//! One run: the words, the key file, and the command.
 ghost use Rattle.std.specs.Prelude.{◌≡◌, IfErr, IfOk, List, map, string_bytes, ℕ};
 ghost use Rattle.std.specs.Io.KnownBytes.{Keeps};
 ghost use Rattle.sha2.specs.Sha256.{sha256};
@@ -25,14 +25,18 @@ use std::io::{Read, Write};
 use std::net::{Net, TcpListener, TcpStream};
 use std::rt::Clock;
 
-/// Executes the command that the words ask for, with the keys of the key file that they name, and answers the exit status:
-/// 0 where it is done, 3 where its answer is the other one. The files and folders are those of the system.
+/// Runs the command of the words, with the keys of the key file that they name. It returns the exit status: 0 for success,
+/// and 3 for the other answer, such as no. The files and folders are those of the system.
 ///
 /// # Errors
 ///
-/// In this order: what `clap` finds, the key file, `BadArgument`, and those of the command. Nothing was written to the
-/// output, except where a write failed, and by `serve`, whose line comes before its connections. Where the words ask for
-/// it (`--why`), what a fault is about is written to `errors` as one line, with what the system said of the streams.
+/// In this order: a fault or help from `clap`, the key file, `BadArgument`, and those of the command.
+///
+/// After a fault nothing was written to the output, with a few exceptions (`IsWriteFault`). One is a write that failed. The
+/// others are faults after a first text: `serve` prints its port first, `entries` writes what it reads, and `follow` puts its
+/// evidence last.
+///
+/// With `--why`, one line on `errors` names the thing that the fault is about. It includes what the system said of a stream.
 pub fn run<R, I: Read + Failing, O: Write + Failing, E: Write>(
     rt: &R,
     alloc: Global,
@@ -55,7 +59,7 @@ where
     run_on(rt, alloc, files, folders, words, input, output, errors)
 }
 
-// Executes the same over these files and folders, which are let go.
+// Runs the same over these files and folders, and drops them.
 #[allow(clippy::too_many_arguments)]
 fn run_on<
     R,
@@ -99,7 +103,7 @@ where
     answer
 }
 
-// The folders of the system, of which it can be told on standard error how many files are put.
+// The folders of the system. They can report on standard error how many files were put.
 fn folders_of<'a, R: Files + Clock + Eprint>(
     rt: &'a R,
     alloc: Global,
@@ -108,7 +112,7 @@ fn folders_of<'a, R: Files + Clock + Eprint>(
     CountingShelf::new(DirShelf::new(rt, alloc, "."), progress)
 }
 
-/// Executes the same over any files and folders that have names; the key file is one of the files.
+/// Runs the same over any files and folders that have names. The key file is one of the files.
 ///
 /// # Errors
 ///
@@ -141,7 +145,7 @@ where
     }
 }
 
-// The answer of a run, and a line on what its fault is about, where it is asked for.
+// The answer of a run. It also writes a line on the fault if the words ask for it.
 fn printed<E: Write>(
     alloc: Global,
     asked: bool,
@@ -161,7 +165,7 @@ fn printed<E: Write>(
     }
 }
 
-// Executes what the line asks for, with the keys of the key file that it names.
+// Runs the command of the line, with the keys of the key file that it names.
 fn run_line<R, F: RunFiles, D: RunFolders, I: Read, O: Write, E: Write>(
     env: &mut Env<'_, '_, '_, '_, R, F, D, I, O, E>,
     line: Line<'_>,
@@ -184,7 +188,7 @@ where
     }
 }
 
-// Executes the same with the bytes of the key file in hand.
+// The same after the bytes of the key file were read.
 fn run_keyed<R, F: RunFiles, D: RunFolders, I: Read, O: Write, E: Write>(
     env: &mut Env<'_, '_, '_, '_, R, F, D, I, O, E>,
     key_bytes: &[u8],
@@ -244,7 +248,7 @@ where
     obey(env, &keys, asked)
 }
 
-// The lines of the key file that the line names are no keys.
+// The error for a key file that has lines which are no keys.
 fn no_lines(alloc: Global, key_bytes: &[u8], asked: Line<'_>, fault: KeyFileFault) -> Error
     ensures { result ≡ RunFault.KeyLines fault }
 {
@@ -253,7 +257,7 @@ fn no_lines(alloc: Global, key_bytes: &[u8], asked: Line<'_>, fault: KeyFileFaul
     Error::new(RunFault::KeyLines(fault), why)
 }
 
-// Executes the command of the line.
+// Runs the command of the line.
 fn obey<R, F: RunFiles, D: RunFolders, I: Read, O: Write, E: Write>(
     env: &mut Env<'_, '_, '_, '_, R, F, D, I, O, E>,
     keys: &Keys<'_>,
@@ -277,7 +281,7 @@ where
     }
 }
 
-// The words of the command ask for nothing; this one is bad.
+// The words are those of no command, and this word is bad.
 fn refused(alloc: Global, bad: Option<BadWord>, fault: CommandFault) -> Error
     ensures { result ≡ RunFault.Command fault }
 {
@@ -288,10 +292,9 @@ fn refused(alloc: Global, bad: Option<BadWord>, fault: CommandFault) -> Error
     Error::new(RunFault::Command(fault), why)
 }
 
-/// Executes the command that the words ask for, with keys in hand: the bytes of the key file, and its keys, boxed by the
-/// caller. Both are empty where the command has no keys. The status is 0, or 3 where the answer is the other one. The
-/// files and folders are those of the system. `serve` writes to `errors`, and where the words ask for it (`--why`) what a
-/// fault is about is written there as one line.
+/// Runs the command of the words with given keys: the bytes of the key file, and its keys, which the caller has boxed. Both
+/// are empty if the command has no keys. It returns 0, or 3 for the other answer. The files and folders are those of the
+/// system. `serve` writes to `errors`. With `--why`, one line on `errors` names the thing that a fault is about.
 ///
 /// ```text
 /// run_words(&rt, alloc, &words, &key_bytes, &keys, &mut input, &mut output, &mut errors)   // Ok(0)
@@ -299,7 +302,7 @@ fn refused(alloc: Global, bad: Option<BadWord>, fault: CommandFault) -> Error
 ///
 /// # Errors
 ///
-/// `Command` where the words ask for no command; the others are those of the command's own call.
+/// `Command` if the words are those of no command. The others are those of the command's own call.
 #[allow(clippy::too_many_arguments)]
 pub fn run_words<R, I: Read, O: Write, E: Write>(
     rt: &R,
@@ -332,7 +335,7 @@ where
     )
 }
 
-// Executes the same over these files and folders, which are let go.
+// Runs the same over these files and folders, and drops them.
 #[allow(clippy::too_many_arguments)]
 fn run_with_keys_on<R, F: RunFiles + Drop, D: RunFolders + Drop, I: Read, O: Write, E: Write>(
     rt: &R,
@@ -371,7 +374,7 @@ where
     answer
 }
 
-/// Executes the same over any files and folders that have names.
+/// Runs the same over any files and folders that have names.
 ///
 /// # Errors
 ///

@@ -1,4 +1,4 @@
--- What a command that asks something of a mirror answers, and what it prints.
+-- The answer of a command that asks a mirror something, and its text.
 use Rattle.std.specs.Prelude.{ℕ, List, Option, Result, Ok, Err, ⊤}
 use Rattle.std.specs.Io.KnownBytes.{Appends}
 use Rattle.byte_streams.specs.Streams.{AppendsPrefix}
@@ -14,14 +14,14 @@ use Rattle.program_reports.specs.declared.question.Question.TheVariants.{Forks, 
 use Rattle.program_reports.specs.declared.fault.AskFault.{AskFault}
 use Rattle.program_reports.specs.declared.fault.AskFault.TheVariants.{Report, WriteFault}
 
--- what a text and an exit status tell of a view, as the answer to the question
+-- the text and the exit status that answer the question for a view
 abbrev pub IsAnswerPrint : (List ℕ → List ℕ) → Question → View → List ℕ → ℕ → Type 0
 IsAnswerPrint digest Status v printed ended = IsStatusPrint digest v printed ended
 IsAnswerPrint digest (Missing size root) v printed ended = IsMissingPrint digest v size root printed ended
 IsAnswerPrint digest Forks v printed ended = IsForksPrint digest v printed ended
 IsAnswerPrint digest (Proof ask) v printed ended = IsProofPrint digest v ask printed ended
 
--- why nothing is told
+-- the reason why there is no answer
 abbrev pub IsNoAnswerPrint : (List ℕ → List ℕ) → Question → View → ReportFault → Type 0
 IsNoAnswerPrint digest Status v OutOfMemory = ⊤
 IsNoAnswerPrint digest Status v fault = ⊥
@@ -30,14 +30,14 @@ IsNoAnswerPrint digest Forks v OutOfMemory = ⊤
 IsNoAnswerPrint digest Forks v fault = ⊥
 IsNoAnswerPrint digest (Proof ask) v fault = ReportsProof digest v ask (Err fault)
 
--- what each answer of a reporter says of a view: the report on the question, or why there is none
+-- the meaning of each result of a reporter for a view: the report on the question, or a reason why there is none
 abbrev pub ReportsOn :
     (List ℕ → List ℕ) → Question → View → Result Printout ReportFault → Type 0
 ReportsOn digest question v (Ok report) =
     IsAnswerPrint digest question v (printed report) report.status
 ReportsOn digest question v (Err fault) = IsNoAnswerPrint digest question v fault
 
--- the report on the question is made before it is printed: on any but forks and what is missing
+-- the report on this question is made before it is printed; that is so for all questions but forks and missing paths
 abbrev pub IsMade : Question → Type 0
 IsMade (Missing size root) = ⊥
 IsMade Forks = ⊥
@@ -45,20 +45,20 @@ IsMade question = ⊤
 
 module _ (digest : List ℕ → List ℕ) (question : Question) (v : View)
     (old new : Option (List ℕ)) where
-  -- the answer was written whole, and the exit status is its own
+  -- the complete answer was written, and the exit status belongs to it
   pub record PrintsReport (status : ℕ) : Type 0 where
     pub printed : List ℕ
     pub tells : IsAnswerPrint digest question v printed status
     pub written : Appends old new printed
 
-  -- a prefix of the answer was written, as a write that failed leaves it
+  -- a prefix of the answer was written, because a write failed
   pub record PrintsReportPrefix : Type 0 where
     pub printed : List ℕ
     pub ended : ℕ
     pub tells : IsAnswerPrint digest question v printed ended
     pub written : AppendsPrefix old new printed
 
-  -- what each answer of the command says of the view, and of what was written
+  -- the meaning of each result of the command, for the view and the output
   abbrev pub AnswersQuestion : Result ℕ AskFault → Type 0
   AnswersQuestion (Ok status) = PrintsReport status
   AnswersQuestion (Err (Report fault)) = IsNoAnswerPrint digest question v fault

@@ -1,4 +1,4 @@
--- What a command that asks something of a mirror prints, and with which exit status it ends.
+-- The text and the exit status of a command that asks a mirror something.
 use Rattle.std.specs.Prelude.{◌≡◌, ◌≢◌, ◌⊎◌, ℕ, List, [], Some, None, Result, Ok, Err}
 use Rattle.std.specs.Prelude.{string_bytes, ⊤}
 use Rattle.tlog_proof.specs.Made.{asked_proof}
@@ -19,21 +19,21 @@ use Rattle.program_reports.specs.declared.fault.ReportFault.TheVariants.{Proof a
 use Rattle.program_reports.specs.declared.fault.ReportFault.TheVariants.{OutOfMemory}
 use Rattle.program_reports.specs.declared.reports.Report.{Report}
 
--- the text that is printed
+-- the text of a report
 abbrev pub printed : Report → List ℕ
 printed report = string_bytes report.text
 
--- the exit status of a text that tells something or nothing: 0 for no bytes, 3 for some
+-- the exit status of a list: 0 if the text is empty, else 3
 abbrev pub PrintsNothing : List ℕ → ℕ → Type 0
 PrintsNothing text status = ((text ≡ []) × (status ≡ 0)) ⊎ ((text ≢ []) × (status ≡ 3))
 
--- a fault of a proof among those of reports
+-- the fault of a proof as a fault of a report
 abbrev pub of_proof : ProofFault → ReportFault
 of_proof proving.OutOfMemory = OutOfMemory
 of_proof fault = Refused fault
 
 module _ (digest : List ℕ → List ℕ) (v : View) where
-  -- the exit status of `status`: 0 where something is served, 3 where nothing is
+  -- the exit status of `status`: 0 if something is served, else 3
   abbrev pub IsServedPrint : ℕ → Type 0
   IsServedPrint status =
       ((point : Point) × SaysServed digest v (Some point) × (status ≡ 0))
@@ -49,19 +49,19 @@ module _ (digest : List ℕ → List ℕ) (v : View) where
     pub text : IsForksText digest v printed
     pub status : PrintsNothing printed ended
 
-  -- the text and the exit status of `missing`, for a head
+  -- the text and the exit status of `missing`, for a tree head
   pub record IsMissingPrint (size : ℕ) (root : List ℕ) (printed : List ℕ) (ended : ℕ) : Type 0 where
     pub text : IsMissingText digest v size root printed
     pub status : PrintsNothing printed ended
 
-  -- what each answer to `missing` says
+  -- the meaning of each answer to `missing`
   abbrev pub ReportsMissing : ℕ → List ℕ → Result Report ReportFault → Type 0
   ReportsMissing size root (Ok report) = IsMissingPrint size root (printed report) report.status
   ReportsMissing size root (Err NoSuchHead) = ¬ HasHead v size root
   ReportsMissing size root (Err OutOfMemory) = ⊤
   ReportsMissing size root (Err other) = ⊥
 
-  -- the text and the exit status of `prove`: the proof of the entries that are served
+  -- the text and the exit status of `prove`: a proof about the served entries
   pub record IsProofPrint (ask : Ask) (printed : List ℕ) (ended : ℕ) : Type 0 where
     pub entries : List (List ℕ)
     pub served : IsServedList digest v entries
@@ -70,13 +70,13 @@ module _ (digest : List ℕ → List ℕ) (v : View) where
     pub text : IsProofText printed proof
     pub status : ended ≡ 0
 
-  -- the proof that was asked for is refused, with that fault
+  -- the requested proof is refused with this fault
   pub record RefusesProof (ask : Ask) (fault : ProofFault) : Type 0 where
     pub entries : List (List ℕ)
     pub served : IsServedList digest v entries
     pub refused : asked_proof digest entries ask ≡ Err fault
 
-  -- what each answer to `prove` says
+  -- the meaning of each answer to `prove`
   abbrev pub ReportsProof : Ask → Result Report ReportFault → Type 0
   ReportsProof ask (Ok report) = IsProofPrint ask (printed report) report.status
   ReportsProof ask (Err NothingComplete) = SaysServed digest v None

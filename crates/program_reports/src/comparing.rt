@@ -1,4 +1,4 @@
-//! The report on heads that are compared with what is served, and how it is printed.
+//! Compares tree heads with the served one, and prints the report.
 ghost use Rattle.std.specs.Prelude.{◌≡◌, ◌≢◌, ◌⊎◌, IfErr, IfOk, option_map};
 ghost use Rattle.std.specs.Io.KnownBytes.{Keeps};
 ghost use Rattle.std.specs.List.{list_any};
@@ -12,12 +12,12 @@ use std::io::Write;
 use tlog_hash::{Hash, TreeHash};
 use tlog_mirror::{Compared, Mirror, comparison_text};
 
-/// `compare`: a line for each of these heads, or where none are given for each that is held, by size and then by root. The
-/// exit status is 3 where one is a fork or larger.
+/// `compare`: a line for each of the given heads. Without given heads, a line for each held head, by size and then by root. The
+/// exit status is 3 if a head is a fork or larger.
 ///
 /// # Errors
 ///
-/// `NothingComplete` where nothing is served. `OutOfMemory` where memory was refused.
+/// `NothingComplete` if nothing is served. `OutOfMemory` if memory was refused.
 pub fn compare_report<H: TreeHash>(
     alloc: Global,
     mirror: &Mirror<H>,
@@ -38,7 +38,7 @@ pub fn compare_report<H: TreeHash>(
     Ok(Report { text, status })
 }
 
-/// The exit status of a comparison: 0 where each head is the same, and 3 where one is a fork or larger.
+/// The exit status of a comparison: 0 if each head is the same, and 3 if one is a fork or larger.
 ///
 /// ```text
 /// comparison_status(&[Compared::Larger { size: 3, root }])   // 3
@@ -49,7 +49,6 @@ pub fn comparison_status(compared: &[Compared]) -> u8
     if has_other(compared) { 3 } else { 0 }
 }
 
-// Whether a head is a fork or larger.
 fn has_other(compared: &[Compared]) -> bool
     ensures { result ≡ list_any recorded_other compared.now }
 {
@@ -66,19 +65,22 @@ fn is_other(one: &Compared) -> bool
     }
 }
 
-/// Writes what `compare` says of these heads, or where none are given of those that are held, and answers the exit
-/// status: 0, or 3 where one is a fork or larger. What is held of each head is noted first, so that no tree is walked twice.
+/// Writes the report of `compare` on the given heads or, without given heads, on the held ones. It returns the exit status: 0,
+/// or 3 if a head is a fork or larger. First it notes what is held of each head, so no tree is walked twice.
 ///
 /// ```text
 /// print_comparison(alloc, &mut mirror, None, &mut output)?
-/// // 0 where each head that is held is a beginning of what is served
+/// // 0 if the served tree has each held head
 /// ```
 ///
 /// # Errors
 ///
-/// The first that applies: `Report`, with `NothingComplete` or `OutOfMemory`, as `compare_report` says; `WriteFault`,
-/// where a write fails or takes no byte, and then a prefix of the report was written. Nothing is written before the whole
-/// report is made.
+/// The first that applies:
+///
+/// - `Report`, with `NothingComplete` or `OutOfMemory`, as for `compare_report`;
+/// - `WriteFault`: a write failed, or took no byte. Then a prefix of the report was written.
+///
+/// Nothing is written before the whole report is made.
 pub fn print_comparison<H: TreeHash, W: Write>(
     alloc: Global,
     mirror: &mut Mirror<H>,
@@ -103,7 +105,7 @@ pub fn print_comparison<H: TreeHash, W: Write>(
     }
 }
 
-// The report, of a mirror that notes first what is held of each head.
+// The report, after the mirror noted what is held of each head.
 fn noted_comparison<H: TreeHash>(
     alloc: Global,
     mirror: &mut Mirror<H>,

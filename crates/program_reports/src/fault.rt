@@ -1,4 +1,4 @@
-//! Why nothing is reported.
+//! Why there is no report.
 ghost use Rattle.std.specs.Prelude.{◌≡◌};
 ghost use Rattle.program_reports.specs.Reports.{of_proof};
 
@@ -6,17 +6,17 @@ use std::alloc::AllocError;
 use thiserror::Error;
 use tlog_proof::ProofFault;
 
-/// Why nothing is reported. It prints the name of the innermost variant.
-/// A proof of a size that is not served, for example, prints `NoSuchSize`.
+/// Why there is no report. It prints the name of the innermost variant.
+/// For example, a proof for a size that is not served prints `NoSuchSize`.
 #[derive(Debug, Drop, PartialEq, Eq, Clone, Copy, Error)]
 pub enum ReportFault {
-    /// No head is complete, so there are no entries to prove anything of, or to compare with.
+    /// No head is complete, so no entries are served for a proof or a comparison.
     #[error("NothingComplete")]
     NothingComplete,
     /// No head has that size and root.
     #[error("NoSuchHead")]
     NoSuchHead,
-    /// The proof was refused, of the entries that are served. `OutOfMemory` is never within it.
+    /// The proof for the served entries was refused. This never holds `OutOfMemory`.
     #[error(transparent)]
     Proof(ProofFault),
     /// Memory was refused.
@@ -48,7 +48,7 @@ impl From<ProofFault> for ReportFault {
 /// Why no report is printed. It prints the name of the innermost variant.
 #[derive(Debug, Drop, PartialEq, Eq, Clone, Copy, Error)]
 pub enum AskFault {
-    /// Nothing is reported of the mirror.
+    /// The mirror gave no report.
     #[error(transparent)]
     Report(ReportFault),
     /// A write failed, or took no byte. A prefix of the report may have been written.

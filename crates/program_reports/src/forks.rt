@@ -1,4 +1,4 @@
-//! The forks, printed as they are found.
+//! Prints the forks as they are found.
 ghost use Rattle.std.specs.Prelude.{◌≡◌, ◌≢◌, ◌⊎◌, IfErr, IfOk};
 ghost use Rattle.std.specs.Io.KnownBytes.{Keeps};
 ghost use Rattle.program_reports.specs.Questions.{AnswersQuestion};
@@ -12,8 +12,8 @@ use std::io::Write;
 use tlog_hash::TreeHash;
 use tlog_mirror::Mirror;
 
-// Writes a line for each fork, and answers the exit status: 3 where there is one. The mirror notes first what is held of
-// each head, so that no tree is walked twice.
+// Writes a line for each fork, and returns the exit status: 3 if there is one. The mirror first notes what is held of
+// each head, so no tree is walked twice.
 pub(crate) fn print_forks<H: TreeHash, W: Write>(
     alloc: Global,
     mirror: &mut Mirror<H>,
@@ -34,7 +34,7 @@ pub(crate) fn print_forks<H: TreeHash, W: Write>(
     }
 }
 
-// Writes a line for each fork. Whether there is one.
+// Writes a line for each fork, and returns whether there is one.
 fn noted_forks<H: TreeHash, W: Write>(
     alloc: Global,
     mirror: &mut Mirror<H>,

@@ -1,9 +1,9 @@
-//! What the commands that ask something of a mirror print, and with which exit status they end; and the report on a pull.
+//! The texts and exit statuses of the commands that ask a mirror something, and the report on a pull.
 //!
 //! ```text
 //! let report = status_report(alloc, &mirror)?;
 //! report.text        // origin ex, each head, and what is served
-//! report.status      // 0 where something is served, 3 where nothing is
+//! report.status      // 0 if something is served, else 3
 //! print_report(alloc, &mut mirror, &Question::Status, &mut output)?   // prints that text, and returns 0 or 3
 //! ```
 #![tactic(auto)]

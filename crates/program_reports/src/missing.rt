@@ -1,4 +1,4 @@
-//! What is missing of a head, printed as it is found.
+//! Prints the missing paths of a tree head as they are found.
 ghost use Rattle.std.specs.Prelude.{◌≡◌, ◌≢◌, ◌⊎◌, IfErr, IfOk};
 ghost use Rattle.std.specs.Io.KnownBytes.{Keeps};
 ghost use Rattle.program_reports.specs.Questions.{AnswersQuestion};
@@ -11,7 +11,7 @@ use std::io::Write;
 use tlog_hash::{Hash, TreeHash};
 use tlog_mirror::Mirror;
 
-// Writes a line for each path that is missing, and answers the exit status: 3 where there is one.
+// Writes a line for each missing path, and returns the exit status: 3 if there is one.
 pub(crate) fn print_missing<H: TreeHash, W: Write>(
     alloc: Global,
     mirror: &Mirror<H>,

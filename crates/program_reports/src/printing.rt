@@ -1,4 +1,4 @@
-//! A report on a mirror, printed.
+//! Prints a report on a mirror.
 ghost use Rattle.std.specs.Prelude.{◌≡◌, ◌≢◌, ◌⊎◌, IfErr, IfOk, OnErr, OnOk};
 ghost use Rattle.std.specs.Io.KnownBytes.{Appends, Keeps};
 ghost use Rattle.byte_streams.specs.Streams.{AppendsPrefix};
@@ -26,21 +26,25 @@ pub(crate) fn write_report<W: Write>(output: &mut W, report: &Report) -> Result<
     write_whole(output, report.text.as_bytes())
 }
 
-/// Writes the report on the question, of what the mirror holds, and answers the exit status: 0, or 3 where the answer is
-/// the other one. For heads, forks and proofs the mirror notes first what is held of each head, so that no tree is walked twice.
-/// Forks and what is missing are written as they are found, so that memory is asked for by head and by tree, and not by
-/// line; the other reports are made whole.
+/// Writes the report on the question about the mirror, and returns the exit status 0 or 3. `Report` says what 3 means.
+///
+/// For status, forks and proofs the mirror first notes what is held of each head, so no tree is walked twice.
+/// Forks and missing paths are written as they are found, so memory is needed for each head and each tree, but not for each
+/// line. The other reports are made completely before they are written.
 ///
 /// ```text
 /// print_report(alloc, &mut mirror, &Question::Forks, &mut output)?
-/// // 0 where there is no fork, 3 where there is one
+/// // 0 if there is no fork, else 3
 /// ```
 ///
 /// # Errors
 ///
-/// The first that applies: `Report`, with `NoSuchHead`, `NothingComplete`, the refusal of the proof or `OutOfMemory`, as
-/// `ReportFault` says; `WriteFault`, where a write fails or takes no byte, and then a prefix of the report was
-/// written. Nothing is written before all memory was asked for.
+/// The first that applies:
+///
+/// - `Report`, as `ReportFault` says: `NoSuchHead`, `NothingComplete`, the refusal of the proof, or `OutOfMemory`;
+/// - `WriteFault`: a write failed, or took no byte. Then a prefix of the report was written.
+///
+/// Nothing is written before all memory was allocated.
 pub fn print_report<H: TreeHash, W: Write>(
     alloc: Global,
     mirror: &mut Mirror<H>,
@@ -61,7 +65,7 @@ pub fn print_report<H: TreeHash, W: Write>(
     }
 }
 
-// Writes the report on a question that is neither on forks nor on what is missing.
+// Writes the report on a question that is neither about forks nor about missing paths.
 fn print_made<H: TreeHash, W: Write>(
     alloc: Global,
     mirror: &mut Mirror<H>,

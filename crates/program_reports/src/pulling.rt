@@ -1,4 +1,4 @@
-//! What is printed of a pull.
+//! The report on a pull.
 ghost use Rattle.std.specs.Prelude.{◌≡◌, IfOk, string_bytes};
 ghost use Rattle.program_reports.specs.Pulling.{IsPulledStatus, rounds_text, head_text, pulled_lines};
 
@@ -7,7 +7,7 @@ use std::alloc::{AllocError, Global};
 use tlog_hash::Hash;
 use tlog_text::push_hash;
 
-/// What a pull came to, as the two lines `pulled SIZE ROOT rounds N refused N` and `complete` or `partial`, the root in
+/// The result of a pull as two lines: `pulled SIZE ROOT rounds N refused N`, and `complete` or `partial`. The root is in
 /// standard base64.
 ///
 /// ```text
@@ -41,14 +41,14 @@ fn pulled_point(alloc: Global, size: u64, root: &Hash) -> Result<String, AllocEr
     Ok(text)
 }
 
-// The rest of it.
+// The rest of the first line.
 fn counts_of(alloc: Global, rounds: u32, refused: u64) -> Result<String, AllocError>
     ensures { IfOk result (λ text. string_bytes text ≡ rounds_text rounds refused) }
 {
     format!(in alloc; " rounds {rounds} refused {refused}\n")
 }
 
-/// The exit status of a pull: 0 where the head is complete, and 3 where it is not.
+/// The exit status of a pull: 0 if the tree head is complete, else 3.
 ///
 /// ```text
 /// pulled_status(&pulled) // 0

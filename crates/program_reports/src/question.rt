@@ -1,4 +1,4 @@
-//! What may be asked of a state, and the report that answers it.
+//! The questions to a state, and the reports that answer them.
 ghost use Rattle.std.specs.Prelude.{◌≡◌, IfOk};
 ghost use Rattle.program_reports.specs.Reports.{ReportsProof, IsStatusPrint, printed};
 ghost use Rattle.program_reports.specs.Questions.{IsMade, ReportsOn};
@@ -10,25 +10,25 @@ use tlog_hash::{Hash, TreeHash};
 use tlog_mirror::Mirror;
 use tlog_proof::Ask;
 
-/// What is asked of a state.
+/// A question to a state.
 #[derive(Debug, Drop, PartialEq, Eq, Clone, Copy)]
 pub enum Question {
-    /// Its heads, and what is served.
+    /// Its tree heads, and the served one.
     Status,
-    /// What is missing of a head's tree.
+    /// The missing paths of a head's tree.
     Missing {
         /// The head's size.
         size: u64,
         /// The head's root.
         root: Hash,
     },
-    /// The forks between its heads.
+    /// The forks between its tree heads.
     Forks,
-    /// A proof of what is served.
+    /// A proof about the served entries.
     Proof(Ask),
 }
 
-// The report on heads and on what is served, of a mirror that notes first what is held of each head: so no tree is walked
+// The report on the heads and on the served one. The mirror first notes what is held of each head, so no tree is walked
 // twice.
 fn noted_status<H: TreeHash>(alloc: Global, mirror: &mut Mirror<H>) -> Result<Report, AllocError>
     ensures tells { IfOk result (λ report. IsStatusPrint H.digest mirror.old.view (printed report)
@@ -39,7 +39,7 @@ fn noted_status<H: TreeHash>(alloc: Global, mirror: &mut Mirror<H>) -> Result<Re
     status_report(alloc, mirror)
 }
 
-// A proof of what is served, likewise.
+// A proof about the served entries, after the same notes.
 fn noted_proof<H: TreeHash>(
     alloc: Global,
     mirror: &mut Mirror<H>,
@@ -54,7 +54,7 @@ fn noted_proof<H: TreeHash>(
     }
 }
 
-// The report on the question, which is neither on forks nor on what is missing.
+// The report on a question that is neither about forks nor about missing paths.
 pub(crate) fn report_on<H: TreeHash>(
     alloc: Global,
     mirror: &mut Mirror<H>,

@@ -1,4 +1,4 @@
-//! The reports, a command each.
+//! The reports, one for each command.
 ghost use Rattle.std.specs.Prelude.{IfOk};
 ghost use Rattle.program_reports.specs.Reports.{ReportsProof, IsServedPrint, IsStatusPrint, printed};
 
@@ -8,16 +8,16 @@ use tlog_hash::TreeHash;
 use tlog_mirror::Mirror;
 use tlog_proof::{Ask, prove, write_text};
 
-/// What a command prints, and its exit status.
+/// The text that a command prints, and its exit status.
 #[derive(Debug, Drop)]
 pub struct Report {
-    /// The text: lines that each end in a newline.
+    /// The text. Each line ends in a newline.
     pub text: String,
-    /// 0, or 3 where the answer is the other one.
+    /// 0, or 3: nothing is served, a path is missing, there is a fork, or a compared head is not the same.
     pub status: u8,
 }
 
-/// `status`: the origin, each head, and what is served. The exit status is 3 where nothing is served.
+/// `status`: the origin, each head, and the served one. The exit status is 3 if nothing is served.
 ///
 /// # Errors
 ///
@@ -31,7 +31,7 @@ pub fn status_report<H: TreeHash>(alloc: Global, mirror: &Mirror<H>) -> Result<R
     Ok(Report { text, status })
 }
 
-// 0 where something is served, 3 where nothing is.
+// 0 if something is served, else 3.
 fn served_status<H: TreeHash>(mirror: &Mirror<H>) -> u8
     ensures { IsServedPrint H.digest mirror.now.view result }
 {
@@ -41,12 +41,12 @@ fn served_status<H: TreeHash>(mirror: &Mirror<H>) -> u8
     }
 }
 
-/// `prove`: the text of a proof of the entries that are served.
+/// `prove`: the text of a proof about the served entries.
 ///
 /// # Errors
 ///
-/// The first that applies: `NothingComplete`, where nothing is served; those of `tlog_proof::prove`, of the entries that
-/// are served: `NoSuchSize`, `NoSuchIndex`, `FirstIsZero`, `Backwards`. `OutOfMemory` where memory was refused.
+/// The first that applies: `NothingComplete` if nothing is served; a fault of `tlog_proof::prove` for the served entries:
+/// `NoSuchSize`, `NoSuchIndex`, `FirstIsZero`, `Backwards`; `OutOfMemory` if memory was refused.
 pub fn proof_report<H: TreeHash>(
     alloc: Global,
     mirror: &Mirror<H>,

@@ -1,4 +1,4 @@
-//! Commands over files in memory, and two different entries of one digest.
+//! Commands over files in memory, and two different entries with one digest.
 use crate::states::{FIRST_SUM, SECOND_SUM};
 use program_commands::{ItemFiles, MergeFilesFault, TakeFilesFault, run_merge, run_take};
 use program_files::{MemoryFiles, NamedFault, NamedFiles};
@@ -8,14 +8,13 @@ use std::test::Fail;
 use tlog_hash::{SumTree, TreeHash};
 use tlog_mirror::MergeFault;
 
-// Each of these calls a public function, and tells nothing of it: what is known of a call makes the rest of a test dear.
+// Each of these calls a public function, and ensures nothing: facts about a call make the rest of a test slow to check.
 
-// Puts a file.
 fn put(files: &mut MemoryFiles, name: &str, bytes: &[u8]) -> Result<(), NamedFault> {
     files.replace(name, bytes)
 }
 
-// Takes a bundle of one entry, into a state of its own.
+// Takes an entry bundle with one entry into a new state.
 fn take<H: TreeHash>(files: &mut MemoryFiles, alloc: Global) -> Result<(), TakeFilesFault> {
     let item = ItemFiles::Bundle {
         width: 1,
@@ -29,8 +28,8 @@ fn merge<H: TreeHash>(files: &mut MemoryFiles, alloc: Global) -> Result<(), Merg
     run_merge::<H, MemoryFiles>(files, alloc, "ex", &[], "first", "second", "first")
 }
 
-// A bundle is taken as its state; another state, of an entry with the same sum, is not merged into it, and nothing is
-// put.
+// An entry bundle is taken, and its state is written. Another state, with an entry of the same sum, is not merged into it, and
+// nothing is put.
 #[test]
 fn colliding_files(rt: HostRuntime) -> Result<(), Fail> {
     let mut files = MemoryFiles::new(rt.alloc());
@@ -51,7 +50,7 @@ fn collide<H: TreeHash>(
     Ok(())
 }
 
-// Three files were put, and the state that was taken last.
+// Three files were put, and the state that was taken last is unchanged.
 fn assert_first(rt: &impl Abort, puts: &[(String, Vec<u8>)]) {
     assert!(rt; puts.len() == 3);
     let (name, bytes) = &puts[2];

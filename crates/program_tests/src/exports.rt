@@ -1,4 +1,4 @@
-//! What is put onto shelves in memory, and onto such that fail.
+//! Exports to shelves in memory, and to shelves that fail.
 ghost use Rattle.std.specs.Prelude.{◌≡◌, min, ◌+◌, ◌-◌, ◌^◌};
 
 use crate::given::complete;
@@ -12,7 +12,7 @@ use tlog_hash::{Sha256Tree, TreeHash};
 use tlog_mirror::Mirror;
 use tlog_tiles::Path;
 
-// A shelf that does so many calls, and fails from then on. It counts what was put, the checkpoint apart.
+// A shelf whose first calls succeed, and all later ones fail. It counts the files that were put, without the checkpoint.
 #[derive(Drop)]
 struct Failing {
     passes: u32,
@@ -22,7 +22,7 @@ struct Failing {
 }
 
 impl Failing {
-    // Whether this call is done.
+    // Whether this call succeeds.
     fn passes(&mut self) -> bool
         ensures { self.new.failures ≡ self.old.failures }
     {
@@ -87,14 +87,14 @@ fn shelf_of(passes: u32) -> Failing {
     }
 }
 
-// The shelf has so many files, and the checkpoint only where all is done.
+// The shelf has `files` files, and the checkpoint only if the export is done.
 fn assert_put(rt: &impl Abort, shelf: &Failing, files: u32, is_done: bool) {
     assert!(rt; shelf.files == files);
     assert!(rt; shelf.has_checkpoint == is_done);
     assert!(rt; (shelf.failures == 0) == is_done);
 }
 
-// What an export answers. It ensures nothing, so that its callers are cheap to check.
+// An export. It ensures nothing, so that its callers are fast to check.
 pub(crate) fn put_onto<H: TreeHash, S: Shelf>(
     alloc: Global,
     mirror: &Mirror<H>,
@@ -103,7 +103,7 @@ pub(crate) fn put_onto<H: TreeHash, S: Shelf>(
     export(alloc, mirror, shelf)
 }
 
-// How many calls are done, the files put then, and the answer.
+// The number of calls that succeed, the number of files that were then put, and the answer.
 const EXPORTS: [(u32, u32, Result<(), ExportFault>); 5] = [
     (0, 0, Err(ExportFault::ShelfFault)),
     (1, 0, Err(ExportFault::ShelfFault)),
@@ -112,7 +112,7 @@ const EXPORTS: [(u32, u32, Result<(), ExportFault>); 5] = [
     (4, 2, Ok(())),
 ];
 
-// The first call asks for the checkpoint, and the j-th put is the call after j others.
+// The first call asks for the checkpoint. The j-th put comes after j other calls.
 #[test]
 fn failing_shelf(rt: HostRuntime) -> Result<(), Fail> {
     let mirror = complete::<Sha256Tree>(rt.alloc())?;
@@ -121,7 +121,7 @@ fn failing_shelf(rt: HostRuntime) -> Result<(), Fail> {
     Ok(())
 }
 
-// An export onto a shelf that does so many calls answers so, and the shelf has so many files then.
+// An export to each of these shelves gives this answer and this number of files.
 fn assert_exports<H: TreeHash>(rt: &impl Abort, alloc: Global, mirror: &Mirror<H>) {
     for &(passes, files, answer) in &EXPORTS {
         let mut shelf = shelf_of(passes);
@@ -130,8 +130,8 @@ fn assert_exports<H: TreeHash>(rt: &impl Abort, alloc: Global, mirror: &Mirror<H
     }
 }
 
-// The three files are put, and none once more. (That a failure at the third leaves no checkpoint is a row of
-// `failing_shelf`, and that nothing is exported of an empty mirror one of `tests/states.runs`.)
+// The three files are put, each once. (`failing_shelf` shows that a failure at the third leaves no checkpoint, and
+// `tests/states.runs` that an empty mirror exports nothing.)
 #[test]
 fn export_e3(rt: HostRuntime) -> Result<(), Fail> {
     let mirror = complete::<Sha256Tree>(rt.alloc())?;
@@ -156,7 +156,7 @@ fn exports_once<H: TreeHash>(
     Ok(())
 }
 
-// What was put are the row, the bundle and the note of the log, in this order.
+// The puts are the row, the entry bundle and the note of the log, in this order.
 pub(crate) fn assert_files(
     rt: &impl Abort,
     alloc: Global,
@@ -168,7 +168,7 @@ pub(crate) fn assert_files(
     assert_file(rt, alloc, &puts[2], "checkpoint", NOTE)
 }
 
-// What was put has that path, and these bytes.
+// The put has that path, and these bytes.
 fn assert_file(
     rt: &impl Abort,
     alloc: Global,

@@ -1,4 +1,4 @@
-//! What the tests give: the key, and mirrors of states.
+//! The key of the tests, and mirrors that are loaded from states.
 use crate::states::COMPLETE;
 use mirror_state::{LoadFault, SaveFault, load, save};
 use program_commands::check_origin;
@@ -14,14 +14,14 @@ pub(crate) fn key(alloc: Global) -> Result<HmacKey, KeyFault> {
     HmacKey::new(alloc, "ex", 1, &[0])
 }
 
-// That key alone.
+// Only that key.
 pub(crate) fn keys(alloc: Global) -> Result<Vec<Box<dyn Verifier>>, Fail> {
     let mut keys: Vec<Box<dyn Verifier>> = Vec::new(alloc);
     keys.push(Box::new(alloc, key(alloc)?)?)?;
     Ok(keys)
 }
 
-// What the reader gives is loaded to, of origin `ex`, which is lawful.
+// Loads a mirror of origin `ex` from the reader.
 pub(crate) fn load_example<H: TreeHash, R: Read>(
     alloc: Global,
     keys: &[Box<dyn Verifier>],
@@ -34,14 +34,14 @@ pub(crate) fn load_example<H: TreeHash, R: Read>(
 }
 
 // The mirror of the log of three entries. Its owners give it to `drop`: a drop in place has a step for each of its fields,
-// and is dear to check.
+// and is slow to check.
 pub(crate) fn complete<H: TreeHash>(alloc: Global) -> Result<Mirror<H>, Fail> {
     let keys = keys(alloc)?;
     let mut text = COMPLETE;
     Ok(load_example(alloc, &keys, &mut text)?)
 }
 
-// What saving a mirror answers. It ensures nothing, so that its callers are cheap to check.
+// Saves a mirror. It ensures nothing, so that its callers are fast to check.
 pub(crate) fn save_to<H: TreeHash, W: Write>(
     alloc: Global,
     mirror: &Mirror<H>,

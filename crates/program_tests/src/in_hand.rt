@@ -1,10 +1,9 @@
-//! Commands with keys in hand, which no run of the program has.
+//! Commands with given keys, which no run of the program shows.
 use program_library::run_words;
 use std::alloc::{AllocError, Global};
 use std::process::Abort;
 use std::test::Fail;
 
-// The words of a line.
 fn words_of(alloc: Global, line: &str) -> Result<Vec<String>, AllocError> {
     let mut words = Vec::new(alloc);
     for word in line.split(' ') {
@@ -13,8 +12,8 @@ fn words_of(alloc: Global, line: &str) -> Result<Vec<String>, AllocError> {
     Ok(words)
 }
 
-// The status of words that name no key file, and what is written, or no status at a fault. It tells nothing of it, so
-// that the rest of the test is cheap to prove.
+// The status of words that name no key file, or None after a fault; the output gets the text. It ensures nothing, so that the
+// rest of the test is fast to prove.
 fn status_of(
     rt: &HostRuntime,
     words: &[String],
@@ -26,7 +25,7 @@ fn status_of(
     run_words(rt, alloc, words, &[], &[], &mut input, output, &mut errors).ok()
 }
 
-// With no keys in hand, since the commands have none.
+// No keys are given, because the commands have none.
 #[test]
 fn commands_with_keys_in_hand(rt: HostRuntime) -> Result<(), Fail> {
     let text = b"size 1\nroot bjQLnP+zepicpUTmu3gKLHiQHT+zNzh2hRGjBhevoB0=\n";
@@ -36,7 +35,7 @@ fn commands_with_keys_in_hand(rt: HostRuntime) -> Result<(), Fail> {
     Ok(())
 }
 
-// The line has that status over two bytes of zero, and these bytes are written.
+// The line has that status with two zero bytes as input, and writes these bytes.
 fn assert_ends(
     rt: &impl Abort,
     host: &HostRuntime,

@@ -1,9 +1,15 @@
-//! The tests of what the program is made of, from states and files to the words of the command line, in a crate of their
-//! own, since a crate's tests are checked together with the crate again.
+//! The tests of the parts of the program, from states and files to the words of the command line. They are a crate of their
+//! own, because a crate's tests are checked together with the whole crate.
 //!
-//! It holds what no run of the program can show of `mirror_state`, `mirror_folders`, `mirror_progress`, `tlog_build`, `program_files`,
-//! `program_commands` and `program_library`: readers, writers and shelves that fail, refused memory, colliding digests, files in
-//! memory, each byte of a state changed, commands with keys in hand, and a run that ends by a fault that no run comes to. All else is shown by transcripts (`tests/` at the top of the repository).
+//! It holds what no run of the program can show about `mirror_state`, `mirror_folders`, `mirror_progress`, `tlog_build`,
+//! `program_files`, `program_commands` and `program_library`:
+//!
+//! - readers, writers and shelves that fail;
+//! - refused memory and colliding digests;
+//! - files in memory, and states with one byte changed;
+//! - commands with given keys, and a run that ends with a fault that no other run reaches.
+//!
+//! All else is shown by transcripts (`tests/` at the top of the repository).
 //!
 //! ```text
 //! rt test        // in this folder

@@ -11,7 +11,7 @@ use std::test::Fail;
 use tlog_hash::{Sha256Tree, TreeHash};
 use tlog_mirror::Mirror;
 
-// Why what the reader gives is refused.
+// Why the bytes of the reader are refused.
 fn fault_of<H: TreeHash, R: Read>(
     alloc: Global,
     keys: &[Box<dyn Verifier>],
@@ -44,7 +44,7 @@ fn refuses_cuts<H: TreeHash>(
     Ok(())
 }
 
-// One that fails at its first read, and one that never ends.
+// One reader fails at its first read, and one never ends.
 #[test]
 fn endless_reader(rt: HostRuntime) {
     for is_endless in [false, true] {
@@ -69,7 +69,7 @@ fn assert_fronts<H: TreeHash>(rt: &impl Abort, alloc: Global, mirror: &Mirror<H>
     assert_front(rt, alloc, mirror, COMPLETE.len(), Ok(()));
 }
 
-// A writer of so many bytes gets those of the text.
+// A writer with room for `room` bytes gets the first `room` bytes of the text.
 fn assert_front<H: TreeHash>(
     rt: &impl Abort,
     alloc: Global,

@@ -1,5 +1,5 @@
-//! Requests for memory that are refused, as by `rt try --test --fail-alloc N`: where a call was refused one, it did
-//! nothing, or what it put is no checkpoint; and the next call is right.
+//! Refused requests for memory, as by `rt try --test --fail-alloc N`. After a refusal a call did nothing, or what it put
+//! is no checkpoint. The next call succeeds.
 use crate::exports::{assert_files, put_onto};
 use crate::given::{complete, keys, load_example, save_to};
 use crate::states::{COMPLETE, NOTE};
@@ -25,7 +25,7 @@ fn save_again_after_want_of_memory(rt: HostRuntime) -> Result<(), Fail> {
     Ok(())
 }
 
-// Saves the mirror. The space of the writer takes no memory.
+// Saves the mirror. The space of the writer needs no memory.
 fn save_at_last<H: TreeHash>(rt: &impl Abort, alloc: Global, mirror: &Mirror<H>) {
     let mut space = [0u8; 1_024];
     let mut writer = space.as_mut_slice();
@@ -56,7 +56,7 @@ fn loads_at_last<H: TreeHash>(
     Ok(())
 }
 
-// The mirror of the state, which is loaded once more where memory was refused.
+// The mirror of the state. It is loaded once more if memory was refused.
 fn loaded_at_last<H: TreeHash>(
     alloc: Global,
     keys: &[Box<dyn Verifier>],
@@ -71,7 +71,7 @@ fn loaded_at_last<H: TreeHash>(
     }
 }
 
-// Exports the mirror of three entries, once more where memory was refused.
+// Exports the mirror of three entries, once more if memory was refused.
 fn export_at_last<H: TreeHash, S: Shelf>(
     rt: &impl Abort,
     alloc: Global,
@@ -96,7 +96,7 @@ fn export_again_after_want_of_memory(rt: HostRuntime) -> Result<(), Fail> {
     answer
 }
 
-// What the last of two exports put stands behind what the first did.
+// The puts of the second export follow those of the first.
 fn exports_at_last<H: TreeHash>(
     rt: &impl Abort,
     alloc: Global,
@@ -112,7 +112,7 @@ fn exports_at_last<H: TreeHash>(
     Ok(())
 }
 
-// `OutOfMemory`, and then ample memory, onto a folder, and of a file read from it.
+// `OutOfMemory`, then enough memory: an export to a folder, and a read of a file from it.
 #[test]
 fn folder_again_after_want_of_memory(rt: HostRuntime) -> Result<(), Fail> {
     let folder = "want-of-memory";
@@ -143,7 +143,6 @@ fn reads_and_removes<R: AllocGlobal + Abort + Files>(rt: &R, folder: &str) -> Re
     Ok(())
 }
 
-// Reads the checkpoint from it.
 fn read_at_last<S: Source>(rt: &impl Abort, source: &mut S) -> Result<(), SourceFault> {
     let note = match source.get(&Path::Checkpoint) {
         Err(SourceFault::OutOfMemory) => source.get(&Path::Checkpoint)?,

@@ -1,4 +1,4 @@
-//! `root`, `check` and the entries of `build` over streams that are slow or fail.
+//! `root`, `check` and the entries of `build` over slow streams and over streams that fail.
 use crate::streams::{FailingWriter, Slow};
 use program_commands::{CheckFault, RootFault, run_check, run_root};
 use std::alloc::Global;
@@ -7,14 +7,14 @@ use std::test::Fail;
 use tlog_build::{EntriesFault, read_entries};
 use tlog_hash::Sha256Tree;
 
-// What is told of one entry of no bytes.
+// The report on one empty entry.
 const ROOT_1: &[u8] = b"size 1\nroot bjQLnP+zepicpUTmu3gKLHiQHT+zNzh2hRGjBhevoB0=\n";
 
-// The inclusion of the third of the entries (no bytes), `00` and `10`.
+// The inclusion proof for the third of three entries: the empty one, `00` and `10`.
 const INCLUSION: &[u8] =
     b"inclusion\nsize 3\nindex 2\nroot rra8/idLcKFPsGel5VeCZNsPqbUa9eC6FZFY8yngbnc=\nleaf ApjRIpBtz8EIkstTpzmS/FufST6kybrbJ7eRtBJ6f+c=\npath +sVCA+fMaWzw38tCySodnbr3CtnmIfS9jZhmLwDjwSU=\n";
 
-// Each of these calls a public function, and tells nothing of it: what is known of a call makes the rest of a test dear.
+// Each of these calls a public function, and ensures nothing: facts about a call make the rest of a test slow to check.
 
 // The answer of `root --width 1` to these bytes.
 fn root_of<O: Write>(
@@ -36,7 +36,7 @@ fn verdict_of<O: Write>(
     run_check(alloc, &mut Slow { bytes, fails }, output)
 }
 
-// How many entries these bytes are.
+// The number of entries in these bytes.
 fn count_of(alloc: Global, bytes: &[u8], fails: bool) -> Result<usize, EntriesFault> {
     let entries = read_entries(alloc, &mut Slow { bytes, fails })?;
     Ok(entries.len())
@@ -55,7 +55,7 @@ fn one_byte_reads(rt: HostRuntime) -> Result<(), Fail> {
     Ok(())
 }
 
-// 1,500 entries of a byte, in 4,500 reads of a byte, are read to the end.
+// All 1,500 one-byte entries are read to the end, in 4,500 reads of one byte.
 #[test]
 fn entries_in_more_than_4096_reads(rt: HostRuntime) -> Result<(), Fail> {
     let alloc = rt.alloc();
@@ -67,11 +67,11 @@ fn entries_in_more_than_4096_reads(rt: HostRuntime) -> Result<(), Fail> {
     Ok(())
 }
 
-// What is read before a fault.
+// The bytes that are read before a fault.
 const FRONTS: [&[u8]; 5] = [&[], &[0, 0], &[0, 1], &[0, 0, 0, 0, 0], INCLUSION];
 
-// Whether the bytes before the fault are a bundle, entries or a proof, too few or too many: the fault comes first, and
-// nothing is written.
+// The bytes before the fault may be an entry bundle, entries or a proof, complete or not. The fault of the reader is
+// reported, and nothing is written.
 #[test]
 fn failing_reader(rt: HostRuntime) {
     let alloc = rt.alloc();
@@ -87,7 +87,7 @@ fn failing_reader(rt: HostRuntime) {
     assert!(rt; output.len() == 0);
 }
 
-// Over an output that takes so many bytes a command fails, and that front of its text is written.
+// If the output has no room for the whole text, the command fails, and the output has the first bytes of the text.
 #[test]
 fn failing_writer(rt: HostRuntime) {
     let alloc = rt.alloc();

@@ -1,4 +1,4 @@
-//! When the lines that say how far long work is are written, and what they count.
+//! The lines that report the progress of long work: when they are written, and what they count.
 use mirror_folders::{MemShelf, Shelf, ShelfError};
 use mirror_progress::{CountedFolders, CountingShelf, Progress, Task};
 use std::alloc::Global;
@@ -10,7 +10,7 @@ use std::test::Fail;
 use std::time::{Clock, Duration};
 use tlog_tiles::Path;
 
-// A clock by which each look at it takes so many milliseconds; at none it cannot be read.
+// A clock that advances by a number of milliseconds each time it is read, or that cannot be read.
 #[derive(Drop)]
 struct Ticking {
     millis: Cell<u64>,
@@ -39,12 +39,11 @@ fn clock_with(step: Option<u64>) -> Ticking {
     }
 }
 
-// A line, as text.
 fn text_of(line: &[u8]) -> &str {
     std::str::from_utf8(line).unwrap_or("no text")
 }
 
-// So many files of 100 bytes put onto a shelf in memory by such a clock, and what is told of them.
+// Puts `files` files of 100 bytes to a shelf in memory, with this clock, and checks the counts. The report goes to the writer.
 fn text_of_progress<W: Write + Drop>(
     rt: &impl Abort,
     alloc: Global,
@@ -86,7 +85,7 @@ fn put_files<S: Shelf>(shelf: &mut S, files: u64) -> Result<(), ShelfError> {
     Ok(())
 }
 
-// What each look at the clock takes, whether the work begins, how many files it has, and what is told.
+// The advance of the clock for each reading, whether the work begins, its number of files, and the report.
 const APART: [(Option<u64>, bool, u64, &str); 6] = [
     (
         Some(400),
@@ -106,9 +105,9 @@ const APART: [(Option<u64>, bool, u64, &str); 6] = [
     (Some(5_000), false, 9, ""),
 ];
 
-// Each look at the clock is 400 milliseconds after the one before. The work begins at the first, so a line may come from
-// the fourth on, which is that of the third file, and then at each third. At the end a line says what was done, unless the last one
-// did.
+// Each reading of the clock is 400 milliseconds after the one before. The first is when the work begins. So a line may come
+// from the fourth reading on, which belongs to the third file, and then at each third file. At the end a line reports the
+// total, unless the last line did.
 #[test]
 fn lines_come_a_second_apart(rt: HostRuntime) -> Result<(), Fail> {
     let alloc = rt.alloc();

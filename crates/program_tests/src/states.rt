@@ -1,8 +1,8 @@
-//! The files and the state of the log of the entries `00 00`, `00 01` and `00 02` under origin `ex`,
-//! and states of two entries whose bytes have one sum. Hashes, the signature and the digests were
-//! computed by a program of another language.
+//! The files and the state of a log under origin `ex`, whose entries are `00 00`, `00 01` and `00 02`. Also
+//! the states of two entries whose bytes have the same sum. A program in another language computed the
+//! hashes, the signature and the digests.
 
-// The head of the log, signed by the key `ex` of id 1 and secret 00.
+// The checkpoint of the log, signed by the key `ex` with id 1 and secret 00.
 pub(crate) const NOTE: &[u8] = b"\
 ex\n3\n8bnxZGS31f08aQe6Fx0eVantFhgeChNfXlXJNMPL5Ao=\n\n\xe2\x80\x94 ex AAAAAbdZ36CCmDRZGzBhcbjkg\
 Y91WLYpHnpdSA8T2EJ/425O\n";
@@ -13,11 +13,11 @@ p\x9e\x80\xc8\x84\x87\xa2A\x1e\x1e\xe4\xdf\xb9\xf2*\x86\x14\x92\xd2\x0cGe\x15\x0
 \x14|\xcfv\x05\xed\x1b\xc75\xf6\xc8%UATbtg\xe1\xca\xc9\xdfT\xce\xe8i\x92\x18\xedCF\x03\xc5he\xd2\
 zH\xdf\xef@m\xb8\xf5\xf47B;\xfa_\x9c\x83\xd7{\xfc\x12\xf8\xa1K\x8c\xe3\xed\xe5\x89/\xb5";
 
-// Its entries, each behind its length.
+// Its entries, each after its length.
 pub(crate) const BUNDLE: &[u8] = b"\
 \x00\x02\x00\x00\x00\x02\x00\x01\x00\x02\x00\x02";
 
-// The state of a mirror that is complete at it: the note, the two pairs of its tree, its entries,
+// The state of a mirror that has this checkpoint and is complete: the note, the two pairs of its tree, its entries,
 // and the digest.
 pub(crate) const COMPLETE: &[u8] = b"\
 TLMIRR02\x00\x02ex\

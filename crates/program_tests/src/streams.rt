@@ -1,9 +1,9 @@
-//! Streams that give or take one byte a call, and streams that fail.
+//! Streams that give or take one byte for each call, and streams that fail.
 use std::alloc::Global;
 use std::io;
 use std::io::{ErrorKind, Read, Write};
 
-// Fails at its first read, or gives one byte a read without end.
+// Fails at its first read, or gives one byte for each read without end.
 #[derive(Drop)]
 pub(crate) struct Strange {
     pub(crate) is_endless: bool,
@@ -24,7 +24,7 @@ impl Read for Strange {
     }
 }
 
-// Gives these bytes, one a read, and then ends, or fails where it is to.
+// Gives these bytes, one for each read. Then it ends, or fails if it is asked to.
 #[derive(Drop)]
 pub(crate) struct Slow<'a> {
     pub(crate) bytes: &'a [u8],
@@ -50,7 +50,7 @@ impl Read for Slow<'_> {
     }
 }
 
-// Takes as many bytes as it has room for, one a write, and fails from then on.
+// Takes `room` bytes, one for each write, and then fails.
 #[derive(Drop)]
 pub(crate) struct FailingWriter {
     pub(crate) room: usize,
@@ -58,7 +58,7 @@ pub(crate) struct FailingWriter {
 }
 
 impl FailingWriter {
-    // It took nothing yet.
+    // A writer that has taken nothing yet.
     pub(crate) fn new(alloc: Global, room: usize) -> FailingWriter {
         FailingWriter {
             room,

@@ -1,4 +1,4 @@
--- What the command line says of some words, and of all.
+-- The meaning of some command lines, and laws for all.
 use Rattle.std.proofs.Common.{◌≡◌, ◌∙◌, Bool, true, false, cond, ap, sym, subst, inl, inr, refl, ℕ, List, [], ◌∷◌, map}
 use Rattle.std.proofs.Common.{Option, Some, None, is_some, codes, lit<, lit≤, option_map, unwrap_or, true≢false}
 use Rattle.std.specs.Prelude.{find}
@@ -61,7 +61,7 @@ name_in name options o =
     let p : Text × List Row = unwrap_or o (name, options) in
     p.0
 
--- the words name one of the commands
+-- the name of the command that a word selects is one of the names
 answer_in : (word : Text) (rest : List Text) (shapes : List Shape) (name : Text) (options : List Row)
     → option_map (λ s. rows_at s rest) (find (λ s. answers_to word (label_of s)) shapes) ≡ Some (name, options)
     → IsOneOf (map (λ s. s.name) shapes) name
@@ -90,7 +90,7 @@ some_of : {X : Type 0} → (o : Option X) → is_some o ≡ true → (x : X) × 
 some_of None e = absurd (true≢false (sym e))
 some_of (Some x) e = (x, refl)
 
--- the last check passes where nothing is wrong
+-- if nothing is wrong, the last check passes
 level_checked : (s : Shape) (names : Names) (h : Held) (words : List Text) (has : Bool) (below : Kinds)
     → level_fault s names h words has below ≡ []
     → check_fault s (finished s.rules (walk s.rules names h words).held) has ≡ []
@@ -108,7 +108,7 @@ checked_has : (s : Shape) (rows : List Row) (has : Bool) → s.arg_required_else
 checked_has s rows true helps wants none = refl
 checked_has s rows false helps wants none = let bad : kind.MissingSubcommand ∷ [] ≡ [] = rw (helps, wants) at none in cc
 
--- a command line names a command
+-- a lawful command line names a command
 pub lawful_one : LawfulWordsName
 lawful_one words none =
     let app = built mirror_app in

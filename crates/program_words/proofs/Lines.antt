@@ -1,4 +1,4 @@
--- What the matches of a parser say of the words.
+-- The matches of a parser and the words.
 use Rattle.std.proofs.Common.{◌≡◌, ◌∙◌, ap, sym, subst, inl, inr, List, [], option_map, unwrap_or, Option, Some, None}
 use Rattle.std.proofs.Common.{Result, Ok, Err, true≢false, is_some, refl, codes, Bool, IsTrue, ◌↔◌}
 use Rattle.std.specs.Prelude.{Box}
@@ -15,7 +15,7 @@ use Rattle.program_words.specs.declared.commands.Command.{Command}
 use Rattle.program_words.specs.declared.fault.CommandFault.{CommandFault}
 use Rattle.program_words.specs.declared.fault.CommandFault.TheVariants.{Help, Words, BadArgument, OutOfMemory}
 
--- the command's name and its options, as the parser gives them
+-- the name and the options of the command, as the parser gives them
 entered_is : {Z : Type 0} → (o : Option (Box SubCommand Z)) (name : Text) (options : List Row)
     → Some name ≡ option_map (λ b. (out-SubCommand (box_value b)).name.now) o
     → Some options ≡ option_map (λ p. p.1) (subcommand_rows o) → subcommand_rows o ≡ Some (name, options)
@@ -29,7 +29,7 @@ pub called : (words : List Text) (m : ArgMatches) (name : Text) (options : List 
 called words m name options lawful matches n r =
     record { lawful = lawful; named = sym (matches refl).1 ∙ entered_is (out-ArgMatches m).subcommand name options n r }
 
--- what a command's own reader makes of the options is what the words ask for
+-- the result of a command's own reader of these options is the command of the words
 pub understood : (words : List Text) (name : Text) (options : List Row) (r : Result Command CommandFault) →
     Calls words name options → ReadsPart (IsSaid name options) r → Reads words r
 understood words name options (Ok command) calls u = (options, subst (λ n. Calls words n options) u.0 calls, u.1)
@@ -45,7 +45,7 @@ understood words name options (Err BadArgument) calls u = (
 )
 understood words name options (Err OutOfMemory) calls u = tt
 
--- words that name no command are no command line
+-- words without a command are no command line
 pub nothing_named : (words : List Text) (m : ArgMatches) (name : Text) (options : List Row)
     → HasMatchesOf mirror_app words m → None ≡ option_map (λ p. p.1) (subcommand_rows_of m)
     → Calls words name options → ⊥
@@ -54,7 +54,7 @@ nothing_named words m name options matches r calls =
     let bad : None ≡ Some options = r ∙ ap (option_map (λ (p : Text × List Row). p.1)) same in
     true≢false (ap is_some (sym bad))
 
--- a fault of the parser, as the program tells it
+-- a fault of the parser as a fault of the program
 pub refused : (words : List Text) (e : Error) (fault : CommandFault) → HasKind (faults words) e →
     IsFaultOf (kind_of e) fault → ReadsKeyFile words (no_keys fault)
 refused words e (Help text) (inl memory) recorded = absurd (elim recorded [ inl h ↦ cc | inr h ↦ cc ])
@@ -64,7 +64,7 @@ refused words e (Words text) (inr among) recorded = (kind_of e, among, recorded.
 refused words e BadArgument h recorded = absurd recorded
 refused words e OutOfMemory h recorded = tt
 
--- the same, of the reader of the words
+-- the same for the reader of the words
 pub read_refused : (words : List Text) (fault : CommandFault) → ReadsKeyFile words (no_keys fault) →
     Reads words (Err fault)
 read_refused words (Help text) h = h
@@ -79,7 +79,7 @@ keys_read words name options None calls e = record { name = name; options = opti
 
 -- ---- the option `why`
 
--- the options of a command line are those that the parser gives
+-- the options of a command line are the ones that the parser gives
 same_options : (words : List Text) (name name' : Text) (options options' : List Row) → Calls words name options
     → Calls words name' options' → options ≡ options'
 same_options words name name' options options' calls calls' =

@@ -1,4 +1,4 @@
--- A word that names a server is cut in one way.
+-- A word that names a server has one division into its parts.
 use Rattle.std.proofs.Common.{◌≡◌, ◌≢◌, inl, inr, ℕ, ◌<◌, ◌≤◌, List, [], ◌∷◌, ◌++◌, length, take, drop, nat_eq, get_or}
 use Rattle.std.proofs.Common.{get_or-take, map, ◌+◌, Option, Some, None, Bor, refl, sym, ap, subst, ◌∙◌, arith, codes}
 use Rattle.std.proofs.Common.{MatchOption}
@@ -19,9 +19,9 @@ use Rattle.program_words.specs.declared.place.Place.{Place}
 use Rattle.program_words.specs.declared.place.Place.TheVariants.{Folder, Server}
 use Rattle.program_words.proofs.Named.{apart}
 
--- ---- cuts
+-- ---- divisions of a text
 
--- before the first slash
+-- there is no such byte before the first one
 pub front_lacks : (c at : ℕ) (word front : List ℕ) → front ≡ take at word → ((i : ℕ) → i < at → get_or word i 0 ≢ c) →
     (i : ℕ) → i < length front → get_or front i 0 ≢ c
 front_lacks c at word front is lacks i lt same =
@@ -29,7 +29,7 @@ front_lacks c at word front is lacks i lt same =
     let in_front : i < at = omega (arith, lt, short) in
     lacks i in_front (sym (get_or-take at word i 0 in_front) ∙ (ap (λ l. get_or l i 0) (sym is) ∙ same))
 
--- the bytes behind the last colon, where a text is cut there
+-- there is no such byte after the last one at which the text was divided
 pub last_lacks : (c : ℕ) (bs : List ℕ) (r : Option (Bor (List ℕ) × Bor (List ℕ)))
     → MatchOption r (RFindsChar c bs None) (λ x. (i : ℕ) × (j : ℕ)
     × RFindsChar c bs (Some (i, j)) × (x.0.now ≡ take i bs) × (x.1.now ≡ drop j bs) × (i ≤ j) × (length x.0.now ≡ i)
@@ -51,7 +51,7 @@ Lacks-middle : (c : ℕ) (d e : List ℕ) → Lacks c (d ++ c ∷ e) → ⊥
 Lacks-middle c [] e h = h.0 refl
 Lacks-middle c (y ∷ d) e h = Lacks-middle c d e h.1
 
--- two cuts at c, where what follows lacks it, are one
+-- two divisions at a byte are the same if the byte is not in the text after it
 cut_last : (c : ℕ) (a b d e : List ℕ) → a ++ (c ∷ b) ≡ d ++ (c ∷ e) → Lacks c b → Lacks c e → (a ≡ d) × (b ≡ e)
 cut_last c [] b [] e h p q = (refl, cc)
 cut_last c [] b (y ∷ d) e h p q = let tails : b ≡ d ++ (c ∷ e) = cc in
@@ -64,7 +64,7 @@ cut_last c (x ∷ a) b (y ∷ d) e h p q =
     let rest = cut_last c a b d e tails p q in
     (cc, rest.1)
 
--- two cuts before the first slash are one
+-- two divisions before the first slash are the same
 cut_first : (a b d e : List ℕ) → a ++ b ≡ d ++ e → Lacks slash a → Lacks slash d → IsEmptyOrSlash b → IsEmptyOrSlash e →
     (a ≡ d) × (b ≡ e)
 cut_first [] b [] e h p q s t = (refl, h)
@@ -82,7 +82,7 @@ prefix_begins : (prefix : List ℕ) → IsSitePrefix prefix → IsEmptyOrSlash p
 prefix_begins prefix (inl empty) = inl empty
 prefix_begins prefix (inr some) = inr some.between.begins
 
--- digits have no colon
+-- digits contain no colon
 all_lack : (digits : List ℕ) → AllDigits 10 digits → Lacks colon digits
 all_lack [] h = tt
 all_lack (d ∷ ds) h = (
@@ -96,7 +96,7 @@ digits_lack digits n is = all_lack digits is.numeral.1
 
 -- ---- servers
 
--- a server's host and prefix are those of the word
+-- the host and the prefix of a server follow from the word
 pub one_site : (word host prefix : List ℕ) → word ≡ host ++ prefix
     → ((i : ℕ) → i < length host → get_or host i 0 ≢ slash) → IsEmptyOrSlash prefix → (p : Place)
     → IsPlace (codes "http") word p
@@ -113,7 +113,7 @@ one_site word host prefix whole before after (Server h q address port) is =
           (subst (λ (x : List ℕ). IsServer word h.now x address.now port) (sym one.1) s),
     )
 
--- a server's port is what follows the last colon
+-- the digits after the last colon are the port
 pub one_port : (word host prefix front digits address : List ℕ) (port : ℕ) → host ≡ front ++ colon ∷ digits →
     ((i : ℕ) → i < length digits → get_or digits i 0 ≢ colon) → IsServer word host prefix address port →
     IsNumberIn 1 65535 port digits
@@ -122,7 +122,7 @@ one_port word host prefix front digits address port parts lacks s =
     (digits_lack s.digits port s.is_port.number) in
     subst (IsNumberIn 1 65535 port) (sym one.1) s.is_port
 
--- a server's host has a colon
+-- the host of a server contains a colon
 pub some_port : (word host prefix address : List ℕ) (port : ℕ) → ((i : ℕ) → i < length host → get_or host i 0 ≢ colon) →
     IsServer word host prefix address port → ⊥
 some_port word host prefix address port lacks s =
@@ -130,7 +130,7 @@ some_port word host prefix address port lacks s =
 
 -- ---- lists of places
 
--- these places were read of the words, and these words are left
+-- these places were read from the first words, and these words remain
 pub record WereRead (words left : List Text) (places : List Place) : Type 0 where
   pub all : (more : List Place) → ArePlaces left more → ArePlaces words (places ++ more)
   pub rest : (every : List Place) → ArePlaces words every → (more : List Place) × ArePlaces left more
@@ -156,7 +156,7 @@ one_more_read words kind word left places place is r = record {
 pub all_read : (words : List Text) (places : List Place) → WereRead words [] places → ArePlaces words places
 all_read words places r = subst (λ (ps : List Place). ArePlaces words ps) (append-nil places) (r.all [] tt)
 
--- the same of the words of a slice, from an index on
+-- the same for the words of a slice, from an index on
 
 two_at : (words : List (Bor Text)) (at : ℕ) (d e : Bor Text) → at + 2 ≤ length words →
     drop at words ≡ get_or words at d ∷ get_or words (at + 1) e ∷ drop (at + 2) words
@@ -217,7 +217,7 @@ bad_at words at d e places every le bad r are =
     bad_first (get_or words at d).now (get_or words (at + 1) e).now (map (λ w. w.now) (drop (at + 2) words)) b.0 bad
     (subst (λ (l : List (Bor Text)). ArePlaces (map (λ w. w.now) l) b.0) (two_at words at d e le) b.1)
 
--- the same, where no place was found of them
+-- the same if no place was found in them
 pub bad_found : (words : List (Bor Text)) (at : ℕ) (d e : Bor Text) (places every : List Place) (found : Option Place)
     → at + 2 ≤ length words → found ≡ None
     → FindsPart (IsPlace (get_or words at d).now (get_or words (at + 1) e).now) found

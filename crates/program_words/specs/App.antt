@@ -1,6 +1,5 @@
--- What command lines are made of, in the words of `clap`: their options, and what commands share.
--- `Commands` has the commands themselves. What follows `argument_of` is
--- cited by the contracts of private functions alone.
+-- Command lines as `clap` describes them: their options, and the parts that commands share.
+-- `Commands` has the commands themselves. Only contracts of private functions cite what follows `argument_of`.
 use Rattle.std.specs.Prelude.{◌≡◌, List, [], ◌∷◌, ◌++◌, Some, map, true, false, codes}
 use Rattle.clap.specs.Words.{App, Rule, Text, app_of, new_app, new_rule, with_rule, with_subcommand}
 use Rattle.clap.specs.Simple.{new_shape}
@@ -15,31 +14,31 @@ use Rattle.clap.specs.declared.builder.action.ArgAction.TheVariants.{Append, Set
 
 -- ---- options
 
--- an argument of one value
+-- an argument with one value
 abbrev pub argument_rule : Text → Rule
 argument_rule name = record (new_rule name) { value_names = 1 }
 
--- `[--NAME VALUE]`, which may be left out
+-- `[--NAME VALUE]`, an option that may be missing
 abbrev pub choice_rule : Text → Rule
 choice_rule name = record (argument_rule name) { long = Some name; action = Some Set }
 
--- `--NAME VALUE`, which has to be there
+-- `--NAME VALUE`, an option that must be given
 abbrev pub option_rule : Text → Rule
 option_rule name = record (choice_rule name) { required = true }
 
--- `VALUE`, a word alone, which has to be there
+-- `VALUE`, a word without an option name, which must be given
 abbrev pub place_rule : Text → Rule
 place_rule name = record (argument_rule name) { action = Some Set; required = true }
 
--- `VALUE...`, any number of words alone
+-- `VALUE...`, any number of words without an option name
 abbrev pub list_rule : Text → Rule
 list_rule name = record (argument_rule name) { action = Some Append }
 
--- `VALUE...`, one word alone or more
+-- `VALUE...`, at least one word without an option name
 abbrev pub words_rule : Text → Rule
 words_rule name = record (list_rule name) { required = true }
 
--- `[--NAME]`, which has no value of its own
+-- `[--NAME]`, an option without a value
 abbrev pub flag_rule : Text → Rule
 flag_rule name = record (new_rule name) { long = Some name; action = Some SetTrue }
 
@@ -83,14 +82,14 @@ folder_app name = with_rule (held_app name) (option_rule (codes "dir"))
 
 -- ---- the program
 
--- the program, which has a version
+-- the program with its version
 abbrev pub named_app : App
 named_app = record {
   top = record (new_shape (codes "tlogmirror")) { has_version = true };
   subs = [];
 }
 
--- the same: its words begin behind its name, and one of them is a command
+-- the same program, whose words begin after its name and must include a command
 abbrev pub program_app : App
 program_app = record {
   top = record (named_app.top) {
@@ -101,14 +100,14 @@ program_app = record {
   subs = [];
 }
 
--- the command line with these commands below it, in this order
+-- the command line with these commands as subcommands, in this order
 abbrev pub with_commands : App → List App → App
 with_commands app [] = app
 with_commands app (c ∷ cs) = with_commands (with_subcommand app c.top) cs
 
 -- ---- parsers
 
--- the argument of a table, in the words of `clap`
+-- the argument of a table, as `clap` describes it
 abbrev pub argument_of : Argument → Rule
 argument_of (argument.Option name value help) = option_rule name.now
 argument_of (argument.Choice name value help) = choice_rule name.now
@@ -117,7 +116,7 @@ argument_of (argument.Place name value help) = place_rule name.now
 argument_of (argument.List name value help) = list_rule name.now
 argument_of (argument.Words name value help) = words_rule name.now
 
--- the command with these arguments besides, in this order
+-- the command with these additional arguments, in this order
 abbrev pub with_rules : App → List Rule → App
 with_rules app [] = app
 with_rules app (r ∷ rs) = with_rules (with_rule app r) rs
@@ -126,7 +125,7 @@ with_rules app (r ∷ rs) = with_rules (with_rule app r) rs
 abbrev pub log_rules : List Rule
 log_rules = option_rule (codes "origin") ∷ option_rule (codes "keys") ∷ flag_rule (codes "why") ∷ []
 
--- the arguments that commands have in common, in the words of `clap`
+-- the arguments that commands share, as `clap` describes them
 abbrev pub base_rules : Base → List Rule
 base_rules base.Nothing = []
 base_rules base.Log = log_rules
@@ -134,12 +133,12 @@ base_rules base.State = log_rules ++ option_rule (codes "state") ∷ []
 base_rules base.StateOrCopy = log_rules ++ choice_rule (codes "state") ∷ choice_rule (codes "dir") ∷ []
 base_rules base.Output = log_rules ++ option_rule (codes "out") ∷ []
 
--- the command line, in the words of `clap`
+-- the command line, as `clap` describes it
 abbrev pub line_app : CommandLine → App
 line_app line =
     with_rules (with_rules (new_app line.name.now) (base_rules line.base)) (map argument_of line.arguments.now)
 
--- the parser is that of the command line, with no option that all commands share
+-- the parser is that of the command line, and has no global options
 pub record IsParserOf (app : App) (parser : Parser) : Type 0 where
   pub is_app : app_of parser ≡ app
   pub local : (out-Command parser).has_globals ≡ false

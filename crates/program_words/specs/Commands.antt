@@ -1,5 +1,5 @@
--- Which command the words of a command line ask for: the list of the commands, each with its command
--- line and what its options say. `IsEmptyOrSlash` is cited by the contracts of private functions alone.
+-- The commands, each with its command line and the meaning of its options. Only contracts of private functions cite
+-- `IsEmptyOrSlash`.
 use Rattle.std.specs.Prelude.{◌≡◌, ◌≢◌, ◌⊎◌, ℕ, ◌≤◌, List, [], ◌∷◌, ◌++◌, Option, Some, None}
 use Rattle.std.specs.Prelude.{length, map, option_map, unwrap_or, codes, slice_index, ◌<◌, ⊤}
 use Rattle.std.specs.Prelude.{◌↔◌, IsTrue}
@@ -50,64 +50,64 @@ use Rattle.program_words.specs.declared.commands.serve.CopyServe.{CopyServe}
 abbrev pub Given : List Row → Text → Text → Type 0
 Given options name text = first_of name options ≡ Some text
 
--- the option is left out
+-- the option is missing
 abbrev pub NotGiven : List Row → Text → Type 0
 NotGiven options name = first_of name options ≡ None
 
--- the option has a value, which is such a text
+-- the option has a value with this property
 pub record HasValue (options : List Row) (name : Text) (IsSuch : Text → Type 0) : Type 0 where
   pub value : Text
   pub given : Given options name value
   pub is_such : IsSuch value
 
--- the option that has no value of its own is there
+-- the option without a value is given
 abbrev pub HasFlag : List Row → Text → Type 0
 HasFlag options name = Given options name (codes "true")
 
--- the word spells a number between these two, in decimal digits without leading zeros
+-- the word spells the number, which is within these bounds, in decimal digits without leading zeros
 pub record IsNumberIn (least most n : ℕ) (word : Text) : Type 0 where
   pub number : IsDecimal word n
   pub least_is : least ≤ n
   pub most_is : n ≤ most
 
--- there is a text, and it spells a number between these two
+-- there is a text, and it spells the number, which is within these bounds
 abbrev pub IsNumberGiven : ℕ → ℕ → Option Text → ℕ → Type 0
 IsNumberGiven least most None n = ⊥
 IsNumberGiven least most (Some word) n = IsNumberIn least most n word
 
--- the option has a value, which spells a number between these two
+-- the option has a value that spells the number, which is within these bounds
 abbrev pub HasNumber : List Row → Text → ℕ → ℕ → ℕ → Type 0
 HasNumber options name least most n = IsNumberGiven least most (first_of name options) n
 
--- the number between these two that the text spells, and the other one where there is no text
+-- the number that the text spells, within these bounds; without a text, `other`
 abbrev pub IsNumberOr : ℕ → ℕ → ℕ → Option Text → ℕ → Type 0
 IsNumberOr least most other None n = n ≡ other
 IsNumberOr least most other (Some word) n = IsNumberIn least most n word
 
--- the option has a value, which spells a number between these two, or it is left out, and the number is the other one
+-- the number that the option's value spells, within these bounds; without the option, `other`
 abbrev pub HasNumberOr : List Row → Text → ℕ → ℕ → ℕ → ℕ → Type 0
 HasNumberOr options name least most other n = IsNumberOr least most other (first_of name options) n
 
--- how many requests may be sent ahead
+-- the number of requests that may be sent ahead
 abbrev pub IsAhead : List Row → ℕ → Type 0
 IsAhead options ahead = HasNumberOr options (codes "ahead") 0 64 6 ahead
 
--- the words alone of the option `file`
+-- the words for `file`, in order
 abbrev pub AreFiles : List Row → List Text → Type 0
 AreFiles options files = unwrap_or (all_of (codes "file") options) [] ≡ files
 
--- a size, or an index
+-- a size or an index
 abbrev pub IsSize : ℕ → Text → Type 0
 IsSize n word = IsNumberIn 0 MAX_SIZE n word
 
--- ---- what commands share
+-- ---- parts that commands share
 
--- the options name the log and its keys
+-- the options name the log and its key file
 pub record IsLog (options : List Row) (log : Log) : Type 0 where
   pub origin : Given options (codes "origin") log.origin.now
   pub keys : Given options (codes "keys") log.keys.now
 
--- the options name a mirror that is kept in a file
+-- the options name a mirror in a state file
 pub record IsStateArgs (options : List Row) (args : StateArgs) : Type 0 where
   pub log : IsLog options args.log
   pub state : Given options (codes "state") args.state.now
@@ -117,17 +117,17 @@ pub record IsCopyArgs (options : List Row) (args : CopyArgs) : Type 0 where
   pub log : IsLog options args.log
   pub folder : Given options (codes "dir") args.folder.now
 
--- of a command over a state or a copy: the options name a state, and no copy
+-- a command over a state or a copy: the options name a state and no copy
 pub record IsStateAlone (options : List Row) (args : StateArgs) : Type 0 where
   pub state : IsStateArgs options args
   pub alone : NotGiven options (codes "dir")
 
--- the same: they name a copy, and no state
+-- a command over a state or a copy: the options name a copy and no state
 pub record IsCopyAlone (options : List Row) (args : CopyArgs) : Type 0 where
   pub copy : IsCopyArgs options args
   pub alone : NotGiven options (codes "state")
 
--- the options name the file that a mirror is written to
+-- the options name the file for a mirror's state
 pub record IsOutputArgs (options : List Row) (args : OutputArgs) : Type 0 where
   pub log : IsLog options args.log
   pub out : Given options (codes "out") args.out.now
@@ -140,7 +140,7 @@ pub record IsOutputArgs (options : List Row) (args : OutputArgs) : Type 0 where
 abbrev pub root_app : App
 root_app = with_rule (new_app (codes "root")) (option_rule (codes "width"))
 
--- what the options of `root` say
+-- the options of `root`
 abbrev pub IsRoot : List Row → RootWords → Type 0
 IsRoot options root = HasNumber options (codes "width") 0 256 root.width
 
@@ -156,7 +156,7 @@ check_app = new_app (codes "check")
 abbrev pub build_app : App
 build_app = with_rule (copy_app (codes "build")) progress_rule
 
--- what the options of `build` say
+-- the options of `build`
 pub record IsBuild (options : List Row) (build : Build) : Type 0 where
   pub log : IsLog options build.log
   pub folder : Given options (codes "dir") build.folder.now
@@ -170,24 +170,24 @@ take_app = with_rule (with_rule (with_rule (with_rule (made_app (codes "take"))
     (choice_rule (codes "state"))) (choice_rule (codes "width")))
     (place_rule (codes "kind"))) (list_rule (codes "file"))
 
--- the word that names what files hold
+-- the word for a kind of item
 abbrev pub kind_name : Kind → Text
 kind_name Head = codes "head"
 kind_name Tile = codes "tile"
 kind_name Bundle = codes "bundle"
 
--- how many files there may be: for a head the note and any number of rows
+-- the possible number of files: for a head one note and any number of rows
 abbrev pub IsCount : Kind → ℕ → Type 0
 IsCount Head n = 1 ≤ n
 IsCount Tile n = n ≡ 1
 IsCount Bundle n = n ≡ 1
 
--- a width that may be left out, which is 256 then
+-- the width, which is 256 if the option is missing
 abbrev pub IsTakeWidth : Option Text → ℕ → Type 0
 IsTakeWidth None width = width ≡ 256
 IsTakeWidth (Some word) width = IsNumberIn 1 256 width word
 
--- what the options of `take` say
+-- the options of `take`
 pub record IsTake (options : List Row) (take : Take) : Type 0 where
   pub mirror : IsOutputArgs options take.mirror
   pub state : first_of (codes "state") options ≡ option_map (λ s. s.now) take.state
@@ -204,7 +204,7 @@ merge_app =
     with_rule (with_rule (made_app (codes "merge")) (place_rule (codes "a")))
     (place_rule (codes "b"))
 
--- what the options of `merge` say
+-- the options of `merge`
 pub record IsMerge (options : List Row) (merge : Merge) : Type 0 where
   pub mirror : IsOutputArgs options merge.mirror
   pub first : Given options (codes "a") merge.first.now
@@ -227,12 +227,12 @@ pub record IsHostAndPrefix (host prefix : Text) : Type 0 where
   pub is_host : IsHost host
   pub is_prefix : IsSitePrefix prefix
 
--- nothing, or a text that begins with a slash
+-- the empty text, or a text that begins with a slash
 abbrev pub IsEmptyOrSlash : Text → Type 0
 IsEmptyOrSlash text = (text ≡ []) ⊎ ((rest : Text) × (text ≡ slash ∷ rest))
 
--- `HOST:PORT` with an optional prefix: what stands before the first slash is the host, of which the
--- port follows the last colon
+-- `HOST:PORT` with an optional prefix: the text before the first slash is the host, and the port is what follows the host's
+-- last colon
 pub record IsServer (word host prefix address : Text) (port : ℕ) : Type 0 where
   pub whole : word ≡ host ++ prefix
   pub before : (i : ℕ) → i < length host → slice_index host i ≢ slash
@@ -241,13 +241,13 @@ pub record IsServer (word host prefix address : Text) (port : ℕ) : Type 0 wher
   pub parts : host ≡ address ++ colon ∷ digits
   pub is_port : IsNumberIn 1 65535 port digits
 
--- the two words that name a place
+-- the two words name this place
 abbrev pub IsPlace : Text → Text → Place → Type 0
 IsPlace kind word (Folder path) = (kind ≡ codes "dir") × (path.now ≡ word)
 IsPlace kind word (Server host prefix address port) =
     (kind ≡ codes "http") × IsServer word host.now prefix.now address.now port
 
--- what the options of `pull` say
+-- the options of `pull`
 pub record IsPull (options : List Row) (pull : Pull) : Type 0 where
   pub mirror : IsOutputArgs options pull.mirror
   pub state : first_of (codes "state") options ≡ option_map (λ s. s.now) pull.state
@@ -265,7 +265,7 @@ follow_app = with_rule (with_rule (with_rule (with_rule (with_rule (copy_app (co
     (choice_rule (codes "checkpoint"))) (choice_rule (codes "forks"))) ahead_rule) progress_rule)
     (words_rule (codes "place"))
 
--- the words name these places, by two words each
+-- the words name these places, two words for each
 abbrev pub ArePlaces : List Text → List Place → Type 0
 ArePlaces [] [] = ⊤
 ArePlaces [] (place ∷ places) = ⊥
@@ -273,7 +273,7 @@ ArePlaces (kind ∷ []) places = ⊥
 ArePlaces (kind ∷ word ∷ words) [] = ⊥
 ArePlaces (kind ∷ word ∷ words) (place ∷ places) = IsPlace kind word place × ArePlaces words places
 
--- there are words, and they name these places; `clap` wants one word or more
+-- there are words, and they name these places; `clap` requires at least one word
 abbrev pub ArePlacesGiven : Option (List Text) → List Place → Type 0
 ArePlacesGiven None places = ⊥
 ArePlacesGiven (Some words) places = ArePlaces words places
@@ -282,7 +282,7 @@ ArePlacesGiven (Some words) places = ArePlaces words places
 abbrev pub IsPlacesGiven : List Row → List Place → Type 0
 IsPlacesGiven options places = ArePlacesGiven (all_of (codes "place") options) places
 
--- what the options of `follow` say
+-- the options of `follow`
 pub record IsFollow (options : List Row) (follow : Follow) : Type 0 where
   pub copy : IsCopyArgs options follow.copy
   pub checkpoint : first_of (codes "checkpoint") options ≡ option_map (λ f. f.now) follow.checkpoint
@@ -299,7 +299,7 @@ abbrev pub audit_app : App
 audit_app = with_rule (with_rule (with_rule (with_rule (log_app (codes "audit")) ahead_rule)
     progress_rule) (place_rule (codes "kind"))) (place_rule (codes "place"))
 
--- what the options of `audit` say
+-- the options of `audit`
 pub record IsAudit (options : List Row) (audit : Audit) : Type 0 where
   pub log : IsLog options audit.log
   pub ahead : IsAhead options audit.ahead
@@ -321,11 +321,11 @@ missing_app =
     with_rule (with_rule (held_app (codes "missing")) (option_rule (codes "size")))
     (option_rule (codes "root"))
 
--- the option `root` has a value, which spells the root
+-- the value of the option `root` spells this root
 abbrev pub IsRootGiven : List Row → List ℕ → Type 0
 IsRootGiven options root = HasValue options (codes "root") (λ word. IsHashText word root)
 
--- what the options of `missing` say
+-- the options of `missing`
 pub record IsMissingAsk (options : List Row) (missing : Missing) : Type 0 where
   pub mirror : IsStateArgs options missing.mirror
   pub size : HasNumber options (codes "size") 0 MAX_SIZE missing.size
@@ -343,12 +343,12 @@ forks_app = held_app (codes "forks")
 abbrev pub compare_app : App
 compare_app = with_rule (state_or_copy_app (codes "compare")) (list_rule (codes "file"))
 
--- what the options of `compare` say of a state
+-- the options of `compare` for a state
 pub record IsCompare (options : List Row) (compare : Compare) : Type 0 where
   pub mirror : IsStateAlone options compare.mirror
   pub files : AreFiles options (map (λ f. f.now) compare.files.items)
 
--- what they say of a copy
+-- the options of `compare` for a copy
 pub record IsCopyCompare (options : List Row) (compare : CopyCompare) : Type 0 where
   pub copy : IsCopyAlone options compare.copy
   pub files : AreFiles options (map (λ f. f.now) compare.files.items)
@@ -360,24 +360,24 @@ abbrev pub prove_app : App
 prove_app = with_rule (with_rule (with_rule (state_or_copy_app (codes "prove"))
     (place_rule (codes "kind"))) (place_rule (codes "a"))) (place_rule (codes "b"))
 
--- the three words that ask for a proof
+-- the three words request this proof
 abbrev pub IsAsk : Text → Text → Text → Ask → Type 0
 IsAsk kind a b (Inclusion size index) = (kind ≡ codes "inclusion") × IsSize size a × IsSize index b
 IsAsk kind a b (Consistency first second) =
     (kind ≡ codes "consistency") × IsSize first a × IsSize second b
 
--- the options ask for a proof
+-- the options request this proof
 abbrev pub IsAskGiven : List Row → Ask → Type 0
 IsAskGiven options ask = HasValue options (codes "kind")
     (λ kind. HasValue options (codes "a")
     (λ a. HasValue options (codes "b") (λ b. IsAsk kind a b ask)))
 
--- what the options of `prove` say of a state
+-- the options of `prove` for a state
 pub record IsProve (options : List Row) (prove : Prove) : Type 0 where
   pub mirror : IsStateAlone options prove.mirror
   pub ask : IsAskGiven options prove.ask
 
--- what they say of a copy
+-- the options of `prove` for a copy
 pub record IsCopyProve (options : List Row) (prove : CopyProve) : Type 0 where
   pub copy : IsCopyAlone options prove.copy
   pub ask : IsAskGiven options prove.ask
@@ -389,18 +389,18 @@ abbrev pub entries_app : App
 entries_app = with_rule (with_rule (with_rule (state_or_copy_app (codes "entries"))
     (flag_rule (codes "base64"))) (place_rule (codes "from"))) (place_rule (codes "to"))
 
--- the options name a range of entries, and how they are written
+-- the options name a range of entries and the format of the output
 pub record IsEntryRange (options : List Row) (range : EntryRange) : Type 0 where
   pub start : HasNumber options (codes "from") 0 MAX_SIZE range.from
   pub end : HasNumber options (codes "to") 0 MAX_SIZE range.to
   pub base64 : IsTrue range.base64 ↔ HasFlag options (codes "base64")
 
--- what the options of `entries` say of a state
+-- the options of `entries` for a state
 pub record IsEntries (options : List Row) (entries : Entries) : Type 0 where
   pub mirror : IsStateAlone options entries.mirror
   pub range : IsEntryRange options entries.range
 
--- what they say of a copy
+-- the options of `entries` for a copy
 pub record IsCopyEntries (options : List Row) (entries : CopyEntries) : Type 0 where
   pub copy : IsCopyAlone options entries.copy
   pub range : IsEntryRange options entries.range
@@ -412,7 +412,7 @@ abbrev pub export_app : App
 export_app =
     with_rule (with_rule (folder_app (codes "export")) (flag_rule (codes "update"))) progress_rule
 
--- what the options of `export` say
+-- the options of `export`
 pub record IsExport (options : List Row) (export : Export) : Type 0 where
   pub mirror : IsStateArgs options export.mirror
   pub folder : Given options (codes "dir") export.folder.now
@@ -424,7 +424,7 @@ pub record IsExport (options : List Row) (export : Export) : Type 0 where
 abbrev pub notes_app : App
 notes_app = folder_app (codes "notes")
 
--- what the options of `notes` say
+-- the options of `notes`
 pub record IsNotes (options : List Row) (notes : Notes) : Type 0 where
   pub mirror : IsStateArgs options notes.mirror
   pub folder : Given options (codes "dir") notes.folder.now
@@ -437,13 +437,13 @@ serve_app =
     with_rule (with_rule (state_or_copy_app (codes "serve")) (option_rule (codes "port")))
     (option_rule (codes "requests"))
 
--- what the options of `serve` say of a state
+-- the options of `serve` for a state
 pub record IsServe (options : List Row) (serve : Serve) : Type 0 where
   pub mirror : IsStateAlone options serve.mirror
   pub port : HasNumber options (codes "port") 1 65535 serve.port
   pub requests : HasNumber options (codes "requests") 0 MAX_SIZE serve.requests
 
--- what they say of a copy
+-- the options of `serve` for a copy
 pub record IsCopyServe (options : List Row) (serve : CopyServe) : Type 0 where
   pub copy : IsCopyAlone options serve.copy
   pub port : HasNumber options (codes "port") 1 65535 serve.port
@@ -451,14 +451,14 @@ pub record IsCopyServe (options : List Row) (serve : CopyServe) : Type 0 where
 
 -- ---- the list of the commands
 
--- their command lines, in the order in which `clap` lists them
+-- the command lines, in the order in which `clap` lists them
 abbrev pub command_apps : List App
 command_apps =
     root_app ∷ check_app ∷ build_app ∷ take_app ∷ merge_app ∷ pull_app ∷ follow_app ∷ audit_app
     ∷ status_app ∷ missing_app ∷ forks_app ∷ compare_app ∷ prove_app ∷ entries_app ∷ export_app
     ∷ notes_app ∷ serve_app ∷ []
 
--- the word that names the command
+-- the word for the command
 abbrev pub name_of : Command → Text
 name_of (order.Root c) = codes "root"
 name_of order.Check = codes "check"
@@ -484,7 +484,7 @@ name_of (order.Notes c) = codes "notes"
 name_of (order.Serve c) = codes "serve"
 name_of (order.CopyServe c) = codes "serve"
 
--- the options say this command, of those of its name
+-- the options are those of this command, among the commands with its name
 abbrev pub Says : List Row → Command → Type 0
 Says options (order.Root c) = IsRoot options c
 Says options order.Check = ⊤
@@ -512,20 +512,20 @@ Says options (order.CopyServe c) = IsCopyServe options c
 
 -- ---- the whole command line
 
--- the program, and one of the commands
+-- the program with its commands
 abbrev pub mirror_app : App
 mirror_app = with_commands program_app command_apps
 
--- what is wrong with the words as a command line, or what else than a command they ask for
+-- the faults of the words as a command line, or their request for help or the version; empty if there are none
 abbrev pub faults : List Text → Kinds
 faults words = fault_of mirror_app words
 
--- the words are a command line: they name a command, with these options
+-- the words are a command line: they name a command with these options
 pub record Calls (words : List Text) (name : Text) (options : List Row) : Type 0 where
   pub lawful : faults words ≡ []
   pub named : subcommand_of mirror_app words ≡ Some (name, options)
 
--- the words ask for the command
+-- the words are those of this command
 abbrev pub AsksFor : List Text → Command → Type 0
 AsksFor words command =
     (options : List Row) × Calls words (name_of command) options × Says options command

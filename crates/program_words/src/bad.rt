@@ -2,25 +2,25 @@
 use crate::place::{host_and_prefix, place_of};
 use std::alloc::Global;
 
-/// An option or a word that is not spelled as what it stands for, or is out of its range.
+/// An option or a word that has a wrong spelling, or a value that is out of range.
 #[derive(Drop, Clone, Copy)]
 pub struct BadWord {
-    /// The option or the word, as help names it.
+    /// The option or the word, as in the help.
     pub word: &'static str,
-    /// What it ought to be, or what is wrong with it.
+    /// The expected value, or what is wrong.
     pub reason: &'static str,
 }
 
 impl BadWord {
-    /// That word, for that reason.
+    /// This word is bad for this reason.
     pub(crate) fn new(word: &'static str, reason: &'static str) -> BadWord {
         BadWord { word, reason }
     }
 }
 
-/// Which of the two words that name no place is bad.
+/// The bad one of two words that name no place.
 pub(crate) fn bad_place(kind: &str, word: &str) -> BadWord {
-    // Any word names a folder.
+    // Any word names a folder, so the fault is in the kind or the server.
     if kind == "http" {
         BadWord::new("PLACE", server_reason(word))
     } else {
@@ -28,7 +28,7 @@ pub(crate) fn bad_place(kind: &str, word: &str) -> BadWord {
     }
 }
 
-/// Which is the first bad one of the words that are to name places, two words each.
+/// The first bad word among words that should name places, two words for each.
 pub(crate) fn bad_places(alloc: Global, words: &[&str]) -> BadWord {
     let mut at = 0;
     while at < words.len() {
@@ -40,7 +40,7 @@ pub(crate) fn bad_places(alloc: Global, words: &[&str]) -> BadWord {
         }
         at += 2;
     }
-    // It comes here if memory was refused alone.
+    // It gets here only if memory was refused.
     BadWord::new("PLACE", "one or more are due")
 }
 
@@ -52,7 +52,7 @@ fn names_none(alloc: Global, kind: &str, word: &str) -> bool {
     }
 }
 
-// What is wrong with a word that names no server.
+// Why a word names no server.
 fn server_reason(word: &str) -> &'static str {
     let (host, prefix) = host_and_prefix(word);
     if host.ends_with(':') && prefix.starts_with("//") {

@@ -1,4 +1,4 @@
-//! The list of the commands. Each has a file of its own, with what its options say, its command line, its help and its reader.
+//! The list of the commands. Each command has a file with its options, its command line, its help and its reader.
 ghost use Rattle.std.specs.Prelude.{IfOk, map};
 ghost use Rattle.clap.specs.Words.{App, found_of, rows_of, with_subcommand};
 ghost use Rattle.program_words.specs.App.{IsParserOf, line_app, named_app, program_app, with_commands};
@@ -30,7 +30,7 @@ use crate::refusals::Refusals;
 use clap::ArgMatches;
 use std::alloc::{AllocError, Global};
 
-/// The help of the program, by both words.
+/// The help of the program, for `-h` and `--help`.
 const PROGRAM: &str = "\
 A mirror for one append-only transparency log in the C2SP tlog-tiles layout
 
@@ -88,58 +88,58 @@ WriteFault, standard output could not be written, and a part may have been; OutO
 
 Documents: README.md; docs/OPERATING.md, with each fault and what to do; docs/FORMATS.md.";
 
-/// A command, with what its options say.
+/// A command with its options.
 #[derive(Drop)]
 pub enum Command<'a> {
-    /// The tree hash of the bundle on standard input.
+    /// Prints the tree hash of the entry bundle on standard input.
     Root(root::Root),
-    /// Whether the proof on standard input holds.
+    /// Verifies the proof on standard input.
     Check,
-    /// A log of the entries on standard input.
+    /// Makes a log from the entries on standard input.
     Build(build::Build<'a>),
-    /// Files taken into a mirror.
+    /// Takes files into a mirror.
     Take(take::Take<'a>),
-    /// Two mirrors made one.
+    /// Merges two mirrors.
     Merge(merge::Merge<'a>),
-    /// What is missing fetched.
+    /// Fetches what is missing.
     Pull(pull::Pull<'a>),
-    /// A copy brought to the newest checkpoint of its places.
+    /// Brings a copy to the newest checkpoint of its places.
     Follow(follow::Follow<'a>),
-    /// A whole log at a place, verified file by file.
+    /// Verifies a complete log at a place, file by file.
     Audit(audit::Audit<'a>),
-    /// The heads of a mirror.
+    /// Prints the heads of a mirror.
     Status(StateArgs<'a>),
-    /// The checkpoint of a copy: `status --dir`.
+    /// Prints the checkpoint of a copy: `status --dir`.
     CopyStatus(CopyArgs<'a>),
-    /// What a head's tree lacks.
+    /// Prints the paths that the tree of a head lacks.
     Missing(missing::Missing<'a>),
-    /// The forks between a mirror's heads.
+    /// Prints the forks between the heads of a mirror.
     Forks(StateArgs<'a>),
-    /// Checkpoints compared with what is served.
+    /// Compares checkpoints with the served one.
     Compare(compare::Compare<'a>),
-    /// Checkpoints compared with a copy: `compare --dir`.
+    /// Compares checkpoints with a copy: `compare --dir`.
     CopyCompare(compare::CopyCompare<'a>),
-    /// A proof of what is served.
+    /// Prints a proof about the served entries.
     Prove(prove::Prove<'a>),
-    /// A proof of a copy: `prove --dir`.
+    /// Prints a proof about a copy: `prove --dir`.
     CopyProve(prove::CopyProve<'a>),
-    /// Entries of what is served.
+    /// Writes served entries.
     Entries(entries::Entries<'a>),
-    /// Entries of a copy: `entries --dir`.
+    /// Writes entries of a copy: `entries --dir`.
     CopyEntries(entries::CopyEntries<'a>),
-    /// What is served, as a folder.
+    /// Writes the served files to a folder.
     Export(export::Export<'a>),
-    /// A folder brought up to date with what is served: `export --update`.
+    /// Updates a folder to the served files: `export --update`.
     Update(export::Export<'a>),
-    /// The notes of a mirror, as files of a folder.
+    /// Writes the notes of a mirror to files of a folder.
     Notes(notes::Notes<'a>),
-    /// Answers over HTTP.
+    /// Answers over HTTP from a mirror.
     Serve(serve::Serve<'a>),
-    /// Answers over HTTP, of a copy: `serve --dir`.
+    /// Answers over HTTP from a copy: `serve --dir`.
     CopyServe(serve::CopyServe<'a>),
 }
 
-// The program by its name, with its help and its version.
+// The parser of the program, with its name, its help and its version.
 fn named_parser<'a>(alloc: Global) -> Result<clap::Command<'a>, AllocError>
     ensures { IfOk result (IsParserOf named_app) }
 {
@@ -149,7 +149,7 @@ fn named_parser<'a>(alloc: Global) -> Result<clap::Command<'a>, AllocError>
         .bin_name("tlogmirror")
 }
 
-// The program, with no command yet.
+// The parser of the program, without commands.
 fn program_parser<'a>(alloc: Global) -> Result<clap::Command<'a>, AllocError>
     ensures { IfOk result (IsParserOf program_app) }
 {
@@ -160,7 +160,7 @@ fn program_parser<'a>(alloc: Global) -> Result<clap::Command<'a>, AllocError>
     Ok(program)
 }
 
-// A parser with one more command below it, if there is the parser.
+// The parser with one more subcommand, unless it is an error.
 fn with_command<'a>(
     alloc: Global,
     parser: Result<clap::Command<'a>, AllocError>,
@@ -173,7 +173,7 @@ fn with_command<'a>(
         Ok(parser) => match parser_of(alloc, line) {
             Ok(below) => parser.subcommand(below),
             Err(fault) => {
-                // By `drop`, which is one step to the checker.
+                // `drop` is one step for the checker.
                 drop(parser);
                 Err(fault)
             }
@@ -182,7 +182,7 @@ fn with_command<'a>(
     }
 }
 
-// The program with these commands below it, in their order, if there are all.
+// The parser with these subcommands, in order, unless it is an error.
 fn with_commands<'a>(
     alloc: Global,
     parser: Result<clap::Command<'a>, AllocError>,
@@ -202,7 +202,7 @@ fn with_commands<'a>(
 pub(crate) fn parser<'a>(alloc: Global) -> Result<clap::Command<'a>, AllocError>
     ensures { IfOk result (IsParserOf mirror_app) }
 {
-    // An array in the body, and no constant: at one of all of them the checker stops at its limit.
+    // An array in the body, not a constant: for a constant of all of them the checker reaches its limit.
     let lines = [
         &root::LINE,
         &check::LINE,
@@ -225,7 +225,7 @@ pub(crate) fn parser<'a>(alloc: Global) -> Result<clap::Command<'a>, AllocError>
     with_commands(alloc, program_parser(alloc), &lines)
 }
 
-/// The command of this name and with these options.
+/// Reads the command of this name from its options.
 pub(crate) fn command_of<'a>(
     alloc: Global,
     name: &str,
@@ -253,7 +253,7 @@ pub(crate) fn command_of<'a>(
         "export" => export::read(found, refusals),
         "notes" => notes::read(found, refusals),
         "serve" => serve::read(found, refusals),
-        // It never comes here: words in which `clap` finds nothing wrong name a command.
+        // It never gets here: words in which `clap` finds no fault name a command.
         _ => {
             refusals.note(BadWord::new("COMMAND", "one of those of the help is due"));
             Command::Check

@@ -1,20 +1,20 @@
-//! Why words ask for no command.
+//! Why words are those of no command.
 ghost use Rattle.std.specs.Prelude.{◌≡◌};
 ghost use Rattle.program_words.specs.declared.fault.CommandFault.TheVariants.{OutOfMemory};
 
 use std::alloc::{AllocError, AllocFailed};
 use thiserror::Error;
 
-/// Why the words ask for no command.
+/// Why the words are those of no command.
 #[derive(Debug, Drop, Error)]
 pub enum CommandFault {
-    /// Help, or the version, was asked for: its text.
+    /// Help or the version was asked for. This is its text.
     #[error("{0}")]
     Help(String),
-    /// The words are no command line of this program: what is wrong with them.
+    /// The words are no command line of this program. The text says why.
     #[error("{0}")]
     Words(String),
-    /// A word is not spelled as what it stands for, or is out of its range.
+    /// A word has a wrong spelling, or its value is out of range.
     #[error("BadArgument")]
     BadArgument,
     /// Memory was refused.

@@ -1,4 +1,4 @@
-//! What the command line says of some words, and of all.
+//! The meaning of some command lines, and laws for all.
 ghost use Rattle.std.specs.Prelude.{◌≡◌, ◌∷◌, [], codes};
 ghost use Rattle.clap.specs.declared.error.kind.ErrorKind.TheVariants.{
   DisplayHelp,
@@ -9,7 +9,7 @@ ghost use Rattle.program_words.specs.Commands.{AsksFor, faults};
 ghost use Rattle.program_words.specs.Laws.{LawfulWordsName, WordsAskForOneName};
 ghost use Rattle.program_words.specs.declared.commands.Command.TheVariants.{Root, Check};
 
-/// Some command lines, and what they ask for.
+/// Some command lines and their commands.
 pub fn words_example()
     ensures root { AsksFor (codes "root" ∷ codes "--width" ∷ codes "200" ∷ [])
         (Root (record { width = 200 })) }
@@ -19,7 +19,7 @@ pub fn words_example()
     ensures version { faults (codes "--version" ∷ []) ≡ DisplayVersion ∷ [] }
 {}
 
-/// Words with nothing wrong name one of the commands, and what they ask for is said by one name and one list of
+/// Words without a fault name one of the commands. If they are those of two commands, both have one name and one list of
 /// options.
 pub fn lawful_law()
     ensures named { LawfulWordsName }

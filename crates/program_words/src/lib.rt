@@ -1,7 +1,7 @@
-//! The command line of `tlogmirror`: what its words ask for.
+//! The command line of `tlogmirror`: the words of each command, and their meaning.
 //!
-//! `read_line` gives the command that the words after the program's name ask for, with what their
-//! options say, and the file of keys that it is to use.
+//! `read_line` reads the words after the program's name. It gives the command with its options, and the
+//! name of the key file.
 //!
 //! ```text
 //! match read_line(alloc, &words)?.command? {

@@ -1,4 +1,4 @@
-//! The parser of a command, from its command line: its name, its help, and its arguments as a table.
+//! Makes the parser of a command from its command line: its name, its help, and a table of its arguments.
 ghost use Rattle.std.specs.Prelude.{◌≡◌, IfOk, Some, false, map};
 ghost use Rattle.clap.specs.Words.{App, new_app, rule_of, with_rule};
 ghost use Rattle.program_words.specs.App.{IsParserOf, argument_of, argument_rule, base_rules, line_app, with_rules};
@@ -6,120 +6,120 @@ ghost use Rattle.program_words.specs.App.{IsParserOf, argument_of, argument_rule
 use clap::{Arg, ArgAction};
 use std::alloc::{AllocError, Global};
 
-/// The command line of a command.
+/// The command line of one command.
 pub(crate) struct CommandLine<'a> {
     /// The name of the command.
     pub name: &'a str,
-    /// What it does, in a line.
+    /// A line that says what it does.
     pub about: &'a str,
-    /// What its long help says behind the arguments.
+    /// The text of the long help after the arguments.
     pub help: &'a str,
-    /// The arguments that it has in common with other commands, which come first.
+    /// The arguments that it shares with other commands. They come first.
     pub base: Base,
-    /// Its own arguments, in their order.
+    /// Its own arguments, in order.
     pub arguments: &'a [Argument<'a>],
 }
 
-/// The arguments that commands have in common.
+/// The arguments that commands share.
 #[derive(Drop, Clone, Copy)]
 pub(crate) enum Base {
-    /// None.
+    /// No arguments.
     Nothing,
-    /// Those of each command over a log: `--origin`, `--keys` and `--why`.
+    /// The options of each command over a log: `--origin`, `--keys` and `--why`.
     Log,
-    /// The same, and the state.
+    /// The options of `Log`, and the state.
     State,
-    /// The same, and a state or a copy.
+    /// The options of `Log`, and a state or a copy.
     StateOrCopy,
-    /// The same, and the state that is written.
+    /// The options of `Log`, and the file for the new state.
     Output,
 }
 
-/// An argument of a command: its name, how help writes its value, and what help says of it.
+/// An argument of a command: its name, the name of its value in the help, and its help text.
 pub(crate) enum Argument<'a> {
-    /// `--NAME VALUE`, which has to be there.
+    /// `--NAME VALUE`, an option that must be given.
     Option(&'a str, &'a str, &'a str),
-    /// `[--NAME VALUE]`, which may be left out.
+    /// `[--NAME VALUE]`, an option that may be missing.
     Choice(&'a str, &'a str, &'a str),
-    /// `[--NAME]`, which has no value of its own.
+    /// `[--NAME]`, an option without a value.
     Flag(&'a str, &'a str),
-    /// `VALUE`, a word alone, which has to be there.
+    /// `VALUE`, a word without an option name, which must be given.
     Place(&'a str, &'a str, &'a str),
-    /// `VALUE...`, any number of words alone.
+    /// `VALUE...`, any number of words without an option name.
     List(&'a str, &'a str, &'a str),
-    /// `VALUE...`, one word alone or more.
+    /// `VALUE...`, at least one word without an option name.
     Words(&'a str, &'a str, &'a str),
 }
 
-/// The origin of the log, of each command over one.
+/// The origin of the log, for each command over a log.
 pub(crate) const ORIGIN: Argument<'static> = Argument::Option(
     "origin",
     "O",
     "The origin line of the log's checkpoints",
 );
 
-// The keys of the log, of each command over one.
+// The key file of the log, for each command over a log.
 const KEYS: Argument<'static> = Argument::Option(
     "keys",
     "K",
     "The file of the keys that its checkpoints are opened with",
 );
 
-/// Whether a fault says what it is about, of each command over a log.
+/// Whether a fault names the thing that it is about, for each command over a log.
 pub(crate) const WHY: Argument<'static> = Argument::Flag(
     "why",
     "Say before a fault what it is about: a file, a reply, a word",
 );
 
-// The state, of each command over a mirror that is kept in a file.
+// The state file, for each command over a mirror in a file.
 const STATE: Argument<'static> = Argument::Option("state", "S", "The file of the mirror's state");
 
-// The state, of each command over a state or a copy.
+// The state file, for each command over a state or a copy.
 const STATE_OR_DIR: Argument<'static> = Argument::Choice(
     "state",
     "S",
     "The file of the mirror's state; this or --dir is given",
 );
 
-// The folder, of each command over a state or a copy.
+// The folder, for each command over a state or a copy.
 const DIR_OR_STATE: Argument<'static> = Argument::Choice(
     "dir",
     "D",
     "The folder of a copy, as 'follow' makes it; this or --state is given",
 );
 
-// The state that comes of it, of each command that writes a mirror to a file.
+// The file for the new state, for each command that writes a state.
 const OUT: Argument<'static> = Argument::Option(
     "out",
     "T",
     "The file that the mirror's state is written to, whole or not at all",
 );
 
-/// The state that it may begin with, of such a command.
+/// The state file to begin with, for a command that writes a state.
 pub(crate) const FIRST_STATE: Argument<'static> = Argument::Choice(
     "state",
     "S",
     "The file of the state to begin with; nothing where it is left out",
 );
 
-/// Whether lines say how far the work is, of each command whose work may be long.
+/// Whether lines report the progress, for each command that may work for long.
 pub(crate) const PROGRESS: Argument<'static> = Argument::Flag(
     "progress",
     "Reports progress on standard error, by a line a second at most",
 );
 
-/// How many requests may be sent ahead, of each command that reads a log at a place.
+/// The number of requests that may be sent ahead, for each command that reads a log at a place.
 pub(crate) const AHEAD: Argument<'static> = Argument::Choice(
     "ahead",
     "N",
     "How many requests may be sent ahead to a server, 0 to 64; 6 where it is left out",
 );
 
-// What stands behind the options of a command under `-h`.
+// The text after the options in the help of a command for `-h`.
 const SHORT: &str = "\
 '--help' tells what is read and written, the statuses, the faults and an example.";
 
-// An argument of one value, or of many.
+// An argument with one value or with many.
 fn valued<'a>(
     alloc: Global,
     name: &'a str,
@@ -136,7 +136,7 @@ fn valued<'a>(
         .action(action)
 }
 
-// The argument, as `clap` has it.
+// The argument, as `clap` describes it.
 fn arg_of<'a>(alloc: Global, given: &Argument<'a>) -> Arg<'a>
     ensures rule { rule_of result ≡ argument_of given.now }
     ensures local { result.global ≡ false }
@@ -162,7 +162,7 @@ fn arg_of<'a>(alloc: Global, given: &Argument<'a>) -> Arg<'a>
     }
 }
 
-// The arguments that commands have in common.
+// The arguments that commands share, as a table.
 fn base_of(base: Base) -> &'static [Argument<'static>]
     ensures { map argument_of result.now ≡ base_rules base }
 {
@@ -175,7 +175,7 @@ fn base_of(base: Base) -> &'static [Argument<'static>]
     }
 }
 
-// A parser with one more argument, if there is the parser.
+// The parser with one more argument, unless it is an error.
 fn with_argument<'a>(
     alloc: Global,
     parser: Result<clap::Command<'a>, AllocError>,
@@ -190,7 +190,7 @@ fn with_argument<'a>(
     }
 }
 
-// A parser with these arguments besides, in their order, if there is the parser.
+// The parser with these additional arguments, in order, unless it is an error.
 fn with_arguments<'a>(
     alloc: Global,
     parser: Result<clap::Command<'a>, AllocError>,
@@ -206,7 +206,7 @@ fn with_arguments<'a>(
     made
 }
 
-// A command with no argument yet.
+// The parser of a command, without arguments.
 fn command<'a>(alloc: Global, line: &CommandLine<'a>) -> clap::Command<'a>
     ensures { IsParserOf (new_app line.now.name.now) result }
 {

@@ -12,43 +12,43 @@ use std::alloc::Global;
 use tlog_shape::MAX_SIZE;
 use tlog_text::read_number;
 
-/// Whose mirror it is.
+/// A log: its origin and its key file.
 #[derive(Drop, Clone, Copy)]
 pub struct Log<'a> {
     /// The origin line of the log's checkpoints.
     pub origin: &'a str,
-    /// The file of the keys that its checkpoints are opened with.
+    /// The file of the keys that open its checkpoints.
     pub keys: &'a str,
 }
 
-/// A mirror that is kept in a file.
+/// A mirror in a state file.
 #[derive(Drop, Clone, Copy)]
 pub struct StateArgs<'a> {
-    /// Whose mirror it is.
+    /// The log of the mirror.
     pub log: Log<'a>,
-    /// The file of its state.
+    /// The state file.
     pub state: &'a str,
 }
 
-/// A copy of a log, in a folder.
+/// A copy of a log in a folder.
 #[derive(Drop, Clone, Copy)]
 pub struct CopyArgs<'a> {
-    /// Whose copy it is.
+    /// The log of the copy.
     pub log: Log<'a>,
     /// The folder.
     pub folder: &'a str,
 }
 
-/// A mirror that is to be written to a file.
+/// A mirror whose state will be written to a file.
 #[derive(Drop, Clone, Copy)]
 pub struct OutputArgs<'a> {
-    /// Whose mirror it is.
+    /// The log of the mirror.
     pub log: Log<'a>,
-    /// The file that its state is written to.
+    /// The file for the state.
     pub out: &'a str,
 }
 
-/// What a command is over that takes a state or a copy.
+/// The state or the copy that a command uses.
 #[derive(Drop, Clone, Copy)]
 pub(crate) enum Source<'a> {
     /// `--state`.
@@ -57,7 +57,7 @@ pub(crate) enum Source<'a> {
     Copy(CopyArgs<'a>),
 }
 
-/// The value of an option, if it is there.
+/// The value of an option, if it is given.
 pub(crate) fn word_given<'a>(found: &ArgMatches<'a>, name: &str) -> Option<&'a str>
     ensures { FindsPart (Given (rows_of (found_of found.now)) name.now)
         (option_map (λ word. word.now) result) }
@@ -65,7 +65,7 @@ pub(crate) fn word_given<'a>(found: &ArgMatches<'a>, name: &str) -> Option<&'a s
     found.get_str(name)
 }
 
-/// The value of an option that has to be there.
+/// The value of an option that must be given.
 pub(crate) fn word_of<'a>(
     found: &ArgMatches<'a>,
     name: &'static str,
@@ -78,7 +78,7 @@ pub(crate) fn word_of<'a>(
 {
     match found.get_str(name) {
         Some(word) => word,
-        // It never comes here: `clap` finds that the option is missing.
+        // It never gets here: `clap` reports a missing option.
         None => {
             refusals.note(BadWord::new(name, "it is due"));
             ""
@@ -92,7 +92,7 @@ fn is_same(word: &str, other: &str) -> bool
     word == other
 }
 
-/// Whether an option without a value is there.
+/// Whether an option without a value is given.
 pub(crate) fn has_flag(found: &ArgMatches<'_>, name: &str) -> bool
     ensures { IsTrue result ↔ HasFlag (rows_of (found_of found.now)) name.now }
 {
@@ -102,7 +102,7 @@ pub(crate) fn has_flag(found: &ArgMatches<'_>, name: &str) -> bool
     }
 }
 
-/// The number from `least` to `most` that the word spells.
+/// The number from `least` to `most` that the word spells, if it spells one.
 pub(crate) fn number_in(word: &str, least: u64, most: u64) -> Option<u64>
     ensures { FindsPart (λ n. IsNumberIn least most n word.now) result }
 {
@@ -112,7 +112,7 @@ pub(crate) fn number_in(word: &str, least: u64, most: u64) -> Option<u64>
     }
 }
 
-/// The number from `least` to `most` that an option has to spell.
+/// The number from `least` to `most` that the option's value spells, if it spells one.
 pub(crate) fn number_of(found: &ArgMatches<'_>, name: &str, least: u64, most: u64) -> Option<u64>
     ensures { FindsPart (HasNumber (rows_of (found_of found.now)) name.now least most) result }
 {
@@ -122,7 +122,7 @@ pub(crate) fn number_of(found: &ArgMatches<'_>, name: &str, least: u64, most: u6
     }
 }
 
-/// The size or the index that an option has to spell, which help names so.
+/// The size or the index that the option's value spells. Else `word`, its name in the help, is noted as bad.
 pub(crate) fn size_of(
     found: &ArgMatches<'_>,
     name: &str,
@@ -141,7 +141,7 @@ pub(crate) fn size_of(
     }
 }
 
-// The number from 0 to 64 that `--ahead` spells, and 6 where it is left out.
+// The number from 0 to 64 that the value of `--ahead` spells, or 6 if the option is missing.
 fn ahead_given(found: &ArgMatches<'_>) -> Option<u64>
     ensures { FindsPart (IsAhead (rows_of (found_of found.now))) result }
 {
@@ -151,7 +151,7 @@ fn ahead_given(found: &ArgMatches<'_>) -> Option<u64>
     }
 }
 
-/// How many requests may be sent ahead.
+/// Reads the number of requests that may be sent ahead.
 pub(crate) fn ahead_of(found: &ArgMatches<'_>, refusals: &mut Refusals) -> u64
     ensures { JudgesPart (IsAhead (rows_of (found_of found.now))) refusals.old refusals.new result }
 {
@@ -164,7 +164,7 @@ pub(crate) fn ahead_of(found: &ArgMatches<'_>, refusals: &mut Refusals) -> u64
     }
 }
 
-/// The origin and the keys.
+/// Reads the log: its origin and its key file.
 pub(crate) fn log_of<'a>(found: &ArgMatches<'a>, refusals: &mut Refusals) -> Log<'a>
     ensures { JudgesPart (IsLog (rows_of (found_of found.now))) refusals.old refusals.new result }
 {
@@ -173,7 +173,7 @@ pub(crate) fn log_of<'a>(found: &ArgMatches<'a>, refusals: &mut Refusals) -> Log
     Log { origin, keys }
 }
 
-/// The mirror that is kept in a file.
+/// Reads the mirror in a state file.
 pub(crate) fn state_args<'a>(found: &ArgMatches<'a>, refusals: &mut Refusals) -> StateArgs<'a>
     ensures { JudgesPart (IsStateArgs (rows_of (found_of found.now))) refusals.old refusals.new
         result }
@@ -183,7 +183,7 @@ pub(crate) fn state_args<'a>(found: &ArgMatches<'a>, refusals: &mut Refusals) ->
     StateArgs { log, state }
 }
 
-/// The copy in a folder.
+/// Reads the copy in a folder.
 pub(crate) fn copy_args<'a>(found: &ArgMatches<'a>, refusals: &mut Refusals) -> CopyArgs<'a>
     ensures { JudgesPart (IsCopyArgs (rows_of (found_of found.now))) refusals.old refusals.new
         result }
@@ -193,7 +193,7 @@ pub(crate) fn copy_args<'a>(found: &ArgMatches<'a>, refusals: &mut Refusals) -> 
     CopyArgs { log, folder }
 }
 
-/// The mirror that is to be written to a file.
+/// Reads the mirror whose state will be written.
 pub(crate) fn output_args<'a>(found: &ArgMatches<'a>, refusals: &mut Refusals) -> OutputArgs<'a>
     ensures { JudgesPart (IsOutputArgs (rows_of (found_of found.now))) refusals.old refusals.new
         result }
@@ -203,7 +203,7 @@ pub(crate) fn output_args<'a>(found: &ArgMatches<'a>, refusals: &mut Refusals) -
     OutputArgs { log, out }
 }
 
-// The value of an option, where the other one is left out.
+// The value of an option, if the other option is missing.
 fn word_alone<'a>(found: &ArgMatches<'a>, name: &str, other: &str) -> Option<&'a str>
     ensures { FindsPart (IsWordAlone (rows_of (found_of found.now)) name.now other.now)
         (option_map (λ word. word.now) result) }
@@ -214,7 +214,7 @@ fn word_alone<'a>(found: &ArgMatches<'a>, name: &str, other: &str) -> Option<&'a
     }
 }
 
-/// The state or the copy, of which one is to be given.
+/// Reads the state or the copy. Exactly one of them must be given.
 pub(crate) fn source_of<'a>(found: &ArgMatches<'a>, refusals: &mut Refusals) -> Source<'a>
     ensures { JudgesPart (IsSource (rows_of (found_of found.now))) refusals.old refusals.new
         result }
@@ -232,7 +232,7 @@ pub(crate) fn source_of<'a>(found: &ArgMatches<'a>, refusals: &mut Refusals) -> 
     }
 }
 
-/// The files that are named, of which there may be none.
+/// The named files, possibly none.
 pub(crate) fn files_of<'a>(
     alloc: Global,
     found: &ArgMatches<'a>,

@@ -1,4 +1,4 @@
-//! The places that a log's files are fetched from.
+//! The places of a log's files.
 ghost use Rattle.std.specs.Prelude.{◌≡◌, ◌≢◌, ◌++◌, ◌∷◌, ◌↔◌, ℕ, ◌<◌, IfNone, IfOk, IfSome, IsTrue, codes, length, map, option_map, slice_index};
 ghost use Rattle.clap.specs.Words.{found_of, rows_of};
 ghost use Rattle.program_words.specs.Commands.{ArePlaces, IsEmptyOrSlash, IsHostAndPrefix, IsPlace, colon};
@@ -12,25 +12,25 @@ use clap::ArgMatches;
 use mirror_client::{Site, SiteFault};
 use std::alloc::{AllocError, Global};
 
-/// Where a log's files are fetched from.
+/// The place of a log's files.
 #[derive(Drop, Clone, Copy)]
 pub enum Place<'a> {
     /// A folder.
     Folder(&'a str),
-    /// A server of HTTP.
+    /// An HTTP server.
     Server {
-        /// The host, as the Host field names it, with its port.
+        /// The host with its port, as in the Host field.
         host: &'a str,
-        /// What stands before the paths of the files: nothing, or a path that begins with a slash.
+        /// The text before the paths of the files: empty, or a path that begins with a slash.
         prefix: &'a str,
-        /// The host that a connection is made to.
+        /// The host to connect to.
         address: &'a str,
-        /// The port that a connection is made to, 1 to 65535.
+        /// The port to connect to, 1 to 65535.
         port: u16,
     },
 }
 
-/// What stands before the first slash, and what follows, with that slash.
+/// Divides the word before its first slash.
 pub(crate) fn host_and_prefix(word: &str) -> (&str, &str)
     ensures whole { word.now ≡ result.0.now ++ result.1.now }
     ensures before { (i : ℕ) → i < length result.0.now → slice_index result.0.now i ≢ slash }
@@ -42,7 +42,7 @@ pub(crate) fn host_and_prefix(word: &str) -> (&str, &str)
     }
 }
 
-// What stands before the last colon, and what follows it.
+// Divides the host at its last colon, which is in neither part.
 fn address_and_digits(host: &str) -> Option<(&str, &str)>
     ensures some { IfSome result (λ x. host.now ≡ x.0.now ++ colon ∷ x.1.now) }
     ensures last { IfSome result (λ x. (i : ℕ) → i < length x.1.now
@@ -63,7 +63,7 @@ fn is_site(alloc: Global, host: &str, prefix: &str) -> Result<bool, AllocError>
     }
 }
 
-// The server that the word names.
+// The server that the word names, if it names one.
 fn server_of<'a>(alloc: Global, word: &'a str) -> Result<Option<Place<'a>>, AllocError>
     ensures { IfOk result (FindsPart (IsPlace (codes "http") word.now)) }
 {
@@ -85,7 +85,7 @@ fn server_of<'a>(alloc: Global, word: &'a str) -> Result<Option<Place<'a>>, Allo
     }))
 }
 
-/// The place that the two words name: `dir` and a folder, or `http` and a server.
+/// The place that the two words name, if they name one: `dir` and a folder, or `http` and a server.
 pub(crate) fn place_of<'a>(
     alloc: Global,
     kind: &str,
@@ -100,7 +100,7 @@ pub(crate) fn place_of<'a>(
     }
 }
 
-// The place that the two words are to name.
+// The place that the two words name. If they name none, the bad word is noted.
 fn place_or_bad<'a>(alloc: Global, kind: &str, word: &'a str, refusals: &mut Refusals) -> Place<'a>
     ensures { JudgesPart (IsPlace kind.now word.now) refusals.old refusals.new result }
 {
@@ -117,7 +117,7 @@ fn place_or_bad<'a>(alloc: Global, kind: &str, word: &'a str, refusals: &mut Ref
     }
 }
 
-/// The place that the options name.
+/// Reads the place from the options.
 pub(crate) fn place_given<'a>(
     alloc: Global,
     found: &ArgMatches<'a>,
@@ -131,7 +131,7 @@ pub(crate) fn place_given<'a>(
     place_or_bad(alloc, kind, word, refusals)
 }
 
-// The places that the words name, two words each.
+// The places that the words name, two words for each, if they name such places.
 #[tactic(auto, using(crate::proofs::Places::none_read, crate::proofs::Places::one_more_at, crate::proofs::Places::all_at, crate::proofs::Places::odd_at))]
 fn places_of<'a>(alloc: Global, words: &[&'a str]) -> Result<Option<Vec<Place<'a>>>, AllocError>
     ensures { IfOk result (λ found. FindsPart (ArePlaces (map (λ w. w.now) words.now))
@@ -140,7 +140,7 @@ fn places_of<'a>(alloc: Global, words: &[&'a str]) -> Result<Option<Vec<Place<'a
     let mut places = Vec::new(alloc);
     let mut at = 0;
     while at < words.len() {
-        // A kind without its place.
+        // The last word is a kind without its place.
         if words.len() - at < 2 {
             return Ok(None);
         }
@@ -153,7 +153,7 @@ fn places_of<'a>(alloc: Global, words: &[&'a str]) -> Result<Option<Vec<Place<'a
     Ok(Some(places))
 }
 
-/// The places that the words are to name.
+/// The places that the words name. If they name none, the first bad word is noted.
 pub(crate) fn places_or_bad<'a>(
     alloc: Global,
     words: &[&'a str],

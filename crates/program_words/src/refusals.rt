@@ -1,4 +1,4 @@
-//! What is bad of the options of a command, found as they are read one after the other.
+//! The faults in the options of a command, which are read in order.
 ghost use Rattle.std.specs.Prelude.{◌≡◌, is_some, true};
 ghost use Rattle.program_words.specs.Readings.{judged_as, no_refusals};
 
@@ -6,11 +6,11 @@ use crate::bad::BadWord;
 use crate::commands::Command;
 use crate::fault::CommandFault;
 
-/// Why a command is refused, as far as its options were read. A reader of an option that is bad notes it, gives
-/// some value, and the next options are read; `judged` refuses the command in the end.
+/// Why a command is refused, by the options that were read so far. The reader of a bad option notes it and returns
+/// some value. Then the next options are read. In the end `judged` refuses the command.
 #[derive(Drop)]
 pub(crate) struct Refusals {
-    /// The first option or word that is bad.
+    /// The first bad option or word.
     pub bad: Option<BadWord>,
     /// Whether memory was refused.
     pub out_of_memory: bool,
@@ -27,7 +27,7 @@ impl Refusals {
         }
     }
 
-    /// This word is bad.
+    /// Notes that this word is bad.
     pub(crate) fn note(&mut self, bad: BadWord)
         ensures { is_some self.new.bad ≡ true }
     {
@@ -36,7 +36,7 @@ impl Refusals {
         }
     }
 
-    /// Memory was refused.
+    /// Notes that memory was refused.
     pub(crate) fn lack_memory(&mut self)
         ensures { (self.new.bad ≡ self.old.bad) × (self.new.out_of_memory ≡ true) }
     {

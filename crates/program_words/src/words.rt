@@ -1,4 +1,4 @@
-//! The words of a command line, read.
+//! Reads the words of a command line.
 ghost use Rattle.std.specs.Prelude.{◌≡◌, ◌↔◌, IfErr, IfOk, IsTrue, codes, map, option_map, string_bytes};
 ghost use Rattle.clap.specs.Words.{first_of, found_of, kind_of, rows_of};
 ghost use Rattle.program_words.specs.Commands.{Calls, HasFlag};
@@ -14,7 +14,7 @@ use clap::ArgMatches;
 use clap::error::ErrorKind;
 use std::alloc::Global;
 
-// What an error of `clap` is to the program.
+// The fault of the program for an error of `clap`.
 fn fault_of(alloc: Global, error: &clap::Error) -> CommandFault
     ensures { IsFaultOf (kind_of error.now) result }
 {
@@ -33,7 +33,7 @@ fn fault_of(alloc: Global, error: &clap::Error) -> CommandFault
     }
 }
 
-// What the parser finds in the words.
+// The matches that the parser finds in the words.
 fn matches_of<'a>(alloc: Global, words: &'a [String]) -> Result<ArgMatches<'a>, CommandFault>
     ensures matches { IfOk result (IsMatched (map string_bytes words.now)) }
     ensures refused { IfErr result (λ fault. ReadsKeyFile (map string_bytes words.now)
@@ -49,11 +49,11 @@ fn matches_of<'a>(alloc: Global, words: &'a [String]) -> Result<ArgMatches<'a>, 
     }
 }
 
-/// The name of the command that the words call, and what they give of its options. No option is judged.
+/// The name of the command that the words call, and its options. It checks no option.
 ///
 /// # Errors
 ///
-/// `Help` and `Words` come with the text of `clap`, `OutOfMemory` where memory was refused.
+/// `Help` and `Words` come with the text of `clap`. `OutOfMemory` if memory was refused.
 pub(crate) fn command_found<'a>(
     alloc: Global,
     words: &'a [String],
@@ -69,7 +69,7 @@ pub(crate) fn command_found<'a>(
             drop(matches);
             match called {
                 Some((name, found)) => Ok((name, found)),
-                // It never comes here: words in which `clap` finds nothing wrong name a command.
+                // It never gets here: words in which `clap` finds no fault name a command.
                 None => Err(CommandFault::BadArgument),
             }
         }
@@ -77,25 +77,22 @@ pub(crate) fn command_found<'a>(
     }
 }
 
-/// What the words of a command line say, all but the values of the options apart: these are the command's.
+/// The contents of a command line. Only the command holds the values of its options.
 #[derive(Drop)]
 pub struct Line<'a> {
-    /// The file of the keys that the command is to use: the word of `--keys`, and None for `root` and `check`, which have
-    /// none.
+    /// The key file for the command: the word after `--keys`, or None for `root` and `check`, which have none.
     pub keys: Option<&'a str>,
-    /// Whether a fault is printed with what it is about: by the option `--why`, which every command has but `root` and
-    /// `check`.
+    /// Whether the option `--why` asks that a fault names the thing that it is about. Every command except `root` and `check` has it.
     pub why: bool,
-    /// The command that the words ask for. `BadArgument` where an option's value is not spelled as what it stands for, or
-    /// is out of its range, and where a command's words do not fit together; `OutOfMemory` where memory was refused.
+    /// The command of the words. `BadArgument` if the value of an option has a wrong spelling or is out of range, or if the words
+    /// of a command do not fit together. `OutOfMemory` if memory was refused.
     pub command: Result<Command<'a>, CommandFault>,
-    /// Where that is `BadArgument`, which option or word is bad: the first that is not spelled as what it stands for, or is
-    /// out of its range.
+    /// For `BadArgument`: the first option or word that has a wrong spelling or is out of range.
     pub bad: Option<BadWord>,
 }
 
-/// What the words after the program's name say. It borrows from the words. The file of keys is named whatever the other
-/// options' values are, so that a key file is read before they are judged.
+/// The contents of the words after the program's name. It borrows from the words. It gives the key file even if other options
+/// have bad values, so that the key file is read before these are refused.
 ///
 /// ```text
 /// read_line(alloc, &words)?.command   // Ok(Command::Check)
@@ -103,8 +100,8 @@ pub struct Line<'a> {
 ///
 /// # Errors
 ///
-/// `Help` and `Words` come with the text of `clap`, `OutOfMemory` where memory was refused. `BadArgument` never comes here:
-/// it is reported behind the faults of the key file.
+/// `Help` and `Words` come with the text of `clap`. `OutOfMemory` if memory was refused. `BadArgument` never comes here: it is
+/// reported after the faults of the key file.
 pub fn read_line<'a>(alloc: Global, words: &'a [String]) -> Result<Line<'a>, CommandFault>
     ensures line { IfOk result (λ line. IsLine (map string_bytes words.now) line) }
     ensures none { IfErr result (λ fault. Reads (map string_bytes words.now) (Err fault)) }
@@ -121,7 +118,7 @@ pub fn read_line<'a>(alloc: Global, words: &'a [String]) -> Result<Line<'a>, Com
     }
 }
 
-// The line of the command of this name and with these options.
+// Reads the line of the command with this name from its options.
 fn line_of<'a>(alloc: Global, name: &str, found: &ArgMatches<'a>) -> Line<'a>
     ensures keys { first_of (codes "keys") (rows_of (found_of found.now))
         ≡ option_map (λ keys. keys.now) result.keys }

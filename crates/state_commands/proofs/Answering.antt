@@ -1,4 +1,4 @@
--- Clients that were answered one after another.
+-- Clients that were answered in order.
 use Rattle.std.proofs.Common.{◌≡◌, ◌∙◌, ℕ, ◌+◌, List, [], ◌∷◌, ◌++◌, append_assoc, Option, Some, None}
 use Rattle.std.proofs.Common.{Result, Ok, ap, refl, sym}
 use Rattle.std.proofs.lemmas.List.{append-nil, length-append}

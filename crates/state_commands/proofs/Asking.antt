@@ -1,4 +1,4 @@
--- A command that asks something of a mirror, once that was opened.
+-- A command that asks an open mirror something.
 use Rattle.std.proofs.Common.{◌≡◌, ℕ, List, Option, Result, Ok, Err, IfErr, IfOk}
 use Rattle.std.specs.Prelude.{◌≢◌}
 use Rattle.std.specs.Result.{result_map_both}
@@ -17,7 +17,7 @@ use Rattle.program_env.specs.declared.fault.RunFault.TheVariants.{Ask, Heads}
 use Rattle.program_env.specs.Done.{IsWriteFault}
 use Rattle.program_env.specs.Works.{AsksState, ComparesState, ComparesView, FindsHeads, IsStatus}
 
--- the answer of a command, of what a reporter answers
+-- the answer of a command from the answer of a reporter
 abbrev pub asked : Result ℕ AskFault → Result ℕ RunFault
 asked was = result_map_both (λ status. status) (λ fault. Ask fault) was
 

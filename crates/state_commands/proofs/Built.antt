@@ -1,4 +1,4 @@
--- A log that is built of an input.
+-- A log that was built from an input.
 use Rattle.std.proofs.Common.{◌≡◌, ℕ, List, Option, Some, Result, subst}
 use Rattle.std.specs.Prelude.{IfSome}
 use Rattle.signed_note.specs.Keys.{Key, Secret, secret_key}
@@ -9,7 +9,7 @@ use Rattle.tlog_build.specs.declared.fault.BuildFault.{BuildFault}
 use Rattle.tlog_build.specs.Entries.{AreEntries}
 use Rattle.program_env.specs.Builds.{BuildsInput, FindsSigner}
 
--- over a shelf that has, once it is opened, what the folder held
+-- the opened shelf has what the folder held
 pub built : (digest : List ℕ → List ℕ) (origin : List ℕ) (keys : List Key) (key_bytes : List ℕ)
     (held before put opened : Option (List Put)) (signer : Secret) (entries : List (List ℕ))
     (answer : Result (Unit {0}) BuildFault) → FindsSigner key_bytes (Some signer) → IsOrigin origin → opened ≡ held →

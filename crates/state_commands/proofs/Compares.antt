@@ -1,4 +1,4 @@
--- The heads that are compared, of names that are lent.
+-- The heads to compare, from borrowed names.
 use Rattle.std.proofs.Common.{◌≡◌, ℕ, List, Option, map, subst}
 use Rattle.std.specs.Prelude.{Result}
 use Rattle.signed_note.specs.Keys.{Key}

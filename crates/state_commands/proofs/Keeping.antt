@@ -1,4 +1,4 @@
--- What a pull that ended early leaves.
+-- The files after a pull that ended early.
 use Rattle.std.proofs.Common.{◌≡◌, ℕ, List, Option, Result, Ok, Err, Bool, inl, refl, subst, sym}
 use Rattle.std.specs.Prelude.{◌≢◌}
 use Rattle.signed_note.specs.Keys.{Key}
@@ -14,7 +14,7 @@ use Rattle.program_commands.specs.Saved.{IsSaved}
 use Rattle.program_commands.specs.States.{SavesFile}
 use Rattle.program_env.specs.Pulls.{IsHeld, IsKept, LeavesEarly, SavesPulled}
 
--- a mirror that took nothing has grown by nothing
+-- an unchanged mirror has grown by nothing
 pub grows_by_nothing : (keys : List Key) (v : View) → Grows keys v v
 grows_by_nothing keys v =
     record {
@@ -23,7 +23,7 @@ grows_by_nothing keys v =
       good = λ note has new. absurd (new has);
     }
 
--- a mirror that was pulled into has lost nothing, whatever the pull ended by
+-- a mirror loses nothing in a pull that ends early
 pub pulled_within : (digest : List ℕ → List ℕ) (keys : List Key) (old new : View) (fault : PullFault) →
     PullsTo digest keys old new (Err fault) → IsSubview old new
 pulled_within digest keys old new pull.NoCheckpoint same = rw same (within_itself old)
@@ -39,7 +39,7 @@ pulled_on digest keys old new pulled h = h.0.grows
 
 module _ (keep : Bool) (out : List ℕ) (recorded : Option (List NamedFile)) (start v : View) (fault : PullFault)
     (written : Result (Unit {0}) NamedFault) where
-  -- nothing was to be kept, or nothing was gained
+  -- the files are unchanged, because there was nothing to keep or nothing was gained
   pub leaves_all : (IsKept keep fault → v ≢ start → ⊥) → LeavesEarly keep out recorded recorded start v fault written
   leaves_all never =
       record {
@@ -48,7 +48,7 @@ module _ (keep : Bool) (out : List ℕ) (recorded : Option (List NamedFile)) (st
         other = λ not. refl;
       }
 
-  -- something was gained, and its state was written or could not be
+  -- something was gained, and its state was written or could not be written
   pub leaves_state : (left : Option (List NamedFile)) → IsKept keep fault → v ≢ start →
       SavesFile v out recorded left written → LeavesEarly keep out recorded left start v fault written
   leaves_state left kept more saves =
@@ -58,14 +58,14 @@ module _ (keep : Bool) (out : List ℕ) (recorded : Option (List NamedFile)) (st
         other = λ not. absurd (not kept);
       }
 
--- what is written of a mirror that has pulled is left
+-- after the pull, the state of the mirror was written or could not be written
 pub saves_pulled : {T : Type 0} (state : Option (List ℕ)) (start v : View) (out : List ℕ)
     (recorded left : Option (List NamedFile)) (answer : Result T NamedFault) → SavesFile v out recorded left answer →
     SavesPulled state start v out recorded left answer
 saves_pulled state start v out recorded left (Ok x) h = inl h
 saves_pulled state start v out recorded left (Err fault) h = h
 
--- what the file had when the pull began it has still
+-- the file still has the bytes that it had when the pull began
 pub held_still : (state : Option (List ℕ)) (start v : View) (out : List ℕ) (recorded later : Option (List NamedFile)) →
     later ≡ recorded → IsSaved state start out recorded → v ≡ start → IsHeld state start v out later
 held_still state start v out recorded later same saved nothing =

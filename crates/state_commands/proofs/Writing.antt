@@ -1,4 +1,4 @@
--- What `entries` does, of what its call did.
+-- How `entries` ends, given the answer of its call.
 use Rattle.std.proofs.Common.{◌≡◌, ℕ, List, Result, Ok, Err}
 use Rattle.std.proofs.Common.{inl, refl}
 use Rattle.std.specs.Io.KnownBytes.{Keeps}
@@ -21,7 +21,7 @@ use Rattle.program_env.proofs.Performing.{performs, performs_done}
 module _ (digest : List ℕ → List ℕ) (keys : List Key) (key_bytes : List ℕ) (old new : Moment) (c : EntriesWords)
     (files : new.files ≡ old.files) (folders : new.puts ≡ old.puts) (v : View)
     (opened : OpensFile digest c.mirror.log.origin.now keys old.files c.mirror.state.now (Ok v)) where
-  -- what was written of a mirror's entries
+  -- the bytes that were written for this answer belong to entries of the mirror
   abbrev Answers : Result (Unit {0}) StateEntriesFault → Type 0
   Answers answer = AnswersServed digest v c.range.from c.range.to c.range.base64 old.output new.output answer
 

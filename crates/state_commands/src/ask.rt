@@ -1,4 +1,4 @@
-//! What the commands `status`, `missing`, `forks` and `prove` ask of the mirror in a state file.
+//! The questions of `status`, `missing`, `forks` and `prove` to the mirror in a state file.
 ghost use Rattle.std.specs.Prelude.{◌≡◌, IfErr, IfOk, map};
 ghost use Rattle.std.specs.Result.{result_map_both};
 ghost use Rattle.std.specs.Io.KnownBytes.{Keeps};
@@ -19,12 +19,12 @@ use tlog_hash::{Sha256Tree, TreeHash};
 use tlog_mirror::Mirror;
 use tlog_proof::Ranges;
 
-/// Prints the report on the question, of the mirror in the state file, and answers the exit status.
+/// Prints the report on the question about the mirror in the state file, and returns the exit status.
 ///
 /// # Errors
 ///
-/// In this order: those of `open_state`, and those of `print_report`. Nothing was written but at a
-/// `WriteFault`.
+/// In this order: those of `open_state`, and those of `print_report`. Only after a `WriteFault` text
+/// may have been written.
 pub(crate) fn run_ask<F: RunFiles, W: Write>(
     files: &F,
     alloc: Global,
@@ -54,7 +54,7 @@ pub(crate) fn run_ask<F: RunFiles, W: Write>(
     }
 }
 
-/// The answer of a command, of what a reporter answers, and of what a fault of it is about.
+/// The answer of a command from the answer of a reporter, with the thing that a fault is about.
 pub(crate) fn asked(answer: Result<u8, AskFault>, why: Option<Why>) -> Result<u8, Error>
     ensures { result ≡ result_map_both (λ status. status) (λ fault. RunFault.Ask fault) answer }
 {
@@ -64,7 +64,7 @@ pub(crate) fn asked(answer: Result<u8, AskFault>, why: Option<Why>) -> Result<u8
     }
 }
 
-/// What a fault of a reporter is about, of the mirror in that state file.
+/// The thing that a reporter's fault is about, if the state file names the mirror.
 pub(crate) fn why_of_report(
     alloc: Global,
     state: &str,
@@ -77,7 +77,7 @@ pub(crate) fn why_of_report(
     }
 }
 
-// What a fault of the report on a question is about: of a size that is not served, also which size is.
+// The thing that a fault of the report is about. For a size that is not served, the reason names the served size.
 fn why_of<H: TreeHash>(
     alloc: Global,
     state: &str,
@@ -102,7 +102,7 @@ fn why_of<H: TreeHash>(
     }
 }
 
-/// The size that is served, 0 where nothing is.
+/// The served size, or 0 if nothing is served.
 pub(crate) fn served_size<H: TreeHash>(mirror: &Mirror<H>) -> u64 {
     match mirror.top_ranges() {
         Some(top) => top.size(),

@@ -1,4 +1,4 @@
-//! The command `build`: a log of the entries on standard input.
+//! The command `build`: it makes a log from the entries on standard input.
 ghost use Rattle.std.specs.Prelude.{◌≡◌, map};
 ghost use Rattle.sha2.specs.Sha256.{sha256};
 ghost use Rattle.program_env.specs.Builds.{BuildsFrom};
@@ -18,8 +18,8 @@ use std::io::{Read, Write};
 use tlog_build::{BuildFault, EntriesFault, build_log, read_entries, signing_key};
 use tlog_hash::Sha256Tree;
 
-/// Makes a log of the entries that the input gives, signed with the first key that signs of the key file's bytes, and
-/// writes it into the folder.
+/// Makes a log from the entries on the input, and writes it to the folder. The first shared secret among the lines of the key
+/// file signs the checkpoint.
 ///
 /// # Errors
 ///
@@ -49,7 +49,7 @@ pub fn run<R, F: RunFiles, D: RunFolders, I: Read, O: Write, E: Write>(
     }
 }
 
-// Makes that log, of the entries of this input, and writes it into the folder.
+// Makes the log from the entries of this input, and writes it to the folder.
 fn build_into<D: RunFolders, I: Read>(
     folders: &mut D,
     alloc: Global,
@@ -63,7 +63,7 @@ fn build_into<D: RunFolders, I: Read>(
         (D.held folders.old build.now.folder.now) (D.puts folders.old) (D.puts folders.new)
         (I.remaining input.old) result }
 {
-    // The lines of keys were read before, so memory alone can be wanting.
+    // The lines of keys were read before, so only memory can be lacking.
     let Ok(lines) = read_keys(alloc, key_bytes) else {
         return Err(Error::new(RunFault::OutOfMemory, None));
     };
@@ -94,7 +94,7 @@ fn build_into<D: RunFolders, I: Read>(
     }
 }
 
-// No log was built in that folder.
+// The error for a log that was not built in that folder.
 fn not_built<D: RunFolders>(alloc: Global, folders: &D, folder: &str, fault: BuildFault) -> Error
     ensures { result ≡ RunFault.Build fault }
 {
@@ -104,7 +104,7 @@ fn not_built<D: RunFolders>(alloc: Global, folders: &D, folder: &str, fault: Bui
     )
 }
 
-// What a fault at the input is about.
+// The thing that a fault of the input is about.
 fn of_input(fault: EntriesFault) -> Option<Why> {
     match fault {
         EntriesFault::OutOfMemory => None,
@@ -112,7 +112,7 @@ fn of_input(fault: EntriesFault) -> Option<Why> {
     }
 }
 
-// What a fault at the work is about: the entries, or the folder.
+// The thing that a fault of the build is about: the origin, the entries, or the folder.
 fn why_of<D: RunFolders>(
     alloc: Global,
     folders: &D,

@@ -1,4 +1,4 @@
-//! The command `check`.
+//! The command `check`: it verifies a proof.
 ghost use Rattle.std.specs.Prelude.{◌≡◌, map};
 ghost use Rattle.sha2.specs.Sha256.{sha256};
 ghost use Rattle.program_env.specs.Done.{verdict_status};
@@ -11,7 +11,7 @@ use program_words::Command;
 use signed_note::Verifier;
 use std::io::{Read, Write};
 
-/// Prints whether the proof that the input gives holds. The status is 3 where it does not.
+/// Prints whether the proof on the input holds. The status is 3 if it does not.
 ///
 /// # Errors
 ///
@@ -33,7 +33,7 @@ pub fn run<R, F: RunFiles, D: RunFolders, I: Read, O: Write, E: Write>(
     }
 }
 
-// The status of a verdict.
+// The exit status of a verdict.
 fn status_of(verdict: bool) -> u8
     ensures { result ≡ verdict_status verdict }
 {

@@ -1,4 +1,4 @@
-//! Clients that connect one after another, and are answered.
+//! Clients that connect one after another and get an answer.
 use byte_streams::TimedStream;
 use mirror_server::{HttpFault, answer};
 use std::alloc::Global;
@@ -9,22 +9,22 @@ use std::time::Duration;
 use tlog_hash::TreeHash;
 use tlog_mirror::Mirror;
 
-// The seconds that a client has to send the head of its request.
+// The number of seconds in which a client has to send the head of its request.
 const HEAD_SECONDS: u64 = 10;
 
-// The seconds that a client has for all, so that 60 are left for the reply at least.
+// The number of seconds for a whole exchange, so at least 60 remain for the reply.
 const ALL_SECONDS: u64 = 70;
 
-/// Clients that connect one after another. Each is answered once.
-/// Those of a port record nothing.
+/// Clients that connect one after another. Each gets one answer.
+/// The clients of a port record nothing.
 pub(crate) trait Clients {
     ghost use Rattle.std.specs.Prelude.{List, Option, None};
     ghost use Rattle.state_commands.specs.Clients.{AnswersNext, Exchange};
 
-    /// What each client had to give and what was written to it, the oldest first, where it is recorded.
+    /// The bytes that each client gave and the bytes that were written to it, the oldest client first, if they are recorded.
     ghost exchanges: { Self → Option (List Exchange) } = { λ _. None };
 
-    /// Waits for the next client, and answers it from the mirror. Its own fault is within the Ok.
+    /// Waits for the next client, and answers it from the mirror. A fault of this client is inside the `Ok`.
     ///
     /// # Errors
     ///
@@ -51,7 +51,7 @@ impl Clients for TcpListener {
     }
 }
 
-// Answers one connection, which is cut off in time, whatever its client does. Where there is no clock that is a
+// Answers one connection, and ends it in time, whatever its client does. If the clock cannot be read, that is a
 // `ReadFault`.
 fn answer_one<H: TreeHash, C: Clock>(
     clock: &C,

@@ -1,4 +1,4 @@
-//! The command `compare`: checkpoints compared with what the mirror in a state file serves.
+//! The command `compare`: it compares checkpoints with the one that a state file's mirror serves.
 ghost use Rattle.std.specs.Prelude.{◌≡◌, IfErr, IfOk, map, option_map};
 ghost use Rattle.std.specs.Io.KnownBytes.{Keeps};
 ghost use Rattle.sha2.specs.Sha256.{sha256};
@@ -22,13 +22,13 @@ use std::io::{Read, Write};
 use tlog_hash::{Hash, Sha256Tree, TreeHash};
 use tlog_mirror::Mirror;
 
-/// Prints what the mirror in the state file says of the checkpoints in the files, or where none is named of those that
-/// it holds, and answers the exit status.
+/// Compares the checkpoints in the files with the served entries of the mirror in the state file, prints the result, and
+/// returns the exit status. If no file is named, it compares the checkpoints that the mirror holds.
 ///
 /// # Errors
 ///
-/// In this order: those of `open_state`, those of `read_heads`, and those of `print_comparison`. Nothing was written but
-/// at a `WriteFault`.
+/// In this order: those of `open_state`, those of `read_heads`, and those of `print_comparison`. Only after a `WriteFault`
+/// text may have been written.
 pub fn run<R, F: RunFiles, D: RunFolders, I: Read, O: Write, E: Write>(
     env: &mut Env<'_, '_, '_, '_, R, F, D, I, O, E>,
     key_bytes: &[u8],
@@ -44,7 +44,7 @@ pub fn run<R, F: RunFiles, D: RunFolders, I: Read, O: Write, E: Write>(
     run_compare(&env.files, env.alloc, compare, keys, env.output)
 }
 
-// The same, over these files.
+// The same over these files.
 fn run_compare<F: RunFiles, W: Write>(
     files: &F,
     alloc: Global,
@@ -74,7 +74,7 @@ fn run_compare<F: RunFiles, W: Write>(
     }
 }
 
-// Prints what the mirror says of the checkpoints in the files, or of those that it holds.
+// Prints the comparison with the checkpoints in the files, or with those that the mirror holds.
 fn compare_mirror<H: TreeHash, F: RunFiles, W: Write>(
     files: &F,
     alloc: Global,
@@ -102,7 +102,7 @@ fn compare_mirror<H: TreeHash, F: RunFiles, W: Write>(
     asked(answer, why)
 }
 
-// The heads of the files, and none where no file is named.
+// The heads in the files, or None if no file is named.
 fn heads_of<H: TreeHash, F: RunFiles>(
     files: &F,
     alloc: Global,
@@ -122,7 +122,7 @@ fn heads_of<H: TreeHash, F: RunFiles>(
     }
 }
 
-// The heads that are given, as a slice.
+// The given heads as a slice.
 fn lend(heads: &Option<Vec<(u64, Hash)>>) -> Option<&[(u64, Hash)]>
     ensures { option_map (λ given. given.now) result ≡ option_map (λ heads. heads.items) heads.now }
 {

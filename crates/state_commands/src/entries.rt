@@ -1,4 +1,4 @@
-//! The command `entries --state`: entries that a mirror serves.
+//! The command `entries --state`: it writes entries that a mirror serves.
 ghost use Rattle.std.specs.Prelude.{◌≡◌, map};
 ghost use Rattle.std.specs.Result.{result_map_both};
 ghost use Rattle.sha2.specs.Sha256.{sha256};
@@ -19,7 +19,7 @@ use std::io::{Read, Write};
 use tlog_hash::{Sha256Tree, TreeHash};
 use tlog_mirror::Mirror;
 
-/// Writes entries of the mirror in the state file, a bundle at a time.
+/// Writes entries of the mirror in the state file, one entry bundle after another.
 ///
 /// # Errors
 ///
@@ -67,7 +67,7 @@ pub fn run<R, F: RunFiles, D: RunFolders, I: Read, O: Write, E: Write>(
     }
 }
 
-// The answer of the command, of what the writer answered.
+// The answer of the command from the answer of the writer.
 fn written(answer: Result<(), StateEntriesFault>, why: Option<Why>) -> Result<u8, Error>
     ensures { result ≡ result_map_both (λ _. 0) (λ fault. RunFault.StateEntries fault) answer }
 {
@@ -77,7 +77,7 @@ fn written(answer: Result<(), StateEntriesFault>, why: Option<Why>) -> Result<u8
     }
 }
 
-// What a fault at these entries is about, of the mirror in that state file.
+// The thing that a fault of these entries is about, in the mirror of that state file.
 fn why_of<H: TreeHash>(
     alloc: Global,
     state: &str,

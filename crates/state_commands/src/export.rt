@@ -1,4 +1,4 @@
-//! The command `export`, with `--update` too: what is served is written to a folder.
+//! The commands `export` and `export --update`: they write the served files to a folder.
 ghost use Rattle.std.specs.Prelude.{map};
 ghost use Rattle.sha2.specs.Sha256.{sha256};
 ghost use Rattle.program_commands.specs.Exported.{ExportsFile};
@@ -18,7 +18,7 @@ use std::alloc::Global;
 use std::io::{Read, Write};
 use tlog_hash::Sha256Tree;
 
-/// Writes all tiles, then all bundles, then the checkpoint, into the folder.
+/// Writes all tiles, then all entry bundles, then the checkpoint to the folder.
 ///
 /// # Errors
 ///
@@ -44,7 +44,7 @@ pub fn run<R, F: RunFiles, D: RunFolders, I: Read, O: Write, E: Write>(
     }
 }
 
-// The same, over these files and folders; the progress is reported, if the words ask for it.
+// The same over these files and folders. It reports the progress if the words ask for it.
 fn put_all<F: RunFiles, D: RunFolders>(
     files: &F,
     folders: &mut D,
@@ -70,7 +70,7 @@ fn put_all<F: RunFiles, D: RunFolders>(
     done
 }
 
-/// Brings the folder up to date with what the mirror serves.
+/// Updates the folder to the files that the mirror serves.
 ///
 /// # Errors
 ///
@@ -96,7 +96,7 @@ pub fn run_with_update<R, F: RunFiles, D: RunFolders, I: Read, O: Write, E: Writ
     }
 }
 
-// The same, over these files and folders.
+// The same over these files and folders.
 fn put_new<F: RunFiles, D: RunFolders>(
     files: &F,
     folders: &mut D,
@@ -122,7 +122,6 @@ fn put_new<F: RunFiles, D: RunFolders>(
     done
 }
 
-// What the fault is about.
 fn why_of_export<R, F: RunFiles, D: RunFolders, I, O, E>(
     env: &Env<'_, '_, '_, '_, R, F, D, I, O, E>,
     export: &Export<'_>,
@@ -149,7 +148,6 @@ fn why_of_export<R, F: RunFiles, D: RunFolders, I, O, E>(
     }
 }
 
-// What the fault is about.
 fn why_of_update<R, F: RunFiles, D: RunFolders, I, O, E>(
     env: &Env<'_, '_, '_, '_, R, F, D, I, O, E>,
     update: &Export<'_>,

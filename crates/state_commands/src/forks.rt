@@ -1,4 +1,4 @@
-//! The command `forks`: the forks between the heads of a mirror.
+//! The command `forks`: it prints the forks between the heads of a mirror.
 ghost use Rattle.std.specs.Prelude.{map};
 ghost use Rattle.sha2.specs.Sha256.{sha256};
 ghost use Rattle.program_env.specs.Envs.{IsSameEnv, moment};
@@ -11,7 +11,7 @@ use program_words::{Command, StateArgs};
 use signed_note::Verifier;
 use std::io::{Read, Write};
 
-/// Prints which checkpoints of the mirror in the state file contradict each other.
+/// Prints the forks between the checkpoints of the mirror in the state file.
 ///
 /// # Errors
 ///

@@ -1,7 +1,7 @@
-//! The commands of `tlogmirror` that work on states, on files, or on standard input alone: one module a command.
+//! The commands of `tlogmirror` that use states, other files, or only standard input: one module for each command.
 //!
 //! ```text
-//! state_commands::status::run(&mut env, &key_bytes, &keys, &words)? // 0, or 3 where nothing is served
+//! state_commands::status::run(&mut env, &key_bytes, &keys, &words)? // 0, or 3 if nothing is served
 //! ```
 #![tactic(auto)]
 

@@ -1,4 +1,4 @@
-//! The command `merge`: two mirrors are made one.
+//! The command `merge`: it makes one mirror from two.
 ghost use Rattle.std.specs.Prelude.{map};
 ghost use Rattle.sha2.specs.Sha256.{sha256};
 ghost use Rattle.program_env.specs.Envs.{IsSameEnv, moment};
@@ -15,7 +15,7 @@ use std::io::{Read, Write};
 use tlog_hash::Sha256Tree;
 use tlog_mirror::MergeFault;
 
-/// Merges the mirrors in both state files, and writes the state of what comes of it.
+/// Merges the mirrors of two state files, and writes the state of the result.
 ///
 /// # Errors
 ///
@@ -49,7 +49,6 @@ pub fn run<R, F: RunFiles, D: RunFolders, I: Read, O: Write, E: Write>(
     }
 }
 
-// What the fault is about.
 fn why_of<F: RunFiles>(
     alloc: Global,
     files: &F,

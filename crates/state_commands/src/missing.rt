@@ -1,4 +1,4 @@
-//! The command `missing`: what the tree of a head lacks.
+//! The command `missing`: it prints the paths that the tree of a head lacks.
 ghost use Rattle.std.specs.Prelude.{map};
 ghost use Rattle.sha2.specs.Sha256.{sha256};
 ghost use Rattle.program_env.specs.Envs.{IsSameEnv, moment};
@@ -12,7 +12,7 @@ use program_words::commands::missing::Missing;
 use signed_note::Verifier;
 use std::io::{Read, Write};
 
-/// Prints the paths that a checkpoint's tree lacks, of the mirror in the state file.
+/// Prints the paths that the tree of a checkpoint lacks in the mirror of the state file.
 ///
 /// # Errors
 ///

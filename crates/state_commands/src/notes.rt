@@ -1,4 +1,4 @@
-//! The command `notes`: each signed note as a file of a folder.
+//! The command `notes`: it writes each signed note to a file of a folder.
 ghost use Rattle.std.specs.Prelude.{map};
 ghost use Rattle.sha2.specs.Sha256.{sha256};
 ghost use Rattle.program_env.specs.Envs.{IsSameEnv, moment};
@@ -15,7 +15,7 @@ use std::alloc::Global;
 use std::io::{Read, Write};
 use tlog_hash::Sha256Tree;
 
-/// Writes the notes into the folder, which is made where it is missing.
+/// Writes the notes to the folder, and makes the folder if it is missing.
 ///
 /// # Errors
 ///
@@ -48,7 +48,6 @@ pub fn run<R, F: RunFiles, D: RunFolders, I: Read, O: Write, E: Write>(
     }
 }
 
-// What the fault is about.
 fn why_of<F: RunFiles>(
     alloc: Global,
     files: &F,
@@ -64,7 +63,7 @@ fn why_of<F: RunFiles>(
             NamedFault::FileFault,
         ) {
             Some(why) => Some(why),
-            // A note's file that has other bytes, since files say what else is wrong with one.
+            // The file of a note has other bytes. For every other fault the files keep the reason.
             None => Why::of_thing(alloc, notes.folder),
         },
         NotesFault::Note(NamedFault::OutOfMemory) | NotesFault::OutOfMemory => None,

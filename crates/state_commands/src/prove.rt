@@ -1,4 +1,4 @@
-//! The command `prove`: a proof of what is served.
+//! The command `prove`: it prints a proof about the served entries.
 ghost use Rattle.std.specs.Prelude.{map};
 ghost use Rattle.sha2.specs.Sha256.{sha256};
 ghost use Rattle.program_env.specs.Envs.{IsSameEnv, moment};
@@ -12,7 +12,7 @@ use program_words::commands::prove::Prove;
 use signed_note::Verifier;
 use std::io::{Read, Write};
 
-/// Prints a proof of what the mirror in the state file serves.
+/// Prints a proof about the entries that the mirror in the state file serves.
 ///
 /// # Errors
 ///

@@ -1,4 +1,4 @@
-//! The command `pull`: what is missing is fetched.
+//! The command `pull`: it fetches what is missing.
 ghost use Rattle.std.specs.Prelude.{◌≡◌, ◌≢◌, ◌↔◌, ℕ, IfErr, IfOk, IsTrue, List, OnOk, Option, Result, map, option_map};
 ghost use Rattle.tlog_text.specs.Answers.{seen};
 ghost use Rattle.std.specs.Io.KnownBytes.{Keeps};
@@ -40,18 +40,18 @@ use tlog_hash::{Sha256Tree, TreeHash};
 use tlog_mirror::Mirror;
 use tlog_tiles::Path;
 
-/// Fetches what is missing into the mirror in the state file, or into one that holds nothing, writes its state, and
-/// then prints what the pull came to. The status is 3 where the pull is partial.
+/// Fetches what is missing into the mirror of the state file, or into an empty one, writes the state, and prints the result.
+/// The status is 3 if the pull is partial.
 ///
-/// Where nothing was gained, and the state is to be written to the file that it was read from, which has its bytes
-/// already, that file is left as it is.
+/// If the pull gained nothing, and the file to write is the plain file that the state was read from, it already has these
+/// bytes. Then it is not written.
 ///
-/// Where the place fails its state is written only where the words want it kept and something was gained. The fault is
-/// `Source` all the same, also where the file cannot be written then.
+/// If the place fails, the state is written only if the words ask to keep it and the pull gained something. The fault is
+/// `Source` even if that write fails.
 ///
 /// # Errors
 ///
-/// In this order: `BadOrigin`, those of the state file, those of the pull, `FileFault` at the file that is written,
+/// In this order: `BadOrigin`, those of the state file, those of the pull, `FileFault` for the file to write,
 /// and `WriteFault`.
 pub fn run<R, F: RunFiles, D: RunFolders, I: Read, O: Write, E: Write>(
     env: &mut Env<'_, '_, '_, '_, R, F, D, I, O, E>,
@@ -70,7 +70,7 @@ where
     run_pull(env.rt, &mut env.files, env.alloc, pull, keys, env.output)
 }
 
-// The same, over these files.
+// The same over these files.
 fn run_pull<R: Files + Clock + Eprint + Net<Stream = TcpStream>, F: RunFiles, W: Write>(
     rt: &R,
     files: &mut F,
@@ -114,7 +114,7 @@ fn run_pull<R: Files + Clock + Eprint + Net<Stream = TcpStream>, F: RunFiles, W:
     }
 }
 
-// Why a pull ended early, and what that is about. Contracts see the fault.
+// Why a pull ended early, and what the reason is about. Contracts see only the fault.
 #[derive(Drop)]
 struct Stopped {
     fault: PullFault,
@@ -130,7 +130,7 @@ impl Model for Stopped {
 }
 
 impl Stopped {
-    // A pull that ended by that fault.
+    // A pull that ended with this fault.
     fn new(fault: PullFault, why: Option<Why>) -> Stopped
         ensures { result ≡ fault }
     {
@@ -145,8 +145,8 @@ impl Stopped {
     }
 }
 
-// Whether the file that is to be written has the state already: it had it when the pull began, and nothing was gained. What
-// is no plain file, as a device, is written to all the same.
+// Whether the file to write already has the state: it had it when the pull began, and nothing was gained. Only a plain
+// file counts. Anything else, such as a device, is always written.
 fn is_held<R: Files>(rt: &R, out: &str, is_saved: bool, gained: bool) -> bool
     ensures saved { IsTrue result → IsTrue is_saved }
     ensures nothing { IsTrue result → ¬ IsTrue gained }
@@ -154,7 +154,7 @@ fn is_held<R: Files>(rt: &R, out: &str, is_saved: bool, gained: bool) -> bool
     is_saved && !gained && is_plain(rt, out)
 }
 
-// Whether a plain file of that name is there.
+// Whether there is a plain file of that name.
 fn is_plain<R: Files>(rt: &R, name: &str) -> bool {
     match metadata(rt, name) {
         Ok(about) => about.is_file(),
@@ -162,7 +162,7 @@ fn is_plain<R: Files>(rt: &R, name: &str) -> bool {
     }
 }
 
-// Writes the state of a mirror that has pulled, unless its file has it already.
+// Writes the state of the mirror after a pull, unless its file already has it.
 fn save_pulled<H: TreeHash, F: RunFiles>(
     files: &mut F,
     alloc: Global,
@@ -181,7 +181,7 @@ fn save_pulled<H: TreeHash, F: RunFiles>(
     write_state(files, alloc, out, mirror)
 }
 
-// Writes the state of a mirror that has pulled, unless its file has it already, and then prints what the pull came to.
+// Writes the state of the mirror after a pull, unless its file already has it, and then prints the result of the pull.
 fn report_pulled<H: TreeHash, F: RunFiles, W: Write>(
     files: &mut F,
     alloc: Global,
@@ -215,8 +215,8 @@ fn report_pulled<H: TreeHash, F: RunFiles, W: Write>(
     }
 }
 
-// Pulls into the mirror, and says whether it gained something, or what a fault is about. Where the source fails, what was
-// gained is written if the words want it kept.
+// Pulls into the mirror. Returns whether it gained something, or the fault with the thing that it is about. If the source
+// fails, the gained state is written if the words ask to keep it.
 fn pull_kept<H: TreeHash, R: Files + Clock + Eprint + Net<Stream = TcpStream>, F: RunFiles>(
     rt: &R,
     files: &mut F,
@@ -242,7 +242,7 @@ fn pull_kept<H: TreeHash, R: Files + Clock + Eprint + Net<Stream = TcpStream>, F
         return Err(no_memory());
     };
     let (answer, why) = from_place(rt, alloc, mirror, keys, words);
-    // What a mirror holds is sound: so a state that is written of it is loaded again.
+    // The contents of a mirror are sound, so a state that is written from it loads again.
     let _sound = mirror.strings();
     match answer {
         Ok(pulled) => {
@@ -250,7 +250,7 @@ fn pull_kept<H: TreeHash, R: Files + Clock + Eprint + Net<Stream = TcpStream>, F
             Ok((pulled, gained))
         }
         Err(fault) => {
-            // Where it cannot be written the fault is still the pull's.
+            // If it cannot be written, the fault is still that of the pull.
             let _ = keep_gained(files, alloc, words, mirror, &before, fault);
             Err(Stopped::new(fault, why))
         }
@@ -264,7 +264,7 @@ fn no_memory() -> Stopped
     Stopped::new(PullFault::OutOfMemory, None)
 }
 
-// After a pull that ended by that fault: writes the mirror's state, where the words want it kept and something was
+// After a pull that ended with this fault: writes the state of the mirror if the words ask to keep it and something was
 // gained.
 fn keep_gained<H: TreeHash, F: RunFiles>(
     files: &mut F,
@@ -284,14 +284,14 @@ fn keep_gained<H: TreeHash, F: RunFiles>(
     Ok(())
 }
 
-// Whether the source of a pull failed.
+// Whether the source failed.
 fn is_source(fault: PullFault) -> bool
     ensures { IsTrue result ↔ (fault ≡ Source) }
 {
     matches!(fault, PullFault::Source)
 }
 
-// Pulls from a place into the mirror, and says what a fault is about.
+// Pulls from a place into the mirror, and returns the thing that a fault is about.
 fn from_place<'a, H: TreeHash, R: Files + Clock + Eprint + Net<Stream = TcpStream>>(
     rt: &'a R,
     alloc: Global,
@@ -317,7 +317,7 @@ fn from_place<'a, H: TreeHash, R: Files + Clock + Eprint + Net<Stream = TcpStrea
             address,
             port,
         } => {
-            // The words were judged by the rules of `Site`, so memory alone is wanting here.
+            // `Site` has already accepted these words, so only memory can be lacking.
             let Ok(site) = Site::new(alloc, host, prefix) else {
                 return (Err(PullFault::OutOfMemory), None);
             };
@@ -330,7 +330,7 @@ fn from_place<'a, H: TreeHash, R: Files + Clock + Eprint + Net<Stream = TcpStrea
     }
 }
 
-// Pulls from a server into the mirror, and says what a fault is about.
+// Pulls from a server into the mirror, and returns the thing that a fault is about.
 fn from_server<H: TreeHash, R: Clock + Eprint, N: Net<Stream = TcpStream> + Clock + Clone + Drop>(
     rt: &R,
     alloc: Global,
@@ -350,7 +350,7 @@ fn from_server<H: TreeHash, R: Clock + Eprint, N: Net<Stream = TcpStream> + Cloc
     (pulled, why)
 }
 
-// What a pull that ended early is about: a file of the place, or the place.
+// The thing that the end of a pull is about: a file of the place, or the place.
 fn why_of<S: Source + Failing + Drop>(
     alloc: Global,
     place: &Place<'_>,

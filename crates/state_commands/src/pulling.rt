@@ -1,4 +1,4 @@
-//! A pull, with how far it is where the words ask for it.
+//! A pull that reports its progress if the words ask for it.
 ghost use Rattle.std.specs.Prelude.{map};
 ghost use Rattle.mirror_pull.specs.Replying.{FollowsReplies};
 ghost use Rattle.mirror_pull.specs.Taking.{PullsTo};
@@ -13,7 +13,7 @@ use std::rt::Clock;
 use tlog_hash::TreeHash;
 use tlog_mirror::Mirror;
 
-/// Pulls from the source into the mirror, and reports the progress, if the words ask for it. The source is given back.
+/// Pulls from the source into the mirror, and reports the progress if the words ask for it. Returns the source, too.
 ///
 /// # Errors
 ///
@@ -38,7 +38,7 @@ pub(crate) fn pull_from<H: TreeHash, S: Source + Drop, R: Clock + Eprint>(
     }
 }
 
-// Pulls from the source into the mirror, and reports nothing.
+// Pulls from the source into the mirror, without progress reports.
 fn pull_silent<H: TreeHash, S: Source + Drop>(
     alloc: Global,
     mirror: &mut Mirror<H>,
@@ -54,7 +54,7 @@ fn pull_silent<H: TreeHash, S: Source + Drop>(
     (pulled, source)
 }
 
-// How many entries the largest checkpoint has that the mirror holds; 0 where it holds none.
+// The size of the largest checkpoint that the mirror holds, or 0 if it holds none.
 fn largest_size<H: TreeHash>(alloc: Global, mirror: &Mirror<H>) -> u64 {
     let mut largest = 0;
     for i in 0..usize::MAX {
@@ -66,7 +66,7 @@ fn largest_size<H: TreeHash>(alloc: Global, mirror: &Mirror<H>) -> u64 {
     largest
 }
 
-// Pulls from the source into the mirror, and reports the progress, and at its end the total.
+// Pulls from the source into the mirror, and reports the progress and, at the end, the total.
 fn pull_reporting<H: TreeHash, S: Source + Drop, R: Clock + Eprint>(
     rt: &R,
     alloc: Global,

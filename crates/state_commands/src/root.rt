@@ -1,4 +1,4 @@
-//! The command `root`.
+//! The command `root`: it prints the tree hash of an entry bundle.
 ghost use Rattle.std.specs.Prelude.{◌≤◌, map};
 ghost use Rattle.sha2.specs.Sha256.{sha256};
 ghost use Rattle.program_env.specs.Envs.{IsSameEnv, moment};
@@ -12,7 +12,7 @@ use signed_note::Verifier;
 use std::io::{Read, Write};
 use tlog_hash::Sha256Tree;
 
-/// Prints the size and the tree hash of the bundle that the input gives.
+/// Prints the size and the tree hash of the entry bundle on the input.
 ///
 /// # Errors
 ///

@@ -1,4 +1,4 @@
-//! The command `serve`: answers over HTTP.
+//! The command `serve`: it answers over HTTP from a state file.
 ghost use Rattle.std.specs.Prelude.{◌≡◌, map};
 ghost use Rattle.std.specs.Result.{result_map_both};
 ghost use Rattle.sha2.specs.Sha256.{sha256};
@@ -23,13 +23,17 @@ use std::rt::Clock;
 use tlog_hash::{Sha256Tree, TreeHash};
 use tlog_mirror::Mirror;
 
-/// Answers as many connections as are asked for, one after the other, from the mirror in the state file. A fault of
-/// one is written to standard error, and the next is answered.
+/// Answers the requested number of connections, one after another, from the mirror in the state file. A fault of one
+/// connection is written to standard error, and then the next one is answered.
 ///
 /// # Errors
 ///
-/// In this order: `BadOrigin`, those of the state file, `PortFault` where the port cannot be had, `WriteFault` where the
-/// line that reports it cannot be written, and `PortFault` where a connection cannot be accepted.
+/// In this order:
+///
+/// - `BadOrigin` and the faults of the state file;
+/// - `PortFault` if the port cannot be opened;
+/// - `WriteFault` if the line with the port cannot be written;
+/// - `PortFault` if a connection cannot be accepted.
 pub fn run<R, F: RunFiles, D: RunFolders, I: Read, O: Write, E: Write>(
     env: &mut Env<'_, '_, '_, '_, R, F, D, I, O, E>,
     key_bytes: &[u8],
@@ -66,7 +70,7 @@ where
     }
 }
 
-// The status where all were answered.
+// The status 0 if all connections were answered.
 fn served(answer: Result<(), Error>) -> Result<u8, Error>
     ensures { result ≡ result_map_both (λ _. 0) (λ fault. fault) answer }
 {
@@ -76,7 +80,7 @@ fn served(answer: Result<(), Error>) -> Result<u8, Error>
     }
 }
 
-// Makes a mirror ready, and serves it.
+// Prepares a mirror, and serves it.
 fn serve_ready<H: TreeHash, R, O: Write, E: Write>(
     rt: &R,
     alloc: Global,
@@ -96,7 +100,7 @@ where
     }
 }
 
-// Settles a mirror, and lays out what it serves. Where memory is short for the latter it serves from its strings.
+// Settles a mirror, and lays out the served files. If there is no memory for the layout, it serves from its strings.
 fn make_ready<H: TreeHash>(alloc: Global, mirror: &mut Mirror<H>) -> Result<(), AllocError>
     ensures kept { mirror.new.view ≡ mirror.old.view }
 {
@@ -108,7 +112,7 @@ fn make_ready<H: TreeHash>(alloc: Global, mirror: &mut Mirror<H>) -> Result<(), 
     Ok(())
 }
 
-// Listens at the port, reports it, and answers as many connections as are asked for.
+// Listens at the port, prints it, and answers the requested number of connections.
 fn serve_mirror<H: TreeHash, R, O: Write, E: Write>(
     rt: &R,
     alloc: Global,
@@ -133,7 +137,7 @@ where
     }
 }
 
-// Answers clients one after the other, as many as asked, while connections are accepted.
+// Answers the requested number of clients, one after another, while connections are accepted.
 fn serve_all<H: TreeHash, C: Clock, S: Clients, E: Write>(
     clock: &C,
     alloc: Global,

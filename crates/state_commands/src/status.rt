@@ -1,4 +1,4 @@
-//! The command `status`: the heads of a mirror.
+//! The command `status`: it prints the heads of a mirror.
 ghost use Rattle.std.specs.Prelude.{map};
 ghost use Rattle.sha2.specs.Sha256.{sha256};
 ghost use Rattle.program_env.specs.Envs.{IsSameEnv, moment};
@@ -11,7 +11,7 @@ use program_words::{Command, StateArgs};
 use signed_note::Verifier;
 use std::io::{Read, Write};
 
-/// Prints the checkpoints of the mirror in the state file, which of them are complete, and which is served.
+/// Prints the checkpoints of the mirror in the state file, and says which are complete and which is served.
 ///
 /// # Errors
 ///

@@ -1,4 +1,4 @@
-//! The command `take`: what files hold is taken into a mirror.
+//! The command `take`: it takes files into a mirror.
 ghost use Rattle.std.specs.Prelude.{◌≤◌, ◌∷◌, length, map};
 ghost use Rattle.sha2.specs.Sha256.{sha256};
 ghost use Rattle.program_commands.specs.Takes.{NamesWidth};
@@ -18,7 +18,7 @@ use std::io::{Read, Write};
 use tlog_hash::Sha256Tree;
 use tlog_mirror::TakeFault;
 
-/// Takes the item into the mirror in the state file, or into one that holds nothing, and writes its state.
+/// Takes the item into the mirror of the state file, or into an empty one, and writes the state.
 ///
 /// # Errors
 ///
@@ -38,7 +38,7 @@ pub fn run<R, F: RunFiles, D: RunFolders, I: Read, O: Write, E: Write>(
         (moment F.puts D.held D.puts I.remaining O.contents env.new)
         (Command.Take take.now) result }
 {
-    // The words name a file at least.
+    // The words name at least one file.
     let names = take.files.as_slice();
     let item = item_of(take.kind, take.width, names[0], &names[1..]);
     let origin = take.mirror.log.origin;
@@ -60,7 +60,7 @@ pub fn run<R, F: RunFiles, D: RunFolders, I: Read, O: Write, E: Write>(
     }
 }
 
-// The files of the item: the first of them, and for a head the rows behind it.
+// The files of the item. For a head: the note, and then the files of the rows.
 fn item_of<'a>(kind: Kind, width: u32, first: &'a str, rest: &'a [&'a str]) -> ItemFiles<'a>
     requires least { 1 ≤ width }
     requires most { width ≤ 256 }
@@ -78,7 +78,6 @@ fn item_of<'a>(kind: Kind, width: u32, first: &'a str, rest: &'a [&'a str]) -> I
     }
 }
 
-// What the fault is about.
 fn why_of<F: RunFiles>(
     alloc: Global,
     files: &F,
@@ -95,7 +94,7 @@ fn why_of<F: RunFiles>(
     }
 }
 
-// What a fault of an item is about: its first file, or the row that has not as many hashes as its tile.
+// The thing that a fault of an item is about: its first file, or the row whose length is not that of its tile.
 fn of_item<F: RunFiles>(
     alloc: Global,
     files: &F,

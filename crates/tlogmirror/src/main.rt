@@ -1,8 +1,8 @@
-//! A mirror for one append-only transparency log in the C2SP tlog-tiles layout: the program.
+//! The program: a mirror for one append-only transparency log in the C2SP tlog-tiles layout.
 //!
-//! `main` reads the words of the command line, does the command over the standard streams (`run`), and ends as `ending_of` says: a
-//! fault by its name on standard error, and by the exit status: 0 done, 1 a fault, 2 a command line that asks for nothing
-//! that can be done, 3 a no.
+//! `main` reads the words of the command line and runs the command with the standard streams (`run`). `ending_of` gives
+//! its end: the name of a fault on standard error, and the exit status. Status 0 means success, 1 a fault, 2 a command line
+//! that cannot be carried out, and 3 the answer no.
 #![tactic(auto)]
 
 use program_files::WatchedStream;
@@ -34,13 +34,13 @@ fn main(rt: HostRuntime) -> ExitCode {
     ExitCode::from(status)
 }
 
-// A directory, opened. Where the program was started without a standard stream, it takes the number of that one: so no file and
-// no connection gets it, and each read and each write of the stream still fails.
+// Opens a directory. If the program was started without a standard stream, the directory takes its number. Then no file and
+// no connection gets that number, and each read or write of the stream still fails.
 fn directory(rt: &HostRuntime) -> io::Result<File> {
     File::open(rt, "/")
 }
 
-// The words after the program's name. One that is not UTF-8 is a bad argument.
+// The words after the program's name. A word that is not UTF-8 is a bad argument.
 fn words_of(rt: &HostRuntime) -> Result<Vec<String>, CommandFault> {
     match env::args(rt) {
         Ok(arguments) => Ok(arguments.skip(1).collect(rt.alloc())?),

@@ -1,4 +1,4 @@
-//! `audit`: a whole log at a place, verified file by file.
+//! `audit`: verifies a complete log at a place, file by file.
 ghost use Rattle.std.specs.Prelude.{codes};
 ghost use Rattle.clap.specs.Words.{found_of, rows_of};
 ghost use Rattle.program_words.specs.Readings.{IsSaid, JudgesPart};
@@ -11,20 +11,20 @@ use crate::refusals::Refusals;
 use clap::ArgMatches;
 use std::alloc::Global;
 
-/// `audit`: a whole log at a place, verified file by file.
+/// `audit`: verifies a complete log at a place, file by file.
 #[derive(Drop, Clone, Copy)]
 pub struct Audit<'a> {
     /// The log.
     pub log: Log<'a>,
-    /// How many requests may be sent ahead, 0 to 64. A folder does not heed it.
+    /// The number of requests that may be sent ahead, 0 to 64. A folder ignores it.
     pub ahead: u64,
-    /// Whether lines say how far the work is.
+    /// Whether lines report the progress.
     pub progress: bool,
-    /// Where the log is.
+    /// The place of the log.
     pub place: Place<'a>,
 }
 
-// What it reads, writes and may end with.
+// The text of the long help: input, output, statuses, faults and an example.
 const HELP: &str = "\
 The place is a log, or a copy of one, for example one's own. Its checkpoint is verified, and then every
 file of a log of that size, one after the other. A partial file may have given way to its full one.
@@ -49,7 +49,7 @@ Faults of O and K: see 'tlogmirror --help'. Of the place:
 
 Example: tlogmirror audit --origin example.com/log --keys examples/log.keys dir examples/log";
 
-/// Its command line.
+/// The command line.
 pub(crate) const LINE: CommandLine<'static> = CommandLine {
     name: "audit",
     about: "Reads a whole log at a place, and verifies every file of it, in little memory",
@@ -71,7 +71,7 @@ pub(crate) const LINE: CommandLine<'static> = CommandLine {
     ],
 };
 
-/// The command, by its options.
+/// Reads the command from its options.
 pub(crate) fn read<'a>(
     alloc: Global,
     found: &ArgMatches<'a>,

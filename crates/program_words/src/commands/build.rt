@@ -1,4 +1,4 @@
-//! `build`: a log of the entries on standard input.
+//! `build`: makes a log from the entries on standard input.
 ghost use Rattle.std.specs.Prelude.{codes};
 ghost use Rattle.clap.specs.Words.{found_of, rows_of};
 ghost use Rattle.program_words.specs.Readings.{IsSaid, JudgesPart};
@@ -9,18 +9,18 @@ use crate::parts::{Log, has_flag, log_of, word_of};
 use crate::refusals::Refusals;
 use clap::ArgMatches;
 
-/// `build`: a log of the entries on standard input.
+/// `build`: makes a log from the entries on standard input.
 #[derive(Drop, Clone, Copy)]
 pub struct Build<'a> {
-    /// The log that is made.
+    /// The new log.
     pub log: Log<'a>,
-    /// The folder that it is written to.
+    /// The folder for its files.
     pub folder: &'a str,
-    /// Whether lines say how far the work is.
+    /// Whether lines report the progress.
     pub progress: bool,
 }
 
-// What it reads, writes and may end with.
+// The text of the long help: input, output, statuses, faults and an example.
 const HELP: &str = "\
 Each entry on standard input is its length, two bytes with the higher first, and its bytes. The
 checkpoint is signed with the first 'hmac' key of K. Tiles and bundles are written before it.
@@ -41,7 +41,7 @@ Faults, on standard error:
 
 Example: printf '\\0\\1a' | tlogmirror build --origin ex --keys examples/ex.keys --dir new";
 
-/// Its command line.
+/// The command line.
 pub(crate) const LINE: CommandLine<'static> = CommandLine {
     name: "build",
     about: "Makes a log of the entries on standard input, signs its checkpoint, and writes its files to a folder",
@@ -60,7 +60,7 @@ pub(crate) const LINE: CommandLine<'static> = CommandLine {
     ],
 };
 
-/// The command, by its options.
+/// Reads the command from its options.
 pub(crate) fn read<'a>(found: &ArgMatches<'a>, refusals: &mut Refusals) -> Command<'a>
     ensures { JudgesPart (IsSaid (codes "build") (rows_of (found_of found.now))) refusals.old
         refusals.new result }

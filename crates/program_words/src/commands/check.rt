@@ -1,4 +1,4 @@
-//! `check`: whether the proof on standard input holds. It has no options.
+//! `check`: verifies the proof on standard input. It has no options.
 ghost use Rattle.std.specs.Prelude.{codes};
 ghost use Rattle.clap.specs.Words.{found_of, rows_of};
 ghost use Rattle.program_words.specs.Readings.{IsSaid, JudgesPart};
@@ -8,7 +8,7 @@ use crate::parser::{Base, CommandLine};
 use crate::refusals::Refusals;
 use clap::ArgMatches;
 
-// What it reads, writes and may end with.
+// The text of the long help: input, output, statuses, faults and an example.
 const HELP: &str = "\
 The output is 'yes' where the proof holds, else 'no'. Who relies on a yes compares the roots in the
 text with checkpoints of the log.
@@ -22,7 +22,7 @@ Faults, on standard error:
 
 Example: tlogmirror check <examples/inclusion-2-of-3.proof";
 
-/// Its command line.
+/// The command line.
 pub(crate) const LINE: CommandLine<'static> = CommandLine {
     name: "check",
     about: "Reads the text of a proof from standard input, and prints whether it holds: yes or no",
@@ -31,7 +31,7 @@ pub(crate) const LINE: CommandLine<'static> = CommandLine {
     arguments: &[],
 };
 
-/// The command.
+/// Reads the command, which has no options.
 pub(crate) fn read<'a>(_found: &ArgMatches<'a>, _refusals: &mut Refusals) -> Command<'a>
     ensures { JudgesPart (IsSaid (codes "check") (rows_of (found_of _found.now))) _refusals.old
         _refusals.new result }

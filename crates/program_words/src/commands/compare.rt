@@ -1,4 +1,4 @@
-//! `compare`: checkpoints compared with what is served, by a mirror or as a copy.
+//! `compare`: compares checkpoints with the served one of a mirror, or with a copy.
 ghost use Rattle.std.specs.Prelude.{codes};
 ghost use Rattle.clap.specs.Words.{found_of, rows_of};
 ghost use Rattle.program_words.specs.Readings.{IsSaid, JudgesPart};
@@ -10,25 +10,25 @@ use crate::refusals::Refusals;
 use clap::ArgMatches;
 use std::alloc::Global;
 
-/// `compare --state`: checkpoints compared with what is served.
+/// `compare --state`: compares checkpoints with the served one.
 #[derive(Drop)]
 pub struct Compare<'a> {
     /// The mirror.
     pub mirror: StateArgs<'a>,
-    /// The files of the notes that are compared; none for those that the mirror holds.
+    /// The files of the notes to compare. If it is empty, the checkpoints that the mirror holds are compared.
     pub files: Vec<&'a str>,
 }
 
-/// `compare --dir`: checkpoints compared with a copy.
+/// `compare --dir`: compares checkpoints with a copy.
 #[derive(Drop)]
 pub struct CopyCompare<'a> {
     /// The copy.
     pub copy: CopyArgs<'a>,
-    /// The files of the notes that are compared; none for the copy's own.
+    /// The files of the notes to compare. If it is empty, the copy's own checkpoint is compared.
     pub files: Vec<&'a str>,
 }
 
-// What it reads, writes and may end with.
+// The text of the long help: input, output, statuses, faults and an example.
 const HELP: &str = "\
 The output is a line for each checkpoint, of those in S by size, or of the FILEs in their order:
 'same SIZE ROOT' where as many of the served entries have its root, 'fork SIZE ROOT OWN' where they
@@ -48,7 +48,7 @@ Faults of O, K, S and D: see 'tlogmirror --help'. Besides, on standard error:
 
 Example: tlogmirror compare --origin log.example --keys keys --state state other.note";
 
-/// Its command line.
+/// The command line.
 pub(crate) const LINE: CommandLine<'static> = CommandLine {
     name: "compare",
     about: "Prints which checkpoints contradict the served one, also those without entries",
@@ -61,7 +61,7 @@ pub(crate) const LINE: CommandLine<'static> = CommandLine {
     )],
 };
 
-/// The command, by its options, over a state or a copy.
+/// Reads the command for a state or a copy from its options.
 pub(crate) fn read<'a>(
     alloc: Global,
     found: &ArgMatches<'a>,

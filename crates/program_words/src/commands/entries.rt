@@ -1,4 +1,4 @@
-//! `entries`: a range of entries, of what a mirror serves, or of a copy.
+//! `entries`: writes a range of entries that a mirror serves, or that a copy has.
 ghost use Rattle.std.specs.Prelude.{codes};
 ghost use Rattle.clap.specs.Words.{found_of, rows_of};
 ghost use Rattle.program_words.specs.Commands.{IsEntryRange};
@@ -10,36 +10,36 @@ use crate::parts::{CopyArgs, Source, StateArgs, has_flag, size_of, source_of};
 use crate::refusals::Refusals;
 use clap::ArgMatches;
 
-/// Which entries are written, and how.
+/// A range of entries and the format of the output.
 #[derive(Drop, Clone, Copy)]
 pub struct EntryRange {
-    /// The first of them, from 0 on. It may be greater than `to`, which is refused later.
+    /// The index of the first entry. It may be greater than `to`; that is refused later.
     pub from: u64,
-    /// How many entries stand before their end: the last of them is the one before this.
+    /// The end of the range: one more than the index of the last entry.
     pub to: u64,
-    /// Whether each is written as a line in base64.
+    /// Whether each entry is written as a line in base64.
     pub base64: bool,
 }
 
-/// `entries --state`: entries of what a mirror serves.
+/// `entries --state`: writes entries that a mirror serves.
 #[derive(Drop, Clone, Copy)]
 pub struct Entries<'a> {
     /// The mirror.
     pub mirror: StateArgs<'a>,
-    /// Which entries.
+    /// The range.
     pub range: EntryRange,
 }
 
-/// `entries --dir`: entries of a copy.
+/// `entries --dir`: writes entries of a copy.
 #[derive(Drop, Clone, Copy)]
 pub struct CopyEntries<'a> {
     /// The copy.
     pub copy: CopyArgs<'a>,
-    /// Which entries.
+    /// The range.
     pub range: EntryRange,
 }
 
-// What it reads, writes and may end with.
+// The text of the long help: input, output, statuses, faults and an example.
 const HELP: &str = "\
 The output is the served entries from FROM up to TO, without TO: each is its length, two bytes with the
 higher first, and its bytes, as 'build' reads them. With --base64 each is a line. To read what is new
@@ -55,7 +55,7 @@ Faults of O, K, S and D: see 'tlogmirror --help'. At CopyDamaged a part may have
 
 Example: tlogmirror entries --origin example.com/log --keys examples/log.keys --dir log 12 20";
 
-/// Its command line.
+/// The command line.
 pub(crate) const LINE: CommandLine<'static> = CommandLine {
     name: "entries",
     about: "Writes a range of entries to standard output",
@@ -68,7 +68,7 @@ pub(crate) const LINE: CommandLine<'static> = CommandLine {
     ],
 };
 
-// Which entries.
+// Reads the range from the options.
 fn range_of(found: &ArgMatches<'_>, refusals: &mut Refusals) -> EntryRange
     ensures { JudgesPart (IsEntryRange (rows_of (found_of found.now))) refusals.old refusals.new
         result }
@@ -79,7 +79,7 @@ fn range_of(found: &ArgMatches<'_>, refusals: &mut Refusals) -> EntryRange
     EntryRange { from, to, base64 }
 }
 
-/// The command, by its options, over a state or a copy.
+/// Reads the command for a state or a copy from its options.
 pub(crate) fn read<'a>(found: &ArgMatches<'a>, refusals: &mut Refusals) -> Command<'a>
     ensures { JudgesPart (IsSaid (codes "entries") (rows_of (found_of found.now))) refusals.old
         refusals.new result }

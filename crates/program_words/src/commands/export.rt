@@ -1,4 +1,4 @@
-//! `export`, with `--update` too: what is served, written to a folder.
+//! `export` and `export --update`: write the served files to a folder.
 ghost use Rattle.std.specs.Prelude.{codes};
 ghost use Rattle.clap.specs.Words.{found_of, rows_of};
 ghost use Rattle.program_words.specs.Readings.{IsSaid, JudgesPart};
@@ -9,18 +9,18 @@ use crate::parts::{StateArgs, has_flag, state_args, word_of};
 use crate::refusals::Refusals;
 use clap::ArgMatches;
 
-/// `export`, with `--update` too: what is served, written to a folder.
+/// `export` and `export --update`: write the served files to a folder.
 #[derive(Drop, Clone, Copy)]
 pub struct Export<'a> {
     /// The mirror.
     pub mirror: StateArgs<'a>,
     /// The folder.
     pub folder: &'a str,
-    /// Whether lines say how far the work is.
+    /// Whether lines report the progress.
     pub progress: bool,
 }
 
-// What it reads, writes and may end with.
+// The text of the long help: input, output, statuses, faults and an example.
 const HELP: &str = "\
 Tiles and bundles are written before the checkpoint. Any web server can serve the folder.
 With --update D may have a checkpoint of this log: what it lacks is written, the checkpoint
@@ -37,7 +37,7 @@ Faults of O, K and S: see 'tlogmirror --help'. Then:
 
 Example: tlogmirror export --origin log.example --keys keys --state state --dir copy";
 
-/// Its command line.
+/// The command line.
 pub(crate) const LINE: CommandLine<'static> = CommandLine {
     name: "export",
     about: "Writes the files of the served checkpoint to a folder, as a log publishes them",
@@ -53,7 +53,7 @@ pub(crate) const LINE: CommandLine<'static> = CommandLine {
     ],
 };
 
-/// The command, by its options, with or without `--update`.
+/// Reads the command from its options, with or without `--update`.
 pub(crate) fn read<'a>(found: &ArgMatches<'a>, refusals: &mut Refusals) -> Command<'a>
     ensures { JudgesPart (IsSaid (codes "export") (rows_of (found_of found.now))) refusals.old
         refusals.new result }

@@ -1,4 +1,4 @@
-//! `follow`: a copy brought to the newest checkpoint of its places.
+//! `follow`: brings a copy to the newest checkpoint of its places.
 ghost use Rattle.std.specs.Prelude.{codes};
 ghost use Rattle.clap.specs.Words.{found_of, rows_of};
 ghost use Rattle.program_words.specs.Commands.{IsPlacesGiven};
@@ -13,26 +13,26 @@ use crate::refusals::Refusals;
 use clap::ArgMatches;
 use std::alloc::Global;
 
-/// `follow`: a copy brought to the newest checkpoint of its places.
+/// `follow`: brings a copy to the newest checkpoint of its places.
 #[derive(Drop)]
 pub struct Follow<'a> {
     /// The copy.
     pub copy: CopyArgs<'a>,
-    /// The file of the note that is followed, if not the newest one of the places.
+    /// The file of the note to follow. If it is None, the newest one of the places is followed.
     pub checkpoint: Option<&'a str>,
-    /// The folder that the evidence of forks is written to, if it is.
+    /// The folder for the evidence of forks, if it is wanted.
     pub forks: Option<&'a str>,
-    /// How many requests may be sent ahead to each server, 0 to 64.
+    /// The number of requests that may be sent ahead to each server, 0 to 64.
     pub ahead: u64,
-    /// Whether lines say how far the work is.
+    /// Whether lines report the progress.
     pub progress: bool,
-    /// Whether lines say what was wrong at each place.
+    /// Whether lines report the first fault of each place.
     pub why: bool,
-    /// Where from: one place or more, in the order of the words.
+    /// The places of the log, at least one, in the order of the words.
     pub places: Vec<Place<'a>>,
 }
 
-// What it reads, writes and may end with.
+// The text of the long help: input, output, statuses, faults and an example.
 const HELP: &str = "\
 D is a copy: the log's files in a folder, as any web server gives them out. It begins empty. No place is
 trusted: a file is verified before it is written, and what one place lacks or falsifies is asked of the
@@ -72,7 +72,7 @@ Faults of O and K: see 'tlogmirror --help'. Besides, on standard error:
 
 Example: tlogmirror follow --origin example.com/log --keys examples/log.keys --dir log dir examples/log";
 
-/// Its command line.
+/// The command line.
 pub(crate) const LINE: CommandLine<'static> = CommandLine {
     name: "follow",
     about: "Brings a copy of a log, in a folder, to the newest checkpoint of some places, and verifies every file",
@@ -100,7 +100,7 @@ pub(crate) const LINE: CommandLine<'static> = CommandLine {
     ],
 };
 
-// The places that its words name.
+// Reads the places from the options.
 fn places_given<'a>(
     alloc: Global,
     found: &ArgMatches<'a>,
@@ -111,7 +111,7 @@ fn places_given<'a>(
 {
     match found.get_strs("place") {
         Some(words) => places_or_bad(alloc, words, refusals),
-        // It never comes here: `clap` wants one word or more.
+        // It never gets here: `clap` requires at least one word.
         None => {
             refusals.note(BadWord::new("PLACE", "one is due"));
             Vec::new(alloc)
@@ -119,7 +119,7 @@ fn places_given<'a>(
     }
 }
 
-/// The command, by its options.
+/// Reads the command from its options.
 pub(crate) fn read<'a>(
     alloc: Global,
     found: &ArgMatches<'a>,

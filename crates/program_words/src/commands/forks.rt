@@ -1,4 +1,4 @@
-//! `forks`: the forks between a mirror's heads. It has the options of each command over a state alone.
+//! `forks`: prints the forks between a mirror's heads. It has only the options of every command over a state.
 ghost use Rattle.std.specs.Prelude.{codes};
 ghost use Rattle.clap.specs.Words.{found_of, rows_of};
 ghost use Rattle.program_words.specs.Readings.{IsSaid, JudgesPart};
@@ -9,7 +9,7 @@ use crate::parts::state_args;
 use crate::refusals::Refusals;
 use clap::ArgMatches;
 
-// What it reads, writes and may end with.
+// The text of the long help: input, output, statuses, faults and an example.
 const HELP: &str = "\
 The output is 'fork SIZE ROOT SIZE ROOT' for each two checkpoints of one size with different roots, and
 for each two complete ones of which neither list of entries is a prefix of the other. A fork is the
@@ -20,7 +20,7 @@ Faults of O, K and S: see 'tlogmirror --help'.
 
 Example: tlogmirror forks --origin log.example --keys keys --state state";
 
-/// Its command line.
+/// The command line.
 pub(crate) const LINE: CommandLine<'static> = CommandLine {
     name: "forks",
     about: "Prints which checkpoints contradict each other: of one size, or both complete",
@@ -29,7 +29,7 @@ pub(crate) const LINE: CommandLine<'static> = CommandLine {
     arguments: &[],
 };
 
-/// The command, by its options.
+/// Reads the command from its options.
 pub(crate) fn read<'a>(found: &ArgMatches<'a>, refusals: &mut Refusals) -> Command<'a>
     ensures { JudgesPart (IsSaid (codes "forks") (rows_of (found_of found.now))) refusals.old
         refusals.new result }

@@ -1,4 +1,4 @@
-//! `merge`: what a second mirror holds is taken into a first.
+//! `merge`: merges a second mirror into a first.
 ghost use Rattle.std.specs.Prelude.{codes};
 ghost use Rattle.clap.specs.Words.{found_of, rows_of};
 ghost use Rattle.program_words.specs.Readings.{IsSaid, JudgesPart};
@@ -9,18 +9,18 @@ use crate::parts::{OutputArgs, output_args, word_of};
 use crate::refusals::Refusals;
 use clap::ArgMatches;
 
-/// `merge`: what a second mirror holds is taken into a first.
+/// `merge`: merges a second mirror into a first.
 #[derive(Drop, Clone, Copy)]
 pub struct Merge<'a> {
-    /// The mirror that comes of it.
+    /// The merged mirror.
     pub mirror: OutputArgs<'a>,
-    /// The file of the first mirror's state.
+    /// The state file of the first mirror.
     pub first: &'a str,
-    /// The file of the second mirror's state.
+    /// The state file of the second mirror.
     pub second: &'a str,
 }
 
-// What it reads, writes and may end with.
+// The text of the long help: input, output, statuses, faults and an example.
 const HELP: &str = "\
 What B holds is taken into A. T may be A or B. A state of version 1 is written as version 2.
 
@@ -30,7 +30,7 @@ Faults of O, K, A, B and T: see 'tlogmirror --help'. A is read before B. Then:
 
 Example: tlogmirror merge --origin log.example --keys keys --out both here there";
 
-/// Its command line.
+/// The command line.
 pub(crate) const LINE: CommandLine<'static> = CommandLine {
     name: "merge",
     about: "Makes one mirror of two, and writes its state",
@@ -42,7 +42,7 @@ pub(crate) const LINE: CommandLine<'static> = CommandLine {
     ],
 };
 
-/// The command, by its options.
+/// Reads the command from its options.
 pub(crate) fn read<'a>(found: &ArgMatches<'a>, refusals: &mut Refusals) -> Command<'a>
     ensures { JudgesPart (IsSaid (codes "merge") (rows_of (found_of found.now))) refusals.old
         refusals.new result }

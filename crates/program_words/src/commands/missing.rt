@@ -1,4 +1,4 @@
-//! `missing`: what a head's tree lacks.
+//! `missing`: prints the paths that the tree of a head lacks.
 ghost use Rattle.std.specs.Prelude.{codes};
 ghost use Rattle.clap.specs.Words.{found_of, rows_of};
 ghost use Rattle.program_words.specs.Commands.{IsRootGiven};
@@ -13,7 +13,7 @@ use clap::ArgMatches;
 use tlog_hash::Hash;
 use tlog_text::read_hash;
 
-/// `missing`: what a head's tree lacks.
+/// `missing`: prints the paths that the tree of a head lacks.
 #[derive(Drop, Clone, Copy)]
 pub struct Missing<'a> {
     /// The mirror.
@@ -24,7 +24,7 @@ pub struct Missing<'a> {
     pub root: Hash,
 }
 
-// What it reads, writes and may end with.
+// The text of the long help: input, output, statuses, faults and an example.
 const HELP: &str = "\
 The output is one path a line, as a log publishes them; none where the checkpoint is complete.
 
@@ -35,7 +35,7 @@ Faults of O, K and S: see 'tlogmirror --help'. Then:
 
 Example: tlogmirror missing --origin log.example --keys keys --state state --size 3 --root ROOT";
 
-/// Its command line.
+/// The command line.
 pub(crate) const LINE: CommandLine<'static> = CommandLine {
     name: "missing",
     about: "Prints the paths that a checkpoint's tree lacks",
@@ -47,7 +47,7 @@ pub(crate) const LINE: CommandLine<'static> = CommandLine {
     ],
 };
 
-// The root, which is a hash.
+// The root that the option spells, if it is a hash.
 fn root_given(found: &ArgMatches<'_>) -> Option<Hash>
     ensures { FindsPart (IsRootGiven (rows_of (found_of found.now))) result }
 {
@@ -57,7 +57,7 @@ fn root_given(found: &ArgMatches<'_>) -> Option<Hash>
     }
 }
 
-// The root that the command is to have.
+// The root from the options. If it is no hash, the word is noted as bad.
 fn root_of(found: &ArgMatches<'_>, refusals: &mut Refusals) -> Hash
     ensures { JudgesPart (IsRootGiven (rows_of (found_of found.now))) refusals.old refusals.new
         result }
@@ -71,7 +71,7 @@ fn root_of(found: &ArgMatches<'_>, refusals: &mut Refusals) -> Hash
     }
 }
 
-/// The command, by its options.
+/// Reads the command from its options.
 pub(crate) fn read<'a>(found: &ArgMatches<'a>, refusals: &mut Refusals) -> Command<'a>
     ensures { JudgesPart (IsSaid (codes "missing") (rows_of (found_of found.now))) refusals.old
         refusals.new result }

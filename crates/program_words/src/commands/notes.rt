@@ -1,4 +1,4 @@
-//! `notes`: the notes of a mirror, written to a folder.
+//! `notes`: writes the notes of a mirror to a folder.
 ghost use Rattle.std.specs.Prelude.{codes};
 ghost use Rattle.clap.specs.Words.{found_of, rows_of};
 ghost use Rattle.program_words.specs.Readings.{IsSaid, JudgesPart};
@@ -9,7 +9,7 @@ use crate::parts::{StateArgs, state_args, word_of};
 use crate::refusals::Refusals;
 use clap::ArgMatches;
 
-/// `notes`: the notes of a mirror, written to a folder.
+/// `notes`: writes the notes of a mirror to a folder.
 #[derive(Drop, Clone, Copy)]
 pub struct Notes<'a> {
     /// The mirror.
@@ -18,7 +18,7 @@ pub struct Notes<'a> {
     pub folder: &'a str,
 }
 
-// What it reads, writes and may end with.
+// The text of the long help: input, output, statuses, faults and an example.
 const HELP: &str = "\
 Each note is written byte for byte as it came, to SIZE-ROOT-K.note: ROOT in lower case hexadecimal, K
 from 0 among the notes of one size and root. So both notes of a fork can be shown to anyone.
@@ -29,7 +29,7 @@ Faults of O, K and S: see 'tlogmirror --help'. Then:
 
 Example: tlogmirror notes --origin log.example --keys keys --state state --dir notes";
 
-/// Its command line.
+/// The command line.
 pub(crate) const LINE: CommandLine<'static> = CommandLine {
     name: "notes",
     about: "Writes each signed note of a mirror to a file of its own",
@@ -38,7 +38,7 @@ pub(crate) const LINE: CommandLine<'static> = CommandLine {
     arguments: &[Argument::Option("dir", "D", "The folder that is written")],
 };
 
-/// The command, by its options.
+/// Reads the command from its options.
 pub(crate) fn read<'a>(found: &ArgMatches<'a>, refusals: &mut Refusals) -> Command<'a>
     ensures { JudgesPart (IsSaid (codes "notes") (rows_of (found_of found.now))) refusals.old
         refusals.new result }

@@ -1,4 +1,4 @@
-//! `prove`: a proof of what is served, by a mirror or as a copy.
+//! `prove`: prints a proof about the entries that a mirror serves, or that a copy has.
 ghost use Rattle.std.specs.Prelude.{codes};
 ghost use Rattle.clap.specs.Words.{found_of, rows_of};
 ghost use Rattle.program_words.specs.Commands.{Given, IsAskGiven};
@@ -12,34 +12,34 @@ use crate::refusals::Refusals;
 use clap::ArgMatches;
 use tlog_proof::Ask;
 
-/// `prove --state`: a proof of what is served.
+/// `prove --state`: prints a proof about the served entries.
 #[derive(Drop, Clone, Copy)]
 pub struct Prove<'a> {
     /// The mirror.
     pub mirror: StateArgs<'a>,
-    /// Of what.
+    /// The requested proof.
     pub ask: Ask,
 }
 
-/// `prove --dir`: a proof of a copy.
+/// `prove --dir`: prints a proof about a copy.
 #[derive(Drop, Clone, Copy)]
 pub struct CopyProve<'a> {
     /// The copy.
     pub copy: CopyArgs<'a>,
-    /// Of what.
+    /// The requested proof.
     pub ask: Ask,
 }
 
-// What is proved.
+// A kind of proof.
 #[derive(Drop, Clone, Copy)]
 enum ProofKind {
-    /// That an entry is in a tree.
+    /// An entry is in a tree.
     Inclusion,
-    /// That a tree is a prefix of another.
+    /// A tree is a prefix of another.
     Consistency,
 }
 
-// What it reads, writes and may end with.
+// The text of the long help: input, output, statuses, faults and an example.
 const HELP: &str = "\
 'inclusion SIZE INDEX' or 'consistency FIRST SECOND', of what the mirror serves. The output is the
 proof's text, which 'check' reads. Of a copy it is checked against D's root before it is printed.
@@ -54,7 +54,7 @@ Faults of O, K, S and D: see 'tlogmirror --help'. Then:
 
 Example: tlogmirror prove --origin log.example --keys keys --state state inclusion 3 2";
 
-/// Its command line.
+/// The command line.
 pub(crate) const LINE: CommandLine<'static> = CommandLine {
     name: "prove",
     about: "Prints a proof that an entry is in a tree, or that a tree is a prefix of another",
@@ -67,7 +67,7 @@ pub(crate) const LINE: CommandLine<'static> = CommandLine {
     ],
 };
 
-// What is proved, by the word for it.
+// The kind of proof that the option names.
 fn kind_of(found: &ArgMatches<'_>) -> Option<ProofKind>
     ensures { FindsPart (λ kind. Given (rows_of (found_of found.now)) (codes "kind")
         (proof_name kind)) result }
@@ -79,7 +79,7 @@ fn kind_of(found: &ArgMatches<'_>) -> Option<ProofKind>
     }
 }
 
-// What the command is to prove.
+// The kind of proof from the options. If it is none, the word is noted as bad.
 fn kind_given(found: &ArgMatches<'_>, refusals: &mut Refusals) -> ProofKind
     ensures { JudgesPart (λ kind. Given (rows_of (found_of found.now)) (codes "kind")
         (proof_name kind)) refusals.old refusals.new result }
@@ -93,7 +93,7 @@ fn kind_given(found: &ArgMatches<'_>, refusals: &mut Refusals) -> ProofKind
     }
 }
 
-// What a proof is asked for.
+// Reads the requested proof from the options.
 fn ask_of(found: &ArgMatches<'_>, refusals: &mut Refusals) -> Ask
     ensures { JudgesPart (IsAskGiven (rows_of (found_of found.now))) refusals.old refusals.new
         result }
@@ -110,7 +110,7 @@ fn ask_of(found: &ArgMatches<'_>, refusals: &mut Refusals) -> Ask
     }
 }
 
-/// The command, by its options, over a state or a copy.
+/// Reads the command for a state or a copy from its options.
 pub(crate) fn read<'a>(found: &ArgMatches<'a>, refusals: &mut Refusals) -> Command<'a>
     ensures { JudgesPart (IsSaid (codes "prove") (rows_of (found_of found.now))) refusals.old
         refusals.new result }

@@ -1,4 +1,4 @@
-//! `pull`: what is missing is fetched.
+//! `pull`: fetches what is missing.
 ghost use Rattle.std.specs.Prelude.{codes};
 ghost use Rattle.clap.specs.Words.{found_of, rows_of};
 ghost use Rattle.program_words.specs.Readings.{IsSaid, JudgesPart};
@@ -11,24 +11,24 @@ use crate::refusals::Refusals;
 use clap::ArgMatches;
 use std::alloc::Global;
 
-/// `pull`: what is missing is fetched.
+/// `pull`: fetches what is missing.
 #[derive(Drop, Clone, Copy)]
 pub struct Pull<'a> {
-    /// The mirror.
+    /// The mirror after the pull.
     pub mirror: OutputArgs<'a>,
-    /// The file of the state that it begins with, if not with nothing.
+    /// The state file to begin with, or None for an empty mirror.
     pub state: Option<&'a str>,
-    /// Whether what was fetched is written where the place fails.
+    /// Whether the fetched files are kept if the place fails.
     pub keep: bool,
-    /// How many requests may be sent ahead, 0 to 64. A folder does not heed it.
+    /// The number of requests that may be sent ahead, 0 to 64. A folder ignores it.
     pub ahead: u64,
-    /// Whether lines say how far the work is.
+    /// Whether lines report the progress.
     pub progress: bool,
-    /// Where from.
+    /// The place of the log.
     pub place: Place<'a>,
 }
 
-// What it reads, writes and may end with.
+// The text of the long help: input, output, statuses, faults and an example.
 const HELP: &str = "\
 The output is 'pulled SIZE ROOT rounds N refused N', and 'complete' or 'partial'. T is written for a
 partial pull too; a later pull with --state T goes on from it. An old checkpoint stays in the state.
@@ -57,7 +57,7 @@ Faults of O, K, S and T: see 'tlogmirror --help'. Of the place:
 
 Example: tlogmirror pull --origin log.example --keys keys --out state http log.example:80/2026";
 
-/// Its command line.
+/// The command line.
 pub(crate) const LINE: CommandLine<'static> = CommandLine {
     name: "pull",
     about: "Fetches a log's newest checkpoint and what is missing of it, from a folder or over plain HTTP, and writes a state",
@@ -84,7 +84,7 @@ pub(crate) const LINE: CommandLine<'static> = CommandLine {
     ],
 };
 
-/// The command, by its options.
+/// Reads the command from its options.
 pub(crate) fn read<'a>(
     alloc: Global,
     found: &ArgMatches<'a>,

@@ -1,4 +1,4 @@
-//! `root`: the tree hash of the bundle on standard input.
+//! `root`: prints the tree hash of the entry bundle on standard input.
 ghost use Rattle.std.specs.Prelude.{codes};
 ghost use Rattle.clap.specs.Words.{found_of, rows_of};
 ghost use Rattle.program_words.specs.Commands.{HasNumber};
@@ -11,14 +11,14 @@ use crate::parts::number_of;
 use crate::refusals::Refusals;
 use clap::ArgMatches;
 
-/// `root`: the tree hash of the bundle on standard input.
+/// `root`: prints the tree hash of the entry bundle on standard input.
 #[derive(Drop, Clone, Copy)]
 pub struct Root {
-    /// How many entries the bundle has, 0 to 256.
+    /// The number of entries in the bundle, 0 to 256.
     pub width: u32,
 }
 
-// What it reads, writes and may end with.
+// The text of the long help: input, output, statuses, faults and an example.
 const HELP: &str = "\
 Each entry of the bundle is its length, two bytes with the higher first, and its bytes.
 The output is the lines 'size W' and 'root ROOT', the tree hash in base64 (RFC 6962, section 2.1).
@@ -33,7 +33,7 @@ Faults, on standard error:
 
 Example: printf '\\0\\0' | tlogmirror root --width 1";
 
-/// Its command line.
+/// The command line.
 pub(crate) const LINE: CommandLine<'static> = CommandLine {
     name: "root",
     about: "Reads an entry bundle from standard input, and prints its size and its tree hash",
@@ -42,7 +42,7 @@ pub(crate) const LINE: CommandLine<'static> = CommandLine {
     arguments: &[Argument::Option("width", "W", "How many entries the bundle has, 0 to 256")],
 };
 
-// How many entries the bundle has.
+// Reads the number of entries from the options.
 fn width_of(found: &ArgMatches<'_>, refusals: &mut Refusals) -> u32
     ensures { JudgesPart (HasNumber (rows_of (found_of found.now)) (codes "width") 0 256)
         refusals.old refusals.new result }
@@ -56,7 +56,7 @@ fn width_of(found: &ArgMatches<'_>, refusals: &mut Refusals) -> u32
     }
 }
 
-/// The command, by its options.
+/// Reads the command from its options.
 pub(crate) fn read<'a>(found: &ArgMatches<'a>, refusals: &mut Refusals) -> Command<'a>
     ensures { JudgesPart (IsSaid (codes "root") (rows_of (found_of found.now))) refusals.old
         refusals.new result }

@@ -1,4 +1,4 @@
-//! `serve`: answers over HTTP, of a mirror or a copy.
+//! `serve`: answers over HTTP from a mirror or a copy.
 ghost use Rattle.std.specs.Prelude.{codes};
 ghost use Rattle.clap.specs.Words.{found_of, rows_of};
 ghost use Rattle.program_words.specs.Commands.{HasNumber};
@@ -11,29 +11,29 @@ use crate::parts::{CopyArgs, Source, StateArgs, number_of, size_of, source_of};
 use crate::refusals::Refusals;
 use clap::ArgMatches;
 
-/// `serve --state`: answers over HTTP what a mirror serves.
+/// `serve --state`: answers over HTTP from a mirror.
 #[derive(Drop, Clone, Copy)]
 pub struct Serve<'a> {
     /// The mirror.
     pub mirror: StateArgs<'a>,
-    /// The port that is listened on, 1 to 65535.
+    /// The port to listen on, 1 to 65535.
     pub port: u16,
-    /// How many connections are answered.
+    /// The number of connections to answer.
     pub requests: u64,
 }
 
-/// `serve --dir`: answers over HTTP, of a copy.
+/// `serve --dir`: answers over HTTP from a copy.
 #[derive(Drop, Clone, Copy)]
 pub struct CopyServe<'a> {
     /// The copy.
     pub copy: CopyArgs<'a>,
-    /// The port that is listened on, 1 to 65535.
+    /// The port to listen on, 1 to 65535.
     pub port: u16,
-    /// How many connections are answered.
+    /// The number of connections to answer.
     pub requests: u64,
 }
 
-// What it reads, writes and may end with.
+// The text of the long help: input, output, statuses, faults and an example.
 const HELP: &str = "\
 The output is 'listening 127.0.0.1:P' once connections are accepted. They are answered one after the
 other, over plain HTTP; a fault of one is printed on standard error, and the next is answered.
@@ -53,7 +53,7 @@ them. Then:
 
 Example: tlogmirror serve --origin log.example --keys keys --state state --port 8080 --requests 100";
 
-/// Its command line.
+/// The command line.
 pub(crate) const LINE: CommandLine<'static> = CommandLine {
     name: "serve",
     about: "Answers over plain HTTP what the mirror serves",
@@ -65,7 +65,7 @@ pub(crate) const LINE: CommandLine<'static> = CommandLine {
     ],
 };
 
-// The port.
+// Reads the port from the options.
 fn port_of(found: &ArgMatches<'_>, refusals: &mut Refusals) -> u16
     ensures { JudgesPart (HasNumber (rows_of (found_of found.now)) (codes "port") 1 65535)
         refusals.old refusals.new result }
@@ -79,7 +79,7 @@ fn port_of(found: &ArgMatches<'_>, refusals: &mut Refusals) -> u16
     }
 }
 
-/// The command, by its options, over a state or a copy.
+/// Reads the command for a state or a copy from its options.
 pub(crate) fn read<'a>(found: &ArgMatches<'a>, refusals: &mut Refusals) -> Command<'a>
     ensures { JudgesPart (IsSaid (codes "serve") (rows_of (found_of found.now))) refusals.old
         refusals.new result }

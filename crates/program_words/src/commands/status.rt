@@ -1,4 +1,5 @@
-//! `status`: the heads of a mirror, or the checkpoint of a copy. It has the options of each command over either alone.
+//! `status`: prints the heads of a mirror, or the checkpoint of a copy. It has only the options of every command over one of
+//! these.
 ghost use Rattle.std.specs.Prelude.{codes};
 ghost use Rattle.clap.specs.Words.{found_of, rows_of};
 ghost use Rattle.program_words.specs.Readings.{IsSaid, JudgesPart};
@@ -9,7 +10,7 @@ use crate::parts::{Source, source_of};
 use crate::refusals::Refusals;
 use clap::ArgMatches;
 
-// What it reads, writes and may end with.
+// The text of the long help: input, output, statuses, faults and an example.
 const HELP: &str = "\
 The output is 'origin O', a line 'head SIZE ROOT complete' or '.. partial' for each checkpoint, and
 'served SIZE ROOT' or 'served none'. A copy has one checkpoint, which is complete, or none.
@@ -19,7 +20,7 @@ Faults of O, K, S and D: see 'tlogmirror --help'.
 
 Example: tlogmirror status --origin log.example --keys keys --state state";
 
-/// Its command line.
+/// The command line.
 pub(crate) const LINE: CommandLine<'static> = CommandLine {
     name: "status",
     about: "Prints the checkpoints of a mirror, which of them are complete, and which is served",
@@ -28,7 +29,7 @@ pub(crate) const LINE: CommandLine<'static> = CommandLine {
     arguments: &[],
 };
 
-/// The command, by its options, over a state or a copy.
+/// Reads the command for a state or a copy from its options.
 pub(crate) fn read<'a>(found: &ArgMatches<'a>, refusals: &mut Refusals) -> Command<'a>
     ensures { JudgesPart (IsSaid (codes "status") (rows_of (found_of found.now))) refusals.old
         refusals.new result }

@@ -1,4 +1,4 @@
-//! `take`: what files hold is taken into a mirror.
+//! `take`: takes files into a mirror.
 ghost use Rattle.std.specs.Prelude.{◌≡◌, ◌↔◌, List, ℕ, IsTrue, codes, length, map};
 ghost use Rattle.clap.specs.Words.{first_of, found_of, rows_of};
 ghost use Rattle.program_words.specs.Commands.{AreFiles, Given, IsCount, IsTakeWidth, kind_name};
@@ -12,33 +12,33 @@ use crate::refusals::Refusals;
 use clap::ArgMatches;
 use std::alloc::Global;
 
-/// What files hold.
+/// The kind of item in the files.
 #[derive(Drop, Clone, Copy)]
 pub enum Kind {
-    /// A signed note, and the rows of its size's edge.
+    /// A signed note, and the rows of its tree's right edge.
     Head,
     /// A tile of hashes.
     Tile,
-    /// A bundle of entries.
+    /// An entry bundle.
     Bundle,
 }
 
-/// `take`: what files hold is taken into a mirror.
+/// `take`: takes files into a mirror.
 #[derive(Drop)]
 pub struct Take<'a> {
-    /// The mirror.
+    /// The mirror after the take.
     pub mirror: OutputArgs<'a>,
-    /// The file of the state that it begins with, if not with nothing.
+    /// The state file to begin with, or None for an empty mirror.
     pub state: Option<&'a str>,
-    /// How many hashes or entries the file has, 1 to 256.
+    /// The number of hashes or entries in the file, 1 to 256.
     pub width: u32,
-    /// What the files hold.
+    /// The kind of item in the files.
     pub kind: Kind,
-    /// The files: one, or for a head one or more.
+    /// The files: one, or at least one for a head.
     pub files: Vec<&'a str>,
 }
 
-// What it reads, writes and may end with.
+// The text of the long help: input, output, statuses, faults and an example.
 const HELP: &str = "\
 A head is a signed note, and then the rows of hashes at the right edge of its tree, lowest level
 first. A tile is W hashes, a bundle is W entries. Nothing is written where something is refused.
@@ -61,7 +61,7 @@ Faults of O, K, S and T: see 'tlogmirror --help'. Of the files:
 
 Example: tlogmirror take --origin log.example --keys keys --out state bundle log/tile/entries/000.p/3 --width 3";
 
-/// Its command line.
+/// The command line.
 pub(crate) const LINE: CommandLine<'static> = CommandLine {
     name: "take",
     about: "Takes what files hold into a mirror, and writes the mirror's state",
@@ -83,7 +83,7 @@ pub(crate) const LINE: CommandLine<'static> = CommandLine {
     ],
 };
 
-// What files hold, by the word for it.
+// The kind of item that the option names.
 fn kind_of(found: &ArgMatches<'_>) -> Option<Kind>
     ensures { FindsPart (λ kind. Given (rows_of (found_of found.now)) (codes "kind")
         (kind_name kind)) result }
@@ -96,7 +96,7 @@ fn kind_of(found: &ArgMatches<'_>) -> Option<Kind>
     }
 }
 
-// What the files are to hold.
+// The kind of item from the options. If it is none, the word is noted as bad.
 fn kind_given(found: &ArgMatches<'_>, refusals: &mut Refusals) -> Kind
     ensures part { JudgesPart (λ kind. Given (rows_of (found_of found.now)) (codes "kind")
         (kind_name kind)) refusals.old refusals.new result }
@@ -112,7 +112,7 @@ fn kind_given(found: &ArgMatches<'_>, refusals: &mut Refusals) -> Kind
     }
 }
 
-// The number from 1 to 256 that the option spells, and 256 where it is left out.
+// The number from 1 to 256 that the option spells, or 256 if the option is missing.
 fn width_given(found: &ArgMatches<'_>) -> Option<u64>
     ensures { FindsPart (IsTakeWidth (first_of (codes "width") (rows_of (found_of found.now))))
         result }
@@ -123,7 +123,7 @@ fn width_given(found: &ArgMatches<'_>) -> Option<u64>
     }
 }
 
-// The width.
+// Reads the width from the options.
 fn width_of(found: &ArgMatches<'_>, refusals: &mut Refusals) -> u32
     ensures { JudgesPart (IsTakeWidth (first_of (codes "width") (rows_of (found_of found.now))))
         refusals.old refusals.new result }
@@ -137,7 +137,7 @@ fn width_of(found: &ArgMatches<'_>, refusals: &mut Refusals) -> u32
     }
 }
 
-// Whether there may be so many files.
+// Whether the number of files is possible for the kind.
 fn is_count(kind: Kind, count: usize) -> bool
     ensures { IsTrue result ↔ IsCount kind count }
 {
@@ -147,7 +147,7 @@ fn is_count(kind: Kind, count: usize) -> bool
     }
 }
 
-// How many files a kind is to have.
+// The text for the number of files that the kind requires.
 fn count_due(kind: Kind) -> &'static str {
     match kind {
         Kind::Head => "one or more are due",
@@ -155,7 +155,7 @@ fn count_due(kind: Kind) -> &'static str {
     }
 }
 
-// How many files are named.
+// The number of named files.
 fn count_of(found: &ArgMatches<'_>) -> usize
     ensures { (files : List (List ℕ)) → AreFiles (rows_of (found_of found.now)) files
         → result ≡ length files }
@@ -166,7 +166,7 @@ fn count_of(found: &ArgMatches<'_>) -> usize
     }
 }
 
-// The files, as many as the kind is to have.
+// The named files. If their number is not possible for the kind, the word is noted as bad.
 fn files_given<'a>(
     alloc: Global,
     found: &ArgMatches<'a>,
@@ -184,7 +184,7 @@ fn files_given<'a>(
     }
 }
 
-/// The command, by its options.
+/// Reads the command from its options.
 pub(crate) fn read<'a>(
     alloc: Global,
     found: &ArgMatches<'a>,

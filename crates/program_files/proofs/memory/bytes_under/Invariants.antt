@@ -3,7 +3,7 @@ use Rattle.std.specs.Prelude.{option_map, string_bytes}
 use Rattle.program_files.specs.Named.{contents_of}
 use Rattle.program_files.proofs.memory.bytes_under.Given as goal
 
--- what was found is what stands after the puts so far
+-- the result so far is the bytes of the name after the puts so far
 abbrev pub invariant-loop-put : goal.invariant-loop-put
 invariant-loop-put l =
     option_map (λ bytes. bytes.now) l.found

@@ -4,7 +4,7 @@ use Rattle.signed_note.specs.Verifiers.{key_of}
 use Rattle.program_library.proofs.MadeKeys.{key_in}
 use Rattle.program_library.proofs.running.run_keyed.Given as goal
 
--- the keys so far, and those of the lines that are left, are those of all lines
+-- the keys so far, and those of the remaining lines, are the keys of all lines
 abbrev pub invariant-loop-line : goal.invariant-loop-line
 invariant-loop-line g l =
     (goal.iterator-loop-line g).can_next l.line-iterator ×

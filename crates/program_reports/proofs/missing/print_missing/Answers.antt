@@ -23,7 +23,7 @@ returns-in-Err-WriteFault-clause-answer g c =
     (g.W.Write.contents c.args.output.now) (g.W.Write.contents c.write_missing.new.output)
     (rw c.in-Err-WriteFault.field-0-is at c.in-Err-WriteFault.ensures)
 
--- nothing was written where no path is missing
+-- if no path is missing, nothing was written
 none_said : (digest : List ℕ → List ℕ) (v : View) (size : ℕ) (root : List ℕ) (old new : Option (List ℕ)) (any : Bool) →
     any ≡ false → WritesMissingWhole digest v size root old new any →
     PrintsReport digest (Missing size root) v old new 0

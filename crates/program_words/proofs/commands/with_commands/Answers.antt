@@ -8,7 +8,7 @@ use Rattle.program_words.proofs.commands.with_commands.Goals as goal
 apps : List (Bor CommandLine) → List App
 apps lines = map (λ line. line_app line.now) lines
 
--- one more command, and one less that is left
+-- one more command was added, and one fewer is left
 one_more : (app whole : App) (lines : List (Bor CommandLine)) (i : ℕ) (line : Bor CommandLine) → i < length lines →
     with_commands app (apps (drop i lines)) ≡ whole →
     with_commands (with_subcommand app (line_app (get_or lines i line).now).top) (apps (drop (i + 1) lines)) ≡ whole

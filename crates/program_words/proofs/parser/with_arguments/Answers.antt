@@ -5,7 +5,7 @@ use Rattle.program_words.specs.App.{IsParserOf, argument_of, with_rules}
 use Rattle.program_words.specs.declared.parser.Argument.{Argument}
 use Rattle.program_words.proofs.parser.with_arguments.Goals as goal
 
--- one more argument, and one less that is left
+-- one more argument was added, and one fewer is left
 one_more : (app whole : App) (arguments : List Argument) (i : ℕ) (given : Argument) → i < length arguments →
     with_rules app (map argument_of (drop i arguments)) ≡ whole →
     with_rules (with_rule app (argument_of (get_or arguments i given))) (map argument_of (drop (i + 1) arguments)) ≡ whole

@@ -8,7 +8,7 @@ use Rattle.program_words.specs.declared.commands.audit.Audit.{Audit}
 use Rattle.program_words.proofs.Named.{apart}
 use Rattle.program_words.proofs.commands.audit.read.Goals as goal
 
--- the command of this name
+-- a command with this name
 named : (options : List Row) (command : Command) → IsSaid (codes "audit") options command → (c : Audit) × IsAudit options c
 named options (order.Audit c) said = (c, said.1)
 named options other said = absurd (apart (codes "audit") (codes "audit") (name_of other) refl said.0 refl)

@@ -8,7 +8,7 @@ use Rattle.program_words.specs.declared.commands.build.Build.{Build}
 use Rattle.program_words.proofs.Named.{apart}
 use Rattle.program_words.proofs.commands.build.read.Goals as goal
 
--- the command of this name
+-- a command with this name
 named : (options : List Row) (command : Command) → IsSaid (codes "build") options command → (c : Build) × IsBuild options c
 named options (order.Build c) said = (c, said.1)
 named options other said = absurd (apart (codes "build") (codes "build") (name_of other) refl said.0 refl)

@@ -11,7 +11,7 @@ use Rattle.program_words.specs.declared.parts.Source.TheVariants as source
 use Rattle.program_words.proofs.Named.{apart}
 use Rattle.program_words.proofs.commands.compare.read.Goals as goal
 
--- what the options of a command of this name say
+-- the options of a command with this name
 named : (options : List Row) (command : Command) → IsSaid (codes "compare") options command →
     (s : Source) × IsSource options s × (files : List Text) × AreFiles options files
 named options (order.Compare c) said = (source.State c.mirror, said.1.mirror, map (λ f. f.now) c.files.items, said.1.files)

@@ -11,7 +11,7 @@ use Rattle.program_words.specs.declared.parts.Source.TheVariants as source
 use Rattle.program_words.proofs.Named.{apart}
 use Rattle.program_words.proofs.commands.entries.read.Goals as goal
 
--- what the options of a command of this name say
+-- the options of a command with this name
 named : (options : List Row) (command : Command) → IsSaid (codes "entries") options command →
     (s : Source) × IsSource options s × (range : EntryRange) × IsEntryRange options range
 named options (order.Entries c) said = (source.State c.mirror, said.1.mirror, c.range, said.1.range)

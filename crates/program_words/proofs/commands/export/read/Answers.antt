@@ -9,7 +9,7 @@ use Rattle.program_words.specs.declared.commands.export.Export.{Export}
 use Rattle.program_words.proofs.Named.{apart}
 use Rattle.program_words.proofs.commands.export.read.Goals as goal
 
--- the commands of this name
+-- both commands with this name
 named : (options : List Row) (command : Command) → IsSaid (codes "export") options command → (c : Export) × IsExport options c
 named options (order.Export c) said = (c, said.1.0)
 named options (order.Update c) said = (c, said.1.0)

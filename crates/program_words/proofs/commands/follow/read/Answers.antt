@@ -9,7 +9,7 @@ use Rattle.program_words.proofs.Refusing.{given_or_none}
 use Rattle.program_words.proofs.Named.{apart}
 use Rattle.program_words.proofs.commands.follow.read.Goals as goal
 
--- the command of this name
+-- a command with this name
 named : (options : List Row) (command : Command) → IsSaid (codes "follow") options command → (c : Follow) × IsFollow options c
 named options (order.Follow c) said = (c, said.1)
 named options other said = absurd (apart (codes "follow") (codes "follow") (name_of other) refl said.0 refl)

@@ -8,7 +8,7 @@ use Rattle.program_words.specs.declared.parts.StateArgs.{StateArgs}
 use Rattle.program_words.proofs.Named.{apart}
 use Rattle.program_words.proofs.commands.forks.read.Goals as goal
 
--- the command of this name
+-- a command with this name
 named : (options : List Row) (command : Command) → IsSaid (codes "forks") options command → (c : StateArgs) × IsStateArgs options c
 named options (order.Forks c) said = (c, said.1)
 named options other said = absurd (apart (codes "forks") (codes "forks") (name_of other) refl said.0 refl)

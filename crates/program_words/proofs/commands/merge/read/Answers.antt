@@ -8,7 +8,7 @@ use Rattle.program_words.specs.declared.commands.merge.Merge.{Merge}
 use Rattle.program_words.proofs.Named.{apart}
 use Rattle.program_words.proofs.commands.merge.read.Goals as goal
 
--- the command of this name
+-- a command with this name
 named : (options : List Row) (command : Command) → IsSaid (codes "merge") options command → (c : Merge) × IsMerge options c
 named options (order.Merge c) said = (c, said.1)
 named options other said = absurd (apart (codes "merge") (codes "merge") (name_of other) refl said.0 refl)

@@ -8,7 +8,7 @@ use Rattle.program_words.specs.declared.commands.missing.Missing.{Missing}
 use Rattle.program_words.proofs.Named.{apart}
 use Rattle.program_words.proofs.commands.missing.read.Goals as goal
 
--- the command of this name
+-- a command with this name
 named : (options : List Row) (command : Command) → IsSaid (codes "missing") options command → (c : Missing) × IsMissingAsk options c
 named options (order.Missing c) said = (c, said.1)
 named options other said = absurd (apart (codes "missing") (codes "missing") (name_of other) refl said.0 refl)

@@ -8,7 +8,7 @@ use Rattle.program_words.specs.declared.commands.notes.Notes.{Notes}
 use Rattle.program_words.proofs.Named.{apart}
 use Rattle.program_words.proofs.commands.notes.read.Goals as goal
 
--- the command of this name
+-- a command with this name
 named : (options : List Row) (command : Command) → IsSaid (codes "notes") options command → (c : Notes) × IsNotes options c
 named options (order.Notes c) said = (c, said.1)
 named options other said = absurd (apart (codes "notes") (codes "notes") (name_of other) refl said.0 refl)

@@ -9,7 +9,7 @@ use Rattle.program_words.specs.declared.commands.prove.ProofKind.{ProofKind}
 use Rattle.program_words.specs.declared.commands.prove.ProofKind.TheVariants.{Inclusion, Consistency}
 use Rattle.program_words.proofs.commands.prove.ask_of.Goals as goal
 
--- a number of an option is one that its value spells
+-- a number of an option is spelled by its value
 value_in : (options : List Row) (name : Text) (n : ℕ) (o : Option Text) → first_of name options ≡ o →
     IsNumberGiven 0 MAX_SIZE o n → HasValue options name (λ word. IsNumberIn 0 MAX_SIZE n word)
 value_in options name n None e is = absurd is
@@ -19,7 +19,7 @@ number_in : (options : List Row) (name word : Text) (n : ℕ) → Given options 
     HasNumber options name 0 MAX_SIZE n
 number_in options name word n given is = subst (λ o. IsNumberGiven 0 MAX_SIZE o n) (sym given) is
 
--- what is proved, and its two numbers
+-- the kind of the proof, and its two numbers
 asked_of : (options : List Row) (a : Ask) → IsAskGiven options a →
     (kind : ProofKind) × Given options (codes "kind") (proof_name kind) × (m : ℕ) × HasNumber options (codes "a") 0 MAX_SIZE m
     × (n : ℕ) × HasNumber options (codes "b") 0 MAX_SIZE n

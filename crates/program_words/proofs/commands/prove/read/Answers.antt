@@ -11,7 +11,7 @@ use Rattle.program_words.specs.declared.parts.Source.TheVariants as source
 use Rattle.program_words.proofs.Named.{apart}
 use Rattle.program_words.proofs.commands.prove.read.Goals as goal
 
--- what the options of a command of this name say
+-- the options of a command with this name
 named : (options : List Row) (command : Command) → IsSaid (codes "prove") options command →
     (s : Source) × IsSource options s × (ask : Ask) × IsAskGiven options ask
 named options (order.Prove c) said = (source.State c.mirror, said.1.mirror, c.ask, said.1.ask)

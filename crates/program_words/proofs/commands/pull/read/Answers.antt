@@ -9,7 +9,7 @@ use Rattle.program_words.proofs.Refusing.{given_or_none}
 use Rattle.program_words.proofs.Named.{apart}
 use Rattle.program_words.proofs.commands.pull.read.Goals as goal
 
--- the command of this name
+-- a command with this name
 named : (options : List Row) (command : Command) → IsSaid (codes "pull") options command → (c : Pull) × IsPull options c
 named options (order.Pull c) said = (c, said.1)
 named options other said = absurd (apart (codes "pull") (codes "pull") (name_of other) refl said.0 refl)

@@ -8,7 +8,7 @@ use Rattle.program_words.specs.declared.commands.root.Root.{Root as RootWords}
 use Rattle.program_words.proofs.Named.{apart}
 use Rattle.program_words.proofs.commands.root.read.Goals as goal
 
--- the command of this name
+-- a command with this name
 named : (options : List Row) (command : Command) → IsSaid (codes "root") options command → (c : RootWords) × IsRoot options c
 named options (order.Root c) said = (c, said.1)
 named options other said = absurd (apart (codes "root") (codes "root") (name_of other) refl said.0 refl)

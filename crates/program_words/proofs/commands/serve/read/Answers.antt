@@ -12,7 +12,7 @@ use Rattle.program_words.specs.declared.parts.Source.TheVariants as source
 use Rattle.program_words.proofs.Named.{apart}
 use Rattle.program_words.proofs.commands.serve.read.Goals as goal
 
--- what the options of a command of this name say
+-- the options of a command with this name
 named : (options : List Row) (command : Command) → IsSaid (codes "serve") options command →
     (s : Source) × IsSource options s × (port : ℕ) × HasNumber options (codes "port") 1 65535 port × (n : ℕ) × HasNumber options (codes "requests") 0 MAX_SIZE n
 named options (order.Serve c) said = (source.State c.mirror, said.1.mirror, c.port, said.1.port, c.requests, said.1.requests)

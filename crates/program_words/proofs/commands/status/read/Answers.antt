@@ -9,7 +9,7 @@ use Rattle.program_words.specs.declared.parts.Source.TheVariants as source
 use Rattle.program_words.proofs.Named.{apart}
 use Rattle.program_words.proofs.commands.status.read.Goals as goal
 
--- what the options of a command of this name say
+-- the options of a command with this name
 named : (options : List Row) (command : Command) → IsSaid (codes "status") options command →
     (s : Source) × IsSource options s
 named options (order.Status c) said = (source.State c, said.1)

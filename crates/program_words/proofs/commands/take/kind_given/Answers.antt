@@ -7,7 +7,7 @@ use Rattle.program_words.proofs.Judging.{kept, noted}
 use Rattle.program_words.proofs.Named.{apart}
 use Rattle.program_words.proofs.commands.take.kind_given.Goals as goal
 
--- a word names one kind
+-- a word names at most one kind
 one_kind : (a b : Kind) → kind_name a ≡ kind_name b → a ≡ b
 one_kind Head Head e = refl
 one_kind Tile Tile e = refl

@@ -10,7 +10,7 @@ use Rattle.program_words.proofs.Refusing.{given_or_none}
 use Rattle.program_words.proofs.Named.{apart}
 use Rattle.program_words.proofs.commands.take.read.Goals as goal
 
--- the command of this name
+-- a command with this name
 named : (options : List Row) (command : Command) → IsSaid (codes "take") options command → (c : Take) × IsTake options c
 named options (order.Take c) said = (c, said.1)
 named options other said = absurd (apart (codes "take") (codes "take") (name_of other) refl said.0 refl)
