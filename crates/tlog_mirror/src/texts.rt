@@ -1,4 +1,4 @@
-//! The texts in which a mirror tells of itself.
+//! The texts that report the state of a mirror.
 ghost use Rattle.std.specs.Prelude.{◌≡◌, ◌++◌, IfOk, IfSome, IfNone, OnOk, string_bytes};
 ghost use Rattle.std.specs.Option.{option_map};
 ghost use Rattle.std.specs.List.{flat_map};
@@ -14,7 +14,7 @@ use tlog_text::{push_hash, push_number};
 use tlog_tiles::{Path, print};
 
 impl<H: TreeHash> Mirror<H> {
-    /// The origin, each head and whether it is complete, and what is served, a line each: `origin O`,
+    /// The origin, each tree head with whether it is complete, and the served checkpoint, a line each: `origin O`,
     /// `head SIZE ROOT complete` or `head SIZE ROOT partial`, and `served SIZE ROOT` or `served none`.
     ///
     /// # Errors
@@ -33,8 +33,8 @@ impl<H: TreeHash> Mirror<H> {
         Ok(text)
     }
 
-    /// The forks, a line each, the smaller head first: `fork SIZE ROOT SIZE ROOT`. Where there is none there are no
-    /// bytes.
+    /// The forks, a line each, the smaller tree head first: `fork SIZE ROOT SIZE ROOT`. The text is empty if there is
+    /// no fork.
     ///
     /// # Errors
     ///
@@ -48,8 +48,7 @@ impl<H: TreeHash> Mirror<H> {
         Ok(text)
     }
 
-    /// The paths of what is missing of a head, a line each. `None` exactly where no held note has that size and
-    /// root.
+    /// The missing paths of a tree head, a line each. `None` exactly if no held note has that size and root.
     ///
     /// # Errors
     ///
@@ -84,7 +83,7 @@ pub(crate) fn push_point(text: &mut String, size: u64, root: &Hash) -> Result<()
     push_hash(text, root)
 }
 
-// Adds the line of a head.
+// Adds the line of a tree head.
 fn push_head(text: &mut String, head: &Head) -> Result<(), AllocError>
     ensures { OnOk result (string_bytes text.new ≡ string_bytes text.old ++ head_line head.now) }
 {
@@ -97,7 +96,7 @@ fn push_head(text: &mut String, head: &Head) -> Result<(), AllocError>
     })
 }
 
-// Adds a line for each head.
+// Adds a line for each tree head.
 fn push_heads(text: &mut String, heads: &[Head]) -> Result<(), AllocError>
     ensures { OnOk result (string_bytes text.new ≡ string_bytes text.old
         ++ flat_map head_line heads.now) }
@@ -108,7 +107,7 @@ fn push_heads(text: &mut String, heads: &[Head]) -> Result<(), AllocError>
     Ok(())
 }
 
-// Adds the line of what is served.
+// Adds the line of the served checkpoint.
 fn push_served(text: &mut String, served: &Option<(u64, Hash)>) -> Result<(), AllocError>
     ensures { OnOk result (string_bytes text.new ≡ string_bytes text.old
         ++ served_line (option_map point_of served.now)) }
