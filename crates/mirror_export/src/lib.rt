@@ -1,5 +1,5 @@
-//! A mirror exported onto a shelf in the layout of C2SP tlog-tiles, whole or as what is new since a checkpoint; the files of a log:
-//! their paths, and how many there are.
+//! A mirror exported onto a shelf in the layout of C2SP tlog-tiles, completely or with the files that are new since a
+//! checkpoint; the files of a log: their paths and their number.
 //!
 //! ```text
 //! let mut shelf = DirShelf::new(&rt, alloc, "log");
