@@ -9,7 +9,7 @@ use std::marker::Model;
 use tlog_tiles::Path;
 
 /// A shelf in memory: it records what it holds, and never fails. Contracts see the list of what was put, the oldest
-/// first. It is the folder of every name: to open one changes nothing.
+/// first. It is the folder with every name: `open` changes nothing.
 ///
 /// ```text
 /// let mut shelf = MemShelf::new(alloc);
@@ -68,7 +68,7 @@ fn is_put(puts: &[(Path, Vec<u8>)], path: &Path) -> bool
     false
 }
 
-// What was put last at the path.
+// The bytes that were put last at the path.
 fn last_put<'a>(puts: &'a [(Path, Vec<u8>)], path: &Path) -> Option<&'a [u8]>
     ensures { RecordsRead (Some (map (λ put. (put.0, put.1.items)) puts.entry.now)) path.now
         (option_map (λ bytes. bytes.now) result) }
