@@ -1,4 +1,4 @@
--- Where a log's files stand: a host and a prefix of paths (RFC 9112, sections 3.2 and 3.2.1).
+-- The place of a log's files: a host and a prefix of paths (RFC 9112, sections 3.2 and 3.2.1).
 use Rattle.std.specs.Prelude.{◌≡◌, ◌≢◌, ◌⊎◌, ℕ, ◌≤◌, Bool, ◌&&◌, nat_le, List, [], ◌∷◌, ◌++◌}
 use Rattle.std.specs.Prelude.{length, Result, Ok, Err, ⊤}
 use Rattle.std.specs.List.{AllPass}
@@ -6,7 +6,7 @@ use Rattle.mirror_client.specs.declared.limits.TheConstants.{MAX_HOST_LEN, MAX_P
 use Rattle.mirror_client.specs.declared.fault.SiteFault.{SiteFault}
 use Rattle.mirror_client.specs.declared.fault.SiteFault.TheVariants.{BadHost, BadPrefix, OutOfMemory}
 
--- where a log's files stand: a host, and a prefix of paths
+-- the place of a log's files: a host, and a prefix of paths
 pub record HostAndPrefix : Type 0 where
   pub host : List ℕ
   pub prefix : List ℕ
@@ -19,7 +19,7 @@ slash = 47
 abbrev pub is_visible : ℕ → Bool
 is_visible c = nat_le 0x21 c && nat_le c 0x7e
 
--- the bytes are a host: some, at most as many as a host may have, all visible
+-- the bytes are a host: at least one byte, at most the greatest number for a host, all visible
 pub record IsHost (host : List ℕ) : Type 0 where
   pub some : 1 ≤ length host
   pub short : length host ≤ MAX_HOST_LEN
@@ -36,11 +36,11 @@ pub record IsSomePrefix (prefix : List ℕ) : Type 0 where
   pub short : length prefix ≤ MAX_PREFIX_LEN
   pub visible : AllPass is_visible prefix
 
--- the bytes are a prefix of paths, be it empty, to which a slash and a path are added
+-- the bytes are a prefix of paths, possibly empty; a slash and a path follow it
 abbrev pub IsSitePrefix : List ℕ → Type 0
 IsSitePrefix prefix = (prefix ≡ []) ⊎ IsSomePrefix prefix
 
--- what each answer of a constructor of a site says of what it is given
+-- each answer of a constructor of a site is right about its arguments
 abbrev pub MakesSite : List ℕ → List ℕ → Result HostAndPrefix SiteFault → Type 0
 MakesSite host prefix (Ok s) =
     IsHost host × IsSitePrefix prefix × (s ≡ record { host = host; prefix = prefix })

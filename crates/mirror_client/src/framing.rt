@@ -1,22 +1,22 @@
-//! What the fields of a reply say of its body (RFC 9112, section 6; RFC 9110, section 8.6).
+//! The coding and the length of a reply's body, by its fields (RFC 9112, section 6; RFC 9110, section 8.6).
 ghost use Rattle.std.specs.Prelude.{◌≡◌, ◌↔◌, ◌++◌, ◌∷◌, [], ℕ, List, IsTrue, IfSome, IfNone};
 ghost use Rattle.std.specs.Char.{is_ascii_digit};
 ghost use Rattle.std.specs.List.{list_all};
 ghost use Rattle.mirror_client.specs.Reply.{Field, IsCoding, IsLength};
 ghost use Rattle.mirror_client.specs.Framing.{FramingIs, LengthIs};
 
-/// The length that the fields give the body.
+/// The length of the body, by the fields.
 #[derive(Clone, Copy)]
 pub enum Length {
-    /// No field gives one.
+    /// No field gives a length.
     NotGiven,
-    /// Some do, and all of these give this one.
+    /// At least one field gives a length, and all of these give this one.
     Given(u64),
-    /// Some value is no number of 64 bits, or two are different.
+    /// The value of such a field is no number of 64 bits, or two of them are different.
     Unclear,
 }
 
-/// What the fields say of the body.
+/// The coding and the length of the body, by the fields.
 #[derive(Clone, Copy)]
 pub struct Framing {
     /// Whether the body is in a coding.
@@ -33,14 +33,14 @@ fn is_coding(name: &[u8], value: &[u8]) -> bool
         && !value.eq_ignore_ascii_case(b"identity")
 }
 
-// Whether the bytes are ASCII digits alone.
+// Whether all bytes are ASCII digits.
 fn are_digits(bytes: &[u8]) -> bool
     ensures { result ≡ list_all is_ascii_digit bytes.now }
 {
     bytes.iter().all(|byte| byte.is_ascii_digit())
 }
 
-// The length that the digits are.
+// The value of the digits.
 fn length_of(digits: &[u8]) -> Option<u64>
     ensures found { IfSome result (λ n. IsLength digits.now n) }
     ensures none { IfNone result ((n : ℕ) → ¬ IsLength digits.now n) }
@@ -57,7 +57,7 @@ fn length_of(digits: &[u8]) -> Option<u64>
     }
 }
 
-// The length with that field behind those before it.
+// The length after one more field.
 fn with_length(so_far: Length, name: &[u8], value: &[u8]) -> Length
     ensures { (fields : List Field) → LengthIs fields so_far
         → LengthIs (fields ++ (name.now, value.now) ∷ []) result }
@@ -82,7 +82,7 @@ fn with_length(so_far: Length, name: &[u8], value: &[u8]) -> Length
 }
 
 impl Framing {
-    /// What no fields say.
+    /// The data without any field.
     pub fn new() -> Framing
         ensures { FramingIs [] result }
     {
@@ -92,7 +92,7 @@ impl Framing {
         }
     }
 
-    /// With that field behind those before it.
+    /// The data after one more field.
     pub fn with_field(self, name: &[u8], value: &[u8]) -> Framing
         ensures { (fields : List Field) → FramingIs fields self
             → FramingIs (fields ++ (name.now, value.now) ∷ []) result }

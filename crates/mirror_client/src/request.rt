@@ -20,7 +20,7 @@ fn request_of(alloc: Global, prefix: &str, path: &Path, host: &str) -> Result<St
     )
 }
 
-/// The bytes of the request for that file of the site: `GET` of HTTP/1.0, for the file as it is, on a
+/// The bytes of the request for that file of the site: `GET` of HTTP/1.0, for the file without a coding, on a
 /// connection that is closed after the reply (RFC 9112, section 3).
 ///
 /// # Errors
