@@ -26,7 +26,6 @@ pub(crate) enum Slot {
     Hashes(Hash, Hash),
 }
 
-// The bytes of a span of the pool.
 pub(crate) fn bytes_at(pool: &[u8], place: PoolSpan) -> &[u8]
     requires { place.start + place.len ≤ length pool.now }
     ensures { result.now ≡ bytes_at pool.now place }
