@@ -7,8 +7,8 @@ use Rattle.node_store.specs.Strings.{Strings, HasAll}
 use Rattle.mirror_model.specs.Edge.{root_from, strings_from, edge_root, edge_strings}
 use Rattle.tlog_shape.specs.Edge.{width_of}
 
--- the rows have the widths of the partial tiles of a tree of n entries, for that number of levels from one level up,
--- lowest first; a level of width 0 has no row
+-- the rows have the widths of a tree's partial tiles, for that number of levels from one level up, lowest first. The
+-- tree has n entries; a level of width 0 has no row
 abbrev pub AreEdgeRows : ℕ → ℕ → ℕ → List (List (List ℕ)) → Type 0
 AreEdgeRows n zero level rows = rows ≡ []
 AreEdgeRows n (suc levels) level rows =

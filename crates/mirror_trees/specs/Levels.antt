@@ -15,16 +15,16 @@ pub record IsOfLevel (level many : ℕ) : Type 0 where
   pub above : (level ≡ 0) ⊎ (256 ^ level < many)
   pub upto : many ≤ 256 ^ (level + 1)
 
--- the list has the number of the file of that level that has the node of this many entries from start on; it is empty
--- if no file of that level has the node
+-- a node has this many entries from start on. The list has the number of the file of that level with this node; it is
+-- empty if there is no such file
 abbrev pub ListsNode : ℕ → ℕ → ℕ → List ℕ → Type 0
 ListsNode level start many numbers =
     (IsOfLevel level many × (numbers ≡ start / 256 ^ (level + 1) ∷ []))
     ⊎ ((¬ IsOfLevel level many) × (numbers ≡ []))
 
 module _ (digest : List ℕ → List ℕ) (held : Strings) (level : ℕ) where
-  -- the numbers of the files of that level with the nodes where the walk from the hash fails, node by node from left to
-  -- right: the walk is that of WalkFails
+  -- the walk from the hash, as WalkFails defines it, fails at some nodes. These are the numbers of the files of that
+  -- level with these nodes, node by node from left to right
   abbrev pub ListsLost : Tree ℕ → ℕ → List ℕ → List ℕ → Type 0
   ListsLost Empty start hash numbers = numbers ≡ []
   ListsLost (One x) start hash numbers =

@@ -14,8 +14,8 @@ use Rattle.mirror_model.specs.Strings.{IsDigest}
 use Rattle.mirror_trees.specs.HeldTrees.{HasMark, AreBuilt}
 
 module _ (digest : List ℕ → List ℕ) (held : Strings) where
-  -- the point is a slice of a held tree: the number of entries and the tree hash of a part that the recursion of MTH
-  -- (RFC 6962, section 2.1) meets on a list with that size and root, including the complete list
+  -- the point is a slice of a held tree. The recursion of MTH (RFC 6962, section 2.1) on its list meets parts,
+  -- including the complete list. The point is the number of entries and the tree hash of such a part
   pub record IsSliceOf (size : ℕ) (root : List ℕ) (point : Point) : Type 0 where
     pub entries : List (List ℕ)
     pub tree : IsTreeOf digest held size root entries

@@ -111,8 +111,8 @@ fn add_part<H: TreeHash>(
 /// Adds the strings of rows, lowest first, and gives the value to which they lead. Each row has the value so far as one
 /// more hash at its end. The value so far is `start` at first, and then the hash over the row before.
 ///
-/// So the rows of the partial tiles at the right edge of a tree (C2SP tlog-tiles), without the lowest one, lead from
-/// the hash over the lowest one to the root.
+/// For example, take the rows of the partial tiles at the right edge of a tree (C2SP tlog-tiles), without the lowest
+/// one. They lead from the hash over the lowest one to the root.
 ///
 /// # Errors
 ///

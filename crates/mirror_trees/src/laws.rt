@@ -16,7 +16,7 @@ pub fn prefix_of_prefix_law()
     ensures { PrefixOfPrefix }
 {}
 
-/// For complete tree heads by rising size: if the entries of one are a prefix of those of the next, the next is a fork
+/// Take complete tree heads by rising size. If the entries of one are a prefix of those of the next, the next is a fork
 /// of the same earlier tree heads. So on a log that only grows, one test for each tree head finds that there is no
 /// fork.
 pub fn forks_go_on_law()
@@ -28,7 +28,7 @@ pub fn settled_law()
     ensures { SettledStays }
 {}
 
-/// The points that may be remembered for a view are the slices of the trees of its tree heads, where these are held.
+/// The points that may be remembered for a view are the slices of the trees of its tree heads, if these are held.
 pub fn slices_law()
     ensures { MarksAreSlices }
 {}

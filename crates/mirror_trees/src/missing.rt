@@ -21,8 +21,8 @@ use tlog_hash::{Hash, TreeHash};
 use tlog_shape::{edge_index, split};
 use tlog_tiles::Path;
 
-/// The paths (C2SP tlog-tiles) of the nodes where the walk from the root of that size fails: full tiles by falling
-/// level and rising index, then bundles by rising index, each once. The list is empty exactly if the tree is held.
+/// The paths (C2SP tlog-tiles) of the nodes where the walk from the root of that size fails, each once. Full tiles come
+/// by falling level and rising index, then bundles by rising index. The list is empty exactly if the tree is held.
 ///
 /// At a node of two or more entries, the walk goes on to both parts if the pair of its hash is held; else it fails
 /// there. At one entry it fails if no entry with the hash is held. It enters no known tree, all of which have to be

@@ -11,10 +11,10 @@ use std::alloc::{AllocError, Global};
 use tlog_hash::{Hash, TreeHash};
 use tlog_shape::split;
 
-/// The hashes of a tile (C2SP tlog-tiles, "Merkle Tree") of the tree with that size and root: `width` hashes over
-/// `256^level` entries each, from number `256 * index` of the level on. `None` if the tile is not within the tree, as
-/// for a level above 7 or a width outside 1 to 256. If the tree is not held, the contract says nothing else about the
-/// answer.
+/// The hashes of a tile (C2SP tlog-tiles, "Merkle Tree") of the tree with that size and root: `width` hashes, from
+/// number `256 * index` of the level on. Each is over `256^level` entries. `None` if the tile is not within the tree,
+/// as for a level above 7 or a width outside 1 to 256. If the tree is not held, the contract says nothing else about
+/// the answer.
 ///
 /// It goes down from the root to the nodes of the tile, and visits each of them once.
 ///
