@@ -43,8 +43,8 @@ module _ (digest : List ℕ → List ℕ) (held : Strings) where
   IsForkOf heads fork = IsPairOf heads fork × Conflicts fork.small fork.large
 
   -- the data of a tree head, after the data of those before it. `whole`: its tree is held. If so, `after` is one more
-  -- than the place of the last earlier tree head whose tree is held and whose entries are a prefix of its entries, or 0
-  -- if there is no such one
+  -- than the place of another tree head, or 0 if there is none: the last earlier one whose tree is held and is a prefix
+  -- of its tree
   pub record IsBranch (before : List Branch) (branch : Branch) : Type 0 where
     pub whole : IsTrue branch.whole ↔ IsBuilt digest held branch.head.0 branch.head.1
     pub fits : branch.after ≤ length before

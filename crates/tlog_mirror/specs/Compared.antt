@@ -25,8 +25,8 @@ compared_point (Fork size root own) = record { size = size; root = root }
 compared_point (Larger size root) = record { size = size; root = root }
 
 module _ (digest : List ℕ → List ℕ) where
-  -- the comparison of a tree head with the entries is right: the first `size` entries have its root, or they have
-  -- another root, which it reports, or there are fewer entries
+  -- the comparison of a tree head with the entries is right. `Same`: the first `size` entries have its root. `Fork`:
+  -- they have another root, `own`. `Larger`: there are fewer entries
   abbrev pub IsCompared : List (List ℕ) → Compared → Type 0
   IsCompared entries (Same size root) =
       (size ≤ length entries) × (mth digest (take size entries) ≡ root)
@@ -56,7 +56,7 @@ compared_line (Fork size root own) =
     codes "fork " ++ point_text size root ++ 32 ∷ base64_of own ++ 10 ∷ []
 compared_line (Larger size root) = codes "larger " ++ point_text size root ++ 10 ∷ []
 
--- a line for each head
+-- a line for each tree head
 abbrev pub compared_text : List Compared → List ℕ
 compared_text compared = flat_map compared_line compared
 
@@ -70,9 +70,9 @@ ForkIsNoPrefix =
     IsCompared digest entries (Fork size root own) → length other ≡ size → mth digest other ≡ root →
     ¬ IsPrefix other entries
 
--- a list with the size and root of a tree head that is reported as the same is a prefix of the entries, if the strings
--- of its tree and of that prefix do not collide together. It is not enough that the strings of its tree and of all
--- entries do not collide: see `ComparesLarge`
+-- a tree head is reported as the same. A list with its size and root is a prefix of the entries, if the strings of its
+-- tree and of that prefix do not collide together. It is not enough that the strings of its tree and of all entries do
+-- not collide: see `ComparesLarge`
 abbrev pub SameIsPrefix : Type 0
 SameIsPrefix =
     (digest : List ℕ → List ℕ) → IsDigest digest → (held : Strings) → NoClash digest held →
@@ -103,7 +103,7 @@ pub record ComparesLarge : Type 0 where
   pub not_other : ¬ IsCompared sum_digest large_list (Fork 2 (sum_hash 9) (sum_hash 163))
   pub larger : IsCompared sum_digest large_list (Larger 5 (sum_hash 9))
   -- small_list has the size and root of that `same`, and is no prefix of large_list, though no two strings of their
-  -- trees collide: the strings of the prefix's right edge are in neither tree
+  -- trees collide. The strings of the prefix's right edge are in neither tree
   pub not_prefix : ¬ IsPrefix small_list large_list
   pub no_clash :
       NoClash sum_digest

@@ -39,8 +39,8 @@ module _ (digest : List ℕ → List ℕ) (keys : List Key) where
   JudgesItem origin (Tile width bytes) answer = JudgesTile width bytes answer
   JudgesItem origin (Bundle width bytes) answer = JudgesBundle width bytes answer
 
-  -- the answer to an event on mirrors of these origins is possible: for a take, by its item; for a merge, an answer of
-  -- merges; for a merge of a mirror with itself, Ok
+  -- the answer to an event on mirrors of these origins is possible. For a take the item decides; a merge has an answer
+  -- of merges; a merge of a mirror with itself has Ok
   abbrev pub JudgesEvent : List (List ℕ) → Event → Result (Unit {0}) TakeFault → Type 0
   JudgesEvent origins (Take target item) answer =
       (origin : List ℕ) → slice_get origins target ≡ Some origin → JudgesItem origin item answer

@@ -1,4 +1,4 @@
-//! Tree heads that are the smaller one of no fork, found in one pass.
+//! Finds the tree heads that cannot be the smaller one of a fork, in one pass.
 ghost use Rattle.std.specs.Prelude.{◌≡◌, ◌≢◌, ◌≤◌, ◌<◌, ◌+◌, length, map, IfOk, IsTrue, slice_index_or};
 ghost use Rattle.std.specs.List.Sorted.{IsStrictlySortedBy};
 ghost use Rattle.tlog_mirror.specs.Best.{by_point};

@@ -74,7 +74,7 @@ fn clash_of<H: TreeHash>(alloc: Global, size: u64, root: &Hash, edge: &[&[u8]]) 
     }
 }
 
-// Adds the strings of edge rows, lowest level first, and gives the hash that they lead to.
+// Adds the strings of edge rows, lowest level first, and gives the hash to which they lead.
 fn add_edge<H: TreeHash>(store: &mut Store<H>, mut rows: Vec<Vec<Hash>>) -> Result<Hash, AddFault>
     requires some { All (λ row. 0 < length row.items) rows.items }
     requires no_clash { NoClash H.digest store.old }

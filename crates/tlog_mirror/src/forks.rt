@@ -45,7 +45,7 @@ impl<H: TreeHash> Mirror<H> {
     }
 
     /// Writes the forks in the order of `forks`, a line each, the smaller tree head first: `fork SIZE ROOT SIZE ROOT`.
-    /// It gives whether there is a fork, and writes nothing if there is none.
+    /// It returns whether there is a fork, and writes nothing if there is none.
     ///
     /// It writes each line as it makes it. Memory is needed for each tree head and not for each fork, and before the
     /// first byte is written. It does not flush.
@@ -159,7 +159,7 @@ fn push_fork(
     Ok(())
 }
 
-// Writes the forks of the tree heads, and gives whether there is one. There is one mark for each tree head; the marks'
+// Writes the forks of the tree heads, and returns whether there is one. There is one mark for each tree head; the marks'
 // values before the call do not matter.
 fn write_all<W: Write>(
     alloc: Global,
@@ -189,7 +189,7 @@ fn write_all<W: Write>(
     Ok(any)
 }
 
-// Writes the forks whose smaller tree head is this one; a calm one has none. Gives whether there was a fork before or
+// Writes the forks whose smaller tree head is this one; a calm one has none. Returns whether there was a fork before or
 // among these.
 fn write_forks_of<W: Write>(
     output: &mut W,
@@ -228,7 +228,7 @@ fn write_forks_of<W: Write>(
     Ok(any)
 }
 
-// Writes the fork of two tree heads, if they conflict. Gives whether there was a fork before or this is one.
+// Writes the fork of two tree heads, if they conflict. Returns whether there was a fork before or this is one.
 fn write_fork<W: Write>(
     output: &mut W,
     held: &mut Vec<u8>,

@@ -84,7 +84,6 @@ pub(crate) fn points_of(alloc: Global, kept: &[HeldNote]) -> Result<Vec<(u64, Ha
     Ok(points)
 }
 
-// The sizes and roots of kept notes.
 fn all_points(alloc: Global, kept: &[HeldNote]) -> Result<Vec<(u64, Hash)>, AllocError>
     ensures { IfOk result (λ points. points.items ≡ map (λ one. (one.size, one.root)) kept.now) }
 {

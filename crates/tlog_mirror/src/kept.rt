@@ -19,7 +19,6 @@ pub(crate) struct HeldNote {
 }
 
 impl HeldNote {
-    // A copy.
     pub(crate) fn copy(&self, alloc: Global) -> Result<HeldNote, AllocError>
         ensures { IfOk result (λ kept. kept ≡ self.now) }
     {
@@ -41,7 +40,6 @@ pub(crate) fn find_note(kept: &[HeldNote], bytes: &[u8]) -> Result<usize, usize>
     kept.binary_search_by(|k| compare_bytes(k, bytes))
 }
 
-// Compares the bytes of a kept note with other bytes.
 fn compare_bytes(kept: &HeldNote, bytes: &[u8]) -> Ordering
     ensures { result ≡ slice_cmp nat_cmp (note_bytes kept.now) bytes.now }
 {

@@ -37,7 +37,7 @@ fn begin_of(alloc: Global, level: u32) -> Result<String, AllocError>
     format!(in alloc; "tile/{level}/")
 }
 
-// Writes the missing paths of a tree head. Gives whether there is one.
+// Writes the missing paths of a tree head. Returns whether there is one.
 pub(crate) fn write_all<H: TreeHash, W: Write>(
     alloc: Global,
     output: &mut W,
@@ -69,7 +69,7 @@ pub(crate) fn write_all<H: TreeHash, W: Write>(
     Ok(any)
 }
 
-// Writes the missing paths of the first levels, counted from level 7 down. Gives whether there is one.
+// Writes the missing paths of the first levels, counted from level 7 down. Returns whether there is one.
 //
 // It first finds the clear trees of all levels, so it needs all its memory before the first byte is written.
 fn write_levels<H: TreeHash, W: Write>(
@@ -134,7 +134,7 @@ fn write_levels<H: TreeHash, W: Write>(
     )
 }
 
-// Writes the missing paths of a level. Gives whether there was a path before or among these.
+// Writes the missing paths of a level. Returns whether there was a path before or among these.
 fn write_level<H: TreeHash, W: Write>(
     output: &mut W,
     held: &mut Vec<u8>,

@@ -41,7 +41,7 @@ impl<H: TreeHash> Mirror<H> {
         Ok(Some(paths))
     }
 
-    /// Writes the missing paths of a tree head in the order of `missing`, a line each. It gives whether a path is
+    /// Writes the missing paths of a tree head in the order of `missing`, a line each. It returns whether a path is
     /// missing, and `None` exactly if no held note has that size and root.
     ///
     /// It writes each line as it finds it. Memory is needed for each tree and not for each path, and before the first

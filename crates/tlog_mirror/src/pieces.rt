@@ -9,7 +9,7 @@ use std::io::Write;
 // The number of bytes from which on they are written.
 const MANY: usize = 65_536;
 
-// Appends bytes to those that are held back, unless these are many or memory is refused. Gives whether it did.
+// Appends bytes to those that are held back, unless these are many or memory is refused. Returns whether it did.
 fn hold_back(held: &mut Vec<u8>, bytes: &[u8]) -> bool
     ensures { held.new.items ≡ (if result then held.old.items ++ bytes.now else held.old.items) }
 {

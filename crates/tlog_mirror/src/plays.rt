@@ -31,7 +31,6 @@ fn is_fitting(event: &Event, count: usize) -> bool
     }
 }
 
-// Whether a tile or a bundle has a width from 1 to 256.
 fn has_width(item: &Item) -> bool
     ensures { IsTrue result ↔ HasWidth item.now }
 {
@@ -42,7 +41,6 @@ fn has_width(item: &Item) -> bool
     }
 }
 
-// Whether it is a width of tiles and bundles.
 fn is_width(width: u32) -> bool
     ensures { IsTrue result ↔ IsWidth width }
 {
@@ -165,7 +163,6 @@ fn apply<H: TreeHash>(
     }
 }
 
-// One mirror takes an item.
 fn take_at<H: TreeHash>(
     alloc: Global,
     world: &mut [Mirror<H>],
@@ -235,7 +232,6 @@ impl<H: TreeHash> Mirror<H> {
         Ok(())
     }
 
-    // Takes an item.
     fn take(
         &mut self,
         alloc: Global,

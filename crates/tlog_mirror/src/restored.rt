@@ -52,8 +52,8 @@ impl<H: TreeHash> Mirror<H> {
         })
     }
 
-    /// Keeps a checkpoint note whose right edge is held already: the strings that its edge rows hash on the way to the
-    /// root (C2SP tlog-tiles, "Merkle Tree") are in the mirror. It adds only the note.
+    /// Keeps a checkpoint note whose right edge is held already: the mirror has the strings that its edge rows hash on
+    /// the way to the root (C2SP tlog-tiles, "Merkle Tree"). It adds only the note.
     ///
     /// # Errors
     ///
@@ -82,7 +82,7 @@ impl<H: TreeHash> Mirror<H> {
     }
 
     /// Keeps a tree head that `open_head` gave, if its right edge is held already, without verifying the note again. It
-    /// gives whether the edge is held. If not, or if memory was refused, the mirror is unchanged.
+    /// returns whether the edge is held. If not, or if memory was refused, the mirror is unchanged.
     ///
     /// ```text
     /// let head = mirror.open_head(alloc, &keys, note)?;
@@ -108,7 +108,6 @@ impl<H: TreeHash> Mirror<H> {
         Ok(true)
     }
 
-    // Whether the edge of that size and root is held.
     fn has_edge(&self, size: u64, root: &Hash) -> bool
         ensures { IsTrue result ↔ HoldsEdge H.digest self.now.view.strings size root.now }
     {

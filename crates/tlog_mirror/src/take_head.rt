@@ -24,8 +24,8 @@ use tlog_checkpoint::Checkpoint;
 use tlog_hash::TreeHash;
 
 impl<H: TreeHash> Mirror<H> {
-    /// The note and the checkpoint of a tree head, if the note is valid: it is a checkpoint of the mirror's origin, and
-    /// it opens under the keys (C2SP signed-note and tlog-checkpoint). This needs no edge rows, and changes nothing.
+    /// The note and the checkpoint of a tree head, if the note is valid (C2SP signed-note, tlog-checkpoint): a
+    /// checkpoint of the mirror's origin that opens under the keys. This needs no edge rows, and changes nothing.
     /// `take_opened_rows` takes the result without verifying it again.
     ///
     /// ```text
@@ -76,11 +76,15 @@ impl<H: TreeHash> Mirror<H> {
     ///
     /// # Errors
     ///
-    /// The first that applies: those of `open_head`; `EdgeCount`, if the number of rows is not the number of partial
-    /// tiles of the size; `EdgeLength`, if a row does not have 32 bytes for each hash of its tile; `EdgeMismatch`, if
-    /// the rows do not lead to the root; `Collision`, if two different strings, held ones or the rows' own, have one
-    /// digest. After these the mirror is unchanged. `OutOfMemory` if a growth was refused: some of the strings may have
-    /// been added, and the note only if all of them were. Taking the tree head again completes it.
+    /// The first that applies, after which the mirror is unchanged:
+    /// - those of `open_head`;
+    /// - `EdgeCount`: the number of rows is not the number of partial tiles of the size;
+    /// - `EdgeLength`: a row does not have 32 bytes for each hash of its tile;
+    /// - `EdgeMismatch`: the rows do not lead to the root;
+    /// - `Collision`: two different strings, held ones or the rows' own, have one digest.
+    ///
+    /// `OutOfMemory` if a growth was refused: some of the strings may have been added, and the note only if all of them
+    /// were. Taking the tree head again completes it.
     pub fn take_head(
         &mut self,
         alloc: Global,

@@ -55,10 +55,13 @@ impl<H: TreeHash> Mirror<H> {
     ///
     /// # Errors
     ///
-    /// The first that applies: `BundleShort`, if no prefix of the bytes is a bundle of that width; `BundleLong`, if one
-    /// is and more bytes follow it; `Collision`, if two different strings, held ones or the bundle's own, have one
-    /// digest. After these the mirror is unchanged. `OutOfMemory` if a growth was refused: some of the strings may have
-    /// been added, and taking the bundle again completes it.
+    /// The first that applies, after which the mirror is unchanged:
+    /// - `BundleShort`: no prefix of the bytes is a bundle of that width;
+    /// - `BundleLong`: a prefix is such a bundle, and more bytes follow it;
+    /// - `Collision`: two different strings, held ones or the bundle's own, have one digest.
+    ///
+    /// `OutOfMemory` if a growth was refused: some of the strings may have been added, and taking the bundle again
+    /// completes it.
     pub fn take_bundle(&mut self, alloc: Global, width: u32, bytes: &[u8]) -> Result<(), TakeFault>
         requires some { 1 ≤ width }
         requires most { width ≤ 256 }

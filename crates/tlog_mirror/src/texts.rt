@@ -14,7 +14,7 @@ use tlog_text::{push_hash, push_number};
 use tlog_tiles::{Path, print};
 
 impl<H: TreeHash> Mirror<H> {
-    /// The origin, each tree head with whether it is complete, and the served checkpoint, a line each: `origin O`,
+    /// The origin, each tree head with its state, and the served checkpoint, a line each. The lines are `origin O`,
     /// `head SIZE ROOT complete` or `head SIZE ROOT partial`, and `served SIZE ROOT` or `served none`.
     ///
     /// # Errors
@@ -83,7 +83,6 @@ pub(crate) fn push_point(text: &mut String, size: u64, root: &Hash) -> Result<()
     push_hash(text, root)
 }
 
-// Adds the line of a tree head.
 fn push_head(text: &mut String, head: &Head) -> Result<(), AllocError>
     ensures { OnOk result (string_bytes text.new ≡ string_bytes text.old ++ head_line head.now) }
 {
@@ -96,7 +95,6 @@ fn push_head(text: &mut String, head: &Head) -> Result<(), AllocError>
     })
 }
 
-// Adds a line for each tree head.
 fn push_heads(text: &mut String, heads: &[Head]) -> Result<(), AllocError>
     ensures { OnOk result (string_bytes text.new ≡ string_bytes text.old
         ++ flat_map head_line heads.now) }
@@ -107,7 +105,6 @@ fn push_heads(text: &mut String, heads: &[Head]) -> Result<(), AllocError>
     Ok(())
 }
 
-// Adds the line of the served checkpoint.
 fn push_served(text: &mut String, served: &Option<(u64, Hash)>) -> Result<(), AllocError>
     ensures { OnOk result (string_bytes text.new ≡ string_bytes text.old
         ++ served_line (option_map point_of served.now)) }
@@ -122,7 +119,6 @@ fn push_served(text: &mut String, served: &Option<(u64, Hash)>) -> Result<(), Al
     }
 }
 
-// Adds the line of a fork.
 fn push_fork(text: &mut String, fork: &Fork) -> Result<(), AllocError>
     ensures { OnOk result (string_bytes text.new ≡ string_bytes text.old ++ fork_line fork.now) }
 {
@@ -133,7 +129,6 @@ fn push_fork(text: &mut String, fork: &Fork) -> Result<(), AllocError>
     text.push_str("\n")
 }
 
-// Adds a line for each fork.
 fn push_forks(text: &mut String, forks: &[Fork]) -> Result<(), AllocError>
     ensures { OnOk result (string_bytes text.new ≡ string_bytes text.old ++ forks_text forks.now) }
 {
@@ -143,7 +138,6 @@ fn push_forks(text: &mut String, forks: &[Fork]) -> Result<(), AllocError>
     Ok(())
 }
 
-// Adds a line for each path.
 fn push_paths(alloc: Global, text: &mut String, paths: &[Path]) -> Result<(), AllocError>
     ensures { OnOk result (string_bytes text.new ≡ string_bytes text.old
         ++ missing_text paths.now) }
@@ -154,7 +148,6 @@ fn push_paths(alloc: Global, text: &mut String, paths: &[Path]) -> Result<(), Al
     Ok(())
 }
 
-// Adds the line of a path.
 fn push_path(alloc: Global, text: &mut String, path: &Path) -> Result<(), AllocError>
     ensures { OnOk result (string_bytes text.new ≡ string_bytes text.old ++ path_line path.now) }
 {
