@@ -8,7 +8,6 @@ use std::alloc::{AllocError, Global};
 use tlog_hash::{Hash, TreeHash, fold};
 use tlog_tiles::write_row;
 
-/// The leaf hashes of the entries.
 fn leaf_hashes<H: TreeHash>(alloc: Global, entries: &[&[u8]]) -> Result<Vec<Hash>, AllocError>
     ensures { IfOk result (λ row. row.items ≡ map (λ e. leaf_hash H.digest e.now) entries.now) }
 {

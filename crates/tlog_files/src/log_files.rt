@@ -60,8 +60,8 @@ impl<H: TreeHash> LogFiles<H> {
         LogFiles::from_rows(alloc, entries, root, rows)
     }
 
-    /// The files of a log with those entries, each of at most 65,535 bytes, if its tree hash and hashes are known:
-    /// `rows` has the bytes of the hashes of each level from 0 to 7, for all its full nodes. It hashes nothing.
+    /// The files of a log with those entries, each of at most 65,535 bytes, from its known tree hash and hashes. `rows`
+    /// has the bytes of the hashes of each level from 0 to 7, for all its full nodes. It hashes nothing.
     ///
     /// # Errors
     ///
