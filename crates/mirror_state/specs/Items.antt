@@ -1,4 +1,4 @@
--- Items of a state text: byte strings in order, where the end of each is known.
+-- Items of a state text: byte strings in order; the end of each is known.
 use Rattle.std.specs.Prelude.{◌≡◌, ℕ, ◌<◌, ◌^◌, List, ◌++◌, length, All}
 use Rattle.std.specs.List.{flat_map}
 use Rattle.std.specs.Int.{w16, w32, w64, to_be_bytes}

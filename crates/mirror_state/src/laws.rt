@@ -26,8 +26,8 @@ pub fn load_law()
     ensures { LoadsHaveOneAnswer }
 {}
 
-/// If the bytes are a state text, of either version, of a lawful view of the origin whose notes open under the keys, a
-/// loader gives that view, and no other answer.
+/// Let the bytes be a state text, of either version, of a lawful view of the origin, and let its notes open under the
+/// keys. Then a loader gives that view, and no other answer.
 pub fn loaded_text_law()
     ensures { TextsAreLoaded }
 {}

@@ -18,7 +18,6 @@ pub(crate) enum Lists<'a> {
 }
 
 impl<'a> Lists<'a> {
-    // The origin.
     pub(crate) fn origin(&self) -> &[u8]
         ensures { result.now ≡ listed_origin (parts_of self.now) }
     {
@@ -28,7 +27,6 @@ impl<'a> Lists<'a> {
         }
     }
 
-    // The notes.
     pub(crate) fn notes(&self) -> &[&'a [u8]]
         ensures { map (λ n. n.now) result.now ≡ listed_notes (parts_of self.now) }
     {
@@ -38,7 +36,6 @@ impl<'a> Lists<'a> {
         }
     }
 
-    // Whether each list rises strictly.
     pub(crate) fn all_rise(&self) -> bool
         ensures { IsTrue result ↔ AllRise (parts_of self.now) }
     {

@@ -25,8 +25,8 @@ use tlog_mirror::{Mirror, TakeFault};
 // The maximal number of reads of a reader.
 const READS: u64 = 16_777_216;
 
-/// The mirror of a state text. All the bytes of the reader have to be the text, of version 1 or 2, of a mirror with
-/// that origin, and each note has to open under the keys. The mirror remembers nothing for complete tree heads.
+/// The mirror of a state text. All the bytes of the reader have to be the text of a mirror with that origin, in version
+/// 1 or 2. Each note has to open under the keys. The mirror remembers nothing for complete tree heads.
 ///
 /// ```text
 /// let mirror: Mirror<Sha256Tree> = load(alloc, "example.com/log", &keys, &mut file)?;

@@ -17,7 +17,6 @@ pub(crate) fn rises(items: &[&[u8]]) -> bool
     true
 }
 
-// Whether the first comes before the second.
 fn is_before(first: &[u8], second: &[u8]) -> bool
     ensures { IsTrue result ↔ (slice_cmp nat_cmp first.now second.now ≡ Less) }
 {

@@ -19,7 +19,6 @@ pub(crate) struct Page {
 }
 
 impl Page {
-    // An empty page.
     pub(crate) fn new(alloc: Global) -> Page
         ensures held { result.held.items ≡ [] }
         ensures hashed { Holds256 result.digest [] }

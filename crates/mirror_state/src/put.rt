@@ -55,7 +55,6 @@ fn put_item<W: Write>(
     }
 }
 
-// Puts items in order.
 fn put_items<W: Write>(
     writer: &mut W,
     page: &mut Page,
@@ -96,7 +95,6 @@ pub(crate) fn put_list<W: Write>(
     put_items(writer, page, form, items)
 }
 
-// Puts two hashes.
 fn put_pair<W: Write>(
     writer: &mut W,
     page: &mut Page,
@@ -110,7 +108,6 @@ fn put_pair<W: Write>(
     put(writer, page, right.as_slice())
 }
 
-// Puts pairs in order.
 fn put_each_pair<W: Write>(
     writer: &mut W,
     page: &mut Page,

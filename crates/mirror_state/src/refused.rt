@@ -48,7 +48,6 @@ impl RefusedNote {
     }
 }
 
-// The name of a checkpoint.
 fn checkpoint_text(alloc: Global, size: u64, root: &Hash) -> Result<String, AllocError>
     ensures { IfOk result (λ text. string_bytes text ≡ checkpoint_name size root.now) }
 {
@@ -67,9 +66,9 @@ fn push_front(text: &mut String, root: &Hash) -> Result<(), AllocError>
     STANDARD.encode_string(&root[..FRONT_LEN], text)
 }
 
-/// The note for which `load_bytes` gives `StateHead` or `StateEdge`: the first, in the order of the text, that does not
-/// open; if all open, the first whose right edge is not held. `None` if it gives neither fault. It takes as long as a
-/// load.
+/// The note for which `load_bytes` gives `StateHead` or `StateEdge`. It is the first that does not open, in the order
+/// of the text. If all open, it is the first whose right edge is not held. `None` if it gives neither fault. It takes
+/// as long as a load.
 ///
 /// ```text
 /// refused_note::<Sha256Tree>(alloc, "example.com/log", &keys, &bytes)?   // a checkpoint, of 700 entries
@@ -140,7 +139,6 @@ fn refused_in<'a, H: TreeHash>(
     }
 }
 
-// The name of the note at that index.
 fn name_of(alloc: Global, index: usize, note: &[u8]) -> Result<RefusedNote, AllocError>
     requires { index < 18446744073709551615 }
     ensures { IfOk result (λ name. NamesNote index note.now name) }
