@@ -15,7 +15,7 @@ pub record FilesSinceAre (m n : ℕ) : Type 0 where
       ↔ (Contains (paths_of n) path × (Contains (paths_of m) path → path ≡ Checkpoint))
   pub all : since_paths 0 n ≡ paths_of n
 
--- the files of FilesSince are the new ones, and they are all files of a log if there was none before
+-- the files since m entries are the new ones, and since no entries they are all files of the log
 abbrev pub FilesSinceAreNew : Type 0
 FilesSinceAreNew = (m n : ℕ) → FilesSinceAre m n
 

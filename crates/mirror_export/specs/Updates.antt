@@ -15,8 +15,8 @@ use Rattle.mirror_export.specs.declared.fault.UpdateFault.TheVariants.{NothingCo
 use Rattle.mirror_export.specs.declared.fault.UpdateFault.TheVariants.{ShelfFault, OutOfMemory}
 
 module _ (digest : List ℕ → List ℕ) where
-  -- the served log extends the checkpoint: it is a note, its text is a checkpoint of the view's origin with m entries,
-  -- and its root is MTH(E[0..m]) for the served entries E
+  -- the served log extends the checkpoint. This is a note, and its text is a checkpoint of the view's origin with m
+  -- entries; its root is MTH(E[0..m]) for the served entries E
   pub record GoesOnFrom (v : View) (checkpoint : List ℕ) (m : ℕ) : Type 0 where
     pub root : List ℕ
     pub is_head : IsHead checkpoint v.origin m root
@@ -80,8 +80,8 @@ module _ (digest : List ℕ → List ℕ) where
         IsWholeAt digest note entries found m old now
     pub done : OnOk answer (HoldsLog digest note entries new)
 
-  -- if the served log extends the checkpoint that is on the shelf, at a size of m, and every tile and bundle of the
-  -- first m entries is there, then the update keeps the log complete
+  -- let the served log extend the checkpoint that is on the shelf, at a size of m, and let every tile and bundle of the
+  -- first m entries be there. Then the update keeps the log complete
   abbrev pub StaysWhole : {T : Type 0} → View → Option (List Put) → Option (List Put) →
       Result T UpdateFault → Type 0
   StaysWhole v None new answer = ⊤

@@ -23,7 +23,6 @@ pub(crate) enum FileKind {
     Bundles,
 }
 
-// The path of a file of that kind.
 pub(crate) fn path_at(kind: FileKind, index: u64, width: u32) -> Path
     ensures { result ≡ kind_path kind index width }
 {
@@ -37,7 +36,6 @@ pub(crate) fn path_at(kind: FileKind, index: u64, width: u32) -> Path
     }
 }
 
-// The level of files of that kind.
 pub(crate) fn level_at(kind: FileKind) -> u32
     ensures { result ≡ kind_level kind }
 {
@@ -47,7 +45,6 @@ pub(crate) fn level_at(kind: FileKind) -> u32
     }
 }
 
-// The bytes of a tile or a bundle.
 fn file_bytes<H: TreeHash>(
     alloc: Global,
     top: &TopRanges<'_, H>,
@@ -74,7 +71,6 @@ fn file_bytes<H: TreeHash>(
     }
 }
 
-// Puts a tile or a bundle.
 fn put_file<H: TreeHash, S: Shelf>(
     alloc: Global,
     top: &TopRanges<'_, H>,

@@ -4,8 +4,8 @@
 ghost use Rattle.mirror_export.specs.FileLaws.{FilesAreAll};
 ghost use Rattle.mirror_export.specs.SinceLaws.{FilesOfSteps, FilesSinceAreNew, UpdatesStayWhole};
 
-/// The files of a log, as an export lists them, are its checkpoint and, for each level and index with a tile or a
-/// bundle, the widest one, and no others.
+/// An export lists these files of a log: its checkpoint and, for each level and index with a tile or a bundle, the
+/// widest one. It lists no others.
 pub fn files_law()
     ensures { FilesAreAll }
 {}

@@ -84,16 +84,17 @@ fn update_to<H: TreeHash, S: ReadableShelf>(
     put_last(shelf, &found, note)
 }
 
-/// Brings a shelf up to date: puts the files of the served log that a log of the size of the shelf's checkpoint lacks,
-/// in the order of `export`, and last the checkpoint. If the shelf has no checkpoint, all files are put. It removes no
-/// file. So if all files of the shelf's checkpoint are there, the shelf has a complete log at each moment.
+/// Brings a shelf up to date. It puts the files of the served log that a log with the size of the shelf's checkpoint
+/// lacks. They come in the order of `export`, and last the checkpoint. If the shelf has no checkpoint, all files are
+/// put. It removes no file. So if all files of the shelf's checkpoint are there, the shelf has a complete log at each
+/// moment.
 ///
 /// It reads the shelf's checkpoint first, and again before it puts the new one. If there is another one by then, as
 /// from another update, it does not put the new one.
 ///
-/// It checks no signature. The served log has to extend the checkpoint: this is a note of the mirror's origin, its
-/// size is at most the served one, and its root is that of the first `size` served entries. If it is the served note,
-/// byte for byte, nothing is put.
+/// It checks no signature. The served log has to extend the checkpoint. This is a note of the mirror's origin; its size
+/// is at most the served one, and its root is that of the first `size` served entries. If it is the served note, byte
+/// for byte, nothing is put.
 ///
 /// ```text
 /// let mut shelf = DirShelf::new(&rt, alloc, "log");
