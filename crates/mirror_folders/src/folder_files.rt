@@ -32,7 +32,7 @@ impl<'a, R: Files> FolderFiles<'a, R> {
     ///
     /// # Errors
     ///
-    /// `ErrorKind::OutOfMemory` where memory was refused.
+    /// `ErrorKind::OutOfMemory` if memory was refused.
     pub fn of(files: &'a R, alloc: Global, folder: &str) -> io::Result<Self> {
         Ok(FolderFiles {
             files,

@@ -56,7 +56,6 @@ fn is_same(first: &Path, second: &Path) -> bool
     first == second
 }
 
-// Whether something was put at the path.
 fn is_put(puts: &[(Path, Vec<u8>)], path: &Path) -> bool
     ensures { IsTrue result ↔ HasPut (map (λ put. (put.0, put.1.items)) puts.now) path.now }
 {
@@ -68,7 +67,6 @@ fn is_put(puts: &[(Path, Vec<u8>)], path: &Path) -> bool
     false
 }
 
-// The bytes that were put last at the path.
 fn last_put<'a>(puts: &'a [(Path, Vec<u8>)], path: &Path) -> Option<&'a [u8]>
     ensures { RecordsRead (Some (map (λ put. (put.0, put.1.items)) puts.entry.now)) path.now
         (option_map (λ bytes. bytes.now) result) }

@@ -11,8 +11,8 @@ use tlog_tiles::Path;
 // The greatest number of files that are noted.
 const MOST: usize = 1_024;
 
-// The files of a folder that have to be on the device before a checkpoint is there, and that were not flushed yet:
-// those that were put, and those that an earlier run put. They are few, for a log of any size.
+// The files of a folder that have to be on the device before a checkpoint is there, and that were not flushed yet. This
+// run or an earlier one put them. They are few, for a log of any size.
 #[derive(Drop)]
 pub(crate) struct Unflushed {
     paths: Vec<Path>,
