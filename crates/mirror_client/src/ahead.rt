@@ -114,7 +114,7 @@ impl<S: Read + Write + Drop> Ahead<S> {
         }
     }
 
-    // Keeps the request, if it was sent and there is memory for it. Gives whether it did.
+    // Keeps the request, if it was sent and there is memory for it. Returns whether it did.
     fn keep(&mut self, sent: Option<Sent<S>>) -> bool
         requires { vec_len self.old.sent < self.old.most }
         ensures { self.new.most ≡ self.old.most }

@@ -13,7 +13,7 @@ pub enum SiteFault {
     /// The host is empty, has over 255 bytes, or has a byte outside `21` to `7e` in hexadecimal.
     #[error("BadHost")]
     BadHost,
-    /// The prefix is not empty, and does not begin with a slash or ends in one; or it has over 1,000 bytes, or a byte
+    /// The prefix is not empty, and does not begin with a slash or ends in one. Or it has over 1,000 bytes, or a byte
     /// outside `21` to `7e` in hexadecimal.
     #[error("BadPrefix")]
     BadPrefix,

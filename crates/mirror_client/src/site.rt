@@ -31,7 +31,6 @@ impl Model for Site {
     ghost invariant = { λ s. IsHost (string_bytes s.host) × IsSitePrefix (string_bytes s.prefix) };
 }
 
-// Whether each byte is visible ASCII.
 fn is_visible_text(text: &str) -> bool
     ensures { IsTrue result ↔ AllPass is_visible text.now }
 {
@@ -40,7 +39,6 @@ fn is_visible_text(text: &str) -> bool
         .all(|byte| 0x21 <= *byte && *byte <= 0x7e)
 }
 
-// Whether the text can be a host.
 fn is_host(host: &str) -> bool
     ensures { IsTrue result ↔ IsHost host.now }
 {
@@ -57,7 +55,6 @@ fn stands_between_slashes(prefix: &str) -> bool
     prefix.starts_with('/') && !prefix.ends_with('/')
 }
 
-// Whether the text can be a prefix.
 fn is_prefix(prefix: &str) -> bool
     ensures { IsTrue result ↔ IsSitePrefix prefix.now }
 {
@@ -75,9 +72,11 @@ impl Site {
     ///
     /// # Errors
     ///
-    /// In this order: `BadHost` if the host is empty, has over 255 bytes, or has a byte outside `21` to `7e` in
-    /// hexadecimal; `BadPrefix` if the prefix is not empty, and does not begin with a slash or ends in one, or if it
-    /// has over 1,000 bytes or such a byte; `OutOfMemory`.
+    /// In this order:
+    /// - `BadHost`: the host is empty, has over 255 bytes, or has a byte outside `21` to `7e` in hexadecimal;
+    /// - `BadPrefix`: the prefix is not empty, and does not begin with a slash or ends in one; or it has over 1,000
+    /// bytes or such a byte;
+    /// - `OutOfMemory`: memory was refused.
     pub fn new(alloc: Global, host: &str, prefix: &str) -> Result<Site, SiteFault>
         ensures { MakesSite host.now prefix.now result }
     {
