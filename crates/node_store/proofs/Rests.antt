@@ -8,7 +8,7 @@ use Rattle.node_store.specs.Strings.{Strings, Has, IsWithout, NoClash, AllTagged
 use Rattle.node_store.proofs.Sets.{Has-insert, Has-insert_other, same_strings}
 
 module _ (digest : List ℕ → List ℕ) where
-  -- a set without the strings of no digest is the set itself
+  -- if there are no digests, the rest is the set itself
   pub rest_none : (v : Strings) → IsWithout digest v [] v
   rest_none v = record { within = λ s h. h; apart = λ s h c. omega (arith, c.1); kept = λ s h not. h }
 

@@ -139,7 +139,7 @@ impl<H: TreeHash> Store<H> {
     /// ```text
     /// let mut added = Vec::new(alloc);
     /// store.insert_noted(Tagged::Leaf(b"a"), &mut added)?;
-    /// store.take_out(&added); // as it was
+    /// store.take_out(&added); // the store is as before
     /// ```
     ///
     /// # Errors
