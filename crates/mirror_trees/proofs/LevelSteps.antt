@@ -117,7 +117,7 @@ module _ (level : ℕ) where
     | inr not ↦ record { numbers = []; lists = inr (not, refl) }
   ]
 
-  -- nodes of few entries have no level from 1 on
+  -- no file of a level from 1 on has a node of few entries
   pub few_none : (start many : ℕ) (numbers : List ℕ) → 1 ≤ level → many ≤ 256 ^ level →
       ListsNode level start many numbers → numbers ≡ []
   few_none start many numbers some few (inr n) = n.1

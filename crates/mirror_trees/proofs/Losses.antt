@@ -35,7 +35,7 @@ module _ (digest : List ℕ → List ℕ) (held : Strings) where
       (λ i. size_of-shape (split_of n) i + size_of-shape (n - split_of n) i) ∙
       (let below = split_of-below n two in omega arith)
 
-  -- ---- if a list is held, no walk fails
+  -- ---- in a held list the walk fails nowhere
 
   abbrev Sound : List (List ℕ) → Type 0
   Sound es =

@@ -20,9 +20,9 @@ use tlog_shape::split;
 ///
 /// # Errors
 ///
-/// `Collision` only if the strings of the store and of the row collide. If they collide, the fault is `Collision` or
-/// `OutOfMemory`. `OutOfMemory` if memory was refused. After either fault the store has all its earlier strings, and
-/// some strings of the row may be added.
+/// `Collision` only if the strings of the store and of the row collide; `OutOfMemory` if memory was refused. If the
+/// strings collide, the answer is one of the two. After either fault the store has all its earlier strings, and some
+/// strings of the row may be added.
 pub fn add_row<H: TreeHash>(store: &mut Store<H>, row: &[Hash]) -> Result<Hash, AddFault>
     requires some { 0 < length row.now }
     requires no_clash { NoClash H.digest store.old }
@@ -50,8 +50,8 @@ pub fn add_row<H: TreeHash>(store: &mut Store<H>, row: &[Hash]) -> Result<Hash, 
 ///
 /// # Errors
 ///
-/// `Collision` only if the strings of the store and of the tree collide. If they collide, the fault is `Collision` or
-/// `OutOfMemory`. `OutOfMemory` if memory was refused. After either fault the store is unchanged.
+/// `Collision` only if the strings of the store and of the tree collide; `OutOfMemory` if memory was refused. If the
+/// strings collide, the answer is one of the two. After either fault the store is unchanged.
 pub fn add_entries<H: TreeHash>(
     alloc: Global,
     store: &mut Store<H>,
@@ -116,9 +116,9 @@ fn add_part<H: TreeHash>(
 ///
 /// # Errors
 ///
-/// `Collision` only if the strings of the store and of the rows collide. If they collide, the fault is `Collision` or
-/// `OutOfMemory`. `OutOfMemory` if memory was refused. After either fault the store has all its earlier strings, and
-/// some strings of the rows may be added.
+/// `Collision` only if the strings of the store and of the rows collide; `OutOfMemory` if memory was refused. If the
+/// strings collide, the answer is one of the two. After either fault the store has all its earlier strings, and some
+/// strings of the rows may be added.
 pub fn add_above<H: TreeHash>(
     store: &mut Store<H>,
     start: Hash,

@@ -42,9 +42,9 @@ pub fn is_built<H: TreeHash>(store: &Store<H>, known: &HeldTrees, size: u64, roo
     is_built(store, known, size - k, &right)
 }
 
-/// Whether that tree is held, with the answer of `is_built`. It notes the trees that it finds held among the known
-/// ones, except small trees, and no later walk enters those again. So its time grows with the number of different
-/// trees, and not with that of entries.
+/// Whether that tree is held, like `is_built`. It notes the trees that it finds held among the known ones, except small
+/// trees, and no later walk enters those again. So its time grows with the number of different trees, and not with that
+/// of entries.
 ///
 /// # Errors
 ///

@@ -16,7 +16,7 @@ pub(crate) const MANY: u64 = 32;
 /// ```text
 /// let mut known = HeldTrees::new(alloc);
 /// settle(&store, &mut known, 3, &root)?;
-/// known.remembered.len()  // 5, where the tree of three different entries is held
+/// known.remembered.len()  // 5, if the tree of three different entries is held
 /// ```
 #[derive(Drop)]
 pub struct HeldTrees {
