@@ -9,7 +9,7 @@ use Rattle.std.proofs.lemmas.List.{take-append-le, take_all}
 use Rattle.byte_streams.specs.Streams.{AppendsPrefix}
 use Rattle.tlog_mirror.specs.Pieces.{Sends}
 
--- what is always true is true at an Err
+-- a property that is always true is true at an Err
 pub in_err : {T E P : Type 0} (r : Result T E) → P → OnErr r P
 in_err (Ok x) h = tt
 in_err (Err e) h = h

@@ -1,4 +1,4 @@
--- How forks are found: tree heads by rising size and root, and for each one the earlier tree heads that it extends.
+-- How forks are found: tree heads by rising size and root, and for each one the last earlier tree head that it extends.
 -- Only the contracts of private functions cite these words.
 use Rattle.std.specs.Prelude.{◌≡◌, ◌≢◌, ◌⊎◌, ℕ, suc, ◌-◌, ◌<◌, ◌≤◌, List, [], ◌∷◌, ◌++◌, length, take}
 use Rattle.std.specs.Prelude.{slice_index_or, slice_set, Bool, true, false, not, cond, ◌&&◌}

@@ -12,7 +12,7 @@ use Rattle.tlog_mirror.specs.Adding.{with_note}
 abbrev pub IsOpenUnder : List ℕ → List Key → HeadNote → Type 0
 IsOpenUnder origin keys head = IsOpenCheckpoint head.note.bytes origin keys head.checkpoint
 
--- it opens under some keys
+-- the note opens under some keys
 abbrev pub WasOpened : List ℕ → HeadNote → Type 0
 WasOpened origin head = (keys : List Key) × IsOpenUnder origin keys head
 

@@ -14,10 +14,9 @@ impl<H: TreeHash> Mirror<H> {
     /// Lays out the served entries, so that each tile and bundle is one piece of memory. This takes 43 bytes for each
     /// entry, and the entry's own bytes once more. It changes no answer.
     ///
-    /// A take or a merge discards it, unless the call is refused before it would change the mirror. Nothing is laid
-    /// out if nothing is served, or if it would take more bytes than the held strings, as for 2^62 entries with few
+    /// A take or a merge discards it, unless the call is refused before it would change the mirror. Nothing is laid out
+    /// if nothing is served, or if it would take more bytes than the held strings, as for 2^62 entries with few
     /// different nodes.
-    /// different.
     ///
     /// ```text
     /// mirror.settle(alloc)?;

@@ -27,8 +27,8 @@ pub struct Mirror<H: TreeHash> {
     pub(crate) strings: Store<H>,
     pub(crate) known: HeldTrees,
     // The served entries, laid out: the served note, and the files of its entries. Only `lay_out` makes it. Each call
-    // that adds a string or a note discards it first. So it is always for what is served now, and no change needs a
-    // proof that it stays so.
+    // that adds a string or a note discards it first. So it always matches the served checkpoint, and no change needs a
+    // proof of that.
     pub(crate) laid: Option<(HeldNote, LogFiles<H>)>,
 }
 

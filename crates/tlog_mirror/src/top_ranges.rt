@@ -87,8 +87,8 @@ impl<'a, H: TreeHash> TopRanges<'a, H> {
         Ok(Some(write_row(alloc, row.as_slice())?))
     }
 
-    /// The bytes of a bundle of the served entries (C2SP tlog-tiles, "Log Entries"): `width` entries from number `256 *
-    /// index` on. `None` exactly if the bundle is not within the entries, as for a width outside 1 to 256.
+    /// The bytes of a bundle of the served entries (C2SP tlog-tiles, "Log Entries"): `width` entries from number
+    /// `256 * index` on. `None` exactly if the bundle is not within the entries, as for a width outside 1 to 256.
     ///
     /// # Errors
     ///
