@@ -401,7 +401,7 @@ fn open_all(
     Ok(heads)
 }
 
-// Keeps the tree heads whose right edges are held.
+// Keeps the tree heads. `StateEdge` if the right edge of one is not held.
 fn keep_all<H: TreeHash>(
     alloc: Global,
     mirror: &mut Mirror<H>,

@@ -62,7 +62,7 @@ fn is_new(magic: &[u8]) -> bool
 ///
 /// ```text
 /// let mirror: Mirror<Sha256Tree> = load_bytes(alloc, "example.com/log", &keys, &bytes)?;
-/// is_as_saved(&bytes)   // true where they are what `save` writes of it
+/// is_as_saved(&bytes)   // true if `save` writes these bytes for it
 /// ```
 pub fn is_as_saved(bytes: &[u8]) -> bool
     ensures begins { IsTrue result ↔ (take 8 bytes.now ≡ codes "TLMIRR02") }
