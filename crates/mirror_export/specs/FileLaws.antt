@@ -17,7 +17,7 @@ IsFileOf n Checkpoint = ⊤
 IsFileOf n (Tile level index width) = IsWidestIn n level index width
 IsFileOf n (Entries index width) = IsWidestIn n 0 index width
 
--- a log's list of files has the checkpoint, for each level and index with a tile or a bundle the widest one, and
--- nothing else
+-- a log's list of files has the checkpoint and, for each level and index with a tile or a bundle, the widest one. It
+-- has nothing else
 abbrev pub FilesAreAll : Type 0
 FilesAreAll = (n : ℕ) (path : Path) → Contains (paths_of n) path ↔ IsFileOf n path

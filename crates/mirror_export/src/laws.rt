@@ -23,8 +23,8 @@ pub fn files_since_example()
 
 /// At each moment of an update a complete log is in the folder. Let every tile and bundle of the first m entries be
 /// there with true bytes. Then after each put, all files of the log are there with true bytes beside its checkpoint, or
-/// the earlier checkpoint is there with all of its files. A file that was true did not change. With m = 0 the folder
-/// may be empty, and this is an export.
+/// the earlier checkpoint is there with all of its files. A file whose bytes were true did not change, and neither did
+/// a file that is not put. With m = 0 the folder may be empty, and this is an export.
 pub fn update_law()
     ensures { UpdatesStayWhole }
 {}
