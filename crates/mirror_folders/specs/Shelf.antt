@@ -1,4 +1,4 @@
--- The record that a shelf keeps of what was put onto it.
+-- The record that a shelf keeps of its puts.
 use Rattle.std.specs.Prelude.{◌≡◌, ◌↔◌, ℕ, List, [], ◌∷◌, ◌++◌, map, Option, Some, None, Result, Ok}
 use Rattle.std.specs.Prelude.{Err, Bool, IsTrue, Contains, ⊤}
 use Rattle.tlog_tiles.specs.declared.paths.Path.{Path}
@@ -32,7 +32,7 @@ abbrev pub RecordsHas : Option (List Put) → Path → Bool → Type 0
 RecordsHas None path answer = ⊤
 RecordsHas (Some puts) path answer = IsTrue answer ↔ HasPut puts path
 
--- the answer is what is at the path: what was put there last, or None if nothing was put there
+-- the answer is the bytes of the last put at the path, or None if nothing was put there
 abbrev pub RecordsRead : Option (List Put) → Path → Option (List ℕ) → Type 0
 RecordsRead None path answer = ⊤
 RecordsRead (Some puts) path None = ¬ HasPut puts path

@@ -59,14 +59,14 @@ pub struct DirShelf<'a, R: Files> {
     recent: Recent,
 }
 
-// What was put into a folder recently. It is a record of its own, since contracts see the shelf as its count of
+// The recent puts into a folder. They are a record of their own, since contracts see the shelf as its count of
 // failures: writing does not change that count.
 #[derive(Drop)]
 struct Recent {
     // The files to flush before the next checkpoint.
     unflushed: Unflushed,
     // Temporary files of earlier runs in the folder that was put into last, and in the one before. Tiles and bundles
-    // may be put by turns, and it costs more to list a folder than to put a file.
+    // may alternate, and it costs more to list a folder than to put a file.
     left: Leftovers,
     before: Leftovers,
 }

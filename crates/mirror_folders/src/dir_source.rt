@@ -17,14 +17,14 @@ use tlog_tiles::Path;
 ///
 /// ```text
 /// let mut source = DirSource::new(&rt, rt.alloc(), "log");
-/// source.get(&Path::Checkpoint)?; // the bytes of log/checkpoint, None where there is no such file
+/// source.get(&Path::Checkpoint)?; // the bytes of log/checkpoint, None if there is no such file
 /// ```
 ///
 /// # Errors
 ///
-/// `get` gives `Failed` if the path has something that is no plain file, cannot be read, or has more than 16,777,472
-/// bytes. It reads at most one byte more than that. It also gives `Failed` if the folder's name is empty, and
-/// `OutOfMemory` if memory was refused. A missing file is no failure, and neither is a path below a plain file.
+/// `get` gives `Failed` if the file at the path is not a plain file, cannot be read, or has more than 16,777,472 bytes.
+/// It reads at most one byte more than that. It also gives `Failed` if the folder's name is empty, and `OutOfMemory` if
+/// memory was refused. A missing file is no failure, and neither is a path below a plain file.
 #[derive(Drop)]
 pub struct DirSource<'a, R: Files> {
     files: &'a R,

@@ -13,7 +13,7 @@ pub trait NamedFolders: ReadableShelf {
     ghost use Rattle.std.specs.Prelude.{◌≡◌, ℕ, List, Option, None, IfErr, IfOk};
     ghost use Rattle.mirror_folders.specs.Shelf.{Put};
 
-    /// What was put into the folder with a name, the oldest first, if the shelf records it.
+    /// The puts into the folder with a name, the oldest first, if the shelf records them.
     ghost held: { Self → List ℕ → Option (List Put) } = { λ _ _. None };
 
     /// Opens the folder with that name: later puts go there. The folder need not exist yet.

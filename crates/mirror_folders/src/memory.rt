@@ -8,8 +8,8 @@ use std::alloc::{AllocError, Global};
 use std::marker::Model;
 use tlog_tiles::Path;
 
-/// A shelf in memory: it records what it holds, and never fails. Contracts see the list of what was put, the oldest
-/// first. It is the folder with every name: `open` changes nothing.
+/// A shelf in memory: it records what it holds, and never fails. Contracts see the list of its puts, the oldest first.
+/// It is the folder with every name: `open` changes nothing.
 ///
 /// ```text
 /// let mut shelf = MemShelf::new(alloc);
@@ -42,7 +42,7 @@ impl MemShelf {
         }
     }
 
-    /// What was put, the oldest first. It takes no memory.
+    /// The puts, the oldest first. It takes no memory.
     pub fn puts(&self) -> &[(Path, Vec<u8>)]
         ensures { map (λ put. (put.0, put.1.items)) result.now ≡ self.now }
     {

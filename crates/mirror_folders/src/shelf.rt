@@ -33,7 +33,7 @@ pub trait Shelf {
     ghost use Rattle.mirror_sources.specs.Recorded.{KeepsRecord};
     ghost use Rattle.mirror_folders.specs.Shelf.{Put, RecordsPut, RecordsHas, CountsFailures};
 
-    /// What was put, the oldest first, if the shelf records it. At each path there is what was put there last.
+    /// The puts, the oldest first, if the shelf records them. Each path has the bytes of the last put there.
     ghost puts: { Self → Option (List Put) } = { λ _. None };
 
     /// The number of calls that failed.
