@@ -18,7 +18,7 @@ use tlog_tiles::Path;
 ///
 /// A hint names the next paths. The source then sends requests for the first of them ahead, each over a connection of
 /// its own, and reads each reply when its path is needed. A hint closes the requests that are out for other paths. If a
-/// connection fails, no more requests than those are out, until a get comes while none is out.
+/// connection fails, the number of requests that are out then becomes the limit, until a get comes while none is out.
 ///
 /// If the reply to a request that was sent ahead fails, the source requests the file again, while other requests are
 /// out. If that fails too, it waits until those are finished, and requests the file once more. So other requests never
@@ -27,7 +27,6 @@ use tlog_tiles::Path;
 /// The other end decides the answer: contracts only say that it has at most 16,785,664 bytes. `Failed` if a connection,
 /// a write or a read fails, if the reply has more bytes, or if `read_reply` refuses it. `OutOfMemory` if memory was
 /// refused, which is not counted. `last_failed` gives the reason of the last failed get.
-/// `last_failed`.
 #[derive(Drop)]
 pub struct HttpSource<D: Dial + Drop> {
     alloc: Global,
