@@ -20,7 +20,7 @@ use Rattle.mirror_export.proofs.Filters.{filter_all, filter_has, filter_is}
 
 -- ---- the width at a level and index
 
--- a width that a level and index have is the widest there
+-- `width_at` is the widest width at its level and index
 has_widest : (m level index width : ℕ) → level ≤ 7 → 1 ≤ width → width ≡ width_at m level index →
     IsWidestIn m level index width
 has_widest m level index width fits some e = elim (cases_lt index (edge_index_of m level)) [
@@ -36,7 +36,7 @@ has_widest m level index width fits some e = elim (cases_lt index (edge_index_of
   ]
 ]
 
--- the widest tile of a level and index has their width
+-- the widest tile of a level and index has the width `width_at`
 widest_is : (m level index width : ℕ) → IsWidestIn m level index width → width ≡ width_at m level index
 widest_is m level index width h = elim (cases_lt index (edge_index_of m level)) [
   | inl before ↦ (widest_before m level index width h before).width_is ∙ sym (width_full m level index before)

@@ -31,7 +31,7 @@ pub width_none : (m level index : ℕ) → edge_index_of m level ≤ index → n
 width_none m level index ge other =
     width_last m level index ge ∙ ap (λ (b : Bool). cond b (width_of m level) 0) other
 
--- if the tree has a tile with that level and index, it has that width
+-- if the tree has a tile with that level and index, its width is `width_at`
 pub width_found : (m level index : ℕ) (found : Option ℕ) → IfSome found (λ width. IsTile m level index width) →
     IfNone found ((width : ℕ) → IsTile m level index width → ⊥) → unwrap_or found 0 ≡ width_at m level index
 width_found m level index (Some width) (inl full) none =
