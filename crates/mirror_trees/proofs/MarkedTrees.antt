@@ -1,4 +1,4 @@
--- Points that may be remembered for complete tree heads are held trees.
+-- The points that may be remembered for complete tree heads are those of held trees.
 use Rattle.std.proofs.Common.{◌≡◌, ℕ, ◌+◌, ◌-◌, ◌<◌, ◌≤◌, List, [], ◌∷◌, ◌++◌, length, take, drop, sym, ap, ◌∙◌, subst}
 use Rattle.std.proofs.Common.{arith, inl, inr, length-take, length-drop, take-append-drop}
 use Rattle.std.specs.List.{AllByRecursion}

@@ -75,9 +75,9 @@ fn holds_edge_from<H: TreeHash>(store: &Store<H>, size: u64, root: &Hash, level:
     last_of_row(store, width as u64, &value).is_some()
 }
 
-/// Whether the right edge of a tree is held (C2SP tlog-tiles, "Merkle Tree"): rows with its widths lead to the root,
-/// and the store holds all strings hashed on the way. These are the strings that a take of a tree head adds. It takes
-/// no memory.
+/// Whether the right edge of a tree is held (C2SP tlog-tiles, "Merkle Tree"). It is, if rows with its widths lead to
+/// the root, and the store holds all strings that are hashed on the way. These are the strings that a take of a tree
+/// head adds. It takes no memory.
 pub fn holds_edge<H: TreeHash>(store: &Store<H>, size: u64, root: &Hash) -> bool
     requires { NoClash H.digest store.now }
     ensures { IsTrue result ↔ HoldsEdge H.digest store.now size root.now }
