@@ -51,7 +51,7 @@ sorted_at cmp (x ∷ xs) s (suc i) zero d lt fits = absurd (omega (arith, lt))
 sorted_at cmp (x ∷ xs) s (suc i) (suc j) d lt fits =
     sorted_at cmp xs s.1 i j d (omega (arith, lt)) (omega (arith, fits))
 
--- the origin of an item of a mapped list
+-- an item of a mapped list, with the item before the map
 pub record Unmapped {X Y : Type 0} (f : X → Y) (xs : List X) (k : ℕ) (y : Y) : Type 0 where
   pub one : X
   pub within : k < length xs

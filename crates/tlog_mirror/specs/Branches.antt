@@ -42,9 +42,9 @@ module _ (digest : List ℕ → List ℕ) (held : Strings) where
   abbrev pub IsForkOf : List (ℕ × List ℕ) → Fork → Type 0
   IsForkOf heads fork = IsPairOf heads fork × Conflicts fork.small fork.large
 
-  -- the data of a tree head, after the data of those before it. `whole`: its tree is held. If so, `after` is one more
-  -- than the place of another tree head, or 0 if there is none: the last earlier one whose tree is held and is a prefix
-  -- of its tree
+  -- the data of a tree head, after the data of those before it. `whole`: its tree is held. If so, `after` points to the
+  -- last earlier tree head whose tree is held and is a prefix of its tree. It is one more than that place, or 0 if
+  -- there is none
   pub record IsBranch (before : List Branch) (branch : Branch) : Type 0 where
     pub whole : IsTrue branch.whole ↔ IsBuilt digest held branch.head.0 branch.head.1
     pub fits : branch.after ≤ length before

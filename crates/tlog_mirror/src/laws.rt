@@ -12,9 +12,9 @@ pub fn served_list_law()
 {}
 
 /// The evidence that a line of `compare` gives. A list with the size and root of a fork is no prefix of the served
-/// entries, whatever collides. A list with the size and root of a `same` line is a prefix of the served entries, if the
-/// strings of its tree and of that prefix do not collide together. And a lawful view has one answer for the same tree
-/// heads.
+/// entries, whatever collides. Take a list with the size and root of a `same` line. It is a prefix of the served
+/// entries, if the strings of its tree and of that prefix do not collide together. And a lawful view has one answer for
+/// the same tree heads.
 pub fn compare_law()
     ensures fork { ForkIsNoPrefix }
     ensures same { SameIsPrefix }
