@@ -41,7 +41,7 @@ length_refused E ds e digits parses n is =
     let none = parse_digits own {E = E} 64 ds (Err e) parses digits in
     none (is.numeral.0, rw is.value is.fits)
 
--- digits have one length
+-- digits have only one length
 pub one_length : (ds : List ℕ) (m n : ℕ) → IsLength ds m → IsLength ds n → m ≡ n
 one_length ds m n p q = sym p.value ∙ q.value
 
@@ -51,7 +51,7 @@ module _ (fields : List Field) (field : Field) where
   abbrev more : List Field
   more = fields ++ field ∷ []
 
-  -- what holds of all fields holds of those but the last, and of the last
+  -- a property of all fields holds for those before the last, and for the last
   pub front_all : (P : Field → Type 0) → All P more → All P fields
   front_all P h k d lt = subst P (get_or_append_left fields (field ∷ []) d k lt)
       (h k d (omega (arith, length-append fields (field ∷ []), lt)))
@@ -69,7 +69,7 @@ module _ (fields : List Field) (field : Field) where
     h.4,
   )
 
-  -- another field says nothing of the length
+  -- another field does not change the length
   pub other_field : (length_so_far : Length) → (IsLengthField field → ⊥) → LengthIs fields length_so_far →
       LengthIs more length_so_far
   other_field NotGiven other h = All-push (λ f. IsLengthField f → ⊥) fields field h other
@@ -79,7 +79,7 @@ module _ (fields : List Field) (field : Field) where
   )
   other_field Unclear other h = λ n all. h n (front_all (λ f. IsLengthField f → IsLength f.1 n) all)
 
-  -- a value that is no length makes it unclear
+  -- a value that is no length makes the length unclear
   pub bad_field : IsLengthField field → ((n : ℕ) → IsLength field.1 n → ⊥) → LengthIs more Unclear
   bad_field is bad = λ n all. bad n (last_one (λ f. IsLengthField f → IsLength f.1 n) all is)
 

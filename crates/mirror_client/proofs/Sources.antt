@@ -1,4 +1,4 @@
--- What is sent and received over a stream.
+-- The bytes that are sent and received over a stream.
 use Rattle.std.proofs.Common.{◌≡◌, ℕ, ◌≤◌, List, length, take, drop, Option, Some, None, Result, Ok, Err, sym, subst, ◌∙◌}
 use Rattle.std.proofs.Common.{ap, arith, inl, inr}
 use Rattle.std.specs.Prelude.{IfErr, IfOk, IfSome}
@@ -17,7 +17,7 @@ pub appends_none : (c : Option (List ℕ)) (bytes : List ℕ) → AppendsPrefix 
 appends_none None bytes = (0, tt)
 appends_none (Some xs) bytes = (0, sym (append-nil xs))
 
--- of the bytes that were taken, with one more than a reply has, the answer is that of all bytes
+-- the answer for the bytes that were read, up to one more than a reply has, is the answer for all bytes
 pub received : (known : Option (List ℕ)) (v : List ℕ) (answer : Option (List ℕ)) →
     IfSome known (λ input. v ≡ take MOST_TAKEN input) → Receives v (Ok answer) →
     IfSome known (λ input. Receives input (Ok answer))
@@ -27,11 +27,11 @@ received (Some input) v answer is h =
     let short : length input ≤ MOST_TAKEN = omega (arith, len, h.0) in
     subst (λ (bytes : List ℕ). Receives bytes (Ok answer)) (is ∙ take_all MOST_TAKEN input short) h
 
--- no value is a fault
+-- an Ok is not an Err
 ok_err : {A E : Type 0} (x : A) (e : E) → ◌≡◌ {A = Result A E} (Ok x) (Err e) → ⊥
 ok_err {A} {E} x e is = subst (λ (r : Result A E). IfErr r (λ f. ⊥)) is tt
 
--- a body has no more bytes than its reply
+-- a body has at most the number of bytes of its reply
 pub short_answer : (v : List ℕ) (answer : Option (List ℕ)) → Receives v (Ok answer) →
     IsShortAnswer MAX_REPLY_LEN answer
 short_answer v None h = tt
@@ -49,7 +49,7 @@ short_answer v (Some body) (le, inl (head, rest, has, says)) =
     )
 short_answer v (Some body) (le, inr (none, is)) = absurd (ok_err (Some body) _ is)
 
--- the answer to bytes that were read, or not, is that of all bytes
+-- the answer for bytes that were read, or for a failed read, is right for all bytes
 module _ {V W : Type 0} (items : V → List ℕ) (view : W → Option (List ℕ)) where
   pub whole_reply : (known : Option (List ℕ)) (read : Result V StreamFault) (result : Result W SourceFault) →
       IfOk read (λ v. IfSome known (λ input. items v ≡ take MOST_TAKEN input)) →

@@ -1,4 +1,4 @@
-//! Requests that are sent before their replies are asked for.
+//! Requests that are sent ahead, before their replies are needed.
 ghost use Rattle.std.specs.Prelude.{[], ◌≡◌, ◌<◌, ◌≤◌, Contains, IfOk, IfSome, length, option_map, slice_index_or, vec_len};
 ghost use Rattle.std.specs.Io.KnownBytes.{Appends};
 ghost use Rattle.mirror_client.specs.Request.{request_text};
@@ -15,16 +15,16 @@ use std::io;
 use std::io::{Read, Write};
 use tlog_tiles::Path;
 
-/// A request that was sent ahead: the path that it asks for, and the connection that its reply comes over.
+/// A request that was sent ahead: its path, and the connection for its reply.
 #[derive(Drop)]
 pub(crate) struct Sent<S: Drop> {
     pub(crate) path: Path,
     pub(crate) stream: S,
 }
 
-/// The requests that are out: they were sent ahead, and their replies were not read.
+/// The requests that are out: they were sent ahead, and their replies were not read yet.
 ///
-/// At most `most` are out at once. Where the server takes no more, `room` are, until `widen` is called.
+/// At most `most` are out at once. If the server refuses more, at most `room` are out, until `widen` is called.
 #[derive(Drop)]
 pub(crate) struct Ahead<S: Drop> {
     pub(crate) sent: Vec<Sent<S>>,
@@ -34,8 +34,8 @@ pub(crate) struct Ahead<S: Drop> {
     ghost within: { room ≤ most },
 }
 
-// Sends the request for that path over the connection, if there is one. Where it was not sent whole, or memory was refused,
-// the connection is closed.
+// Sends the request for that path over the connection, if there is one. If it was not sent completely, or memory was
+// refused, the connection is closed.
 fn send_one<S: Read + Write + Drop>(
     alloc: Global,
     dialled: io::Result<S>,
@@ -73,7 +73,7 @@ fn find_sent<S: Drop>(sent: &[Sent<S>], path: &Path) -> Option<usize>
 }
 
 impl<S: Read + Write + Drop> Ahead<S> {
-    /// None are out, and at most so many will be. It takes no memory.
+    /// No request is out, and at most `most` will be. It takes no memory.
     pub(crate) fn new(alloc: Global, most: usize) -> Ahead<S>
         ensures { result.most ≡ most }
     {
@@ -84,13 +84,13 @@ impl<S: Read + Write + Drop> Ahead<S> {
         }
     }
 
-    /// Whether none are out.
+    /// Whether no request is out.
     pub(crate) fn is_empty(&self) -> bool {
         self.sent.is_empty()
     }
 
-    /// Sends the requests for the first of the paths, as many as there is room for. One that is out for another path is
-    /// closed. Where a connection fails, or memory is refused, there is no room for more.
+    /// Sends the requests for the first of the paths, until there is no more room. It closes each request that is out
+    /// for another path. If a connection fails, or memory is refused, the room shrinks to the requests that are out.
     pub(crate) fn send<D: Dial<Stream = S>>(
         &mut self,
         alloc: Global,
@@ -114,7 +114,7 @@ impl<S: Read + Write + Drop> Ahead<S> {
         }
     }
 
-    // Whether the request was sent, and there was memory to keep it.
+    // Keeps the request, if it was sent and there is memory for it. Returns whether it did.
     fn keep(&mut self, sent: Option<Sent<S>>) -> bool
         requires { vec_len self.old.sent < self.old.most }
         ensures { self.new.most ≡ self.old.most }
@@ -125,7 +125,7 @@ impl<S: Read + Write + Drop> Ahead<S> {
         }
     }
 
-    /// The connection on which that path was asked for, if it was. Its request is out no more.
+    /// The connection of the request for that path, if it is out. The request is then no longer out.
     pub(crate) fn take(&mut self, path: &Path) -> Option<S>
         ensures found { IfSome result (λ stream. Contains self.old.sent.items
             (record { path = path.now; stream = stream })) }
@@ -136,7 +136,7 @@ impl<S: Read + Write + Drop> Ahead<S> {
         Some(stream)
     }
 
-    /// Waits until the server has done with all that are out, and drops their replies.
+    /// Waits until the server has finished with all requests that are out, and drops their replies.
     pub(crate) fn finish(&mut self, alloc: Global)
         ensures none { self.new.sent.items ≡ [] }
         ensures most { self.new.most ≡ self.old.most }
@@ -147,7 +147,7 @@ impl<S: Read + Write + Drop> Ahead<S> {
         self.sent.clear();
     }
 
-    /// There is room for as many as at first.
+    /// Sets the room to its first value.
     pub(crate) fn widen(&mut self)
         ensures { self.new.most ≡ self.old.most }
     {
@@ -155,7 +155,7 @@ impl<S: Read + Write + Drop> Ahead<S> {
     }
 }
 
-/// The body of the reply to a request that was sent ahead. Its time begins now.
+/// The body of the reply to a request that was sent ahead. Its time starts now.
 pub(crate) fn receive_ahead<D: Dial>(
     alloc: Global,
     dial: &mut D,

@@ -20,8 +20,8 @@ use std::io;
 use std::io::{ErrorKind, Read, Write};
 use tlog_tiles::Path;
 
-/// Writes the request for that file of the site, and nothing else. It is `Failed` where a write fails or takes
-/// no byte: a prefix of the request was written. Where memory was refused nothing was written.
+/// Writes the request for that file of the site, and nothing else. `Failed` if a write fails or takes no byte: a prefix
+/// of the request was written. If memory was refused, nothing was written.
 #[tactic(auto, using(crate::proofs::Sources::appends_none))]
 pub(crate) fn send_request<W: Write>(
     alloc: Global,
@@ -39,7 +39,7 @@ pub(crate) fn send_request<W: Write>(
     write_request(writer, get_request(alloc, site, path))
 }
 
-// Writes the request, if there was memory for it. Where there was, `Failed` is the only fault.
+// Writes the request, if there was memory for it. In that case the only fault is `Failed`.
 fn write_request<W: Write>(
     writer: &mut W,
     request: Result<Vec<u8>, AllocError>,
@@ -61,9 +61,9 @@ fn write_request<W: Write>(
     }
 }
 
-/// Reads the reply that the reader gives up to its end, and gives the body, or None where the file is not
-/// there (RFC 9112). Of a reply of more than 16,785,664 bytes one byte more is taken, and no others. What is wrong with a
-/// reply goes into `reason`. Where the request was not sent, that fault is the answer.
+/// Reads the reply to the end of the reader, and gives the body, or `None` if the file does not exist (RFC 9112). It
+/// reads at most 16,785,665 bytes, one more than the longest reply has. It stores the reason for a bad reply in
+/// `reason`. If the request was not sent, it gives that fault.
 pub(crate) fn receive_reply<R: Read>(
     alloc: Global,
     reader: &mut R,
@@ -99,7 +99,7 @@ fn reply_body(
     }
 }
 
-// The body of the reply that the bytes are.
+// The body of the reply that has these bytes.
 fn body_of(
     alloc: Global,
     bytes: &[u8],
@@ -124,7 +124,7 @@ fn body_of(
     }
 }
 
-// Why a connection on which a get failed is to blame, where nothing is known of its reply.
+// The reason for a failed get, if the connection failed and there is no reason from a reply.
 fn stream_reason(error: Option<io::Error>) -> Reason {
     match error {
         Some(error) => Reason::of_stream(error),
@@ -132,8 +132,8 @@ fn stream_reason(error: Option<io::Error>) -> Reason {
     }
 }
 
-/// One request over the connection, if there is one, and the body of the reply to it. Where it is `Failed`,
-/// `reason` says why.
+/// One request over the connection, if there is one, and the body of the reply to it. If it gives `Failed`, the reason
+/// is in `reason`.
 pub(crate) fn exchange<S: Read + Write + Drop>(
     alloc: Global,
     dialled: io::Result<S>,

@@ -4,7 +4,7 @@ use std::io::ErrorKind;
 use std::{fmt, io};
 use tlog_tiles::Path;
 
-/// A get that failed: the path that was asked for, and why.
+/// A get that failed: its path, and the reason.
 ///
 /// ```text
 /// if let Some(failed) = source.last_failed() {
@@ -15,25 +15,25 @@ use tlog_tiles::Path;
 pub struct FailedGet {
     /// The path.
     pub path: Path,
-    /// Why.
+    /// The reason.
     pub reason: Reason,
 }
 
-/// Why a get failed. It prints what is wrong, as `status 503`.
+/// Why a get failed. It prints the reason, as `status 503`.
 #[derive(Debug, Drop, Clone, Copy)]
 pub enum Reason {
     /// There was no connection.
     Connection(io::Error),
-    /// A write or a read failed, or time was up.
+    /// A write or a read failed, or the time limit was reached.
     Stream(io::Error),
     /// The reply has more than 16,785,664 bytes.
     LongReply,
-    /// The reply is none that `read_reply` reads.
+    /// `read_reply` refuses the reply.
     Reply(ReplyFault),
 }
 
 impl Reason {
-    /// Why a connection gave out. A wait that was cut off is told as `ErrorKind::TimedOut`.
+    /// The reason for a failed connection. For a wait that was cut off it is `ErrorKind::TimedOut`.
     pub(crate) fn of_stream(error: io::Error) -> Reason {
         if error.kind() == ErrorKind::WouldBlock {
             Reason::Stream(io::Error::from(ErrorKind::TimedOut))

@@ -1,7 +1,7 @@
 //! A log fetched over HTTP (RFC 9112): the requests that a mirror sends, and the replies that it reads.
 //!
-//! A `Site` is where a log's files stand: a host, and a prefix of their paths. `get_request` gives the
-//! bytes that ask for a file, and `read_reply` reads the bytes that came back.
+//! A `Site` is the place of a log's files: a host, and a prefix of their paths. `get_request` gives the bytes of a
+//! request for a file, and `read_reply` reads the bytes of the reply.
 //!
 //! ```text
 //! let site = Site::new(alloc, "log.example", "/2026")?;

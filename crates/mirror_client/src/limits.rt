@@ -1,19 +1,19 @@
-//! How long the parts of requests and replies may be.
+//! The greatest lengths of the parts of requests and replies.
 
-/// A host has at most so many bytes.
+/// The greatest number of bytes of a host.
 pub const MAX_HOST_LEN: usize = 255;
 
-/// The prefix of a log's paths has at most so many bytes.
+/// The greatest number of bytes of the prefix of a log's paths.
 pub const MAX_PREFIX_LEN: usize = 1_000;
 
-/// A head lies within so many bytes, from the first on.
+/// A head is within this number of bytes from the start.
 pub const MAX_HEAD_LEN: usize = 8_192;
 
-/// A head has at most so many fields.
+/// The greatest number of fields of a head.
 pub const MAX_FIELDS: usize = 64;
 
-/// A reply has at most so many bytes: a head, and a file of a log.
+/// The greatest number of bytes of a reply: a head, and a file of a log.
 pub const MAX_REPLY_LEN: usize = 16_785_664;
 
-/// A reader is taken so many bytes of at most, one more than a reply has.
+/// The greatest number of bytes that are read for a reply, one more than a reply can have.
 pub const MOST_TAKEN: usize = 16_785_665;

@@ -12,7 +12,7 @@ use crate::limits::{MAX_FIELDS, MAX_HEAD_LEN};
 use httparse::Status;
 use httparse::spans::{EMPTY_HEADER_SPAN, HeaderSpan, parse_response};
 
-// What the fields at those places say of the body.
+// The coding and the length of the body, by the fields at these places.
 fn framing_of(buf: &[u8], headers: &[HeaderSpan]) -> Framing
     requires { (n : ℕ) × (n ≤ length buf.now) × All (IsHeaderWithin n) headers.now }
     ensures { FramingIs (map (header_bytes buf.now) headers.now) result }
@@ -24,7 +24,7 @@ fn framing_of(buf: &[u8], headers: &[HeaderSpan]) -> Framing
     framing
 }
 
-// The status of the head at the start, what it says of the body, and where what follows it begins.
+// The status of the head at the start, the data about the body, and the place where the bytes after the head begin.
 fn parse_front(front: &[u8]) -> Option<(u16, Framing, usize)>
     ensures found { IfSome result (λ r. (h : ResponseHead)
         × ReadsResponse front.now h (drop r.2 front.now) × (length h.fields ≤ MAX_FIELDS)
@@ -42,7 +42,7 @@ fn parse_front(front: &[u8]) -> Option<(u16, Framing, usize)>
     }
 }
 
-// The body, where the length that is given, if any, is the number of the bytes.
+// The body, if the bytes have the length that is given, if any.
 fn whole_body(length: Length, rest: &[u8]) -> Result<Option<&[u8]>, ReplyFault>
     ensures { (status : ℕ) (fields : List Field) → IsPlain status fields → LengthIs fields length
         → SaysOfBody status fields rest.now (seen option_copied result) }
@@ -63,7 +63,7 @@ fn whole_body(length: Length, rest: &[u8]) -> Result<Option<&[u8]>, ReplyFault>
     }
 }
 
-// What a head of that status and those fields, and the bytes that follow it, are read as.
+// The answer for a head with that status and those fields, and the bytes that follow it.
 fn body_after_head(status: u16, framing: Framing, rest: &[u8]) -> Result<Option<&[u8]>, ReplyFault>
     ensures { (fields : List Field) → FramingIs fields framing → SaysOfBody status fields rest.now
         (seen option_copied result) }
@@ -80,8 +80,8 @@ fn body_after_head(status: u16, framing: Framing, rest: &[u8]) -> Result<Option<
     whole_body(framing.length, rest)
 }
 
-/// The body of the reply that the bytes are, or None where the file is not there (status 404 or 410). It
-/// takes no memory.
+/// The body of the reply that has these bytes, or `None` if the file does not exist (status 404 or 410). It takes no
+/// memory.
 ///
 /// # Errors
 ///
@@ -90,7 +90,7 @@ fn body_after_head(status: u16, framing: Framing, rest: &[u8]) -> Result<Option<
 /// - `OtherStatus`: a status other than 200, 404 and 410.
 /// - `CodedReply`: a `Transfer-Encoding` or `Content-Encoding` field whose value is not `identity`.
 /// - `BadReply`: a `Content-Length` that is no number of 64 bits, or two of different value.
-/// - `BodyShort`, `BodyLong`: fewer bytes than it says follow the head, or more.
+/// - `BodyShort`, `BodyLong`: fewer or more bytes than this length follow the head.
 ///
 /// Without a `Content-Length` the body is all that follows the head.
 ///

@@ -1,4 +1,4 @@
-//! Where a log's files stand.
+//! The place of a log's files.
 ghost use Rattle.std.specs.Prelude.{◌≡◌, ◌↔◌, IsTrue};
 ghost use Rattle.std.specs.List.{AllPass};
 ghost use Rattle.mirror_client.specs.Site.{is_visible, IsHost, IsSitePrefix, MakesSite, StandsBetweenSlashes};
@@ -8,13 +8,12 @@ use crate::limits::{MAX_HOST_LEN, MAX_PREFIX_LEN};
 use std::alloc::Global;
 use std::marker::Model;
 
-/// Where a log's files stand: a host, as the Host field names it, and a prefix of their paths (RFC 9112,
-/// sections 3.2 and 3.2.1).
+/// The place of a log's files: a host, as the Host field names it, and a prefix of their paths (RFC 9112, sections 3.2
+/// and 3.2.1).
 ///
 /// # Examples
 ///
-/// The files of `Site::new(alloc, "log.example", "/2026")?` stand at `http://log.example/2026/checkpoint`
-/// and so on.
+/// The files of `Site::new(alloc, "log.example", "/2026")?` are at `http://log.example/2026/checkpoint` and so on.
 #[derive(Debug, Drop)]
 pub struct Site {
     host: String,
@@ -32,7 +31,6 @@ impl Model for Site {
     ghost invariant = { λ s. IsHost (string_bytes s.host) × IsSitePrefix (string_bytes s.prefix) };
 }
 
-// Whether each byte is visible ASCII.
 fn is_visible_text(text: &str) -> bool
     ensures { IsTrue result ↔ AllPass is_visible text.now }
 {
@@ -41,7 +39,6 @@ fn is_visible_text(text: &str) -> bool
         .all(|byte| 0x21 <= *byte && *byte <= 0x7e)
 }
 
-// Whether a host may be so.
 fn is_host(host: &str) -> bool
     ensures { IsTrue result ↔ IsHost host.now }
 {
@@ -58,7 +55,6 @@ fn stands_between_slashes(prefix: &str) -> bool
     prefix.starts_with('/') && !prefix.ends_with('/')
 }
 
-// Whether a prefix may be so.
 fn is_prefix(prefix: &str) -> bool
     ensures { IsTrue result ↔ IsSitePrefix prefix.now }
 {
@@ -72,13 +68,15 @@ fn is_prefix(prefix: &str) -> bool
 }
 
 impl Site {
-    /// The site of that host and prefix.
+    /// The site with that host and prefix.
     ///
     /// # Errors
     ///
-    /// In this order: `BadHost` where the host is empty, has over 255 bytes, or has a byte outside `21`
-    /// to `7e` in hexadecimal; `BadPrefix` where the prefix is not empty and does not begin with a slash
-    /// or ends in one, or has over 1,000 bytes or such a byte; `OutOfMemory`.
+    /// In this order:
+    /// - `BadHost`: the host is empty, has over 255 bytes, or has a byte outside `21` to `7e` in hexadecimal;
+    /// - `BadPrefix`: the prefix is not empty, and does not begin with a slash or ends in one; or it has over 1,000
+    /// bytes or such a byte;
+    /// - `OutOfMemory`: memory was refused.
     pub fn new(alloc: Global, host: &str, prefix: &str) -> Result<Site, SiteFault>
         ensures { MakesSite host.now prefix.now result }
     {

@@ -1,4 +1,4 @@
-//! A source that asks for each file over a connection of its own.
+//! A source that requests each file over a connection of its own.
 ghost use Rattle.std.specs.Prelude.{◌≡◌, IfOk, option_map};
 ghost use Rattle.mirror_sources.specs.Source.{IsShortAnswer};
 
@@ -13,20 +13,20 @@ use std::alloc::Global;
 use std::marker::Model;
 use tlog_tiles::Path;
 
-/// A source that asks for each file by one request over a fresh connection.
-/// Under the prefix `/2026` it asks for `tile/0/000` by `GET /2026/tile/0/000 HTTP/1.0`.
+/// A source that gets each file by one request over a new connection.
+/// With the prefix `/2026` it gets `tile/0/000` by `GET /2026/tile/0/000 HTTP/1.0`.
 ///
-/// Where a hint says which paths come next, it sends requests for the first of them ahead, each over a connection of its
-/// own, and reads each reply when its path is asked for. A hint closes what is out for other paths. Where a connection
-/// fails, no more are out than then, until a file is asked for while none are.
+/// A hint names the next paths. The source then sends requests for the first of them ahead, each over a connection of
+/// its own, and reads each reply when its path is needed. A hint closes the requests that are out for other paths. If a
+/// connection fails, the number of requests that are out then becomes the limit, until a get comes while none is out.
 ///
-/// A reply that was sent for and fails is asked for again: while others are out, and where that fails too once they are
-/// done with. So no get fails by what is out beside it, and only the last failure counts.
+/// If the reply to a request that was sent ahead fails, the source requests the file again, while other requests are
+/// out. If that fails too, it waits until those are finished, and requests the file once more. So other requests never
+/// make a get fail, and only the last failure counts.
 ///
-/// What it answers is what the other end says: of it is known that it has at most 16,785,664 bytes. `Failed` comes
-/// where a connection, a write or a read fails, where the reply has more bytes, and where it is none that
-/// `read_reply` reads; memory that was refused is `OutOfMemory`, and is not counted. Why the last get failed is told by
-/// `last_failed`.
+/// The other end decides the answer: contracts only say that it has at most 16,785,664 bytes. `Failed` if a connection,
+/// a write or a read fails, if the reply has more bytes, or if `read_reply` refuses it. `OutOfMemory` if memory was
+/// refused, which is not counted. `last_failed` gives the reason of the last failed get.
 #[derive(Drop)]
 pub struct HttpSource<D: Dial + Drop> {
     alloc: Global,
@@ -46,8 +46,8 @@ impl<D: Dial + Drop> Model for HttpSource<D> {
 }
 
 impl<D: Dial + Drop> HttpSource<D> {
-    /// A source of the files of that site, over connections that the dial opens. At most `ahead` requests are out ahead at
-    /// once (0: none). It takes no memory.
+    /// A source of the files of that site, over connections that the dial opens. At most `ahead` requests are sent
+    /// ahead at once (0: none). It takes no memory.
     pub fn new(alloc: Global, site: Site, dial: D, ahead: usize) -> HttpSource<D>
         ensures { result ≡ 0 }
     {
@@ -61,13 +61,13 @@ impl<D: Dial + Drop> HttpSource<D> {
         }
     }
 
-    /// The last get that failed, and why; None where none has failed. It takes no memory.
+    /// The last get that failed, and why; `None` if no get has failed. It takes no memory.
     pub fn last_failed(&self) -> Option<FailedGet> {
         self.last_failed
     }
 
-    // The body of the reply for that path. While requests are out no failure is final: a server may refuse a connection
-    // for their sake.
+    // The body of the reply for that path. While requests are out, no failure is final: the server may refuse a
+    // connection because of them.
     fn fetch(&mut self, path: &Path) -> Result<Option<Vec<u8>>, SourceFault>
         ensures same { self.new ≡ self.old }
         ensures bound { IfOk result
@@ -80,7 +80,7 @@ impl<D: Dial + Drop> HttpSource<D> {
         }
     }
 
-    // The body of the reply that was sent for. It is `Failed` where none was, or it failed.
+    // The body of the reply to the request that was sent ahead. `Failed` if there is no such request, or if it failed.
     fn fetch_ahead(&mut self, path: &Path) -> Result<Option<Vec<u8>>, SourceFault>
         ensures same { self.new ≡ self.old }
         ensures bound { IfOk result
@@ -92,7 +92,7 @@ impl<D: Dial + Drop> HttpSource<D> {
         }
     }
 
-    // The body of the reply to a request that is sent now: beside those that are out, or else when they are done with.
+    // The body of the reply to a request that is sent now, while others are out, or else after those are finished.
     fn fetch_after(&mut self, path: &Path) -> Result<Option<Vec<u8>>, SourceFault>
         ensures same { self.new ≡ self.old }
         ensures bound { IfOk result
@@ -111,7 +111,7 @@ impl<D: Dial + Drop> HttpSource<D> {
         }
     }
 
-    // The body of the reply to a request that is sent while none is out. Why it failed is kept.
+    // The body of the reply to a request that is sent while no other is out. It keeps the reason of a failure.
     fn fetch_alone(&mut self, path: &Path) -> Result<Option<Vec<u8>>, SourceFault>
         ensures same { self.new ≡ self.old }
         ensures bound { IfOk result

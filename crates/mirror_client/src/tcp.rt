@@ -8,18 +8,18 @@ use std::io::ErrorKind;
 use std::net::{Net, TcpStream, ToSocketAddrs};
 use std::time::{Clock, Duration};
 
-/// A connection is tried for so many seconds.
+/// The number of seconds for one try to connect.
 const CONNECT_SECONDS: u64 = 10;
 
-/// A request and its reply have so many seconds together; where the request is sent ahead, each has as many.
+/// The number of seconds for a request and its reply together; if the request is sent ahead, each has this number.
 const REPLY_SECONDS: u64 = 60;
 
 /// Connects to one host and port by TCP.
 ///
-/// Each address of the host is tried, for 10 seconds at most, until one answers. On a connection that
-/// was made all that is written and read has 60 seconds together: then each call fails, also where the
-/// other end sends a byte now and then. Where the request was sent ahead, the reply has 60 seconds from when it begins to
-/// be read. So a log that is dead ends a pull, and does not hang it.
+/// It tries each address of the host, for 10 seconds at most, until one answers. All that is written and read on a
+/// connection has 60 seconds together. After that each call fails, even if the other end sends a byte now and then. If
+/// the request was sent ahead, the reply has 60 seconds from the start of its reading. So a log that does not answer
+/// ends a pull, and does not hang it.
 #[derive(Drop)]
 pub struct TcpDial<N: Net<Stream = TcpStream> + Clock + Clone + Drop> {
     net: N,
@@ -28,7 +28,7 @@ pub struct TcpDial<N: Net<Stream = TcpStream> + Clock + Clone + Drop> {
 }
 
 impl<N: Net<Stream = TcpStream> + Clock + Clone + Drop> TcpDial<N> {
-    /// Connects to that host, a name or an address, and that port. Nothing is looked up or connected yet.
+    /// Connects to that host, a name or an address, and that port. Nothing is resolved or connected yet.
     ///
     /// # Errors
     ///

@@ -1,11 +1,11 @@
-//! A stream that keeps why it failed.
+//! A stream that keeps its last error.
 ghost use Rattle.std.specs.Prelude.{◌≡◌};
 
 use std::io;
 use std::io::{Read, Write};
 use std::marker::Model;
 
-// A stream whose bytes are those of another, and which keeps that one's last error.
+// A stream with the bytes of another one, whose last error it keeps.
 #[derive(Drop)]
 pub(crate) struct WatchedStream<S: Drop> {
     stream: S,
@@ -19,7 +19,7 @@ impl<S: Drop> Model for WatchedStream<S> {
 }
 
 impl<S: Drop> WatchedStream<S> {
-    // That stream, which has not failed yet.
+    // A stream over that one; it has not failed yet.
     pub(crate) fn new(stream: S) -> WatchedStream<S>
         ensures { result ≡ stream }
     {

@@ -1,4 +1,4 @@
--- The files of a log are all that it has.
+-- The list of a log's files has all of them.
 use Rattle.std.proofs.Common.{◌≡◌, ◌≢◌, ℕ, zero, suc, ◌+◌, ◌*◌, ◌/◌, ◌^◌, ◌<◌, ◌≤◌, List, [], ◌∷◌, ◌++◌}
 use Rattle.std.proofs.Common.{length, sym, subst, ◌∙◌, zero-add, inl, inr, arith}
 use Rattle.std.specs.List.{Contains}
@@ -21,7 +21,7 @@ use Rattle.mirror_export.specs.declared.files.FileKind.TheVariants.{Tiles, Bundl
 use Rattle.mirror_export.proofs.FilePaths.{full_tile, partial_none, partial_some, partial_tile, tile_within}
 use Rattle.tlog_tiles.proofs.EdgeLemmas.{hashes_of, contains_none, contains_one}
 
--- ---- places
+-- ---- levels and indices
 
 pub upto_hashes : (n level index width : ℕ) → IsTileWithin n level index width → 256 * index + width ≤ n / 256 ^ level
 upto_hashes n level index width h = (le-div_iff_mul-le (level_positive level)).1 h.within

@@ -1,4 +1,4 @@
--- What an export puts, by the answers of its parts.
+-- The files that an export puts, by the answers of its parts.
 use Rattle.std.proofs.Common.{◌≡◌, ℕ, ◌-◌, ◌^◌, ◌<◌, List, [], ◌∷◌, ◌++◌, length, Option, Some, None, Result, Ok, Err}
 use Rattle.std.proofs.Common.{true, false, refl, sym, ap, subst, inl, inr, arith, length-append}
 use Rattle.std.proofs.lemmas.Bool.{false≢true, cases_lt}
@@ -22,7 +22,7 @@ use Rattle.mirror_export.specs.Since.{files_since}
 use Rattle.mirror_export.proofs.NewFiles.{all_since_none}
 use Rattle.mirror_export.proofs.Prefixes.{adds_kept, adds_then, front_then}
 
--- ---- what a shelf tells
+-- ---- the answers of a shelf
 
 pub records_none : (old : Option (List Put)) (path : Path) → RecordsHas old path false → RecordsNone old path
 records_none None path h = tt
@@ -36,7 +36,7 @@ pub same_recorded : (old : Option (List Put)) → KeepsRecord old old
 same_recorded None = tt
 same_recorded (Some puts) = refl
 
--- ---- its count
+-- ---- the count of failures
 
 pub one_more_rose : (old : ℕ) → Rose old (one_more old)
 one_more_rose old = elim (cases_lt old (2 ^ 64 - 1)) [ inl room ↦ inl (omega arith) | inr full ↦ inr (omega arith) ]
@@ -46,7 +46,7 @@ pub count_of : (S T : Type 0) (old new : ℕ) (e : ShelfError) → CountsFailure
 count_of S T old new Failed p = subst (λ n. Rose old n) (sym p) (one_more_rose old)
 count_of S T old new OutOfMemory p = p
 
--- ---- what was put
+-- ---- the files that were put
 
 abbrev pub answer_of : (T : Type 0) → ExportFault → Result T ExportFault
 answer_of T fault = Err fault

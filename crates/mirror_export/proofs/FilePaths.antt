@@ -56,7 +56,7 @@ pub partial_some : (n : ℕ) (kind : FileKind) → width_of n (kind_level kind) 
 partial_some n kind some = elim (eqb_tells (width_of n (kind_level kind)) 0)
     [ inl none ↦ absurd (some none.1) | inr found ↦ partial_by n kind false found.0 ]
 
--- the path that is put last of a kind, by the numbers that were asked for
+-- the path that is put last of a kind, by the numbers of the code
 pub path_is : (n size : ℕ) (kind : FileKind) (level index width : ℕ) (path : Path) → size ≡ n →
     level ≡ kind_level kind →
     index ≡ edge_index_of size level → width ≡ width_of size level → path ≡ kind_path kind index width →

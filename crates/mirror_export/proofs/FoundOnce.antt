@@ -1,4 +1,4 @@
--- What stands at a path is one, and stays while nothing is put there.
+-- The bytes at a path are unique, and stay while nothing is put there.
 use Rattle.std.proofs.Common.{◌≡◌, ℕ, suc, ◌<◌, List, [], ◌∷◌, ◌++◌, length, drop, get_or, Option, Some, None, refl, sym, ap}
 use Rattle.std.proofs.Common.{subst, ◌∙◌, length-append, inl, inr, arith}
 use Rattle.std.specs.List.{Contains}
@@ -15,7 +15,7 @@ middle before after x = (
   at_middle before after x,
 )
 
--- one list cut at two elements: the later one stands behind the earlier
+-- one list is split at two items: the later item is behind the earlier one
 later_has : (before after front back : List Put) (x y : Put) → before ++ x ∷ after ≡ front ++ y ∷ back →
     length before < length front → Contains after y
 later_has before after [] back x y e lt = absurd (omega (arith, lt))
@@ -24,7 +24,7 @@ later_has [] after (z ∷ front) back x y e lt =
 later_has (w ∷ before) after (z ∷ front) back x y e lt =
     later_has before after front back x y (ap (λ (l : List Put). drop (suc 0) l) e) (omega (arith, lt))
 
--- cut at the same place, they are one element
+-- a list that is split twice at one place has one item there
 same_at : (before after front back : List Put) (x y : Put) → before ++ x ∷ after ≡ front ++ y ∷ back →
     length before ≡ length front → x ≡ y
 same_at [] after [] back x y e same = ap (λ (l : List Put). get_or l 0 x) e
@@ -57,7 +57,7 @@ module _ (puts : List Put) (path : Path) where
   read_once (Some a) None p q = absurd (q (stands_has a p))
   read_once (Some a) (Some b) p q = ap (λ (l : List ℕ). Some l) (stands_once a b p q)
 
-  -- nothing is put there
+  -- nothing is put at the path
   pub read_more : (more : List Put) (found : Option (List ℕ)) → (HasPut more path → ⊥) →
       RecordsRead (Some puts) path found → RecordsRead (Some (puts ++ more)) path found
   read_more more None none p = λ has. none (has_after puts more path p has)

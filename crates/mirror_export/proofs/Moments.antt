@@ -51,7 +51,7 @@ pub front_files : (n : ℕ) → All IsFile (tile_paths n ++ kind_paths n Bundles
 unfolding tile_paths
 front_files n = All-append IsFile (tile_paths n) (kind_paths n Bundles) (tile_files n 8) (kind_files n Bundles)
 
--- ---- so much was put of files of which the last alone is the checkpoint
+-- ---- some files were put; only the last of all files is the checkpoint
 
 module _ (front : List Put) (last : Put) (no : All (λ (put : Put). put.0 ≢ Checkpoint) front) where
   abbrev files : List Put
@@ -89,7 +89,7 @@ module _ (front : List Put) (last : Put) (no : All (λ (put : Put). put.0 ≢ Ch
     | inr short ↦ absurd (short_has_none so_far later count e short h)
   ]
 
--- ---- what was put stands there
+-- ---- the files that were put are on the shelf
 
 module _ (digest : List ℕ → List ℕ) (note : List ℕ) (entries : List (List ℕ)) where
   abbrev file : Path → Put

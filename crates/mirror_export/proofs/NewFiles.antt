@@ -1,4 +1,4 @@
--- Which files are put since a log had m entries.
+-- The files that are put since a log had m entries.
 use Rattle.std.proofs.Common.{◌≡◌, ◌≢◌, ℕ, ◌/◌, ◌^◌, ◌≤◌, Bool, true, false, not, nat_eq}
 use Rattle.std.proofs.Common.{refl, sym, ap, subst, ◌∙◌, inl, inr, arith}
 use Rattle.std.specs.List.{Contains}
@@ -18,9 +18,9 @@ use Rattle.mirror_export.proofs.AllFiles.{widest_last}
 use Rattle.mirror_export.proofs.PlaceWidths.{width_full, width_edge, width_none}
 use Rattle.mirror_export.proofs.Filters.{filter_all, filter_has, filter_is}
 
--- ---- the width of a place
+-- ---- the width at a level and index
 
--- a width that the place has is its widest
+-- `width_at` is the widest width at its level and index
 has_widest : (m level index width : ℕ) → level ≤ 7 → 1 ≤ width → width ≡ width_at m level index →
     IsWidestIn m level index width
 has_widest m level index width fits some e = elim (cases_lt index (edge_index_of m level)) [
@@ -36,7 +36,7 @@ has_widest m level index width fits some e = elim (cases_lt index (edge_index_of
   ]
 ]
 
--- the widest of a place has its width
+-- the widest tile of a level and index has the width `width_at`
 widest_is : (m level index width : ℕ) → IsWidestIn m level index width → width ≡ width_at m level index
 widest_is m level index width h = elim (cases_lt index (edge_index_of m level)) [
   | inl before ↦ (widest_before m level index width h before).width_is ∙ sym (width_full m level index before)
@@ -44,7 +44,7 @@ widest_is m level index width h = elim (cases_lt index (edge_index_of m level)) 
       last.width_is ∙ sym (width_edge m level index last.index_is))
 ]
 
--- ---- files that are new, and files that are not
+-- ---- new files, and files that are not new
 
 new_not : (width other : ℕ) → not (nat_eq width other) ≡ true → width ≡ other → ⊥
 new_not width other e same = false≢true (ap not (sym (eq-eqb width other same)) ∙ e)
@@ -73,7 +73,7 @@ old_is m n (Entries index width) e h = (
   λ same. cc,
 )
 
--- a log of no entries has no file but its checkpoint
+-- a log of no entries has only its checkpoint
 file_of_none : (path : Path) → path ≢ Checkpoint → IsFileOf 0 path → ⊥
 file_of_none Checkpoint other h = other refl
 file_of_none (Tile level index width) other h =

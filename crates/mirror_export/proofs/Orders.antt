@@ -1,4 +1,4 @@
--- The files of a log in their order, as far as they were put.
+-- The files of a log in their order, and prefixes of that list.
 use Rattle.std.proofs.Common.{◌≡◌, ℕ, zero, suc, ◌+◌, ◌<◌, ◌≤◌, Bool, List, [], ◌∷◌, ◌++◌, map, drop, Option, refl, sym, ap}
 use Rattle.std.proofs.Common.{subst, ◌∙◌, append_assoc, zero-add, add-one, inl, inr, arith}
 use Rattle.std.specs.List.{filter, range_with_len}

@@ -1,4 +1,4 @@
--- The paths of a log's files, as far as they are listed.
+-- The paths of a log's files, listed step by step.
 use Rattle.std.proofs.Common.{◌≡◌, ℕ, ◌+◌, List, [], ◌∷◌, ◌++◌, map, sym, ap, ◌∙◌, append_assoc, zero-add}
 use Rattle.std.proofs.lemmas.List.{append-nil}
 use Rattle.tlog_shape.specs.Edge.{edge_index_of}
@@ -11,7 +11,7 @@ use Rattle.mirror_export.specs.Files.{tiles_below, tile_paths}
 use Rattle.mirror_export.specs.declared.files.FileKind.{FileKind}
 use Rattle.mirror_export.specs.declared.files.FileKind.TheVariants.{Bundles}
 
--- one full file more
+-- one more full file
 pub full_more : (before now : List Path) (kind : FileKind) (index : ℕ) →
     now ≡ before ++ map (λ i. kind_path kind i 256) (range_with_len 0 index) →
     now ++ kind_path kind index 256 ∷ [] ≡ before ++ map (λ i. kind_path kind i 256) (range_with_len 0 (index + 1))
@@ -21,7 +21,7 @@ full_more before now kind index e =
     ∙ append_assoc before (map at (range_with_len 0 index)) (at index ∷ [])
     ∙ ap (λ (xs : List Path). before ++ xs) (sym (map-range_with_len_more at 0 index index (zero-add index)))
 
--- all full files of a kind, and the partial one, where there is one
+-- all full files of a kind, and the partial one, if there is one
 module _ (n : ℕ) (kind : FileKind) (index : ℕ) (before now : List Path) (is_edge : index ≡ edge_index_of n (kind_level kind))
     (is_now : now ≡ before ++ map (λ i. kind_path kind i 256) (range_with_len 0 index)) where
   full_listed : now ≡ before ++ full_paths n kind

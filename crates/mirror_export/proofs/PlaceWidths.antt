@@ -1,4 +1,4 @@
--- The width of a place of a tree, by the tiles that the tree has.
+-- The width at a level and index of a tree, by the tiles that the tree has.
 use Rattle.std.proofs.Common.{◌≡◌, ℕ, ◌+◌, ◌*◌, ◌^◌, ◌<◌, ◌≤◌, Bool, false, Option, Some, None}
 use Rattle.std.proofs.Common.{cond, nat_eq, refl, sym, ap, ◌∙◌, inl, inr, arith}
 use Rattle.std.specs.Option.{unwrap_or}
@@ -31,7 +31,7 @@ pub width_none : (m level index : ℕ) → edge_index_of m level ≤ index → n
 width_none m level index ge other =
     width_last m level index ge ∙ ap (λ (b : Bool). cond b (width_of m level) 0) other
 
--- a tile of that level and index, where the tree has one, has the width of the place
+-- if the tree has a tile with that level and index, its width is `width_at`
 pub width_found : (m level index : ℕ) (found : Option ℕ) → IfSome found (λ width. IsTile m level index width) →
     IfNone found ((width : ℕ) → IsTile m level index width → ⊥) → unwrap_or found 0 ≡ width_at m level index
 width_found m level index (Some width) (inl full) none =

@@ -1,4 +1,4 @@
--- Files that are put one after the other, all of them or a prefix.
+-- Files that are put in order, all of them or a prefix.
 use Rattle.std.proofs.Common.{◌≡◌, ◌+◌, ◌<◌, ◌≤◌, List, [], ◌∷◌, ◌++◌, length, map, take, Option, Some, None, Result, Ok}
 use Rattle.std.proofs.Common.{Err, Bool, true, false, cond, sym, ap, subst, ◌∙◌, append_assoc, length-append, arith}
 use Rattle.std.specs.List.{filter}
@@ -27,7 +27,7 @@ adds_then (Some us) None c xs ys p q = absurd p
 adds_then (Some us) (Some vs) None xs ys p q = absurd q
 adds_then (Some us) (Some vs) (Some ws) xs ys p q = q ∙ (ap (λ (l : List Put). l ++ ys) p ∙ append_assoc us xs ys)
 
--- nothing was put yet
+-- no file was put yet
 pub front_none : (a b : Option (List Put)) (files : List Put) → 0 < length files → KeepsRecord a b → AddsPrefix a b files
 front_none a b files some kept = record { count = 0; short = some; recorded = adds_kept a b kept }
 
@@ -52,7 +52,7 @@ front_then a b c xs ys p f =
           (adds_then a b c xs (take f.count ys) p f.recorded);
     }
 
--- ---- the files of paths, those that are put
+-- ---- the files of the paths that are put
 
 module _ (file : Path → Put) (keep : Path → Bool) where
   abbrev files : List Path → List Put
@@ -76,25 +76,25 @@ module _ (file : Path → Put) (keep : Path → Bool) where
   files_front a b c xs ys p f = subst (λ (l : List Put). AddsPrefix a c l) (sym (files_split xs ys))
       (front_then a b c (files xs) (files ys) p f)
 
-  -- a second part, whatever its answer
+  -- a second part, for each answer
   pub files_result : {T E : Type 0} (a b c : Option (List Put)) (xs ys : List Path) (r : Result T E) →
       AddsToRecord a b (map file (filter keep xs)) → AddsFiles b c (map file (filter keep ys)) r →
       AddsFiles a c (map file (filter keep (xs ++ ys))) r
   files_result a b c xs ys (Ok x) p q = files_then a b c xs ys p q
   files_result a b c xs ys (Err e) p q = files_front a b c xs ys p q
 
--- a file that was not put
+-- a file was not put
 pub file_refused : (file : Path → Put) (a b : Option (List Put)) (path : Path) → KeepsRecord a b →
     AddsPrefix a b (map file (path ∷ []))
 file_refused file a b path kept = front_none a b (map file (path ∷ [])) (omega arith) kept
 
--- a file that was put, or not
+-- a file was put, or not
 pub put_result : {T : Type 0} (file : Path → Put) (a b : Option (List Put)) (path : Path) (r : Result T ShelfError) →
     RecordsPut a b (file path) r → AddsFiles a b (map file (path ∷ [])) r
 put_result file a b path (Ok x) p = p
 put_result file a b path (Err e) p = file_refused file a b path p
 
--- a file that is put only where it is to be
+-- a file is put only if the filter keeps it
 module _ (file : Path → Put) (keep : Path → Bool) (a b : Option (List Put)) (path : Path) where
   pub none_kept : keep path ≡ false → AddsToRecord a a (map file (filter keep (path ∷ [])))
   none_kept e = subst (λ (t : Bool). AddsToRecord a a (map file (cond t (path ∷ []) []))) (sym e) (adds_none a)

@@ -1,4 +1,4 @@
--- What stands on a shelf, as more is put.
+-- The files on a shelf, while more are put.
 use Rattle.std.proofs.Common.{◌≡◌, ℕ, suc, ◌-◌, ◌<◌, ◌≤◌, List, [], ◌∷◌, ◌++◌, length, take, drop, get_or}
 use Rattle.std.proofs.Common.{refl, sym, ap, subst, ◌∙◌, append_assoc, length-append, inl, inr, arith}
 use Rattle.std.specs.List.{Contains}
@@ -30,7 +30,7 @@ module _ (old more : List Put) (path : Path) (bytes : List ℕ) where
   abbrev put : Put
   put = (path, bytes)
 
-  -- what is put at the path later has the same bytes
+  -- later puts at the path have the same bytes
   pub stands_more : Stands old path bytes → ((other : List ℕ) → Contains more (path, other) → other ≡ bytes) →
       Stands (old ++ more) path bytes
   stands_more h same = record {
@@ -69,7 +69,7 @@ module _ (old more : List Put) (path : Path) (bytes : List ℕ) where
       ∙ (ap (λ (l : List Put). get_or l k put) h.puts_are ∙ at_middle h.before h.after put) in
       put_has more path bytes (k - length old, omega (arith, sizes, whole, same, ge), at)
 
-  -- what stands there stood there before, where nothing was put at the path since
+  -- the bytes at the path were there before, if nothing was put at the path since
   pub stands_before : Stands (old ++ more) path bytes → (HasPut more path → ⊥) → Stands old path bytes
   stands_before h none = elim (cases_lt (length h.before) (length old)) [
     | inl within ↦ stands_within h within

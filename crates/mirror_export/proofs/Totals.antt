@@ -1,4 +1,4 @@
--- How many files are new.
+-- The number of new files.
 use Rattle.std.proofs.Common.{◌≡◌, ℕ, zero, suc, ◌+◌, ◌-◌, ◌/◌, ◌^◌, ◌*◌, ◌<◌, ◌≤◌, Bool, true, false, not, cond, nat_eq}
 use Rattle.std.proofs.Common.{List, [], ◌∷◌, ◌++◌, length, map, refl, sym, ap, ◌∙◌, inl, inr, arith, length-append}
 use Rattle.std.specs.Prelude.{max, ◌==◌, if◌then◌else◌}
@@ -17,7 +17,7 @@ use Rattle.mirror_export.specs.Total.{new_at, new_below, new_partial}
 sum_both : (a b c d : ℕ) → a ≡ c → b ≡ d → a + b ≡ c + d
 sum_both a b c d p q = omega (arith, p, q)
 
--- of a row of places, those from a place on are kept
+-- in a row of indices, those from one on are kept
 kept_from : {X : Type 0} (test : X → Bool) (at : ℕ → X) (from : ℕ) → ((i : ℕ) → i < from → test (at i) ≡ false) →
     ((i : ℕ) → from ≤ i → test (at i) ≡ true) → (start len : ℕ) →
     length (filter test (map at (range_with_len start len))) ≡ (start + len) - max start from

@@ -32,7 +32,7 @@ log_of digest entries checkpoint puts files stands (Tile level index width) list
 log_of digest entries checkpoint puts files stands (Entries index width) listed =
     files (Entries index width) (λ e. cc e) listed
 
--- what was found stands
+-- the checkpoint that was found is still there
 found_stands : (digest : List ℕ → List ℕ) (entries : List (List ℕ)) (found : Option (List ℕ)) (puts : List Put) →
     HoldsFiles digest entries puts → RecordsRead (Some puts) Checkpoint found → HoldsFound digest found entries puts
 found_stands digest entries None puts files read = read
@@ -54,7 +54,7 @@ module _ (digest : List ℕ → List ℕ) (note : List ℕ) (entries : List (Lis
   abbrev checkpoint : Put
   checkpoint = (Checkpoint, note)
 
-  -- true bytes of a path that is put
+  -- true bytes at a path that is put
   abbrev IsNewFile : Put → Type 0
   IsNewFile put = (put.1 ≡ served_bytes digest note entries put.0) × Contains since put.0
 
@@ -112,7 +112,7 @@ module _ (digest : List ℕ → List ℕ) (note : List ℕ) (entries : List (Lis
         kept path (served_bytes digest [] (take m entries) path) other (holds path other listed)
         (inr (not_since path other (subst (λ k. Contains (paths_of k) path) long listed)))
 
-    -- all was put
+    -- all files were put
     whole : at.so_far ≡ map file since → HoldsLog digest note entries now
     whole all path listed = by (is_new m path) refl
       where

@@ -1,4 +1,4 @@
--- What an update to a top puts, by the answers of its parts.
+-- The files that an update to a top puts, by the answers of its parts.
 use Rattle.std.proofs.Common.{◌≡◌, ◌≢◌, ℕ, List, [], ◌∷◌, ◌++◌, map, Option, Some, None, Result, Ok, Err, refl, sym, ap}
 use Rattle.std.proofs.Common.{subst, ◌∙◌, inl, inr}
 use Rattle.std.specs.List.{All, filter}
@@ -37,7 +37,7 @@ module _ (digest : List ℕ → List ℕ) (top : Top) (origin : List ℕ) (entri
   stands_other None checkpoint read h = tt
   stands_other (Some puts) checkpoint read h = (checkpoint, read, h)
 
-  -- what was found is no checkpoint of the log
+  -- the bytes that were found are no checkpoint of the log
   pub no_since : (T : Type 0) (old new : Option (List Put)) (found : Option (List ℕ)) (fault : UpdateFault) →
       KeepsRecord old new → RecordsRead old Checkpoint found → FindsSince digest top origin found (Err fault) →
       Puts T old new fault
@@ -62,7 +62,7 @@ module _ (digest : List ℕ → List ℕ) (top : Top) (origin : List ℕ) (entri
         PutsPrefixTop digest top origin entries old new
     first_put old new read p = record { found = found; read = read; m = m; goes_on = on; front = p }
 
-    -- the tiles and bundles were not all put
+    -- some tiles or bundles were not put
     pub cut_off : (T : Type 0) (old middle new : Option (List Put)) (e : ShelfError) → KeepsRecord old middle →
         RecordsRead old Checkpoint found →
         AddsPrefix middle new (map (file_at digest top.note entries) (since_parts m top.size)) →
@@ -82,7 +82,7 @@ module _ (digest : List ℕ → List ℕ) (top : Top) (origin : List ℕ) (entri
         All-contains (λ (path : Path). path ≢ Checkpoint) (map (λ (put : Put). put.0) front) Checkpoint
         (All-map (λ (path : Path). path ≢ Checkpoint) (λ (put : Put). put.0) front no) h refl
 
-    -- a shelf that records what is put still has what was found
+    -- a shelf that records its puts still has the checkpoint that was found
     found_still : (old middle put : Option (List Put)) → KeepsRecord old middle → RecordsRead old Checkpoint found →
         AddsToRecord middle put front → (again : Option (List ℕ)) → RecordsRead put Checkpoint again → again ≢ found →
         (new : Option (List Put)) → KeepsRecord put new → KeepsRecord old new × TopStandsOther digest top origin old
@@ -95,7 +95,7 @@ module _ (digest : List ℕ → List ℕ) (top : Top) (origin : List ℕ) (entri
         (read_more xs Checkpoint front found no_checkpoint read) in
         absurd (differs (read_once zs Checkpoint again found other still))
 
-    -- the tiles and bundles were put, and the checkpoint or not
+    -- the tiles and bundles were put, and the checkpoint was put or not
     pub last_put : {T : Type 0} (old middle put new : Option (List Put)) (r : Result T UpdateFault) →
         KeepsRecord old middle → RecordsRead old Checkpoint found → found ≢ Some top.note →
         AddsToRecord middle put (map (file_at digest top.note entries) (since_parts m top.size)) →
@@ -123,7 +123,7 @@ module _ (digest : List ℕ → List ℕ) (top : Top) (origin : List ℕ) (entri
         (adds_then old middle put [] front (adds_kept old middle kept) p)
         (file_refused file put new Checkpoint q)))
 
-    -- the note that is served stands
+    -- the served note is on the shelf
     pub nothing_new : {T : Type 0} (old new : Option (List Put)) (x : T) → KeepsRecord old new →
         RecordsRead old Checkpoint found → found ≡ Some top.note →
         UpdatesTop digest top origin entries old new (Ok x)

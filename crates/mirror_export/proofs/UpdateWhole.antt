@@ -1,4 +1,4 @@
--- An update keeps a log whole: what its parts put, beside what stood there.
+-- An update keeps a log complete: the files that its parts put, beside those that were there.
 use Rattle.std.proofs.Common.{◌≡◌, ℕ, ◌≤◌, List, ◌++◌, length, take, Option, Some, None, Result, Ok, Err, sym, ap}
 use Rattle.std.proofs.Common.{subst, ◌∙◌, inl, inr, arith}
 use Rattle.std.proofs.lemmas.List.{append-nil, take_all}
@@ -44,7 +44,7 @@ module _ (digest : List ℕ → List ℕ) (v : View) (top : Top) (is : IsServedT
     le : m ≤ length entries
     le = within found on
 
-    -- what was found by the update is what stands
+    -- the checkpoint that the update found is the one on the shelf
     same_size : (other : Option (List ℕ)) (k : ℕ) → RecordsRead (Some old) Checkpoint other →
         TopGoesOnFound digest top v.origin other k → k ≡ m
     same_size other k other_read q =
@@ -101,7 +101,7 @@ module _ (digest : List ℕ → List ℕ) (v : View) (top : Top) (is : IsServedT
             }
           ]
         where
-          -- the note that is served stands with all files
+          -- the served note is on the shelf, with all files
           standing : Stands old Checkpoint top.note → TopGoesOnFound digest top v.origin (Some top.note) p.m →
               p.m ≡ m → HoldsLog digest top.note entries old
           standing stands q e =
@@ -122,7 +122,7 @@ module _ (digest : List ℕ → List ℕ) (v : View) (top : Top) (is : IsServedT
       keeps_whole (Err OutOfMemory) p =
           elim p [ inl kept ↦ cut_off OutOfMemory kept | inr some ↦ first_put OutOfMemory some ]
 
-  -- a shelf that records what is put does so afterwards too
+  -- a shelf that records its puts still records them afterwards
   records : (T : Type 0) (old : List Put) (entries : List (List ℕ)) (r : Result T UpdateFault) →
       UpdatesTop digest top v.origin entries (Some old) None r → ⊥
   records T old entries (Ok x) p = elim p.recorded [ inl put ↦ put.1 | inr kept ↦ kept.1 ]
@@ -141,7 +141,7 @@ module _ (digest : List ℕ → List ℕ) (v : View) (top : Top) (is : IsServedT
       subst (λ (n : List ℕ). KeepsWhole digest n entries found m old new r) same.note_is
       (keeps_whole old new found m entries read on same.listed holds T r (h entries same.listed))
 
--- where nothing is served, nothing is said
+-- if nothing is served, the statement says nothing
 pub nothing_whole : {T : Type 0} (digest : List ℕ → List ℕ) (v : View) → SaysServed digest v None →
     (old new : Option (List Put)) (r : Result T UpdateFault) → KeepsRecord old new → StaysWhole digest v old new r
 nothing_whole digest v nothing None new r kept = tt

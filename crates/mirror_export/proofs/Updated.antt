@@ -1,4 +1,4 @@
--- What an update puts, by the answers of its parts.
+-- The files that an update puts, by the answers of its parts.
 use Rattle.std.proofs.Common.{◌≡◌, ℕ, ◌+◌, ◌<◌, ◌≤◌, List, length, Option, Some, None, Result, Ok, Err, refl, sym, subst, ◌∙◌}
 use Rattle.std.proofs.Common.{inl, inr, arith}
 use Rattle.node_store.specs.Strings.{Strings}
@@ -71,7 +71,7 @@ module _ (digest : List ℕ → List ℕ) (top : Top) (origin checkpoint : List 
       let within = begins.within in
       omega (arith, size_is, short, within)
 
--- ---- its count
+-- ---- the count of failures
 
 pub count_of : (T : Type 0) (old new : ℕ) (e : ShelfError) → CountsError old new e →
     CountsUpdate {T = T} old new (Err (update_of_shelf e))
@@ -90,7 +90,7 @@ not_counted digest T top origin (Some checkpoint) old new OtherLog h e = e
 not_counted digest T top origin (Some checkpoint) old new ShelfFault h e = absurd h
 not_counted digest T top origin (Some checkpoint) old new OutOfMemory h e = e
 
--- ---- what was put, by the top
+-- ---- the files that were put, in terms of the top
 
 -- the size that was found
 pub top_goes_on : (digest : List ℕ → List ℕ) (top : Top) (origin : List ℕ) (found : Option (List ℕ)) (m : ℕ) →
@@ -98,10 +98,10 @@ pub top_goes_on : (digest : List ℕ → List ℕ) (top : Top) (origin : List �
 top_goes_on digest top origin None m h = h
 top_goes_on digest top origin (Some checkpoint) m h = h
 
--- ---- what was put, by what is served
+-- ---- the files that were put, in terms of the served log
 
 module _ (digest : List ℕ → List ℕ) (v : View) (top : Top) (is : IsServedTop digest v top) where
-  -- what is served is the top
+  -- the served log is that of the top
   pub record IsTop (note : List ℕ) (size : ℕ) (entries : List (List ℕ)) : Type 0 where
     pub note_is : top.note ≡ note
     pub size_is : top.size ≡ size

@@ -1,5 +1,5 @@
--- What the parts of an update find of the checkpoint that stands, and what they put. It is cited by
--- the contracts of private functions alone.
+-- The steps of an update: the checkpoint that is on the shelf, and the files that are put. Only the contracts of
+-- private functions cite these words.
 use Rattle.std.specs.Prelude.{◌≡◌, ◌≢◌, ◌⊎◌, ℕ, ◌+◌, ◌≤◌, List, [], ◌∷◌, length, Option, Some, None, ⊤}
 use Rattle.std.specs.Prelude.{Result, Ok, Err}
 use Rattle.tlog_hash.specs.Tree.{mth}
@@ -19,17 +19,17 @@ use Rattle.mirror_export.specs.declared.fault.UpdateFault.{UpdateFault}
 use Rattle.mirror_export.specs.declared.fault.UpdateFault.TheVariants.{NothingComplete, OtherLog}
 use Rattle.mirror_export.specs.declared.fault.UpdateFault.TheVariants.{ShelfFault, OutOfMemory}
 
--- why bytes that are no note are no checkpoint of the log
+-- the fault for bytes that are no note, and so no checkpoint of the log
 abbrev pub of_note : NoteFault → UpdateFault
 of_note noting.OutOfMemory = OutOfMemory
 of_note other = OtherLog
 
--- why a text that is no checkpoint is none of the log
+-- the fault for a text that is no checkpoint, and so no checkpoint of the log
 abbrev pub of_text : CheckpointFault → UpdateFault
 of_text reading.OutOfMemory = OutOfMemory
 of_text other = OtherLog
 
--- the size and root of a note's text, or that it is no checkpoint of the origin
+-- the size and root of a note's text, or the text is no checkpoint of the origin
 abbrev pub ReadsPoint : List ℕ → List ℕ → Result (ℕ × List ℕ) UpdateFault → Type 0
 ReadsPoint bytes origin (Ok point) = IsHead bytes origin point.0 point.1
 ReadsPoint bytes origin (Err OtherLog) = (m : ℕ) (root : List ℕ) → ¬ IsHead bytes origin m root
@@ -37,7 +37,7 @@ ReadsPoint bytes origin (Err OutOfMemory) = ⊤
 ReadsPoint bytes origin (Err NothingComplete) = ⊥
 ReadsPoint bytes origin (Err ShelfFault) = ⊥
 
--- the checkpoint was put where what was found still stood; where another one stood, it was not
+-- the checkpoint was put if the one that was found was still on the shelf; if another one was there, it was not put
 abbrev pub PutsLast : {T : Type 0} → Option (List Put) → Option (List Put) → Option (List ℕ) →
     List ℕ → Result T UpdateFault → Type 0
 PutsLast old new found note (Ok x) =
@@ -54,13 +54,13 @@ module _ (digest : List ℕ → List ℕ) where
     pub within : 0 + m ≤ length entries
     pub root_is : root ≡ mth digest (part 0 m entries)
 
-  -- the checkpoint has a size of m, and the root of the first m entries of the top
+  -- the checkpoint has the size m, and the root of the first m entries of the top
   pub record TopGoesOn (top : Top) (origin checkpoint : List ℕ) (m : ℕ) : Type 0 where
     pub root : List ℕ
     pub is_head : IsHead checkpoint origin m root
     pub begins : (entries : List (List ℕ)) → IsListOf digest top entries → Begins entries m root
 
-  -- the size of the checkpoint, or that the top does not go on from it
+  -- the size of the checkpoint, or the top does not extend it
   abbrev pub FindsSize : Top → List ℕ → List ℕ → Result ℕ UpdateFault → Type 0
   FindsSize top origin checkpoint (Ok m) = TopGoesOn top origin checkpoint m
   FindsSize top origin checkpoint (Err OtherLog) =
@@ -70,18 +70,18 @@ module _ (digest : List ℕ → List ℕ) where
   FindsSize top origin checkpoint (Err NothingComplete) = ⊥
   FindsSize top origin checkpoint (Err ShelfFault) = ⊥
 
-  -- the size of the checkpoint that was found, 0 where none was
+  -- the size of the checkpoint that was found; 0 if none was found
   abbrev pub TopGoesOnFound : Top → List ℕ → Option (List ℕ) → ℕ → Type 0
   TopGoesOnFound top origin None m = m ≡ 0
   TopGoesOnFound top origin (Some checkpoint) m = TopGoesOn top origin checkpoint m
 
-  -- the same, or that the top does not go on from it
+  -- the same, or the top does not extend the checkpoint
   abbrev pub FindsSince : Top → List ℕ → Option (List ℕ) → Result ℕ UpdateFault → Type 0
   FindsSince top origin None (Ok m) = m ≡ 0
   FindsSince top origin None (Err fault) = ⊥
   FindsSince top origin (Some checkpoint) result = FindsSize top origin checkpoint result
 
-  -- the files of the top since what stands were put, and none where that is its note
+  -- the files of the top since the checkpoint that is on the shelf were put; none were put if that is the top's note
   pub record PutsTop (top : Top) (origin : List ℕ) (entries : List (List ℕ))
       (old new : Option (List Put)) : Type 0 where
     pub found : Option (List ℕ)
@@ -92,7 +92,7 @@ module _ (digest : List ℕ → List ℕ) where
         × AddsToRecord old new (files_since digest top.note entries m top.size))
         ⊎ ((found ≡ Some top.note) × KeepsRecord old new)
 
-  -- the first of these files were put, and not all of them
+  -- the first of these files were put, but not all
   pub record PutsPrefixTop (top : Top) (origin : List ℕ) (entries : List (List ℕ))
       (old new : Option (List Put)) : Type 0 where
     pub found : Option (List ℕ)
@@ -101,14 +101,14 @@ module _ (digest : List ℕ → List ℕ) where
     pub goes_on : TopGoesOnFound top origin found m
     pub front : AddsPrefix old new (files_since digest top.note entries m top.size)
 
-  -- a checkpoint stands that the top does not go on from
+  -- a checkpoint is on the shelf that the top does not extend
   abbrev pub TopStandsOther : Top → List ℕ → Option (List Put) → Type 0
   TopStandsOther top origin None = ⊤
   TopStandsOther top origin (Some puts) =
       (checkpoint : List ℕ) × Stands puts Checkpoint checkpoint
       × FindsSize top origin checkpoint (Err OtherLog)
 
-  -- what an update to a top of these entries puts, by its answer
+  -- the files that an update to a top of these entries puts, for each answer
   abbrev pub UpdatesTop : {T : Type 0} → Top → List ℕ → List (List ℕ) → Option (List Put) →
       Option (List Put) → Result T UpdateFault → Type 0
   UpdatesTop top origin entries old new (Ok x) = PutsTop top origin entries old new

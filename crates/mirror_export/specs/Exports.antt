@@ -1,5 +1,5 @@
--- What an export puts onto a shelf, whatever its answer. `AddsFiles` is cited by the contracts of
--- private functions alone.
+-- The files that an export puts onto a shelf, for each answer. Only the contracts of private functions cite
+-- `AddsFiles`.
 use Rattle.std.specs.Prelude.{◌≡◌, ℕ, ◌<◌, List, ◌++◌, length, take, Option, Some, None, Result, Ok}
 use Rattle.std.specs.Prelude.{Err, Contains, ⊤}
 use Rattle.tlog_tiles.specs.declared.paths.Path.{Path}
@@ -13,20 +13,19 @@ use Rattle.mirror_export.specs.declared.fault.ExportFault.{ExportFault}
 use Rattle.mirror_export.specs.declared.fault.ExportFault.TheVariants.{NothingComplete, ShelfInUse}
 use Rattle.mirror_export.specs.declared.fault.ExportFault.TheVariants.{ShelfFault, OutOfMemory}
 
--- the first of the files were put, and not all of them
+-- the first of the files were put, but not all
 pub record AddsPrefix (old new : Option (List Put)) (files : List Put) : Type 0 where
   pub count : ℕ
   pub short : count < length files
   pub recorded : AddsToRecord old new (take count files)
 
--- what a call that puts files added, by its answer: at Ok all of them, and else the first of them
+-- the files that a call added, for each answer: at Ok all of them, else the first ones
 abbrev pub AddsFiles : {T E : Type 0} → Option (List Put) → Option (List Put) → List Put →
     Result T E → Type 0
 AddsFiles old new files (Ok x) = AddsToRecord old new files
 AddsFiles old new files (Err e) = AddsPrefix old new files
 
--- at a moment of a call that puts one file after the other, so much was put, and the rest came
--- later
+-- a moment of a call that puts files in order: some files were put so far, and the rest came later
 pub record IsMoment (old new now : List Put) : Type 0 where
   pub so_far : List Put
   pub later : List Put
@@ -34,22 +33,21 @@ pub record IsMoment (old new now : List Put) : Type 0 where
   pub new_is : new ≡ now ++ later
 
 module _ (digest : List ℕ → List ℕ) where
-  -- all files of what is served were put, onto a shelf that had no checkpoint
+  -- all files of the served log were put, onto a shelf that had no checkpoint
   pub record PutsAll (v : View) (old new : Option (List Put)) : Type 0 where
     pub files : List Put
     pub are_served : IsServedFiles digest v files
     pub free : RecordsNone old Checkpoint
     pub recorded : AddsToRecord old new files
 
-  -- of the files of what is served the first were put, not all of them, and none where the shelf
-  -- had a checkpoint
+  -- the first files of the served log were put, but not all; none were put if the shelf had a checkpoint
   pub record PutsPrefix (v : View) (old new : Option (List Put)) : Type 0 where
     pub files : List Put
     pub are_served : IsServedFiles digest v files
     pub front : AddsPrefix old new files
     pub free : 0 < front.count → RecordsNone old Checkpoint
 
-  -- what an export puts, by its answer
+  -- the files that an export puts, for each answer
   abbrev pub Exports : {T : Type 0} → View → Option (List Put) → Option (List Put) →
       Result T ExportFault → Type 0
   Exports v old new (Ok x) = PutsAll v old new
@@ -58,8 +56,7 @@ module _ (digest : List ℕ → List ℕ) where
   Exports v old new (Err ShelfFault) = PutsPrefix v old new
   Exports v old new (Err OutOfMemory) = PutsPrefix v old new
 
-  -- the checkpoint that is served stands on the shelf, and every tile and bundle of it, with true
-  -- bytes
+  -- the served checkpoint is on the shelf, and so is each of its tiles and bundles, with true bytes
   pub record StandsWhole (v : View) (puts : List Put) : Type 0 where
     pub note : List ℕ
     pub size : ℕ
@@ -69,8 +66,8 @@ module _ (digest : List ℕ → List ℕ) where
     pub stands : (path : Path) → Contains (paths_of size) path →
         Stands puts path (served_bytes digest note entries path)
 
-  -- the checkpoint comes last: after each put a shelf that had none has one only if every tile and
-  -- bundle of it stands there with true bytes
+  -- the checkpoint comes last: after each put, a shelf that had no checkpoint has one only if every tile and bundle of
+  -- it is there with true bytes
   abbrev pub CheckpointIsLast : View → Option (List Put) → Option (List Put) → Type 0
   CheckpointIsLast v None new = ⊤
   CheckpointIsLast v (Some old) None = ⊥
@@ -78,8 +75,7 @@ module _ (digest : List ℕ → List ℕ) where
       (¬ HasPut old Checkpoint) → (now : List Put) → IsMoment old new now →
       HasPut now Checkpoint → StandsWhole v now
 
--- an export blames its shelf only where the shelf's count of failures rose, or stands at its last
--- value
+-- an export gives ShelfFault only if the shelf's count of failures rose, or has its greatest value
 abbrev pub CountsExport : {T : Type 0} → ℕ → ℕ → Result T ExportFault → Type 0
 CountsExport old new (Ok x) = new ≡ old
 CountsExport old new (Err NothingComplete) = new ≡ old

@@ -1,4 +1,4 @@
--- Which fault of an export or of an update an error of its shelf is.
+-- The fault of an export or an update for an error of its shelf.
 use Rattle.mirror_folders.specs.declared.shelf.ShelfError.{ShelfError}
 use Rattle.mirror_folders.specs.declared.shelf.ShelfError.TheVariants as shelf
 use Rattle.mirror_export.specs.declared.fault.ExportFault.{ExportFault}
@@ -6,12 +6,12 @@ use Rattle.mirror_export.specs.declared.fault.ExportFault.TheVariants.{ShelfFaul
 use Rattle.mirror_export.specs.declared.fault.UpdateFault.{UpdateFault}
 use Rattle.mirror_export.specs.declared.fault.UpdateFault.TheVariants as update
 
--- a fault of the shelf among those of an export
+-- a fault of the shelf as a fault of an export
 abbrev pub of_shelf : ShelfError → ExportFault
 of_shelf shelf.Failed = ShelfFault
 of_shelf shelf.OutOfMemory = OutOfMemory
 
--- a fault of the shelf among those of an update
+-- a fault of the shelf as a fault of an update
 abbrev pub update_of_shelf : ShelfError → UpdateFault
 update_of_shelf shelf.Failed = update.ShelfFault
 update_of_shelf shelf.OutOfMemory = update.OutOfMemory

@@ -1,5 +1,5 @@
--- The files of what a mirror serves, in the order in which they are put into a folder (C2SP
--- tlog-tiles, "Merkle Tree", "Log Entries" and "Checkpoints").
+-- The files of a served log, in the order in which they are put into a folder (C2SP tlog-tiles, "Merkle Tree", "Log
+-- Entries" and "Checkpoints").
 use Rattle.std.specs.Prelude.{◌≡◌, ℕ, zero, suc, List, [], ◌∷◌, ◌++◌, map, ◌==◌, if◌then◌else◌}
 use Rattle.std.specs.List.{range_with_len}
 use Rattle.tlog_shape.specs.Edge.{width_of, edge_index_of}
@@ -17,7 +17,7 @@ abbrev pub kind_path : FileKind → ℕ → ℕ → Path
 kind_path (Tiles level) index width = Tile level index width
 kind_path Bundles index width = Entries index width
 
--- the level that the files of a kind lie at; a bundle has the entries below a tile of level 0
+-- the level of the files of a kind; a bundle has the entries below a tile of level 0
 abbrev pub kind_level : FileKind → ℕ
 kind_level (Tiles level) = level
 kind_level Bundles = 0
@@ -27,7 +27,7 @@ abbrev pub full_paths : ℕ → FileKind → List Path
 full_paths n kind =
     map (λ index. kind_path kind index 256) (range_with_len 0 (edge_index_of n (kind_level kind)))
 
--- in a tree of n entries: the partial file of a kind, where there is one
+-- in a tree of n entries: the partial file of a kind, if there is one
 abbrev pub partial_path : ℕ → FileKind → List Path
 partial_path n kind =
     if width_of n (kind_level kind) == 0 then []
@@ -51,7 +51,7 @@ abbrev pub paths_of : ℕ → List Path
 paths_of n = tile_paths n ++ kind_paths n Bundles ++ Checkpoint ∷ []
 
 module _ (digest : List ℕ → List ℕ) where
-  -- what those entries, under that checkpoint's note, have at a path
+  -- the bytes at a path, for these entries under that checkpoint's note
   abbrev pub served_bytes : List ℕ → List (List ℕ) → Path → List ℕ
   served_bytes note entries Checkpoint = note
   served_bytes note entries (Tile level index width) = tile_bytes digest entries level index width
@@ -65,7 +65,7 @@ module _ (digest : List ℕ → List ℕ) where
   abbrev pub files_at : List ℕ → List (List ℕ) → List Path → List Put
   files_at note entries paths = map (file_at note entries) paths
 
-  -- the files are those of what the view serves
+  -- the files are those of the log that the view serves
   pub record IsServedFiles (v : View) (files : List Put) : Type 0 where
     pub note : List ℕ
     pub size : ℕ

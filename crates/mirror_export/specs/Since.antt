@@ -1,5 +1,5 @@
--- The files that a log has and that its first entries did not have yet: what an update puts into a
--- folder that has the files of those.
+-- The files of a log that its first entries did not have yet. An update puts them into a folder that has the files of
+-- the first entries.
 use Rattle.std.specs.Prelude.{ℕ, Bool, true, not, List, ◌++◌, ◌==◌, nat_lt, if◌then◌else◌}
 use Rattle.std.specs.List.{filter}
 use Rattle.tlog_shape.specs.Edge.{width_of, edge_index_of}
@@ -9,25 +9,23 @@ use Rattle.mirror_folders.specs.Shelf.{Put}
 use Rattle.mirror_export.specs.Files.{files_at, kind_paths, paths_of, tile_paths}
 use Rattle.mirror_export.specs.declared.files.FileKind.TheVariants.{Bundles}
 
--- how many hashes the tile of that level and index has in a tree of m entries; 0 where there is
--- none
+-- the number of hashes of the tile with that level and index in a tree of m entries; 0 if there is no such tile
 abbrev pub width_at : ℕ → ℕ → ℕ → ℕ
 width_at m level index =
     if nat_lt index (edge_index_of m level) then 256
     else if index == edge_index_of m level then width_of m level else 0
 
--- whether a log of m entries lacks the file, or it is the checkpoint, which is put each time
+-- a log of m entries lacks the file, or it is the checkpoint, which is put each time
 abbrev pub is_new : ℕ → Path → Bool
 is_new m Checkpoint = true
 is_new m (Tile level index width) = not (width == width_at m level index)
 is_new m (Entries index width) = not (width == width_at m 0 index)
 
--- the files of a log of n entries that a log of m entries lacks, in their order, and last the
--- checkpoint
+-- the files of a log of n entries that a log of m entries lacks, in their order, and then the checkpoint
 abbrev pub since_paths : ℕ → ℕ → List Path
 since_paths m n = filter (is_new m) (paths_of n)
 
--- those of these files that are tiles and bundles
+-- the tiles and bundles among these files
 abbrev pub since_parts : ℕ → ℕ → List Path
 since_parts m n = filter (is_new m) (tile_paths n ++ kind_paths n Bundles)
 

@@ -1,5 +1,5 @@
--- What an update puts onto a shelf that can be read, whatever its answer, and what stands there at
--- each moment.
+-- The files that an update puts onto a shelf that can be read, for each answer, and the files on the shelf at each
+-- moment.
 use Rattle.std.specs.Prelude.{◌≡◌, ◌≢◌, ◌⊎◌, ℕ, List, take, Option, Some, None, Result, Ok, Err, OnOk, ⊤}
 use Rattle.tlog_tiles.specs.declared.paths.Path.TheVariants.{Checkpoint}
 use Rattle.mirror_model.specs.View.{View}
@@ -15,20 +15,19 @@ use Rattle.mirror_export.specs.declared.fault.UpdateFault.TheVariants.{NothingCo
 use Rattle.mirror_export.specs.declared.fault.UpdateFault.TheVariants.{ShelfFault, OutOfMemory}
 
 module _ (digest : List ℕ → List ℕ) where
-  -- what is served goes on from the checkpoint: it is a note, its text a checkpoint of the view's
-  -- origin, of m entries, whose root is MTH(E[0..m]) for the entries E that are served
+  -- the served log extends the checkpoint. This is a note, and its text is a checkpoint of the view's origin with m
+  -- entries; its root is MTH(E[0..m]) for the served entries E
   pub record GoesOnFrom (v : View) (checkpoint : List ℕ) (m : ℕ) : Type 0 where
     pub root : List ℕ
     pub is_head : IsHead checkpoint v.origin m root
     pub begins : IsRangeHash digest v 0 m root
 
-  -- what is served goes on from what was found: from a checkpoint, or where there was none from no
-  -- entries
+  -- the served log extends the checkpoint that was found; if none was found, it extends the log of no entries
   abbrev pub GoesOn : View → Option (List ℕ) → ℕ → Type 0
   GoesOn v None m = m ≡ 0
   GoesOn v (Some checkpoint) m = GoesOnFrom v checkpoint m
 
-  -- the files that what is served has since what was found, its own checkpoint last
+  -- the files of the served log since the checkpoint that was found; its own checkpoint is the last one
   pub record IsFilesSince (v : View) (found : Option (List ℕ)) (files : List Put) : Type 0 where
     pub note : List ℕ
     pub size : ℕ
@@ -39,8 +38,8 @@ module _ (digest : List ℕ → List ℕ) where
     pub goes_on : GoesOn v found m
     pub files_are : files ≡ files_since digest note entries m size
 
-  -- all files since what stands at the checkpoint's path were put; none where that is the note that
-  -- is served, byte for byte
+  -- all files since the checkpoint that is on the shelf were put; none were put if that is the served note, byte for
+  -- byte
   pub record PutsSince (v : View) (old new : Option (List Put)) : Type 0 where
     pub found : Option (List ℕ)
     pub read : RecordsRead old Checkpoint found
@@ -49,7 +48,7 @@ module _ (digest : List ℕ → List ℕ) where
     pub recorded : ((found ≢ Some are_since.note) × AddsToRecord old new files)
         ⊎ ((found ≡ Some are_since.note) × KeepsRecord old new)
 
-  -- the first of these files were put, and not all of them
+  -- the first of these files were put, but not all
   pub record PutsPrefixSince (v : View) (old new : Option (List Put)) : Type 0 where
     pub found : Option (List ℕ)
     pub read : RecordsRead old Checkpoint found
@@ -57,14 +56,14 @@ module _ (digest : List ℕ → List ℕ) where
     pub are_since : IsFilesSince v found files
     pub front : AddsPrefix old new files
 
-  -- a checkpoint stands that what is served goes on from at no size
+  -- a checkpoint is on the shelf that the served log does not extend at any size
   abbrev pub StandsOther : View → Option (List Put) → Type 0
   StandsOther v None = ⊤
   StandsOther v (Some puts) =
       (checkpoint : List ℕ) × Stands puts Checkpoint checkpoint
       × ((m : ℕ) → ¬ GoesOnFrom v checkpoint m)
 
-  -- what an update puts, by its answer
+  -- the files that an update puts, for each answer
   abbrev pub Updates : {T : Type 0} → View → Option (List Put) → Option (List Put) →
       Result T UpdateFault → Type 0
   Updates v old new (Ok x) = PutsSince v old new
@@ -73,7 +72,7 @@ module _ (digest : List ℕ → List ℕ) where
   Updates v old new (Err ShelfFault) = KeepsRecord old new ⊎ PutsPrefixSince v old new
   Updates v old new (Err OutOfMemory) = KeepsRecord old new ⊎ PutsPrefixSince v old new
 
-  -- at each moment of an update a whole log stands, and at Ok the one that is served
+  -- at each moment of an update a complete log is on the shelf, and at Ok the served one
   pub record KeepsWhole {T : Type 0} (note : List ℕ) (entries : List (List ℕ))
       (found : Option (List ℕ)) (m : ℕ) (old new : List Put) (answer : Result T UpdateFault)
       : Type 0 where
@@ -81,8 +80,8 @@ module _ (digest : List ℕ → List ℕ) where
         IsWholeAt digest note entries found m old now
     pub done : OnOk answer (HoldsLog digest note entries new)
 
-  -- let what is served go on from what stands at the checkpoint's path, at a size of m, and let every
-  -- tile and bundle of the first m entries stand: then the update keeps it whole
+  -- let the served log extend the checkpoint that is on the shelf, at a size of m, and let every tile and bundle of the
+  -- first m entries be there. Then the update keeps the log complete
   abbrev pub StaysWhole : {T : Type 0} → View → Option (List Put) → Option (List Put) →
       Result T UpdateFault → Type 0
   StaysWhole v None new answer = ⊤
@@ -94,8 +93,7 @@ module _ (digest : List ℕ → List ℕ) where
       Served digest v note size root entries → HoldsFiles digest (take m entries) old →
       KeepsWhole note entries found m old new answer
 
--- an update blames its shelf only where the shelf's count of failures rose, or stands at its last
--- value
+-- an update gives ShelfFault only if the shelf's count of failures rose, or has its greatest value
 abbrev pub CountsUpdate : {T : Type 0} → ℕ → ℕ → Result T UpdateFault → Type 0
 CountsUpdate old new (Ok x) = new ≡ old
 CountsUpdate old new (Err NothingComplete) = new ≡ old

@@ -1,4 +1,4 @@
-//! How many entries a folder's checkpoint has, where what is served begins with them.
+//! The number of entries of a folder's checkpoint, if the served log extends it.
 ghost use Rattle.std.specs.Prelude.{◌≡◌, IsTrue, ◌↔◌, option_map};
 ghost use Rattle.mirror_export.specs.Beginnings.{FindsSince, FindsSize, ReadsPoint, of_note, of_text};
 
@@ -10,7 +10,7 @@ use tlog_hash::{Hash, TreeHash};
 use tlog_mirror::TopRanges;
 use tlog_proof::Ranges;
 
-// Why bytes that are no note are no checkpoint of the log.
+// The fault for bytes that are no note, and so no checkpoint of the log.
 fn note_fault(fault: &NoteFault) -> UpdateFault
     ensures { result ≡ of_note fault.now }
 {
@@ -20,7 +20,7 @@ fn note_fault(fault: &NoteFault) -> UpdateFault
     }
 }
 
-// Why a text that is no checkpoint is none of the log.
+// The fault for a text that is no checkpoint, and so no checkpoint of the log.
 fn text_fault(fault: &CheckpointFault) -> UpdateFault
     ensures { result ≡ of_text fault.now }
 {
@@ -36,7 +36,7 @@ fn is_of(checkpoint: &Checkpoint, origin: &str) -> bool
     checkpoint.origin.as_str() == origin
 }
 
-// The size and root of a checkpoint's note; `OtherLog` where the bytes are no note, or its text is no checkpoint of the
+// The size and root of a checkpoint's note. `OtherLog` if the bytes are no note, or its text is no checkpoint of the
 // origin.
 fn read_point(alloc: Global, origin: &str, bytes: &[u8]) -> Result<(u64, Hash), UpdateFault>
     ensures { ReadsPoint bytes.now origin.now result }
@@ -67,7 +67,7 @@ fn is_same(first: &Hash, second: &Hash) -> bool
     first == second
 }
 
-// The size of the checkpoint, where it is a note of the origin, and its root is that of the first entries, as many as its size.
+// The size of the checkpoint, if it is a note of the origin, and its root is that of the first `size` served entries.
 fn size_before<H: TreeHash>(
     alloc: Global,
     origin: &str,
@@ -89,7 +89,7 @@ fn size_before<H: TreeHash>(
     }
 }
 
-// How many entries the log has whose checkpoint was found: none where there was no checkpoint.
+// The size of the checkpoint that was found; 0 if none was found.
 pub(crate) fn size_found<H: TreeHash>(
     alloc: Global,
     origin: &str,

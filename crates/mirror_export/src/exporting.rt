@@ -12,9 +12,9 @@ use tlog_mirror::Mirror;
 use tlog_proof::Ranges;
 use tlog_tiles::Path;
 
-/// Puts what a mirror serves onto a shelf, in the layout of C2SP tlog-tiles: all tiles of the served size by rising
-/// level and index, then all bundles, then the checkpoint. So a shelf that had no checkpoint has one only when all that
-/// belongs to it is there.
+/// Puts the served log onto a shelf, in the layout of C2SP tlog-tiles: all tiles of the served size by rising level and
+/// index, then all bundles, then the checkpoint. So a shelf that had no checkpoint gets one only after all of its files
+/// are there.
 ///
 /// ```text
 /// let mut shelf = DirShelf::new(&rt, alloc, "log");
@@ -23,9 +23,9 @@ use tlog_tiles::Path;
 ///
 /// # Errors
 ///
-/// `NothingComplete` exactly where nothing is served, and `ShelfInUse` where a checkpoint is on the shelf; nothing is
-/// put then. `ShelfFault` where the shelf failed, and `OutOfMemory` where memory was refused; what was put before
-/// stays, which is never all of it.
+/// `NothingComplete` exactly if nothing is served, and `ShelfInUse` if a checkpoint is on the shelf; then nothing is
+/// put. `ShelfFault` if the shelf failed, and `OutOfMemory` if memory was refused; then the files that were put stay,
+/// and some are missing.
 pub fn export<H: TreeHash, S: Shelf>(
     alloc: Global,
     mirror: &Mirror<H>,
@@ -35,7 +35,7 @@ pub fn export<H: TreeHash, S: Shelf>(
     ensures nothing { (result ≡ Err ExportFault.NothingComplete)
         ↔ SaysServed H.digest mirror.now.view None }
 
-    // After each put a shelf that had no checkpoint has one only if every tile and bundle of it stands there with true
+    // After each put, a shelf that had no checkpoint has one only if every tile and bundle of it is there with true
     // bytes.
     ensures last { CheckpointIsLast H.digest mirror.now.view (S.puts shelf.old) (S.puts shelf.new) }
 

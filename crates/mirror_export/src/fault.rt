@@ -6,7 +6,7 @@ use mirror_folders::ShelfError;
 use thiserror::Error;
 
 /// Why an export ends early. It prints its variant's name.
-/// A mirror that holds a note alone serves nothing, which is `NothingComplete`.
+/// A mirror that holds only a note serves nothing, and the fault is `NothingComplete`.
 #[derive(Debug, Drop, PartialEq, Eq, Clone, Copy, Error)]
 pub enum ExportFault {
     /// Nothing is served.
@@ -35,13 +35,13 @@ impl From<ShelfError> for ExportFault {
 }
 
 /// Why an update ends early. It prints its variant's name.
-/// A folder that has the checkpoint of another log is `OtherLog`.
+/// For a folder with the checkpoint of another log the fault is `OtherLog`.
 #[derive(Debug, Drop, PartialEq, Eq, Clone, Copy, Error)]
 pub enum UpdateFault {
     /// Nothing is served.
     #[error("NothingComplete")]
     NothingComplete,
-    /// What is served does not go on from the folder's checkpoint.
+    /// The served log does not extend the folder's checkpoint.
     #[error("OtherLog")]
     OtherLog,
     /// The shelf failed.

@@ -1,4 +1,4 @@
-//! The files of what is served, put one after the other: all of them, or those that are new since it had fewer entries.
+//! The files of the served log, put in order: all of them, or those that are new since an earlier size.
 ghost use Rattle.std.specs.Prelude.{◌≡◌, ◌≤◌, ℕ, List, [], ◌∷◌, length, IfOk, IfSome};
 ghost use Rattle.std.specs.List.{filter};
 ghost use Rattle.tlog_tiles.specs.Tiles.{IsWithin};
@@ -23,7 +23,6 @@ pub(crate) enum FileKind {
     Bundles,
 }
 
-// The path of a file of that kind.
 pub(crate) fn path_at(kind: FileKind, index: u64, width: u32) -> Path
     ensures { result ≡ kind_path kind index width }
 {
@@ -37,7 +36,6 @@ pub(crate) fn path_at(kind: FileKind, index: u64, width: u32) -> Path
     }
 }
 
-// The level that files of that kind lie at.
 pub(crate) fn level_at(kind: FileKind) -> u32
     ensures { result ≡ kind_level kind }
 {
@@ -47,7 +45,6 @@ pub(crate) fn level_at(kind: FileKind) -> u32
     }
 }
 
-// The bytes of a tile or a bundle.
 fn file_bytes<H: TreeHash>(
     alloc: Global,
     top: &TopRanges<'_, H>,
@@ -74,7 +71,6 @@ fn file_bytes<H: TreeHash>(
     }
 }
 
-// Puts a tile or a bundle.
 fn put_file<H: TreeHash, S: Shelf>(
     alloc: Global,
     top: &TopRanges<'_, H>,
@@ -93,7 +89,7 @@ fn put_file<H: TreeHash, S: Shelf>(
     put
 }
 
-// The width that the tile of that level and index has in a tree of that size, 0 where there is none.
+// The width of the tile with that level and index in a tree of that size; 0 if there is none.
 #[tactic(auto, using(crate::proofs::PlaceWidths::width_found))]
 pub(crate) fn place_width(size: u64, level: u32, index: u64) -> u32
     requires { level ≤ 7 }
@@ -118,7 +114,7 @@ fn lacks(since: u64, path: &Path) -> bool
     }
 }
 
-// Puts a tile or a bundle, where a log of the first entries, as many as `since`, lacks it.
+// Puts a tile or a bundle, if a log of the first `since` entries lacks it.
 fn put_new<H: TreeHash, S: Shelf>(
     alloc: Global,
     top: &TopRanges<'_, H>,
@@ -138,7 +134,7 @@ fn put_new<H: TreeHash, S: Shelf>(
     put_file(alloc, top, shelf, path)
 }
 
-// Puts the files of a kind: the full ones by rising index, then the partial one, where there is one.
+// Puts the files of a kind: the full ones by rising index, then the partial one, if there is one.
 fn put_kind<H: TreeHash, S: Shelf>(
     alloc: Global,
     top: &TopRanges<'_, H>,
@@ -167,7 +163,7 @@ fn put_kind<H: TreeHash, S: Shelf>(
     put_new(alloc, top, since, shelf, path_at(kind, edge, width))
 }
 
-// Says how many files are put, the checkpoint among them.
+// Gives the shelf the number of files to put, including the checkpoint.
 fn expect_files<S: Shelf>(shelf: &mut S, size: u64, since: u64)
     ensures puts { S.puts shelf.new ≡ S.puts shelf.old }
     ensures failed { S.failed shelf.new ≡ S.failed shelf.old }
@@ -177,8 +173,8 @@ fn expect_files<S: Shelf>(shelf: &mut S, size: u64, since: u64)
     shelf.expect(files_to_put(size, since));
 }
 
-// Puts every tile, then every bundle, but for those that the first entries, as many as `since`, have too. It says before
-// how many files these are, with the checkpoint.
+// Puts every tile, then every bundle, except those that a log of the first `since` entries has. Before that it gives
+// the shelf the number of these files, including the checkpoint.
 pub(crate) fn put_parts<H: TreeHash, S: Shelf>(
     alloc: Global,
     top: &TopRanges<'_, H>,

@@ -1,5 +1,5 @@
-//! A mirror exported onto a shelf in the layout of C2SP tlog-tiles, whole or as what is new since a checkpoint; the files of a log:
-//! their paths, and how many there are.
+//! Exports a mirror onto a shelf in the layout of C2SP tlog-tiles: all files, or those that are new since a checkpoint.
+//! Lists and counts the files of a log.
 //!
 //! ```text
 //! let mut shelf = DirShelf::new(&rt, alloc, "log");

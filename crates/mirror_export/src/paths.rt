@@ -7,7 +7,7 @@ use std::alloc::{AllocError, Global};
 use tlog_shape::{edge_index, edge_width};
 use tlog_tiles::Path;
 
-// Adds the files of a kind: the full ones by rising index, then the partial one, where there is one.
+// Adds the files of a kind: the full ones by rising index, then the partial one, if there is one.
 fn push_kind(paths: &mut Vec<Path>, size: u64, kind: FileKind) -> Result<(), AllocError>
     requires { kind_level kind ≤ 7 }
     ensures { OnOk result (paths.new.items ≡ paths.old.items ++ kind_paths size kind) }
@@ -25,8 +25,8 @@ fn push_kind(paths: &mut Vec<Path>, size: u64, kind: FileKind) -> Result<(), All
     Ok(())
 }
 
-/// The paths of a log of that many entries (C2SP tlog-tiles), in the order in which `export` puts them: its tiles by rising
-/// level and index, its bundles, and last the checkpoint.
+/// The paths of a log with `size` entries (C2SP tlog-tiles), in the order of `export`: its tiles by rising level and
+/// index, its bundles, and last the checkpoint.
 ///
 /// ```text
 /// log_paths(alloc, 3)?  // tile/0/000.p/3, tile/entries/000.p/3, checkpoint

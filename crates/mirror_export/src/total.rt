@@ -1,4 +1,4 @@
-//! How many files are put in all.
+//! The number of files that are put.
 ghost use Rattle.std.specs.Prelude.{◌≡◌, ◌+◌, ◌^◌, ◌≤◌, length};
 ghost use Rattle.mirror_export.specs.Since.{since_paths};
 ghost use Rattle.mirror_export.specs.Total.{new_at, new_partial};
@@ -6,8 +6,8 @@ ghost use Rattle.mirror_export.specs.Total.{new_at, new_partial};
 use crate::files::place_width;
 use tlog_shape::{edge_index, edge_width};
 
-/// How many files an export puts of a log of `size` entries, the checkpoint among them; where the folder has those of the
-/// first entries, as many as `since`, how many an update puts. A folder that is empty has those of no entries.
+/// The number of files that an update puts, including the checkpoint: the log has `size` entries, and the folder has
+/// the files of the first `since` entries. With `since` 0 it is the number of files that an export puts.
 ///
 /// ```text
 /// files_to_put(1_000_000, 0)          // 7,832
@@ -23,7 +23,7 @@ pub fn files_to_put(size: u64, since: u64) -> u64
     tiles + new_files(size, since, 0) + 1
 }
 
-// How many files of a level are put.
+// The number of files of a level that are put.
 #[tactic(auto, using(crate::proofs::Totals::new_fits))]
 fn new_files(size: u64, since: u64, level: u32) -> u64
     requires { level ≤ 7 }
@@ -34,7 +34,7 @@ fn new_files(size: u64, since: u64, level: u32) -> u64
     full + new_edge(size, since, level)
 }
 
-// Whether the partial file of a level is put: 1 where it is.
+// The number of partial files of a level that are put, 0 or 1.
 fn new_edge(size: u64, since: u64, level: u32) -> u64
     requires { level ≤ 7 }
     ensures { result ≡ new_partial since size level }

@@ -1,4 +1,4 @@
-//! A folder that has a checkpoint brought up to date.
+//! A folder with a checkpoint is brought up to date.
 ghost use Rattle.std.specs.Prelude.{◌≡◌, ◌↔◌, ℕ, List, Some, None, IsTrue, option_map};
 ghost use Rattle.mirror_model.specs.Reports.{SaysServed};
 ghost use Rattle.tlog_mirror.specs.Tops.{IsListOf};
@@ -21,7 +21,7 @@ fn is_same(first: &[u8], second: &[u8]) -> bool
     first == second
 }
 
-// Whether a checkpoint was found that is these bytes.
+// Whether a checkpoint with these bytes was found.
 fn is_found(found: &Option<Vec<u8>>, bytes: &[u8]) -> bool
     ensures { IsTrue result ↔ (option_map (λ v. v.items) found.now ≡ Some bytes.now) }
 {
@@ -31,7 +31,7 @@ fn is_found(found: &Option<Vec<u8>>, bytes: &[u8]) -> bool
     }
 }
 
-// Whether the same was found twice.
+// Whether both reads found the same.
 fn is_same_found(first: &Option<Vec<u8>>, second: &Option<Vec<u8>>) -> bool
     ensures { IsTrue result
         ↔ (option_map (λ v. v.items) first.now ≡ option_map (λ v. v.items) second.now) }
@@ -42,7 +42,7 @@ fn is_same_found(first: &Option<Vec<u8>>, second: &Option<Vec<u8>>) -> bool
     }
 }
 
-// Puts the checkpoint, where what was found at its path still stands.
+// Puts the checkpoint, if the one that was found is still at its path.
 fn put_last<S: ReadableShelf>(
     shelf: &mut S,
     found: &Option<Vec<u8>>,
@@ -60,7 +60,7 @@ fn put_last<S: ReadableShelf>(
     Ok(())
 }
 
-// Puts what the shelf lacks of what is served.
+// Puts the files of the served log that the shelf lacks.
 fn update_to<H: TreeHash, S: ReadableShelf>(
     alloc: Global,
     origin: &str,
@@ -84,17 +84,17 @@ fn update_to<H: TreeHash, S: ReadableShelf>(
     put_last(shelf, &found, note)
 }
 
-/// Brings a shelf up to date: puts the files of what a mirror serves that a log of the size of the shelf's checkpoint
-/// lacks, in the order of `export`, and last the checkpoint. Where the shelf has no checkpoint, all files are put. So the
-/// shelf has a whole log at each moment, if all files of its checkpoint stand there, and what stands there is never taken
-/// away.
+/// Brings a shelf up to date. It puts the files of the served log that a log with the size of the shelf's checkpoint
+/// lacks. They come in the order of `export`, and last the checkpoint. If the shelf has no checkpoint, all files are
+/// put. It removes no file. So if all files of the shelf's checkpoint are there, the shelf has a complete log at each
+/// moment.
 ///
-/// The checkpoint that stands is read first, and once more before the new one is put: where another one stands by then,
-/// as another update may have put it, the new one is not put.
+/// It reads the shelf's checkpoint first, and again before it puts the new one. If there is another one by then, as
+/// from another update, it does not put the new one.
 ///
-/// No signature is looked at: what is served has to go on from the checkpoint, which is a note of the mirror's origin,
-/// of a size of at most what is served, with the root of the first entries, as many as that size. Where it is the note that is served,
-/// byte for byte, nothing is put.
+/// It checks no signature. The served log has to extend the checkpoint. This is a note of the mirror's origin; its size
+/// is at most the served one, and its root is that of the first `size` served entries. If it is the served note, byte
+/// for byte, nothing is put.
 ///
 /// ```text
 /// let mut shelf = DirShelf::new(&rt, alloc, "log");
@@ -103,9 +103,10 @@ fn update_to<H: TreeHash, S: ReadableShelf>(
 ///
 /// # Errors
 ///
-/// `NothingComplete` exactly where nothing is served. `OtherLog` where what is served does not go on from the checkpoint;
-/// nothing is put then; and where another checkpoint stands than the one that was found. `ShelfFault` where the shelf
-/// failed, also at a read, and `OutOfMemory` where memory was refused; what was put before stays, which is never all of it.
+/// `NothingComplete` exactly if nothing is served. `OtherLog` if the served log does not extend the checkpoint; then
+/// nothing is put. Also `OtherLog` if the second read finds another checkpoint than the first. `ShelfFault` if the
+/// shelf failed, also at a read, and `OutOfMemory` if memory was refused; then the files that were put stay, and some
+/// are missing.
 pub fn update<H: TreeHash, S: ReadableShelf>(
     alloc: Global,
     mirror: &Mirror<H>,
@@ -115,7 +116,8 @@ pub fn update<H: TreeHash, S: ReadableShelf>(
     ensures nothing { (result ≡ Err UpdateFault.NothingComplete)
         ↔ SaysServed H.digest mirror.now.view None }
 
-    // At each moment a whole log stands, the one that was found or the one that is served, and at Ok that one.
+    // At each moment a complete log is on the shelf: the one that was found or the served one, and at Ok the served
+    // one.
     ensures whole { StaysWhole H.digest mirror.now.view (S.puts shelf.old) (S.puts shelf.new)
         result }
 

@@ -1,5 +1,5 @@
-//! Files of a mirror and of a log: the text of a state, a log as a folder, and a mirror exported into one. It has no code
-//! of its own: all that its parts `mirror_state`, `mirror_folders` and `mirror_export` give out is here.
+//! Files of a mirror and of a log: the text of a state, a log as a folder, and a mirror exported into one. It has no
+//! code of its own: it re-exports items of its parts `mirror_state`, `mirror_folders` and `mirror_export`.
 //!
 //! ```text
 //! let mirror: Mirror<Sha256Tree> = load(alloc, "example.com/log", &keys, &mut file)?;

@@ -1,4 +1,4 @@
--- What was put onto a shelf in memory, as far as it was gone through.
+-- The puts onto a shelf in memory, as the loops visit them.
 use Rattle.std.proofs.Common.{◌≡◌, ℕ, ◌+◌, ◌<◌, ◌≤◌, List, [], ◌∷◌, ◌++◌, length, map, take, get_or, refl, sym, ap}
 use Rattle.std.proofs.Common.{Option, Some, None, subst, ◌∙◌, append_assoc, inl, inr, arith}
 use Rattle.std.specs.List.{Contains}
@@ -8,7 +8,7 @@ use Rattle.tlog_tiles.specs.declared.paths.Path.{Path}
 use Rattle.mirror_folders.specs.Shelf.{Put, HasPut, Stands, RecordsRead}
 
 module _ {X : Type 0} (seen : X → Put) (xs : List X) (path : Path) where
-  -- the path of an element, as it is seen
+  -- the path of an item, as it is seen
   abbrev place : X → Path
   place x = (seen x).0
 
@@ -43,7 +43,7 @@ module _ {X : Type 0} (seen : X → Put) (xs : List X) (path : Path) where
       let within : i < length (map place xs) = omega (arith, length-map xs place) in
       subst (λ (l : List Path). Contains l path) (sym (fst-seen xs)) (i, within, at)
 
-  -- ---- what stands at the path
+  -- ---- the bytes at the path
 
   more_is : (i : ℕ) (x : X) → i < length xs → x ≡ get_or xs i x →
       map seen (take i xs) ++ seen x ∷ [] ≡ map seen (take (i + 1) xs)

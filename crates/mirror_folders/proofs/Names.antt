@@ -1,4 +1,4 @@
--- How long the name of a temporary file is.
+-- The length of a temporary file's name.
 use Rattle.std.proofs.Common.{◌≡◌, ◌+◌, ℕ, List, ◌∷◌, ◌++◌, length, length-append, ap, arith}
 
 pub name_len : (bytes stem mid digits tail : List ℕ) → bytes ≡ 46 ∷ (stem ++ (mid ++ (digits ++ tail))) →

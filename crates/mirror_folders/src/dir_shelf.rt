@@ -34,13 +34,16 @@ impl<'a> FolderName<'a> {
     }
 }
 
-/// A folder as a shelf: a file lies at the folder's path, a slash, and the text of its path in the log. Folders that
-/// are missing are made, and a file is replaced whole, as by `replace_file`. What was put is flushed to the device, with
-/// the folders that it lies in, before a checkpoint is put, so what is behind a checkpoint is on the device before that
-/// stands there. It is flushed in parts, of at most 1,024 files: memory does not grow with the log. What a folder holds no
-/// contract says: contracts see how many calls failed.
+/// A folder as a shelf: the path of a file is the folder's path, a slash, and the text of its path in the log. It makes
+/// missing folders, and replaces each file as a whole, like `replace_file`.
 ///
-/// A folder of the empty name has no files: each call fails.
+/// Before it puts a checkpoint, it flushes to the device all that was put and the folders of these files. So the
+/// files of a checkpoint are on the device before the checkpoint is in the folder. It flushes parts of at most 1,024
+/// files: memory does not grow with the log.
+///
+/// No contract says which files a folder holds: contracts see the number of calls that failed.
+///
+/// A folder with an empty name has no files: each call fails.
 ///
 /// ```text
 /// let mut shelf = DirShelf::new(&rt, rt.alloc(), "log");
@@ -56,20 +59,20 @@ pub struct DirShelf<'a, R: Files> {
     recent: Recent,
 }
 
-// What was put into a folder of late. It stands apart from the shelf, which contracts see as its count of failures: writing
-// changes none of that.
+// The recent puts into a folder. They are a record of their own, since contracts see the shelf as its count of
+// failures: writing does not change that count.
 #[derive(Drop)]
 struct Recent {
-    // What is to be flushed before the next checkpoint.
+    // The files to flush before the next checkpoint.
     unflushed: Unflushed,
-    // What earlier runs left in the folder that was put into last, and in the one before: tiles and bundles may be put by
-    // turns, and to list a folder costs more than to put a file.
+    // Temporary files of earlier runs in the folder that was put into last, and in the one before. Tiles and bundles
+    // may alternate, and it costs more to list a folder than to put a file.
     left: Leftovers,
     before: Leftovers,
 }
 
 impl Recent {
-    // Nothing was put yet. It takes no memory.
+    // For a folder into which nothing was put yet. It takes no memory.
     fn none(alloc: Global) -> Recent {
         Recent {
             unflushed: Unflushed::none(alloc),
@@ -78,7 +81,7 @@ impl Recent {
         }
     }
 
-    // Turns to what earlier runs left in a folder.
+    // Turns to the temporary files of earlier runs in a folder.
     fn turn_to<R: Files>(
         &mut self,
         files: &R,
@@ -112,7 +115,7 @@ impl Recent {
         }
     }
 
-    // Replaces the checkpoint, once all is on the device that was put before it.
+    // Replaces the checkpoint, after all that was put before it is on the device.
     fn write_last<R: Files>(
         &mut self,
         files: &R,
@@ -123,7 +126,7 @@ impl Recent {
     ) -> io::Result<()> {
         self.unflushed.flush_all(files, alloc, folder)?;
         put_whole(files, alloc, place, bytes, &self.left, true)?;
-        // The checkpoint stands: what the system says of its folder changes nothing.
+        // The checkpoint is in the folder: an error of the system about the folder changes nothing.
         let _flushed = flush_folder(files, folder_of(place));
         Ok(())
     }
@@ -138,7 +141,7 @@ impl<'a, R: Files> Model for DirShelf<'a, R> {
 }
 
 impl<'a, R: Files> DirShelf<'a, R> {
-    /// The folder of that path. No call has failed. It need not be there yet. It takes no memory.
+    /// The folder with that path. No call has failed. The folder need not exist yet. It takes no memory.
     pub fn new(files: &'a R, alloc: Global, folder: &'a str) -> Self
         ensures { result ≡ 0 }
     {
@@ -152,7 +155,7 @@ impl<'a, R: Files> DirShelf<'a, R> {
         }
     }
 
-    /// The file of the last call that failed, and why; None where none has failed. It takes no memory.
+    /// The file of the last call that failed, and why; `None` if no call has failed. It takes no memory.
     pub fn last_failed(&self) -> Option<FailedFile> {
         self.last_failed
     }
@@ -171,7 +174,7 @@ impl<'a, R: Files> DirShelf<'a, R> {
         }
     }
 
-    // What an error of the system at that file is to the shelf; a failure is counted and kept.
+    // The shelf's error for an error of the system at that file; it counts and keeps a failure.
     fn fault(&mut self, path: &Path, error: io::Error) -> ShelfError
         ensures { CountsError self.old self.new result }
     {

@@ -11,19 +11,20 @@ use std::io::ErrorKind;
 use std::marker::Model;
 use tlog_tiles::Path;
 
-/// A folder as a source: a file lies at the folder's path, a slash, and the text of its path in the log. What a folder
-/// holds no contract says: contracts see that an answer has at most 16,777,472 bytes, those of the longest bundle, and how many gets failed.
+/// A folder as a source: the path of a file is the folder's path, a slash, and the text of its path in the log. No
+/// contract says which files a folder holds. Contracts see that an answer has at most 16,777,472 bytes, those of the
+/// longest bundle, and the number of gets that failed.
 ///
 /// ```text
 /// let mut source = DirSource::new(&rt, rt.alloc(), "log");
-/// source.get(&Path::Checkpoint)?; // the bytes of log/checkpoint, None where there is no such file
+/// source.get(&Path::Checkpoint)?; // the bytes of log/checkpoint, None if there is no such file
 /// ```
 ///
 /// # Errors
 ///
-/// Of `get`: `Failed` where what is at the path is no plain file, cannot be read, or has more than 16,777,472 bytes, of
-/// which no more than that and one are read, and where the folder's name is empty; `OutOfMemory` where memory was refused.
-/// A file that is not there is no failure, nor is one below a plain file.
+/// `get` gives `Failed` if the file at the path is not a plain file, cannot be read, or has more than 16,777,472 bytes.
+/// It reads at most one byte more than that. It also gives `Failed` if the folder's name is empty, and `OutOfMemory` if
+/// memory was refused. A missing file is no failure, and neither is a path below a plain file.
 #[derive(Drop)]
 pub struct DirSource<'a, R: Files> {
     files: &'a R,
@@ -42,7 +43,7 @@ impl<'a, R: Files> Model for DirSource<'a, R> {
 }
 
 impl<'a, R: Files> DirSource<'a, R> {
-    /// The folder of that path. No get has failed. It takes no memory.
+    /// The folder with that path. No get has failed. It takes no memory.
     pub fn new(files: &'a R, alloc: Global, folder: &'a str) -> Self
         ensures { result ≡ 0 }
     {
@@ -55,7 +56,7 @@ impl<'a, R: Files> DirSource<'a, R> {
         }
     }
 
-    /// The file of the last get that failed, and why; None where none has failed. It takes no memory.
+    /// The file of the last get that failed, and why; `None` if no get has failed. It takes no memory.
     pub fn last_failed(&self) -> Option<FailedFile> {
         self.last_failed
     }

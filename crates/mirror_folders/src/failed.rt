@@ -1,8 +1,8 @@
-//! Why a file of a folder was not had.
+//! Why a file of a folder was not read or put.
 use std::io;
 use tlog_tiles::Path;
 
-/// A file of a folder that was not read or not put: its path in the log, and what the system said.
+/// A file of a folder that was not read or not put: its path in the log, and the error of the system.
 ///
 /// ```text
 /// if let Some(failed) = shelf.last_failed() {
@@ -13,6 +13,6 @@ use tlog_tiles::Path;
 pub struct FailedFile {
     /// The path.
     pub path: Path,
-    /// What the system said.
+    /// The error of the system.
     pub error: io::Error,
 }

@@ -7,7 +7,8 @@ use std::io::ErrorKind;
 use std::{fs, io};
 use tlog_tiles::Path;
 
-// Flushes a folder: what names it has. A system that flushes no folders says that this is no input, which is passed over.
+// Flushes a folder: the names in it. A system that cannot flush folders gives an error of invalid input, which is
+// ignored.
 pub(crate) fn flush_folder<R: Files>(files: &R, folder: &str) -> io::Result<()> {
     let opened = fs::open(files, folder)?;
     match opened.sync_all() {
@@ -22,7 +23,7 @@ pub(crate) fn flush_folder<R: Files>(files: &R, folder: &str) -> io::Result<()> 
     }
 }
 
-// Flushes a file. One that was taken away since needs it no more.
+// Flushes a file. If it was removed since, it needs no flush.
 pub(crate) fn flush_file<R: Files>(files: &R, place: &str) -> io::Result<()> {
     match fs::open(files, place) {
         Ok(opened) => opened.sync_all(),
@@ -30,7 +31,7 @@ pub(crate) fn flush_file<R: Files>(files: &R, place: &str) -> io::Result<()> {
     }
 }
 
-// Flushes files of a log that lie in a folder, then the folders in it that they lie in, each once.
+// Flushes files of a log in a folder, and then each folder between it and the files once.
 pub(crate) fn flush_files<R: Files>(
     files: &R,
     alloc: Global,
@@ -49,7 +50,8 @@ pub(crate) fn flush_files<R: Files>(
     Ok(())
 }
 
-// Adds a folder, and those above it down to the outer one, which is not added. Above one that was added before all are.
+// Adds a folder and those above it, but not the outer one. If a folder was added before, all those above it were added
+// too.
 fn add_between(
     alloc: Global,
     folders: &mut BTreeSet<String>,
@@ -70,7 +72,7 @@ fn add_between(
     Ok(())
 }
 
-// Flushes a folder and all above it that its name names, where the system lets it.
+// Flushes a folder and all folders above it that its name contains, if the system allows it.
 pub(crate) fn flush_above<R: Files>(files: &R, folder: &str) {
     let mut above = folder;
     for _ in 0..folder.len() {

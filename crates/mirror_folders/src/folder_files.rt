@@ -8,8 +8,8 @@ use std::alloc::Global;
 use std::fs::Files;
 use std::io;
 
-/// Files of one folder, each replaced whole as by `replace_file`, and flushed to the device together. The folder is listed
-/// once, and each file is opened once more to be flushed.
+/// Files of one folder, each replaced as a whole, like `replace_file`, and flushed to the device together. The folder
+/// is listed once, and each file is opened once more to be flushed.
 ///
 /// ```text
 /// let mut files = FolderFiles::of(&rt, alloc, "site/notes")?;
@@ -28,11 +28,11 @@ pub struct FolderFiles<'a, R: Files> {
 }
 
 impl<'a, R: Files> FolderFiles<'a, R> {
-    /// The folder of that path, into which nothing was put yet.
+    /// The folder with that path, into which nothing was put yet.
     ///
     /// # Errors
     ///
-    /// `ErrorKind::OutOfMemory` where memory was refused.
+    /// `ErrorKind::OutOfMemory` if memory was refused.
     pub fn of(files: &'a R, alloc: Global, folder: &str) -> io::Result<Self> {
         Ok(FolderFiles {
             files,
@@ -43,11 +43,11 @@ impl<'a, R: Files> FolderFiles<'a, R> {
         })
     }
 
-    /// Replaces the file at a path, which lies in the folder, whole.
+    /// Replaces the file at a path, which is in the folder, as a whole.
     ///
     /// # Errors
     ///
-    /// Those of `replace_file`. The path is then as it was.
+    /// Those of `replace_file`. The path is then unchanged.
     pub fn replace(&mut self, path: &str, bytes: &[u8]) -> io::Result<()>
         ensures named { IfOk result (λ _. path.now ≢ []) }
     {

@@ -2,7 +2,7 @@
 use crate::shelf::ReadableShelf;
 use std::alloc::AllocError;
 
-/// A shelf that stands for one folder at a time: the one that was opened last.
+/// A shelf for one folder at a time: the one that was opened last.
 ///
 /// ```text
 /// let mut shelf = DirShelf::new(&rt, alloc, ".");
@@ -13,14 +13,14 @@ pub trait NamedFolders: ReadableShelf {
     ghost use Rattle.std.specs.Prelude.{◌≡◌, ℕ, List, Option, None, IfErr, IfOk};
     ghost use Rattle.mirror_folders.specs.Shelf.{Put};
 
-    /// What was put into the folder of a name, the oldest first, where it is recorded.
+    /// The puts into the folder with a name, the oldest first, if the shelf records them.
     ghost held: { Self → List ℕ → Option (List Put) } = { λ _ _. None };
 
-    /// Opens the folder of that name: what is put from then on is put there. It need not be there yet.
+    /// Opens the folder with that name: later puts go there. The folder need not exist yet.
     ///
     /// # Errors
     ///
-    /// Where memory was refused; the folder that was open still is.
+    /// Memory was refused. The folder that was open stays open.
     fn open(&mut self, name: &str) -> Result<(), AllocError>
         ensures opened { IfOk result (λ _. Self.puts self.new ≡ held self.old name.now) }
         ensures same { IfErr result (λ _. Self.puts self.new ≡ Self.puts self.old) }

@@ -1,4 +1,4 @@
-//! Temporary files that runs left.
+//! Temporary files of earlier runs.
 use crate::temporary::{stem_of, stem_of_temporary};
 use std::alloc::{AllocError, Global};
 use std::fs::Files;
@@ -6,10 +6,10 @@ use std::io::Read;
 use std::time::{Duration, SystemTime};
 use std::{fs, io};
 
-// For how many seconds a temporary file is left to the run that may be writing it.
+// The number of seconds during which a temporary file is left alone, since a run may still write it.
 const DAY: u64 = 86_400;
 
-// How many bytes of names are read at a time.
+// The number of bytes of names that are read at a time.
 const CHUNK: usize = 32_768;
 
 // The temporary files that were found in a folder.
@@ -28,7 +28,7 @@ impl Leftovers {
         }
     }
 
-    // Those of a folder. One that cannot be read is as one that has none.
+    // Those of a folder. A folder that cannot be read counts as one without temporary files.
     pub(crate) fn of<R: Files>(
         files: &R,
         alloc: Global,
@@ -40,12 +40,12 @@ impl Leftovers {
         })
     }
 
-    // Whether they are those of that folder.
+    // Whether they belong to that folder.
     pub(crate) fn is_of(&self, folder: &str) -> bool {
         self.folder.as_str() == folder
     }
 
-    // Makes them those of that folder, if they are not.
+    // Replaces them by those of that folder, if they are of another one.
     pub(crate) fn turn_to<R: Files>(
         &mut self,
         files: &R,
@@ -58,7 +58,7 @@ impl Leftovers {
         Ok(())
     }
 
-    // Takes away those of a file that are older than a day, where the system lets it.
+    // Removes those of a file that are older than a day, if the system allows it.
     pub(crate) fn take_away<R: Files>(
         &self,
         files: &R,
@@ -79,7 +79,7 @@ impl Leftovers {
     }
 }
 
-// Whether a plain file was written last more than a day before.
+// Whether a plain file was last written more than a day before.
 fn is_old<R: Files>(files: &R, place: &str, now: SystemTime) -> bool {
     let Ok(about) = fs::symlink_metadata(files, place) else {
         return false;
@@ -93,14 +93,14 @@ fn is_old<R: Files>(files: &R, place: &str, now: SystemTime) -> bool {
     }
 }
 
-// The names of the temporary files in a folder, and none where it cannot be read.
+// The names of the temporary files in a folder; the list is empty if it cannot be read.
 fn temporary_names<R: Files>(
     files: &R,
     alloc: Global,
     folder: &str,
 ) -> Result<Vec<String>, AllocError> {
     let mut names = Vec::new(alloc);
-    // By the slash a link to a folder is followed.
+    // The slash makes the system follow a link to a folder.
     let place = format!(in alloc; "{folder}/")?;
     if let Ok(mut listing) = files.open_dir(place.as_str()) {
         read_temporary(alloc, &mut listing, &mut names)?;
@@ -108,7 +108,7 @@ fn temporary_names<R: Files>(
     Ok(names)
 }
 
-// Adds the names of temporary files that a folder lists, as far as it can be read.
+// Adds the names of temporary files from a folder's list, until a read fails.
 fn read_temporary<D: Read>(
     alloc: Global,
     listing: &mut D,
@@ -124,7 +124,7 @@ fn read_temporary<D: Read>(
     Ok(())
 }
 
-// Adds the names of temporary files among names that each end by a NUL.
+// Adds the names of temporary files among names that each end with a NUL.
 fn push_temporary(alloc: Global, listed: &[u8], names: &mut Vec<String>) -> Result<(), AllocError> {
     for bytes in listed.split(|byte| *byte == 0) {
         if let Ok(name) = std::str::from_utf8(bytes) {

@@ -1,4 +1,5 @@
-//! A log's folder (C2SP tlog-tiles) as a shelf and as a source; what a shelf is; a file replaced whole.
+//! A log's folder (C2SP tlog-tiles) as a shelf and as a source; the trait of shelves; files that are replaced as a
+//! whole.
 //!
 //! ```text
 //! let mut shelf = DirShelf::new(&rt, alloc, "log");

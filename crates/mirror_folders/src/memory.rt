@@ -8,8 +8,8 @@ use std::alloc::{AllocError, Global};
 use std::marker::Model;
 use tlog_tiles::Path;
 
-/// A shelf in memory: it records what it holds, and never fails. Contracts see the list of what was put, the oldest
-/// first. It is the folder of every name: to open one changes nothing.
+/// A shelf in memory: it records what it holds, and never fails. Contracts see the list of its puts, the oldest first.
+/// It is the folder with every name: `open` changes nothing.
 ///
 /// ```text
 /// let mut shelf = MemShelf::new(alloc);
@@ -42,7 +42,7 @@ impl MemShelf {
         }
     }
 
-    /// What was put, the oldest first. It takes no memory.
+    /// The puts, the oldest first. It takes no memory.
     pub fn puts(&self) -> &[(Path, Vec<u8>)]
         ensures { map (λ put. (put.0, put.1.items)) result.now ≡ self.now }
     {
@@ -56,7 +56,6 @@ fn is_same(first: &Path, second: &Path) -> bool
     first == second
 }
 
-// Whether something was put at the path.
 fn is_put(puts: &[(Path, Vec<u8>)], path: &Path) -> bool
     ensures { IsTrue result ↔ HasPut (map (λ put. (put.0, put.1.items)) puts.now) path.now }
 {
@@ -68,7 +67,6 @@ fn is_put(puts: &[(Path, Vec<u8>)], path: &Path) -> bool
     false
 }
 
-// What was put last at the path.
 fn last_put<'a>(puts: &'a [(Path, Vec<u8>)], path: &Path) -> Option<&'a [u8]>
     ensures { RecordsRead (Some (map (λ put. (put.0, put.1.items)) puts.entry.now)) path.now
         (option_map (λ bytes. bytes.now) result) }

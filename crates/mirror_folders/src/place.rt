@@ -1,4 +1,4 @@
-//! Where the files of a log lie in a folder.
+//! The paths of a log's files in a folder.
 ghost use Rattle.std.specs.Prelude.{◌≡◌, IfOk, string_bytes};
 ghost use Rattle.mirror_sources.specs.Recorded.{one_more};
 ghost use Rattle.mirror_folders.specs.Places.{LiesAt};
@@ -8,8 +8,8 @@ use std::io;
 use std::io::ErrorKind;
 use tlog_tiles::Path;
 
-// The path of a file: the folder's, a slash, and the text of the path in the log. That text has no segment of dots, so
-// the file lies in the folder. A folder whose name is empty has no files, and the root folder is never meant by it.
+// The path of a file: the folder's path, a slash, and the text of the path in the log. That text has no segment of
+// dots, so the file is in the folder. A folder whose name is empty has no files, so this never names the root folder.
 pub(crate) fn file_path(alloc: Global, folder: &str, path: &Path) -> io::Result<String>
     ensures { IfOk result (λ place. LiesAt folder.now path.now (string_bytes place)) }
 {
@@ -20,7 +20,7 @@ pub(crate) fn file_path(alloc: Global, folder: &str, path: &Path) -> io::Result<
     Ok(place)
 }
 
-// The folder that a file lies in, by the file's path.
+// The folder of a file, by the file's path.
 pub(crate) fn folder_of(path: &str) -> &str {
     match path.rsplit_once('/') {
         Some(("", _)) => "/",
@@ -37,7 +37,7 @@ pub(crate) fn name_of(path: &str) -> &str {
     }
 }
 
-// Whether the system says that there is no file at a path, or that a plain file is in the way to it.
+// Whether the system says that there is no file at a path, or that a plain file blocks the way to it.
 pub(crate) fn is_missing(e: &io::Error) -> bool {
     e.kind() == ErrorKind::NotFound || e.kind() == ErrorKind::NotADirectory
 }

@@ -1,4 +1,4 @@
-//! The files of a log that lie in a folder, read.
+//! Reads a log's files in a folder.
 ghost use Rattle.std.specs.Prelude.{◌+◌, ◌≤◌, IfOk, IfSome, take, vec_len};
 ghost use Rattle.byte_streams.specs.Streams.{TakesAtMost};
 ghost use Rattle.mirror_folders.specs.Places.{longest_file};
@@ -11,7 +11,7 @@ use std::io::ErrorKind;
 use std::{fs, io};
 use tlog_tiles::{MAX_BUNDLE_LEN, Path};
 
-// The bytes of the file at a path of the log in a folder, None where there is none.
+// The bytes of the file at a path of the log in a folder; `None` if there is no file.
 pub(crate) fn read_file<R: Files>(
     files: &R,
     alloc: Global,
@@ -24,7 +24,7 @@ pub(crate) fn read_file<R: Files>(
     read_opened(alloc, open_plain(files, place.as_str()))
 }
 
-// The bytes of a file that was opened, None where there is none.
+// The bytes of a file that was opened; `None` if there is no file.
 fn read_opened<F: io::Read + Drop>(
     alloc: Global,
     opened: io::Result<F>,
@@ -40,7 +40,7 @@ fn read_opened<F: io::Read + Drop>(
     }
 }
 
-// The plain file at a path. What is no plain file is not opened: opening it could wait.
+// The plain file at a path. Anything else is not opened: to open it could block.
 fn open_plain<R: Files>(files: &R, place: &str) -> io::Result<R::File> {
     let about = fs::metadata(files, place)?;
     if !about.is_file() {
@@ -49,7 +49,7 @@ fn open_plain<R: Files>(files: &R, place: &str) -> io::Result<R::File> {
     fs::open(files, place)
 }
 
-// All the bytes of a file, of which one more than the longest file has is read at most.
+// All the bytes of a file. It reads at most one byte more than the longest file has.
 fn read_whole<F: io::Read>(alloc: Global, file: &mut F) -> io::Result<Vec<u8>>
     ensures short { IfOk result (λ bytes. vec_len bytes ≤ longest_file) }
     ensures limit { TakesAtMost (longest_file + 1) (F.remaining file.old) (F.remaining file.new) }

@@ -1,4 +1,4 @@
-//! A file replaced whole.
+//! Files that are replaced as a whole.
 ghost use Rattle.std.specs.Prelude.{◌≢◌, [], IfOk};
 
 use crate::flush::flush_folder;
@@ -11,14 +11,16 @@ use std::io::{ErrorKind, Write};
 use std::os::unix::fs::OpenOptionsExt;
 use std::{fs, io};
 
-/// Replaces a file whole: a temporary file beside it (`.NAME.tlogmirror-0.tmp`, or a higher number) is made, written,
-/// flushed to the device, and renamed to the path; then its folder is flushed, where the system lets it. So whoever opens
-/// the path finds the old file or the new one, also where the run is cut off. The temporary file has a number that no
-/// other has, however many were left; those of this name that are older than a day are taken away. Of a name of more than
-/// 200 bytes the first 200 stand in that of the temporary file.
+/// Replaces a file as a whole. It makes a temporary file beside it (`.NAME.tlogmirror-0.tmp`, or a higher number),
+/// writes it, flushes it to the device, and renames it to the path. Then it flushes the folder, if the system allows
+/// it. So whoever opens the path finds the old file or the new one, also if the run ends early.
 ///
-/// A file that is replaced keeps its permissions, and a new one has those of the process. A symbolic link at the path is
-/// replaced, not followed; the permissions are those of the file that it led to.
+/// The temporary file gets a number that no other one has, whatever earlier runs left. Temporary files of this name
+/// that are older than a day are removed. If the name has more than 200 bytes, the name of the temporary file has only
+/// its first 200.
+///
+/// A file that is replaced keeps its permissions, and a new one has those of the process. A symbolic link at the path
+/// is replaced and not followed; the new file has the permissions of the file to which it led.
 ///
 /// ```text
 /// replace_file(&rt, rt.alloc(), "ex.state", &text)?;
@@ -26,19 +28,19 @@ use std::{fs, io};
 ///
 /// # Errors
 ///
-/// Those of the system, `ErrorKind::InvalidInput` where the path is empty, and `ErrorKind::OutOfMemory` where memory was
-/// refused. The path is then as it was, and the temporary file is taken away where the system lets it.
+/// Those of the system, `ErrorKind::InvalidInput` if the path is empty, and `ErrorKind::OutOfMemory` if memory was
+/// refused. The path is then unchanged, and the temporary file is removed if the system allows it.
 pub fn replace_file<R: Files>(files: &R, alloc: Global, path: &str, bytes: &[u8]) -> io::Result<()>
     ensures named { IfOk result (λ _. path.now ≢ []) }
 {
     let left = Leftovers::of(files, alloc, folder_of(path))?;
     put_whole(files, alloc, path, bytes, &left, true)?;
-    // The new file stands at the path: what the system says of the folder changes nothing.
+    // The new file is at the path: an error of the system about the folder changes nothing.
     let _flushed = flush_folder(files, folder_of(path));
     Ok(())
 }
 
-// Replaces a file whole, and flushes it to the device or not. What was left in its folder is at hand.
+// Replaces a file as a whole, and flushes it to the device or not. The list of leftover files in its folder is given.
 pub(crate) fn put_whole<R: Files>(
     files: &R,
     alloc: Global,
@@ -72,7 +74,7 @@ fn moved<R: Files>(files: &R, written: io::Result<()>, from: &str, to: &str) -> 
     fs::rename(files, from, to)
 }
 
-// The permissions of the file at a path, None where there is no plain file.
+// The permissions of the file at a path; `None` if there is no plain file.
 fn permissions_of<R: Files>(files: &R, path: &str) -> Option<Permissions> {
     match fs::metadata(files, path) {
         Ok(about) if about.is_file() => Some(about.permissions()),
@@ -80,7 +82,7 @@ fn permissions_of<R: Files>(files: &R, path: &str) -> Option<Permissions> {
     }
 }
 
-// Takes away what was left of a file more than a day before its new temporary file was made.
+// Removes leftovers of a file that are more than a day older than its new temporary file.
 fn take_away_old<R: Files>(
     files: &R,
     alloc: Global,
@@ -93,7 +95,7 @@ fn take_away_old<R: Files>(
     Ok(())
 }
 
-// A new file beside the path, with its own path. One that is there already is never opened.
+// A new file beside the path, with its own path. It never opens a file that exists already.
 fn create_beside<R: Files>(
     files: &R,
     alloc: Global,
@@ -114,7 +116,7 @@ fn create_beside<R: Files>(
     Err(io::Error::from(ErrorKind::AlreadyExists))
 }
 
-// A new file: a private one, for its owner alone, until it is given the permissions of the one that it replaces.
+// A new file. A private one is only for its owner until it gets the permissions of the file that it replaces.
 fn create_new<R: Files>(files: &R, path: &str, private: bool) -> io::Result<R::File> {
     let mut options = OpenOptions::new();
     options.write(true).create_new(true);
@@ -124,9 +126,9 @@ fn create_new<R: Files>(files: &R, path: &str, private: bool) -> io::Result<R::F
     options.open(files, path)
 }
 
-// Gives the file its permissions, and then writes all the bytes, down to the device where that is asked for. A file that is
-// flushed later is cut to no length before: ext4 and others begin to write such a one out once it is closed, and so a flush of
-// many has little to wait for.
+// Gives the file its permissions, and then writes all the bytes, and flushes them to the device if asked. A file that
+// is flushed later is first truncated to length 0. Then ext4 and other file systems begin to write it to the device
+// when it is closed, and so a later flush of many files has little to wait for.
 fn fill<F: Write + OpenFile>(
     file: &mut F,
     cleared: io::Result<()>,

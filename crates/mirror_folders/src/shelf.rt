@@ -1,4 +1,4 @@
-//! Where the files of a log are put.
+//! Shelves: places for the files of a log.
 ghost use Rattle.std.specs.Prelude.{◌≡◌};
 ghost use Rattle.mirror_folders.specs.declared.shelf.ShelfError.TheVariants.{OutOfMemory};
 
@@ -6,8 +6,8 @@ use std::alloc::AllocError;
 use thiserror::Error;
 use tlog_tiles::Path;
 
-/// Why a shelf did not do what it was asked to. It prints its variant's name.
-/// A folder that may not be written to failed.
+/// Why a call of a shelf failed. It prints its variant's name.
+/// A folder without permission to write, for example, gives `Failed`.
 #[derive(Debug, Drop, PartialEq, Eq, Clone, Copy, Error)]
 pub enum ShelfError {
     /// The shelf failed.
@@ -33,49 +33,50 @@ pub trait Shelf {
     ghost use Rattle.mirror_sources.specs.Recorded.{KeepsRecord};
     ghost use Rattle.mirror_folders.specs.Shelf.{Put, RecordsPut, RecordsHas, CountsFailures};
 
-    /// What was put, the oldest first, if the shelf records it. What was put last at a path stands there.
+    /// The puts, the oldest first, if the shelf records them. Each path has the bytes of the last put there.
     ghost puts: { Self → Option (List Put) } = { λ _. None };
 
-    /// How many calls failed.
+    /// The number of calls that failed.
     ghost failed: { Self → ℕ };
 
-    /// How many files are to be put in all, where the shelf records it.
+    /// The number of files to put in all, if the shelf records it.
     ghost expected: { Self → Option ℕ } = { λ _. None };
 
     /// Whether there is a file at the path.
     ///
     /// # Errors
     ///
-    /// `Failed` where the shelf failed, which is counted, and `OutOfMemory` where memory was refused. What was put stays.
+    /// `Failed` if the shelf failed, which is counted, and `OutOfMemory` if memory was refused. All that was put stays.
     fn has(&mut self, path: &Path) -> Result<bool, ShelfError>
         ensures answer { IfOk result (λ b. RecordsHas (puts self.old) path.now b) }
         ensures same { KeepsRecord (puts self.old) (puts self.new) }
         ensures counted { CountsFailures (failed self.old) (failed self.new) result };
 
-    /// Puts a file at the path, whole.
+    /// Puts a file at the path, as a whole.
     ///
     /// # Errors
     ///
-    /// Those of `has`; the path is then as it was.
+    /// Those of `has`; the path is then unchanged.
     fn put(&mut self, path: &Path, bytes: &[u8]) -> Result<(), ShelfError>
         ensures recorded { RecordsPut (puts self.old) (puts self.new) (path.now, bytes.now) result }
         ensures counted { CountsFailures (failed self.old) (failed self.new) result };
 
-    /// The file that stands at the path, as an earlier run may have put it, is relied on: it is flushed to the device
-    /// before a checkpoint is put, as what this shelf puts is. Where no file is there, nothing is flushed.
+    /// The caller relies on the file at the path, as an earlier run may have put it. So it is flushed to the device
+    /// before a checkpoint is put, like the files that this shelf puts. If there is no file, nothing is flushed.
     ///
     /// # Errors
     ///
-    /// Those of `has`. What was put stays.
+    /// Those of `has`. All that was put stays.
     fn flush_before_checkpoint(&mut self, path: &Path) -> Result<(), ShelfError>
         ensures same { KeepsRecord (puts self.old) (puts self.new) }
         ensures counted { CountsFailures (failed self.old) (failed self.new) result };
 
-    /// How many calls failed; the count stays at its last value, 2^64 - 1.
+    /// The number of calls that failed; the count stops at its greatest value, 2^64 - 1.
     fn failures(&self) -> u64
         ensures { result ≡ failed self.now };
 
-    /// So many files are to be put in all. What was put stays; a shelf that reports how far the work is has use for it.
+    /// Announces the number of files to put in all. All that was put stays. A shelf that reports progress uses the
+    /// number.
     fn expect(&mut self, files: u64)
         ensures puts { puts self.new ≡ puts self.old }
         ensures failed { failed self.new ≡ failed self.old }
@@ -83,7 +84,7 @@ pub trait Shelf {
 }
 
 /// A shelf whose files can be read.
-/// `MemShelf` and `DirShelf` are: what stands there after a put is what was put.
+/// `MemShelf` and `DirShelf` are such shelves: a read after a put gives the bytes that were put.
 ///
 /// ```text
 /// shelf.put(&Path::Checkpoint, b"a note")?;
@@ -94,11 +95,11 @@ pub trait ReadableShelf: Shelf {
     ghost use Rattle.mirror_sources.specs.Recorded.{KeepsRecord};
     ghost use Rattle.mirror_folders.specs.Shelf.{RecordsRead, CountsFailures};
 
-    /// The bytes of the file at the path, and None where there is no file.
+    /// The bytes of the file at the path, and `None` if there is no file.
     ///
     /// # Errors
     ///
-    /// Those of `has`. What was put stays.
+    /// Those of `has`. All that was put stays.
     fn read(&mut self, path: &Path) -> Result<Option<Vec<u8>>, ShelfError>
         ensures answer { IfOk result
             (λ found. RecordsRead (Self.puts self.old) path.now (option_map (λ v. v.items) found)) }

@@ -4,11 +4,11 @@ ghost use Rattle.std.specs.Prelude.{◌≤◌, IfOk, length, string_len};
 use crate::place::name_of;
 use std::alloc::{AllocError, Global};
 
-// How many bytes of a file's name stand in the name of its temporary file at most: a name has up to 255 bytes, of which
-// the rest takes up to 37.
+// The greatest number of bytes of a file's name in the name of its temporary file. A name has up to 255 bytes, and the
+// rest takes up to 37 of them.
 const STEM: usize = 200;
 
-// The first characters of the name of the file at a path: those that are in the names of its temporary files.
+// The first characters of the name of the file at a path: those in the names of its temporary files.
 pub(crate) fn stem_of(path: &str) -> &str
     ensures { length result.now ≤ 200 }
 {
@@ -38,7 +38,7 @@ pub(crate) fn temporary_path(alloc: Global, path: &str, number: u64) -> Result<S
     }
 }
 
-// What stands in the name of a temporary file of the file's own name.
+// The part of a temporary file's name that comes from the name of its file.
 pub(crate) fn stem_of_temporary(name: &str) -> Option<&str> {
     let (stem, number) = name
         .strip_prefix('.')?

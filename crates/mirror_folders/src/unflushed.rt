@@ -1,4 +1,4 @@
-//! What is to be flushed before a checkpoint is put.
+//! The files to flush before a checkpoint is put.
 ghost use Rattle.std.specs.Prelude.{◌≡◌, ◌≤◌, [], Contains, OnOk, length};
 
 use crate::flush::{flush_above, flush_files, flush_folder};
@@ -8,11 +8,11 @@ use std::fs::Files;
 use std::io;
 use tlog_tiles::Path;
 
-// How many files are noted at most.
+// The greatest number of files that are noted.
 const MOST: usize = 1_024;
 
-// The files of a folder that are to be on the device before a checkpoint stands there, and that were not flushed yet: those
-// that were put, and those that an earlier run put. They are few, however long the log is.
+// The files of a folder that have to be on the device before a checkpoint is there, and that were not flushed yet. This
+// run or an earlier one put them. They are few, for a log of any size.
 #[derive(Drop)]
 pub(crate) struct Unflushed {
     paths: Vec<Path>,
@@ -29,7 +29,7 @@ impl Unflushed {
         }
     }
 
-    // Notes a file. Where as many are noted as may be, those are flushed first.
+    // Notes a file. If the greatest number is noted already, those are flushed first.
     pub(crate) fn add<R: Files>(
         &mut self,
         files: &R,
@@ -46,7 +46,7 @@ impl Unflushed {
         Ok(())
     }
 
-    // Flushes the files that are noted, and the folders in that folder that they lie in.
+    // Flushes the noted files, and the folders between that folder and them.
     fn flush<R: Files>(&mut self, files: &R, alloc: Global, folder: &str) -> io::Result<()>
         ensures { OnOk result (self.new.paths.items ≡ []) }
     {
@@ -55,8 +55,8 @@ impl Unflushed {
         Ok(())
     }
 
-    // Flushes all that is noted, and the folder itself; last those above it, where the system lets it, since the folder may
-    // be new there.
+    // Flushes all noted files, and the folder itself. Last it flushes the folders above, if the system allows it, since
+    // the folder may be new there.
     pub(crate) fn flush_all<R: Files>(
         &mut self,
         files: &R,

@@ -1,6 +1,6 @@
-//! Logs and mirrors over HTTP (RFC 9112), as one crate: a client that asks a site for a log's files, and a
-//! mirror that answers one request. It holds nothing of its own: the client is that of `mirror_client`, and
-//! the server that of `mirror_server`.
+//! Logs and mirrors over HTTP (RFC 9112), as one crate: a client that requests a log's files from a site, and a mirror
+//! that answers one request. It has no code of its own: the client is that of `mirror_client`, and the server is that
+//! of `mirror_server`.
 //!
 //! ```text
 //! // A pull over HTTP, with one connection for each file.

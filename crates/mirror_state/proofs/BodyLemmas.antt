@@ -1,4 +1,4 @@
--- The body of a state text at the start of bytes is known from the bytes.
+-- The bytes determine the body of a state text at their start.
 use Rattle.std.proofs.Common.{◌≡◌, ◌≢◌, inl, inr, ℕ, ◌+◌, ◌≤◌, ◌<◌, ◌-◌, List, [], ◌∷◌, ◌++◌, length, take, drop, refl}
 use Rattle.std.proofs.Common.{sym, ap, subst, ◌∙◌, append_assoc, arith, codes, Err, length-append, length-take}
 use Rattle.std.proofs.Common.{length-drop, true≢false}
@@ -15,7 +15,7 @@ use Rattle.mirror_state.specs.Reading.{HasMagic, HasBody, HasText, ReadsParts}
 use Rattle.mirror_state.specs.Stands.{HasList, HasLists, FindsLists, EndsAs}
 use Rattle.mirror_state.proofs.ListLemmas.{list_one, origin_rest, parted_notes, tagged_notes}
 
--- the versions begin in two ways
+-- the versions have different first bytes
 pub versions_differ : (x : List ℕ) → x ≡ codes "TLMIRR02" → x ≡ codes "TLMIRR01" → ⊥
 versions_differ x p q = true≢false (sym ((bytes_eq-Decides (codes "TLMIRR02") (codes "TLMIRR01")).1 (sym p ∙ q)) ∙ refl)
 
@@ -33,7 +33,7 @@ pub lists_in : (bytes : List ℕ) (parts : Parts) (rest : List ℕ) → HasBody 
 lists_in bytes (VersionTwo o n p e) rest h = record { are_parts = h.are_parts; text = ap (λ (x : List ℕ). drop 8 x) h.text }
 lists_in bytes (VersionOne o n s) rest h = record { are_parts = h.are_parts; text = ap (λ (x : List ℕ). drop 8 x) h.text }
 
--- the lists of one version stand at the start in one way
+-- bytes begin with the lists of one version in only one way
 pub lists_one : (bytes : List ℕ) (p q : Parts) (a b : List ℕ) → magic_of p ≡ magic_of q → HasLists bytes p a →
     HasLists bytes q b → (p ≡ q) × (a ≡ b)
 lists_one bytes (VersionTwo o n p e) (VersionOne o' n' s') a b m x y = absurd (versions_differ (codes "TLMIRR02") refl m)
@@ -79,12 +79,12 @@ lists_one bytes (VersionOne o n s) (VersionOne o' n' s') a b m x y =
     let one : VersionOne o n s ≡ VersionOne o' n' s' = cc (origin, notes.0, strings.0) in
     (one, strings.1)
 
--- a body stands at the start in one way
+-- bytes begin with a body in only one way
 pub body_one : (bytes : List ℕ) (p q : Parts) (a b : List ℕ) → HasBody bytes p a → HasBody bytes q b → (p ≡ q) × (a ≡ b)
 body_one bytes p q a b x y = lists_one (drop 8 bytes) p q a b (sym (magic_in bytes p a x) ∙ magic_in bytes q b y)
     (lists_in bytes p a x) (lists_in bytes q b y)
 
--- where the reader of the lists fails, so does that of the whole
+-- if the reader of the lists fails, so does the reader of the text
 pub finds_fails : (bytes : List ℕ) (fault : PartsFault) → FindsLists bytes (Err fault) → ReadsParts bytes (Err fault)
 finds_fails bytes StateMagic h = h
 finds_fails bytes StateShort h = (h.0, λ parts digest rest t. h.1 parts (digest ++ rest) t.has_body)
@@ -92,7 +92,7 @@ finds_fails bytes StateLong h = absurd h
 finds_fails bytes StateDigest h = absurd h
 finds_fails bytes OutOfMemory h = tt
 
--- the end is at least a digest, where a digest and more follow the body
+-- if a digest and more bytes follow the body, the end has at least the length of a digest
 pub end_long : (bytes end digest rest : List ℕ) (parts others : Parts) → HasBody bytes parts end →
     HasText bytes others digest rest → 32 ≤ length end
 end_long bytes end digest rest parts others h t =
@@ -109,7 +109,7 @@ cut_end end [] e long =
 cut_end end (next ∷ rest) e long =
     (next, rest, sym (take-append-drop 32 end) ∙ ap (λ (x : List ℕ). take 32 end ++ x) (sym e))
 
--- more than 32 bytes behind a body are a digest's place and more
+-- more than 32 bytes after a body are the digest and more bytes
 pub end_is_long : (bytes end : List ℕ) (parts : Parts) → HasBody bytes parts end → 32 < length end →
     ReadsParts bytes (Err StateLong)
 end_is_long bytes end parts h long =
@@ -122,7 +122,7 @@ end_is_long bytes end parts h long =
       record { has_body = subst (λ (x : List ℕ). HasBody bytes parts x) cut.2 h; digest_len = len },
     )
 
--- what the end is answered by, the whole is
+-- the fault for the end is the fault for the text
 pub ends_fail : (bytes body end : List ℕ) (parts : Parts) (fault : PartsFault) → HasBody bytes parts end →
     body ≡ body_text parts → EndsAs body end (Err fault) → ReadsParts bytes (Err fault)
 ends_fail bytes body end parts StateMagic h b e = absurd e
@@ -144,7 +144,7 @@ ends_fail bytes body end parts StateDigest h b e =
     }
 ends_fail bytes body end parts OutOfMemory h b e = absurd e
 
--- what precedes the end is the body
+-- the bytes before the end are the body
 pub body_is : (bytes end : List ℕ) (parts : Parts) → HasBody bytes parts end →
     take (length bytes - length end) bytes ≡ body_text parts
 body_is bytes end parts h =
@@ -169,7 +169,7 @@ body_of bytes parts rest m h =
           ∙ sym (append_assoc (magic_of parts) (lists_text parts) rest)));
     }
 
--- where the lists of the version do not stand, no body does
+-- if the lists of the version are not at the start, no body is
 pub none_parted : (bytes : List ℕ) → take 8 bytes ≡ codes "TLMIRR02" →
     ((o : List ℕ) (n p e : List (List ℕ)) (rest : List ℕ) → HasLists (drop 8 bytes) (VersionTwo o n p e) rest → ⊥) →
     (parts : Parts) (rest : List ℕ) → HasBody bytes parts rest → ⊥

@@ -1,4 +1,4 @@
--- The strings of a store that have one tag, gathered and put in order.
+-- The strings of a store with one tag, gathered and sorted.
 use Rattle.std.proofs.Common.{◌≡◌, ◌⊎◌, inl, inr, ℕ, zero, suc, ◌+◌, ◌*◌, ◌<◌, ◌≤◌, take, drop, get_or, Some, None, List}
 use Rattle.std.proofs.Common.{[], ◌∷◌, ◌++◌, length, map, All, Bool, true, refl, sym, ap, subst, ◌∙◌, arith, nat_eq}
 use Rattle.std.specs.Prelude.{◌↔◌, ◌&&◌}
@@ -34,7 +34,7 @@ use Rattle.mirror_state.specs.Putting.{KeyedPair, pair_bytes, with_bytes, IsKeye
 use Rattle.mirror_state.proofs.Listed.{nothing_in, mapped, from_mapped}
 use Rattle.node_store.proofs.Pools.{exact as exact_bytes}
 
--- ---- what is gathered, string after string
+-- ---- gathering, string by string
 
 cons_here : {X : Type 0} (x y : X) (xs : List X) → x ≡ y → Contains (x ∷ xs) y
 cons_here x y xs is = (zero, omega arith, is)
@@ -134,7 +134,7 @@ module _ {X : Type 0} (bytes : X → List ℕ) {cmp : X → X → Ordering} (tot
         (subst (Contains (map bytes (dedup same sorted))) (sym (exact m.from a.1 a.4) ∙ m.is) there),
   )
 
--- what rises by an order rises by its bytes, where the order is theirs
+-- items that rise by an order rise by their bytes, if both are the same order
 module _ {X : Type 0} (bytes : X → List ℕ) (cmp : X → X → Ordering) (Fits : X → Type 0)
     (agrees : (x y : X) → Fits x → Fits y → cmp x y ≡ Less → slice_cmp nat_cmp (bytes x) (bytes y) ≡ Less) where
   all_above : (x : X) (xs : List X) → Fits x → AllByRecursion Fits xs → AllByRecursion (λ y. cmp x y ≡ Less) xs →
@@ -206,7 +206,7 @@ then_assoc Less a b = refl
 then_assoc Equal a b = refl
 then_assoc Greater a b = refl
 
--- of lists whose prefixes are as long, the prefixes decide first
+-- for lists whose prefixes have one length, the prefixes decide first
 cat_cmp : (l m r s : List ℕ) → length l ≡ length m →
     slice_cmp nat_cmp (l ++ r) (m ++ s) ≡ ordering_then (slice_cmp nat_cmp l m) (slice_cmp nat_cmp r s)
 cat_cmp [] [] r s len = refl
@@ -217,7 +217,7 @@ cat_cmp (x ∷ xs) (y ∷ ys) r s len =
     ap (λ (o : Ordering). ordering_then (nat_cmp x y) o) (cat_cmp xs ys r s (omega (arith, both)))
     ∙ sym (then_assoc (nat_cmp x y) (slice_cmp nat_cmp xs ys) (slice_cmp nat_cmp r s))
 
--- ---- pairs behind a number
+-- ---- pairs after a number
 
 abbrev pub keyed_cmp : KeyedPair → KeyedPair → Ordering
 keyed_cmp a b = ordering_then (nat_cmp a.0 b.0) (pair_cmp a.1 b.1)
@@ -235,7 +235,7 @@ keyed_ties a b = both_tied (nat_eq a.0 b.0) (pair_same a.1 b.1) (nat_cmp a.0 b.0
 pub keyed_exact : (a b : KeyedPair) → keyed_same a b ≡ true → pair_bytes a ≡ pair_bytes b
 keyed_exact a b h = pair_exact a.1 b.1 (second_so (nat_eq a.0 b.0) (pair_same a.1 b.1) h)
 
--- a byte more is a place more
+-- one more byte is one more digit
 place_cmp : (a b x y : ℕ) → x < 256 → y < 256 →
     nat_cmp (256 * a + x) (256 * b + y) ≡ ordering_then (nat_cmp a b) (nat_cmp x y)
 place_cmp a b x y small small' = grind (arith, nat_tests)
@@ -276,14 +276,14 @@ front_key (a ∷ b ∷ c ∷ d ∷ e ∷ []) long = absurd (omega (arith, long))
 front_key (a ∷ b ∷ c ∷ d ∷ e ∷ f ∷ []) long = absurd (omega (arith, long))
 front_key (a ∷ b ∷ c ∷ d ∷ e ∷ f ∷ g ∷ []) long = absurd (omega (arith, long))
 
--- what a front decides is decided once more by the whole
+-- if a prefix decides the order, the complete lists decide it in the same way
 then_again : (o a b : Ordering) →
     ordering_then o (ordering_then (ordering_then o a) b) ≡ ordering_then (ordering_then o a) b
 then_again Less a b = refl
 then_again Equal a b = refl
 then_again Greater a b = refl
 
--- the number puts pairs into the order that their hashes do
+-- the number puts pairs in the same order as their hashes
 keyed_as_pair : (x y : KeyedPair) → IsKeyed x → IsKeyed y → keyed_cmp x y ≡ pair_cmp x.1 y.1
 keyed_as_pair x y f g =
     let len : length (take 8 x.1.0.now) ≡ length (take 8 y.1.0.now) =
@@ -308,7 +308,7 @@ pairs_rise xs keyed s = rises_by_bytes pair_bytes keyed_cmp IsKeyed
     (λ x y a b h. cat_cmp x.1.0.now y.1.0.now x.1.1.now y.1.1.now (a.sized ∙ sym b.sized)
     ∙ (sym (keyed_as_pair x y a b) ∙ h)) xs (recursion_from_All IsKeyed xs keyed) s
 
--- ---- notes, one after another
+-- ---- notes, in order
 
 take_past : (i : ℕ) (xs : List (List ℕ)) → length xs ≤ i → take i xs ≡ xs
 take_past zero [] past = refl

@@ -1,4 +1,4 @@
--- Items at the start of bytes are known from the bytes.
+-- The bytes determine the items at their start.
 use Rattle.std.proofs.Common.{◌≡◌, ℕ, suc, List, [], ◌∷◌, ◌++◌, length, take, drop, All, refl, sym, ap, ◌∙◌}
 use Rattle.std.proofs.Common.{append_assoc, arith}
 use Rattle.std.specs.Int.{w16, w32, to_be_bytes, from_be_bytes}
@@ -18,7 +18,7 @@ fronts_same d e a b len h = (
   sym (drop_at d a (length d) refl) ∙ (ap (λ (x : List ℕ). drop (length d) x) h ∙ drop_at e b (length d) (sym len)),
 )
 
--- the item at the start is known from the bytes
+-- the bytes determine the item at their start
 pub item_one : (form : Form) (d e a b : List ℕ) → IsItem form d → IsItem form e →
     item_text form d ++ a ≡ item_text form e ++ b → (d ≡ e) × (a ≡ b)
 item_one Short d e a b hd he h =
@@ -33,7 +33,7 @@ item_one Long d e a b hd he h =
     ∙ (ap (λ (x : List ℕ). from_be_bytes w32 x) front ∙ from_be_bytes-to_be_bytes_4 (length e) he)) after
 item_one Hashes d e a b hd he h = fronts_same d e a b (hd ∙ sym he) h
 
--- behind an item stand the others
+-- the other items follow the first
 pub items_rest : (form : Form) (k : ℕ) (e after : List ℕ) (items : List (List ℕ)) (rest : List ℕ) →
     IsItem form e → HasItems form (suc k) (item_text form e ++ after) items rest →
     (others : List (List ℕ)) × HasItems form k after others rest
@@ -45,7 +45,7 @@ items_rest form k e after (x ∷ xs) rest fits h =
     let count : suc (length xs) ≡ suc k = h.count_is in
     (xs, record { count_is = omega arith; fits = All-tail (IsItem form) x xs h.fits; text = one.1 })
 
--- items, one or more, begin with an item
+-- one or more items begin with an item
 pub items_first : (form : Form) (k : ℕ) (bytes : List ℕ) (items : List (List ℕ)) (rest : List ℕ) →
     HasItems form (suc k) bytes items rest →
     (e : List ℕ) × (after : List ℕ) × IsItem form e × (bytes ≡ item_text form e ++ after)
@@ -57,7 +57,7 @@ items_first form k bytes (x ∷ xs) rest h = (
   h.text ∙ append_assoc (item_text form x) (items_text form xs) rest,
 )
 
--- one item more
+-- one more item
 pub items_push : (form : Form) (bytes rest after e : List ℕ) (es : List (List ℕ)) → bytes ≡ items_text form es ++ rest →
     rest ≡ item_text form e ++ after → bytes ≡ items_text form (es ++ e ∷ []) ++ after
 items_push form bytes rest after e es p q =
@@ -67,7 +67,7 @@ items_push form bytes rest after e es p q =
     ∙ (sym (append_assoc (items_text form es) (item_text form e) after) ∙ ap (λ (x : List ℕ). x ++ after)
     (sym (split ∙ ap (λ (x : List ℕ). items_text form es ++ x) (append-nil (item_text form e))))))
 
--- items at the start, that many, are known from the bytes
+-- the bytes determine that number of items at their start
 pub items_one : (form : Form) (es fs : List (List ℕ)) (a b : List ℕ) → length es ≡ length fs → All (IsItem form) es →
     All (IsItem form) fs → items_text form es ++ a ≡ items_text form fs ++ b → (es ≡ fs) × (a ≡ b)
 items_one form [] [] a b n p q h = (refl, h)

@@ -1,4 +1,4 @@
--- Lists one after the other are known from the bytes.
+-- The bytes determine lists in order.
 use Rattle.std.proofs.Common.{◌≡◌, ℕ, List, ◌++◌, length, take, drop, sym, ap, ◌∙◌, append_assoc}
 use Rattle.std.specs.Int.{w64, to_be_bytes, from_be_bytes}
 use Rattle.std.proofs.lemmas.Nat.{from_be_bytes-to_be_bytes_8}
@@ -9,7 +9,7 @@ use Rattle.mirror_state.specs.StateText.{VersionTwo, VersionOne}
 use Rattle.mirror_state.specs.Stands.{HasList, HasLists}
 use Rattle.mirror_state.proofs.ItemLemmas.{item_one, items_one}
 
--- the list at the start is known from the bytes
+-- the bytes determine the list at their start
 pub list_one : (form : Form) (bytes : List ℕ) (xs ys : List (List ℕ)) (a b : List ℕ) → HasList form bytes xs a →
     HasList form bytes ys b → (xs ≡ ys) × (a ≡ b)
 list_one form bytes xs ys a b p q =
@@ -21,19 +21,19 @@ list_one form bytes xs ys a b p q =
     ∙ from_be_bytes-to_be_bytes_8 (length ys) q.are_items.count) in
     items_one form xs ys a b len p.are_items.fits q.are_items.fits after
 
--- what follows the origin
+-- the bytes after the origin
 pub origin_rest : (bytes o o' a others r : List ℕ) → IsItem Short o → IsItem Short o' → bytes ≡ item_text Short o ++ a →
     bytes ≡ (item_text Short o' ++ others) ++ r → (o ≡ o') × (a ≡ others ++ r)
 origin_rest bytes o o' a others r p q e f =
     item_one Short o o' a (others ++ r) p q (sym e ∙ (f ∙ append_assoc (item_text Short o') others r))
 
--- the list behind a list, which is the last
+-- the list after a list; it is the last one
 pub last_stands : (f g : Form) (a b r : List ℕ) (xs ys zs : List (List ℕ)) → HasList f a xs b →
     HasList f a ys (list_text g zs ++ r) → AreItems g zs → HasList g b zs r
 last_stands f g a b r xs ys zs p q fits =
     record { are_items = fits; text = (list_one f a xs ys b (list_text g zs ++ r) p q).1 }
 
--- the list behind a list, and what follows it
+-- the list after a list, and the bytes that follow it
 pub next_stands : (f g : Form) (a b others r : List ℕ) (xs ys zs : List (List ℕ)) → HasList f a xs b →
     HasList f a ys ((list_text g zs ++ others) ++ r) → AreItems g zs → HasList g b zs (others ++ r)
 next_stands f g a b others r xs ys zs p q fits = record {
@@ -41,7 +41,7 @@ next_stands f g a b others r xs ys zs p q fits = record {
   text = (list_one f a xs ys b ((list_text g zs ++ others) ++ r) p q).1 ∙ append_assoc (list_text g zs) others r;
 }
 
--- where the lists of version 2 stand, each stands behind the one before
+-- if the bytes have the lists of version 2, each list follows the one before
 pub parted_notes : (bytes o a r origin : List ℕ) (notes pairs entries : List (List ℕ)) →
     IsItem Short o → bytes ≡ item_text Short o ++ a → HasLists bytes (VersionTwo origin notes pairs entries) r →
     HasList Long a notes ((list_text Hashes pairs ++ list_text Short entries) ++ r)
@@ -54,7 +54,7 @@ parted_notes bytes o a r origin notes pairs entries p e h =
           ∙ append_assoc (list_text Long notes) (list_text Hashes pairs ++ list_text Short entries) r;
     }
 
--- and those of version 1
+-- the same for version 1
 pub tagged_notes : (bytes o a r origin : List ℕ) (notes strings : List (List ℕ)) → IsItem Short o →
     bytes ≡ item_text Short o ++ a → HasLists bytes (VersionOne origin notes strings) r →
     HasList Long a notes (list_text Long strings ++ r)
@@ -65,7 +65,7 @@ tagged_notes bytes o a r origin notes strings p e h =
           r p h.are_parts.origin_fits e h.text).1 ∙ append_assoc (list_text Long notes) (list_text Long strings) r;
     }
 
--- lists one after the other are what version 2 lists
+-- lists in order are the lists of version 2
 pub parted_found : (bytes o a b c r : List ℕ) (notes pairs entries : List (List ℕ)) → IsItem Short o →
     bytes ≡ item_text Short o ++ a → HasList Long a notes b → HasList Hashes b pairs c → HasList Short c entries r →
     HasLists bytes (VersionTwo o notes pairs entries) r

@@ -1,4 +1,4 @@
--- What a state text lists, as a view.
+-- The content of a state text, as a view.
 use Rattle.std.proofs.Common.{◌≡◌, ◌⊎◌, inl, inr, ℕ, zero, suc, ◌≤◌, List, [], ◌∷◌, ◌++◌, length, map, All, refl, sym}
 use Rattle.std.proofs.Common.{ap, subst, ◌∙◌, arith, length-append}
 use Rattle.std.specs.FinSet as set
@@ -16,7 +16,7 @@ use Rattle.tlog_mirror.specs.Restored.{IsOpenNote}
 use Rattle.mirror_state.specs.StateText.{Parts, VersionTwo, VersionOne, StateText, OldStateText}
 use Rattle.mirror_state.specs.Loading.{listed_notes, listed_view, IsStateString, HasState, HasStrings, HasNoCollision}
 
--- ---- elements
+-- ---- items
 
 pub nothing_in : {X : Type 0} (y : X) → Contains {X = X} [] y → ⊥
 nothing_in {X} y c = All-contains {X = X} (λ z. ⊥) [] y (All-nil {X = X} (λ z. ⊥)) c
@@ -120,7 +120,7 @@ old_view v bytes t =
     same_view v t.notes t.strings (λ q c. (t.notes_are.exact q).0 c) (λ q h. (t.notes_are.exact q).1 h)
     (λ q c. (t.strings_are q).0 c) (λ q h. (t.strings_are q).1 h)
 
--- ---- what is loaded is in order
+-- ---- a loaded text is in order
 
 pub state_string : (q : List ℕ) (v : View) → ((entry : List ℕ) → Has v.strings (0 ∷ entry) → length entry ≤ 65535) →
     IsTagged q → Has v.strings q → IsStateString q
@@ -129,7 +129,7 @@ state_string q v short (string.OfPair left right l r) h =
     inr (refl, let n = length-append left right in omega (arith, n, l, r))
 
 module _ (digest : List ℕ → List ℕ) (origin : List ℕ) (keys : List Key) (bytes : List ℕ) (v : View) where
-  -- no refusal applies to it, and the view is what is listed
+  -- no refusal applies to it, and the view is the listed one
   pub record IsInOrder : Type 0 where
     pub parts : Parts
     pub has_no_collision : HasNoCollision digest origin keys bytes parts

@@ -1,4 +1,4 @@
--- Items that are listed: their order, and the strings of them that are added to a set.
+-- Listed items: their order, and the strings that are added for them.
 use Rattle.std.proofs.Common.{◌≡◌, inl, inr, ℕ, ◌+◌, ◌-◌, ◌<◌, ◌≤◌, Bool, true, false, List, [], ◌∷◌, ◌++◌, length, map}
 use Rattle.std.proofs.Common.{take, drop, get_or, All, Result, Ok, Err, Bor, refl, sym, ap, subst, ◌∙◌, arith}
 use Rattle.std.specs.Prelude.{◌↔◌, IsTrue}
@@ -55,7 +55,7 @@ pub before_tells : (b : Bool) (o p : Ordering) → b ≡ is_lt o → o ≡ p →
 before_tells b o p e f =
     subst (λ q. IsTrue b ↔ (q ≡ Less)) f (subst (λ (t : Bool). IsTrue t ↔ (o ≡ Less)) (sym e) (less_tells o))
 
--- items that are lent, as lists
+-- borrowed items, as lists
 abbrev pub bytes_of : List (Bor (List ℕ)) → List (List ℕ)
 bytes_of items = map (λ x. x.now) items
 
@@ -66,7 +66,7 @@ item_at items i d e lt = get_or-map (λ (x : Bor (List ℕ)). x.now) items i d e
 pub same_len : (items : List (Bor (List ℕ))) → length (bytes_of items) ≡ length items
 same_len items = length-map items (λ (x : Bor (List ℕ)). x.now)
 
--- so far they rise
+-- the items so far rise
 abbrev pub RisesTo : List (Bor (List ℕ)) → ℕ → Type 0
 RisesTo items i = (k : ℕ) → k + 1 < i → k + 1 < length items →
     by_bytes (get_or (bytes_of items) k []) (get_or (bytes_of items) (k + 1) []) ≡ Less
@@ -105,7 +105,7 @@ module _ (items : List (Bor (List ℕ))) where
           absurd (cc (t, is)),
     )
 
--- ---- strings that are added
+-- ---- added strings
 
 clash_of : (digest : List ℕ → List ℕ) (v all : Strings) (s : List ℕ) → ((q : List ℕ) → Has v q → Has all q) →
     Has all s → Clashes digest v s → HasClash digest all
@@ -185,7 +185,7 @@ module _ (f : List ℕ → List ℕ) (items : List (Bor (List ℕ))) (i : ℕ) (
       All P (take (i + 1) (bytes_of items))
   all_more P so_far here = subst (All P) (sym more_taken) (All-push P (take i (bytes_of items)) item so_far here)
 
--- all of them
+-- all items
 pub listed_all : (items : List (Bor (List ℕ))) (i : ℕ) → length items ≤ i → take i (bytes_of items) ≡ bytes_of items
 listed_all items i le = take_all i (bytes_of items) (omega (arith, same_len items, le))
 
@@ -193,7 +193,7 @@ listed_all items i le = take_all i (bytes_of items) (omega (arith, same_len item
 pub noted_none : (v : View) → v ≡ with_notes v []
 noted_none v i = record { origin = v.origin; notes = added_none v.notes i; strings = v.strings }
 
--- the edge of a note is held over the same strings
+-- the right edge of a note is held over the same strings
 pub edge_moves : (digest : List ℕ → List ℕ) (v w : View) (note : List ℕ) (notes : List (List ℕ)) →
     w ≡ with_notes v notes → HasEdge digest w note → HasEdge digest v note
 edge_moves digest v w note notes is e =
@@ -235,7 +235,7 @@ pub all_passes : (P : List ℕ → Type 0) (items : List (Bor (List ℕ))) (i : 
     All P (take i (bytes_of items)) → All P (bytes_of items)
 all_passes P items i le so_far = subst (All P) (listed_all items i le) so_far
 
--- ---- answers of what is added
+-- ---- answers of adding strings
 
 pub listed_refused :
     (digest : List ℕ → List ℕ) (f : List ℕ → List ℕ) (items : List (Bor (List ℕ))) (i : ℕ) (d : Bor (List ℕ)) →
@@ -303,7 +303,7 @@ module _ (digest : List ℕ → List ℕ) (strings : List (List ℕ)) (none : St
   store_refused adding.Collision new h = subst (HasClash digest) alone h
   store_refused adding.OutOfMemory new h = tt
 
--- ---- answers of notes
+-- ---- answers of opening notes
 
 module _ (note origin : List ℕ) (keys : List Key) where
   pub note_checked : (fault : TakeFault) → ReadsHead note origin keys (Err fault) → (held : LoadFault) →
@@ -355,7 +355,7 @@ pub notes_at : (o origin : List ℕ) (keys : List Key) (notes : List (List ℕ))
     o ≡ origin → ChecksNotes o keys notes answer → ChecksNotes origin keys notes answer
 notes_at o origin keys notes answer same h = subst (λ x. ChecksNotes x keys notes answer) same h
 
--- ---- notes that are kept
+-- ---- kept notes
 
 module _ (digest : List ℕ → List ℕ) (old current new : View) (keys : List Key) (items : List (Bor (List ℕ))) (i : ℕ)
     (d : Bor (List ℕ)) (lt : i < length items) (view_is : current ≡ with_notes old (take i (bytes_of items))) where
@@ -395,7 +395,7 @@ pub kept_all : (digest : List ℕ → List ℕ) (old new : View) (items : List (
 kept_all digest old new items i le is edges =
     (is ∙ ap (with_notes old) (listed_all items i le), all_passes (HasEdge digest old) items i le edges)
 
--- ---- all that a reader gives
+-- ---- all bytes of a reader
 
 pub all_given : (given : Option (List ℕ)) (P : List ℕ → Type 0) (bytes slice : List ℕ) (most : ℕ) (b : Bool) →
     slice ≡ bytes → IsTrue b ↔ (length slice < most) → b ≡ true → IfSome given (λ input. bytes ≡ take most input) →

@@ -1,4 +1,4 @@
--- What is loaded: of lists that are in order, the view that they list.
+-- The loaded view: for lists that are in order, the view that they list.
 use Rattle.std.proofs.Common.{◌≡◌, ◌⊎◌, inl, inr, ℕ, ◌≤◌, List, [], ◌∷◌, length, map, take, drop, All, Err, sym, ap}
 use Rattle.std.proofs.Common.{refl, subst, ◌∙◌, arith}
 use Rattle.std.specs.FinSet as set
@@ -30,7 +30,7 @@ use Rattle.mirror_state.specs.declared.fault.LoadFault.TheVariants.{Collision, S
 use Rattle.mirror_state.proofs.Listed.{both, has_entry, has_pair, either, entry_in, pair_in}
 use Rattle.mirror_state.proofs.ListedItems.{union_none}
 
--- ---- the strings that are listed
+-- ---- the listed strings
 
 pair_tagged : (pair : List ℕ) → length pair ≡ 64 → IsTagged (1 ∷ pair)
 pair_tagged pair len =
@@ -47,7 +47,7 @@ entry_short : (entry : List ℕ) → IsStateString (0 ∷ entry) → length entr
 entry_short entry (inl e) = e.1
 entry_short entry (inr p) = absurd (let e = p.0 in omega (arith, e))
 
--- of those that can be listed, entries are short
+-- if the strings can be listed, entries are short
 pub listed_short : (parts : Parts) → AreListable parts → (entry : List ℕ) →
     Has (set.from_list (listed_strings parts)) (0 ∷ entry) → length entry ≤ 65535
 listed_short (VersionTwo o notes pairs entries) l = λ entry held.
@@ -57,7 +57,7 @@ listed_short (VersionOne o notes strings) l = λ entry held. entry_short entry
     (All-contains IsStateString strings (0 ∷ entry) l (listed_from_has strings (0 ∷ entry) held))
 
 module _ (origin bytes : List ℕ) where
-  -- they can be listed
+  -- the strings can be listed
   pub listable : (parts : Parts) → HasStrings origin bytes parts → AreListable parts
   listable (VersionTwo o notes pairs entries) h =
       let fit = h.has_order.has_origin.is_text.are_parts in (
@@ -136,7 +136,7 @@ module _ (digest : List ℕ → List ℕ) (origin : List ℕ) (keys : List Key) 
 
 -- ---- the steps
 
--- what is answered of the lists is answered of the bytes
+-- the answer for the lists is the answer for the bytes
 pub lists_refused : (digest : List ℕ → List ℕ) (origin : List ℕ) (keys : List Key) (bytes : List ℕ)
     (fault : LoadFault) → ChecksLists origin bytes (Err fault) → Loads digest origin keys bytes (Err fault)
 lists_refused digest origin keys bytes StateMagic h = h
@@ -154,7 +154,7 @@ lists_refused digest origin keys bytes OutOfMemory h = tt
 
 module _ (digest : List ℕ → List ℕ) (origin : List ℕ) (keys : List Key) (bytes : List ℕ) (parts : Parts)
     (listed : HasStrings origin bytes parts) where
-  -- and so of the notes
+  -- the answer for the notes is the answer for the bytes
   notes_refused : (fault : LoadFault) → ChecksNotes origin keys (listed_notes parts) (Err fault) →
       Loads digest origin keys bytes (Err fault)
   notes_refused StateMagic h = absurd h
@@ -184,7 +184,7 @@ module _ (digest : List ℕ → List ℕ) (origin : List ℕ) (keys : List Key) 
       has_no_collision = record { has_open_notes = has_open; no_clash = subst (NoClash digest) strings_are clean }
 
       module _ (old : View) (old_is : old ≡ strings_alone origin strings) where
-        -- the edge of a note is one over either
+        -- a right edge that is held in one view is held in the other
         edge_over : (note : List ℕ) → HasEdge digest old note → HasEdge digest (listed_view parts) note
         edge_over note e =
             let there : HasEdge digest (strings_alone origin strings) note =
@@ -231,7 +231,7 @@ module _ (digest : List ℕ → List ℕ) (origin : List ℕ) (keys : List Key) 
             (has_state digest origin keys bytes parts has_no_collision (All-weaker (HasEdge digest old)
             (HasEdge digest (listed_view parts)) edge_over (listed_notes parts) edges))
 
-        -- one is not
+        -- one note is not kept
         pub not_kept : (new : View) (fault : LoadFault) → KeepsNotes digest old (listed_notes parts) (Err fault) new →
             Loads digest origin keys bytes (Err fault)
         not_kept new StateMagic h = absurd h
@@ -251,7 +251,7 @@ module _ (digest : List ℕ → List ℕ) (origin : List ℕ) (keys : List Key) 
         not_kept new ReadFault h = absurd h
         not_kept new OutOfMemory h = tt
 
--- ---- the whole
+-- ---- all steps
 
 module _ (digest : List ℕ → List ℕ) (origin : List ℕ) (keys : List Key) (bytes : List ℕ) (parts : Parts)
     (listed : HasStrings origin bytes parts) (notes : List (List ℕ)) (notes_are : notes ≡ listed_notes parts) where

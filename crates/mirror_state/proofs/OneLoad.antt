@@ -40,7 +40,7 @@ fault_of (Ok parts) = OutOfMemory
 fault_of (Err fault) = renamed fault
 
 module _ (digest : List ℕ → List ℕ) (origin : List ℕ) (keys : List Key) where
-  -- ---- the tests of what is listed, in their order
+  -- ---- the tests of the content, in their order
 
   test : ℕ → Parts → Type 0
   test zero parts = listed_origin parts ≡ origin
@@ -51,7 +51,7 @@ module _ (digest : List ℕ → List ℕ) (origin : List ℕ) (keys : List Key) 
   test (suc (suc (suc (suc (suc zero))))) parts = All (HasEdge digest (listed_view parts)) (listed_notes parts)
   test (suc (suc (suc (suc (suc (suc n)))))) parts = ⊥
 
-  -- what is answered where so many are passed, and the next is not
+  -- the answer if that number of tests pass, and the next one fails
   answer_at : ℕ → View → Result View LoadFault
   answer_at zero v = Err OtherOrigin
   answer_at (suc zero) v = Err StateOrder
@@ -61,7 +61,7 @@ module _ (digest : List ℕ → List ℕ) (origin : List ℕ) (keys : List Key) 
   answer_at (suc (suc (suc (suc (suc zero))))) v = Err StateEdge
   answer_at (suc (suc (suc (suc (suc (suc n)))))) v = Ok v
 
-  -- so many tests are passed
+  -- the first n tests pass
   passes : ℕ → Parts → Type 0
   passes zero parts = Unit {0}
   passes (suc n) parts = passes n parts × test n parts
@@ -75,7 +75,7 @@ module _ (digest : List ℕ → List ℕ) (origin : List ℕ) (keys : List Key) 
   ]
 
   module _ (bytes : List ℕ) where
-    -- an answer that is told of what is listed
+    -- an answer that depends on the content
     record IsLate (a : Result View LoadFault) : Type 0 where
       parts : Parts
       is_text : IsText bytes parts
@@ -84,7 +84,7 @@ module _ (digest : List ℕ → List ℕ) (origin : List ℕ) (keys : List Key) 
       fails : test count parts → ⊥
       answer_is : a ≡ answer_at count (listed_view parts)
 
-    -- an answer that is told of the text alone
+    -- an answer that depends on the text alone
     record IsEarly (a : Result View LoadFault) : Type 0 where
       fault : PartsFault
       reads : ReadsParts bytes (Err fault)
@@ -96,7 +96,7 @@ module _ (digest : List ℕ → List ℕ) (origin : List ℕ) (keys : List Key) 
     late parts is_text count p f =
         record { parts = parts; is_text = is_text; count = count; passes_all = p; fails = f; answer_is = refl }
 
-    -- the tests that are passed on the way
+    -- the tests that pass on the way
     nothing_passed : (parts : Parts) → passes 0 parts
     unfolding passes
     nothing_passed parts = tt

@@ -1,4 +1,4 @@
--- Bytes are read as a state text in one way.
+-- Bytes are read as a state text in only one way.
 use Rattle.std.proofs.Common.{◌≡◌, ℕ, ◌+◌, List, [], ◌∷◌, ◌++◌, length, refl, sym, ap, ◌∙◌, append_assoc, arith, Ok}
 use Rattle.std.proofs.Common.{Err, length-append}
 use Rattle.std.proofs.lemmas.List.{append-nil}
@@ -26,7 +26,7 @@ text_in bytes p t = record {
 pub text_one : TextListsOneState
 text_one bytes p q s t = (body_one bytes p q _ _ (body_in bytes p s) (body_in bytes q t)).0
 
--- what follows a body is as long in every reading
+-- the bytes after a body have one length in every reading
 same_end : (bytes : List ℕ) (p q : Parts) (a b : List ℕ) → HasBody bytes p a → HasBody bytes q b → length a ≡ length b
 same_end bytes p q a b x y = ap length (body_one bytes p q a b x y).1
 

@@ -1,4 +1,4 @@
--- Notes that are opened one after another, and then kept.
+-- Notes that are opened in order, and then kept.
 use Rattle.std.proofs.Common.{◌≡◌, ℕ, ◌+◌, ◌<◌, ◌≤◌, List, [], ◌∷◌, ◌++◌, length, map, take, get_or, All, Bor, Bool, true, false, Ok}
 use Rattle.std.proofs.Common.{refl, sym, ap, subst, ◌∙◌, arith}
 use Rattle.std.proofs.lemmas.List.{get_or-map, length-map, map-append, take_all, take_more}
@@ -66,9 +66,9 @@ module _ (origin : List ℕ) (keys : List Key) where
       subst (λ ns. AreOpened origin keys ns heads') same
       (subst (AreOpened origin keys notes) (sym lent) opened)
 
--- ---- heads that are kept
+-- ---- kept tree heads
 
--- the notes of heads
+-- the notes of tree heads
 abbrev pub notes_of : List HeadNote → List (List ℕ)
 notes_of heads = map head_bytes heads
 

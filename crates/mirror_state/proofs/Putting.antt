@@ -1,4 +1,4 @@
--- Pieces of a text, put one after the other.
+-- Pieces of a text that are put in order.
 use Rattle.std.proofs.Common.{◌≡◌, ℕ, zero, suc, ◌+◌, List, [], ◌∷◌, ◌++◌, length, take, drop, map, Result, Ok, Err}
 use Rattle.std.proofs.Common.{Option, Some, None, refl, sym, ap, subst, ◌∙◌, ◌<◌, append_assoc, get_or, arith, true≢false}
 use Rattle.std.proofs.lemmas.List.{append-nil}
@@ -16,7 +16,7 @@ use Rattle.mirror_state.specs.Putting.{EndsText, IsUnderWay, Puts, Writes}
 
 -- ---- prefixes
 
--- a prefix of a list is one of a longer list
+-- a prefix of a list is a prefix of a longer list
 front_of : (n : ℕ) (xs ys : List ℕ) → (k : ℕ) × (take n xs ≡ take k (xs ++ ys))
 front_of zero xs ys = (zero, refl)
 front_of (suc n) [] ys = (zero, refl)
@@ -32,16 +32,16 @@ appends_two (Some s) None c xs ys p q = absurd p
 appends_two (Some s) (Some t) None xs ys p q = absurd q
 appends_two (Some s) (Some t) (Some u) xs ys p q = q ∙ (ap (λ (w : List ℕ). w ++ ys) p ∙ append_assoc s xs ys)
 
--- what was written, and a prefix of what follows it
+-- the written bytes, and then a prefix of the next ones
 front_behind : (a b c : Option (List ℕ)) (xs ys : List ℕ) → Appends a b xs → AppendsPrefix b c ys →
     AppendsPrefix a c (xs ++ ys)
 front_behind a b c xs ys p (n, q) =
     (length xs + n, subst (Appends a c) (sym (take-append-add xs ys n)) (appends_two a b c xs (take n ys) p q))
 
--- ---- what is held back
+-- ---- bytes that are held back
 
 module _ (old new : Option (List ℕ)) where
-  -- it is written
+  -- the bytes that were held back are written
   pub written_held : (held : List ℕ) → Appends old new held → Writes old new held [] [] (Ok tt)
   written_held held p = λ start text u. record {
     written = u.written ++ held;
@@ -55,7 +55,7 @@ module _ (old new : Option (List ℕ)) where
       front_longer start new text piece
       (subst (AppendsPrefix start new) (sym u.text_is) (front_behind start old new u.written held u.appended p))
 
-  -- nothing is, and the piece is written
+  -- nothing is held back, and the piece is written
   pub written_piece : (piece : List ℕ) → Appends old new piece → Writes old new [] [] piece (Ok tt)
   written_piece piece p = λ start text u. record {
     written = u.written ++ piece;
@@ -117,7 +117,7 @@ puts_then {old} {mid} {new} {page} {page'} {page''} {first} {second} {answer = E
   hashes = tt;
 }
 
--- a piece fails, and what would have followed it is not put
+-- a piece fails, and the next one is not put
 pub puts_short :
     {old new : Option (List ℕ)} {page page' : Page} {first : List ℕ} {fault : StreamFault}
     {answer : Result (Unit {0}) StreamFault} (rest : List ℕ) → IsErr answer →
@@ -155,7 +155,7 @@ last_piece old new held piece (Ok done) e p q =
 last_piece old new held piece (Err fault) e p q =
     subst (λ (h : List ℕ). Writes old new h h piece (Err fault)) (sym e) (unwritten_piece old new piece fault q)
 
--- ---- item after item
+-- ---- item by item
 
 module _ {X : Type 0} (f : List ℕ → List ℕ) (g : X → List ℕ) where
   pub text_more : (xs : List X) (i : ℕ) (d : X) → i < length xs →
@@ -176,7 +176,7 @@ module _ {X : Type 0} (f : List ℕ → List ℕ) (g : X → List ℕ) where
   text_split (x ∷ xs) (suc i) = append_assoc (f (g x)) (flat_map f (map g (take i xs))) (flat_map f (map g (drop i xs)))
       ∙ ap (λ (w : List ℕ). f (g x) ++ w) (text_split xs i)
 
-  -- the next item is put behind those before it
+  -- the next item is put after those before it
   pub puts_next :
       {old mid new : Option (List ℕ)} {page page' page'' : Page} (xs : List X) (i : ℕ) (d : X) → i < length xs →
       Puts old mid page page' (flat_map f (map g (take i xs))) (Ok tt) →
@@ -184,7 +184,7 @@ module _ {X : Type 0} (f : List ℕ → List ℕ) (g : X → List ℕ) where
       Puts old new page page'' (flat_map f (map g (take (i + 1) xs))) (Ok tt)
   puts_next xs i d lt before p = rw (← text_more xs i d lt) (puts_then before p)
 
-  -- the next item fails, and those behind it are not put
+  -- the next item fails, and the later ones are not put
   pub puts_last :
       {old mid new : Option (List ℕ)} {page page' page'' : Page} {fault : StreamFault}
       {answer : Result (Unit {0}) StreamFault} (xs : List X) (i : ℕ) (d : X) → IsErr answer → i < length xs →

@@ -1,4 +1,4 @@
--- Which note of a state text is why it is not loaded.
+-- The note of a state text for which the text is not loaded.
 use Rattle.std.proofs.Common.{◌≡◌, ◌≢◌, inl, inr, ℕ, ◌<◌, ◌^◌, true, false, List, [], length, take, All}
 use Rattle.std.proofs.Common.{get_or, Option, Some, None, Result, Ok, Err, Bor, refl, ap, subst, ◌∙◌, arith}
 use Rattle.std.proofs.Common.{◌++◌, append_assoc, codes}
@@ -32,7 +32,7 @@ use Rattle.mirror_state.proofs.ListedItems.{bytes_of, item_at, same_len, edge_mo
 use Rattle.mirror_state.proofs.Loaded.{loaded, unheld_first}
 use Rattle.mirror_state.proofs.OneLoad.{one_load}
 
--- ---- the first of a list
+-- ---- the first item of a list
 
 pub first_here : (P : List ℕ → Type 0) (items : List (Bor (List ℕ))) (i : ℕ) (d : Bor (List ℕ)) → i < length items →
     All P (take i (bytes_of items)) → (P (get_or items i d).now → ⊥) →
@@ -55,7 +55,7 @@ module _ (note origin : List ℕ) (keys : List Key) where
       IsTrue false ↔ IsOpenNote origin keys note
   stays_closed fault memory h = (λ t. absurd (cc t), λ o. absurd (not_open note origin keys fault memory h o))
 
--- ---- edges that are held
+-- ---- held right edges
 
 module _ (digest : List ℕ → List ℕ) (old current new : View) (keys : List Key) (items : List (Bor (List ℕ))) (i : ℕ)
     (d : Bor (List ℕ)) (lt : i < length items) (view_is : current ≡ with_notes old (take i (bytes_of items))) where
@@ -121,7 +121,7 @@ closed_recorded digest origin keys bytes parts listed notes notes_are index note
   is_first = subst (λ ns. IsFirstNot (IsOpenNote origin keys) ns index note) notes_are first;
 })
 
--- the first note whose edge is not held, or none
+-- the first note whose right edge is not held, or none
 module _ (digest : List ℕ → List ℕ) (origin : List ℕ) (keys : List Key) (bytes : List ℕ) (parts : Parts)
     (listed : HasStrings origin bytes parts) (notes : List (List ℕ)) (notes_are : notes ≡ listed_notes parts)
     (opened : All (IsOpenNote origin keys) notes) (old : View)
@@ -141,9 +141,9 @@ module _ (digest : List ℕ → List ℕ) (origin : List ℕ) (keys : List Key) 
       (with_notes old later) (refl, none))
   edges_judged (Err e) found none = tt
 
--- ---- what is named
+-- ---- names
 
--- there are fewer notes than a number of 64 bits can tell
+-- a number of 64 bits can count the notes
 few_notes : (parts : Parts) → AreParts parts → length (listed_notes parts) < 2 ^ 64
 few_notes (VersionTwo o notes pairs entries) fit = fit.notes_fit.count
 few_notes (VersionOne o notes strings) fit = fit.notes_fit.count
@@ -163,7 +163,7 @@ index_fits digest origin keys bytes index note (inr unheld) =
     index_within (HasEdge digest (listed_view unheld.parts)) unheld.parts index note
     unheld.has_no_collision.has_open_notes.has_strings.has_order.has_origin.is_text.are_parts unheld.is_first
 
--- a name, as it is put together
+-- a name, as it is assembled
 pub name_joined : (digits front : List ℕ) →
     ((codes "checkpoint " ++ (digits ++ codes " ")) ++ front) ++ codes ".."
     ≡ codes "checkpoint " ++ (digits ++ (codes " " ++ (front ++ codes "..")))

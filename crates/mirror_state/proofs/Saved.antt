@@ -1,4 +1,4 @@
--- A state, written whole.
+-- A complete state is written.
 use Rattle.std.proofs.Common.{◌≡◌, inl, inr, ℕ, ◌<◌, ◌≤◌, ◌^◌, List, [], ◌∷◌, ◌++◌, length, map, Result, Ok}
 use Rattle.std.proofs.Common.{Err, Option, Some, None, refl, sym, subst, arith}
 use Rattle.std.specs.declared.vec.Vec.{Vec}
@@ -52,7 +52,7 @@ pub body_ends : (old mid new : Option (List ℕ))
 body_ends old mid new page page' body answer none hashed p e =
     e old body (p.writes old [] (nothing_yet old page.held.items none)) (p.hashes [] hashed)
 
--- ---- what is listed is the view's
+-- ---- the lists are those of the view
 
 pair_len : (pair : List ℕ) → IsStateString (1 ∷ pair) → length pair ≡ 64
 pair_len pair (inl h) = absurd (let e = h.0 in cc e)
@@ -108,14 +108,14 @@ module _ (digest : List ℕ → List ℕ) (state : State) (sound : IsSound diges
     entries_are = entries_are.exact;
   }
 
--- what a vector has is counted in eight bytes
+-- eight bytes can count the items of a vector
 pub few : {X Z : Type 0} (v : Vec X Z) → length v.items < 2 ^ 64
 few v = let len = v.ok.0 in let most = v.ok.1 in let small = v.small in omega (arith, len, most, small)
 
 pub few_mapped : {X Z : Type 0} (f : X → List ℕ) (v : Vec X Z) → length (map f v.items) < 2 ^ 64
 few_mapped f v = omega (arith, few v, length-map v.items f)
 
--- ---- what a saver answers
+-- ---- the answers of a saver
 
 module _ (digest : List ℕ → List ℕ) (state : State) (sound : IsSound digest state) (held : Sorted)
     (lists : ListsView state.view held) where

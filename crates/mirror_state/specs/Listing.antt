@@ -1,4 +1,4 @@
--- What a mirror holds, list by list. The contracts of private functions cite these words.
+-- The notes and strings of a mirror, list by list. The contracts of private functions cite these words.
 use Rattle.std.specs.Prelude.{◌↔◌, ℕ, List, ◌∷◌, map}
 use Rattle.std.specs.List.{Contains}
 use Rattle.node_store.specs.Strings.{Strings, Has}
@@ -8,11 +8,11 @@ use Rattle.mirror_state.specs.Loading.{Rises}
 use Rattle.mirror_state.specs.Putting.{pair_bytes}
 use Rattle.mirror_state.specs.declared.listing.Sorted.{Sorted}
 
--- the items are what follows the tag in each string of the set that begins with it
+-- the strings of the set with that tag are those of the items: the tag, then the item
 abbrev pub HoldsEach : ℕ → Strings → List (List ℕ) → Type 0
 HoldsEach tag strings items = (item : List ℕ) → Contains items item ↔ Has strings (tag ∷ item)
 
--- the items are what follows the tag in each string of the set that begins with it, in order
+-- the same, and the items are in order
 pub record ListsEach (tag : ℕ) (strings : Strings) (items : List (List ℕ)) : Type 0 where
   pub rises : Rises items
   pub exact : HoldsEach tag strings items

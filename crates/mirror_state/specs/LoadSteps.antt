@@ -1,5 +1,5 @@
--- What the steps of a loader answer. The contracts of private functions cite these words; what a
--- loader answers needs none of them.
+-- The answers of the steps of a loader. The contracts of private functions cite these words; the definition of a
+-- loader's answers needs none of them.
 use Rattle.std.specs.Prelude.{◌≡◌, ℕ, ◌≤◌, List, ◌∷◌, length, map, All, Result, Ok, Err, ⊤}
 use Rattle.std.specs.FinSet as set
 use Rattle.signed_note.specs.Keys.{Key}
@@ -33,13 +33,13 @@ use Rattle.mirror_state.specs.declared.fault.LoadFault.TheVariants.{StateString,
 use Rattle.mirror_state.specs.declared.fault.LoadFault.TheVariants.{Collision, StateEdge, ReadFault}
 use Rattle.mirror_state.specs.declared.fault.LoadFault.TheVariants.{OutOfMemory}
 
--- the fault of a loader at a reader whose bytes are not had
+-- the fault of a loader if its reader does not give all its bytes
 abbrev pub stream_fault_of : StreamFault → LoadFault
 stream_fault_of streams.ReadFault = ReadFault
 stream_fault_of streams.WriteFault = ReadFault
 stream_fault_of streams.OutOfMemory = OutOfMemory
 
--- the fault of a loader at lists that cannot be read
+-- the fault of a loader if the lists cannot be read
 abbrev pub load_fault_of : PartsFault → LoadFault
 load_fault_of reading.StateMagic = StateMagic
 load_fault_of reading.StateShort = StateShort
@@ -47,8 +47,7 @@ load_fault_of reading.StateLong = StateLong
 load_fault_of reading.StateDigest = StateDigest
 load_fault_of reading.OutOfMemory = OutOfMemory
 
--- what each answer of a reader of lists says of them, as far as they are judged without a digest
--- and without keys
+-- each answer of a reader of lists is right about them; it decides all that needs neither a digest nor keys
 abbrev pub ChecksLists : List ℕ → List ℕ → Result Parts LoadFault → Type 0
 ChecksLists origin bytes (Ok parts) = HasStrings origin bytes parts
 ChecksLists origin bytes (Err StateMagic) = ReadsParts bytes (Err reading.StateMagic)
@@ -64,7 +63,7 @@ ChecksLists origin bytes (Err StateEdge) = ⊥
 ChecksLists origin bytes (Err ReadFault) = ⊥
 ChecksLists origin bytes (Err OutOfMemory) = ⊤
 
--- how strings are listed: as entries, as pairs of hashes, or with their tags
+-- the ways to list strings: as entries, as pairs of hashes, or with their tags
 abbrev pub tagged_as : Kind → List ℕ → List ℕ
 tagged_as Entries item = 0 ∷ item
 tagged_as Pairs item = 1 ∷ item
@@ -82,7 +81,7 @@ AreListable (VersionTwo origin notes pairs entries) =
     All (IsListable Entries) entries × All (IsListable Pairs) pairs
 AreListable (VersionOne origin notes strings) = All (IsListable Tags) strings
 
--- what each answer of adding strings to a set says: they are added, if none collides
+-- each answer of adding strings to a set is right: they are added, if none collides
 abbrev pub AddsListed : (List ℕ → List ℕ) → Strings → List (List ℕ) → Result (Unit {0}) AddFault →
     Strings → Type 0
 AddsListed digest old strings (Ok done) new =
@@ -91,13 +90,13 @@ AddsListed digest old strings (Err adding.Collision) new =
     HasClash digest (set.union old (set.from_list strings))
 AddsListed digest old strings (Err adding.OutOfMemory) new = ⊤
 
--- what each answer of making a set of strings says: they make one by themselves, if none collides
+-- each answer of making a set of strings is right: the strings are the set, if none collides
 abbrev pub MakesStore : (List ℕ → List ℕ) → List (List ℕ) → Result Strings AddFault → Type 0
 MakesStore digest strings (Ok made) = (made ≡ set.from_list strings) × NoClash digest made
 MakesStore digest strings (Err adding.Collision) = HasClash digest (set.from_list strings)
 MakesStore digest strings (Err adding.OutOfMemory) = ⊤
 
--- what each answer of making a mirror of strings, without notes, says of them
+-- each answer of making a mirror of strings, without notes, is right about them
 abbrev pub MakesMirror : (List ℕ → List ℕ) → List ℕ → List (List ℕ) → Result View AddFault → Type 0
 MakesMirror digest origin strings (Ok made) =
     (made ≡ strings_alone origin (set.from_list strings)) × NoClash digest (set.from_list strings)
@@ -106,7 +105,7 @@ MakesMirror digest origin strings (Err adding.OutOfMemory) = ⊤
 
 -- ---- notes
 
--- the fault of a loader at a note that cannot be read as a head
+-- the fault of a loader if a note cannot be read as a tree head
 abbrev pub note_fault_of : TakeFault → LoadFault
 note_fault_of (taking.Note fault) = StateHead
 note_fault_of (taking.Checkpoint fault) = StateHead
@@ -121,7 +120,7 @@ note_fault_of taking.BundleLong = StateHead
 note_fault_of taking.Collision = StateHead
 note_fault_of taking.OutOfMemory = OutOfMemory
 
--- an answer of a step that may come to Ok, StateHead or OutOfMemory alone
+-- an answer of a step whose answers are Ok, StateHead and OutOfMemory
 abbrev pub PassesOrFails : (Good Bad : Type 0) → Result (Unit {0}) LoadFault → Type 0
 PassesOrFails Good Bad (Ok done) = Good
 PassesOrFails Good Bad (Err StateMagic) = ⊥
@@ -137,47 +136,47 @@ PassesOrFails Good Bad (Err StateEdge) = ⊥
 PassesOrFails Good Bad (Err ReadFault) = ⊥
 PassesOrFails Good Bad (Err OutOfMemory) = ⊤
 
--- what each answer of judging a note says: it opens under the keys, or it is StateHead
+-- each answer of checking a note is right: it opens under the keys, or the answer is StateHead
 abbrev pub ChecksNote : List ℕ → List Key → List ℕ → Result (Unit {0}) LoadFault → Type 0
 ChecksNote origin keys note answer =
     PassesOrFails (IsOpenNote origin keys note) (¬ IsOpenNote origin keys note) answer
 
--- what each answer of judging all notes says: all open under the keys, or one does not
+-- each answer of checking all notes is right: all open under the keys, or one does not
 abbrev pub ChecksNotes : List ℕ → List Key → List (List ℕ) → Result (Unit {0}) LoadFault → Type 0
 ChecksNotes origin keys notes answer =
     PassesOrFails (All (IsOpenNote origin keys) notes) (HasClosed origin keys notes) answer
 
--- the bytes of a head's note
+-- the bytes of a tree head's note
 abbrev pub head_bytes : HeadNote → List ℕ
 head_bytes head = head.note.bytes
 
--- a head that is the note, which opens under the keys
+-- the tree head has that note, and the note opens under the keys
 pub record IsOpened (origin : List ℕ) (keys : List Key) (note : List ℕ) (head : HeadNote)
     : Type 0 where
   pub opens : IsOpenNote origin keys note
   pub bytes_are : head_bytes head ≡ note
   pub said : SaysHead origin head
 
--- what each answer of opening a note says: its head, or that it does not open
+-- each answer of opening a note is right: its tree head, or the note does not open
 abbrev pub OpensNote : List ℕ → List Key → List ℕ → Result HeadNote LoadFault → Type 0
 OpensNote origin keys note (Ok head) = IsOpened origin keys note head
 OpensNote origin keys note (Err fault) = ChecksNote origin keys note (Err fault)
 
--- the heads of the notes so far, each of which opens under the keys
+-- the tree heads of the notes so far, each of which opens under the keys
 pub record AreOpened (origin : List ℕ) (keys : List Key) (notes : List (List ℕ))
     (heads : List HeadNote) : Type 0 where
   pub opened : All (IsOpenNote origin keys) notes
   pub bytes_are : map head_bytes heads ≡ notes
   pub said : All (SaysHead origin) heads
 
--- what each answer of opening all notes says: their heads, or that one does not open
+-- each answer of opening all notes is right: their tree heads, or one note does not open
 abbrev pub OpensNotes :
     List ℕ → List Key → List (List ℕ) → Result (List HeadNote) LoadFault → Type 0
 OpensNotes origin keys notes (Ok heads) = AreOpened origin keys notes heads
 OpensNotes origin keys notes (Err fault) = ChecksNotes origin keys notes (Err fault)
 
--- what each answer of keeping all notes says: all are kept, each with its edge held, or the edge of
--- one is not
+-- each answer of keeping all notes is right: all are kept, each with its right edge held, or the right edge of one is
+-- not held
 abbrev pub KeepsNotes : (List ℕ → List ℕ) → View → List (List ℕ) → Result (Unit {0}) LoadFault →
     View → Type 0
 KeepsNotes digest old notes (Ok done) new =

@@ -1,5 +1,4 @@
--- What each answer of a loader says of all the bytes: the first refusal that applies, in the order
--- of the faults.
+-- The answers of a loader, about all the bytes: the first refusal that applies, in the order of the faults.
 use Rattle.std.specs.Prelude.{◌≡◌, ◌≢◌, ℕ, ◌≤◌, ◌⊎◌, List, [], ◌∷◌, ◌++◌, length, map, All, Result}
 use Rattle.std.specs.Prelude.{Ok, Err, ⊤}
 use Rattle.std.specs.FinSet as set
@@ -24,7 +23,7 @@ use Rattle.mirror_state.specs.declared.fault.LoadFault.TheVariants.{StateString,
 use Rattle.mirror_state.specs.declared.fault.LoadFault.TheVariants.{Collision, StateEdge, ReadFault}
 use Rattle.mirror_state.specs.declared.fault.LoadFault.TheVariants.{OutOfMemory}
 
--- ---- what is listed
+-- ---- the content of a state text
 
 -- the origin that a state text names
 abbrev pub listed_origin : Parts → List ℕ
@@ -42,7 +41,7 @@ listed_strings (VersionTwo origin notes pairs entries) =
     map (λ (entry : List ℕ). 0 ∷ entry) entries ++ map (λ (pair : List ℕ). 1 ∷ pair) pairs
 listed_strings (VersionOne origin notes strings) = strings
 
--- the view that holds just what a state text lists
+-- the view that holds exactly the notes and strings that a state text lists
 abbrev pub listed_view : Parts → View
 listed_view parts =
     record {
@@ -65,7 +64,7 @@ abbrev pub IsStateString : List ℕ → Type 0
 IsStateString [] = ⊥
 IsStateString (tag ∷ rest) = ((tag ≡ 0) × (length rest ≤ 65535)) ⊎ ((tag ≡ 1) × (length rest ≡ 64))
 
--- each string of version 1 is one of a tree; in version 2 the tags are not written
+-- each string of version 1 is a string of a tree; in version 2 the tags are not written
 abbrev pub AllTaggedWell : Parts → Type 0
 AllTaggedWell (VersionTwo origin notes pairs entries) = ⊤
 AllTaggedWell (VersionOne origin notes strings) = All IsStateString strings
@@ -83,8 +82,7 @@ module _ (origin : List ℕ) (bytes : List ℕ) where
     pub has_origin : HasOrigin parts
     pub all_rise : AllRise parts
 
-  -- the bytes are a state text of that origin in order, and each of its strings can be one of a
-  -- tree
+  -- the bytes are a state text of that origin in order, and each of its strings can be a string of a tree
   pub record HasStrings (parts : Parts) : Type 0 where
     pub has_order : HasOrder parts
     pub tagged : AllTaggedWell parts
@@ -95,13 +93,13 @@ module _ (origin : List ℕ) (bytes : List ℕ) where
     pub is_text : IsText bytes parts
     pub differs : listed_origin parts ≢ origin
 
-  -- the bytes are a state text of that origin, of which a list does not rise
+  -- the bytes are a state text of that origin, and one of its lists does not rise
   pub record IsDisordered : Type 0 where
     pub parts : Parts
     pub has_origin : HasOrigin parts
     pub falls : ¬ AllRise parts
 
-  -- the bytes are a state text of that origin in order, of which a string can be none of a tree
+  -- the bytes are a state text of that origin in order, and one of its strings cannot be a string of a tree
   pub record HasBadString : Type 0 where
     pub parts : Parts
     pub has_order : HasOrder parts
@@ -114,46 +112,42 @@ pub record HasClosed (origin : List ℕ) (keys : List Key) (notes : List (List �
   pub closed : ¬ IsOpenNote origin keys note
 
 module _ (origin : List ℕ) (keys : List Key) (bytes : List ℕ) where
-  -- the bytes are a state text of that origin, in order and with strings of trees, and all its
-  -- notes open
+  -- the bytes are a state text of that origin, in order and with strings of trees, and all its notes open
   pub record HasOpenNotes (parts : Parts) : Type 0 where
     pub has_strings : HasStrings origin bytes parts
     pub opened : All (IsOpenNote origin keys) (listed_notes parts)
 
-  -- the bytes are a state text of that origin, in order and with strings of trees, and a note of it
-  -- does not open
+  -- the bytes are a state text of that origin, in order and with strings of trees, and one of its notes does not open
   pub record HasBadNote : Type 0 where
     pub parts : Parts
     pub has_strings : HasStrings origin bytes parts
     pub has_closed : HasClosed origin keys (listed_notes parts)
 
--- the edge of a note of the list is not held
+-- the right edge of a note of the list is not held
 pub record HasUnheld (digest : List ℕ → List ℕ) (v : View) (notes : List (List ℕ)) : Type 0 where
   pub note : List ℕ
   pub is_listed : Contains notes note
   pub lacks : ¬ HasEdge digest v note
 
 module _ (digest : List ℕ → List ℕ) (origin : List ℕ) (keys : List Key) (bytes : List ℕ) where
-  -- the bytes are a state text that is right up to its notes, which open, and no two of its strings
-  -- share a digest
+  -- the bytes are a state text that is right up to its notes, which open, and no two of its strings have one digest
   pub record HasNoCollision (parts : Parts) : Type 0 where
     pub has_open_notes : HasOpenNotes origin keys bytes parts
     pub no_clash : NoClash digest (listed_view parts).strings
 
-  -- the bytes are a state text that is right up to its notes, which open, and two of its strings
-  -- share a digest
+  -- the bytes are a state text that is right up to its notes, which open, and two of its strings have one digest
   pub record HasClashing : Type 0 where
     pub parts : Parts
     pub has_open_notes : HasOpenNotes origin keys bytes parts
     pub clash : HasClash digest (listed_view parts).strings
 
-  -- the bytes are a state text without a collision, and the edge of a note of it is not held
+  -- the bytes are a state text without a collision, and the right edge of one of its notes is not held
   pub record LacksEdge : Type 0 where
     pub parts : Parts
     pub has_no_collision : HasNoCollision parts
     pub has_unheld : HasUnheld digest (listed_view parts) (listed_notes parts)
 
-  -- ---- what is loaded
+  -- ---- the loaded view
 
   -- the bytes are a state text, of either version, of a lawful view of that origin, whose notes
   -- open under the keys
@@ -165,8 +159,7 @@ module _ (digest : List ℕ → List ℕ) (origin : List ℕ) (keys : List Key) 
 
   -- ---- the answers
 
-  -- what each answer of a loader says of the bytes; a read that failed and OutOfMemory say
-  -- nothing
+  -- each answer of a loader is right about the bytes; a failed read and OutOfMemory say nothing about them
   abbrev pub Loads : Result View LoadFault → Type 0
   Loads (Ok v) = HasState v
   Loads (Err StateMagic) = ReadsParts bytes (Err reading.StateMagic)

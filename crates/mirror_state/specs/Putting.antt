@@ -1,5 +1,5 @@
--- How a text is put together on its way to a writer. The contracts of private functions cite these
--- words; what a saver answers needs none of them.
+-- How a text is assembled on its way to a writer. The contracts of private functions cite these words; the definition
+-- of a saver's answers needs none of them.
 use Rattle.std.specs.Prelude.{◌≡◌, ℕ, ◌+◌, ◌*◌, List, [], ◌∷◌, ◌++◌, length, take, Option, Result, Ok, Err}
 use Rattle.std.specs.Prelude.{OnOk}
 use Rattle.std.specs.Io.KnownBytes.{Appends}
@@ -16,7 +16,7 @@ use Rattle.mirror_state.specs.declared.page.Page.{Page}
 abbrev pub state_text : Parts → List ℕ
 state_text parts = body_text parts ++ sha256 (body_text parts)
 
--- two hashes behind a number, by which most are put in order
+-- two hashes after a number that decides the order of most pairs
 abbrev pub KeyedPair : Type 0
 KeyedPair = ℕ × (Bor (List ℕ) × Bor (List ℕ))
 
@@ -24,13 +24,13 @@ KeyedPair = ℕ × (Bor (List ℕ) × Bor (List ℕ))
 abbrev pub pair_bytes : KeyedPair → List ℕ
 pair_bytes pair = pair.1.0.now ++ pair.1.1.now
 
--- the number whose places to the base of 256 are those of a number, and then the bytes
+-- the number whose digits in base 256 are those of a number and then the bytes
 abbrev pub with_bytes : ℕ → List ℕ → ℕ
 with_bytes n [] = n
 with_bytes n (byte ∷ rest) = with_bytes (256 * n + byte) rest
 
--- the number is that of the first eight bytes of the first hash, which has 32 bytes, as the second
--- is known to have
+-- the number has the first eight bytes of the first hash as its digits. That hash has 32 bytes, and the type of the
+-- second one gives its length
 pub record IsKeyed (pair : KeyedPair) : Type 0 where
   pub sized : length pair.1.0.now ≡ 32
   pub small : IsBytes pair.1.0.now
@@ -42,8 +42,7 @@ pub record IsUnderWay (start now : Option (List ℕ)) (held text : List ℕ) : T
   pub appended : Appends start now written
   pub text_is : text ≡ written ++ held
 
--- a text that is under way goes on with the piece; where a write fails a prefix of it was
--- written
+-- the piece continues a text that is under way; if a write fails, a prefix of the text was written
 abbrev pub Writes :
     Option (List ℕ) → Option (List ℕ) → List ℕ → List ℕ → List ℕ → Result (Unit {0}) StreamFault →
     Type 0
@@ -54,8 +53,8 @@ Writes old new held held' piece (Err fault) =
     (start : Option (List ℕ)) (text : List ℕ) → IsUnderWay start old held text →
     AppendsPrefix start new (text ++ piece)
 
--- what a page's writer does with a piece: it goes on with the text, and the page's digest is that
--- of the text with the piece behind it
+-- the effect of a page's writer with a piece: the piece continues the text, and the page's digest is that of the text
+-- followed by the piece
 pub record Puts (old new : Option (List ℕ)) (page page' : Page) (piece : List ℕ)
     (answer : Result (Unit {0}) StreamFault)
     : Type 0 where
@@ -63,7 +62,7 @@ pub record Puts (old new : Option (List ℕ)) (page page' : Page) (piece : List 
   pub hashes : OnOk answer
       ((text : List ℕ) → Holds256 page.digest text → Holds256 page'.digest (text ++ piece))
 
--- a whole text was written, or at a fault a prefix of it
+-- a complete text was written, or after a fault a prefix of it
 abbrev pub WritesText : Option (List ℕ) → Option (List ℕ) → List ℕ → Result (Unit {0}) StreamFault →
     Type 0
 WritesText old new text (Ok done) = Appends old new text

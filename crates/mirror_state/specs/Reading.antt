@@ -1,4 +1,4 @@
--- What each answer of a reader of state texts says of the bytes, as far as the bytes alone decide.
+-- The answers of a reader of state texts, about all that the bytes alone decide.
 use Rattle.std.specs.Prelude.{◌≡◌, ◌≢◌, ℕ, ◌⊎◌, List, [], ◌∷◌, ◌++◌, length, take, codes, Result}
 use Rattle.std.specs.Prelude.{Ok, Err, ⊤}
 use Rattle.sha2.specs.Sha256.{sha256}
@@ -13,13 +13,12 @@ pub record HasBody (bytes : List ℕ) (parts : Parts) (rest : List ℕ) : Type 0
   pub are_parts : AreParts parts
   pub text : bytes ≡ body_text parts ++ rest
 
--- the bytes begin with the body of a state text and 32 bytes in the place of its digest, and the
--- rest follows these
+-- the bytes begin with the body of a state text and 32 bytes in the place of its digest, and the rest follows these
 pub record HasText (bytes : List ℕ) (parts : Parts) (digest rest : List ℕ) : Type 0 where
   pub has_body : HasBody bytes parts (digest ++ rest)
   pub digest_len : length digest ≡ 32
 
--- the bytes begin as a state text does
+-- the bytes begin like a state text
 abbrev pub HasMagic : List ℕ → Type 0
 HasMagic bytes = (take 8 bytes ≡ codes "TLMIRR02") ⊎ (take 8 bytes ≡ codes "TLMIRR01")
 
@@ -30,7 +29,7 @@ pub record IsSpoiled (bytes : List ℕ) : Type 0 where
   pub has : HasText bytes parts digest []
   pub differs : digest ≢ sha256 (body_text parts)
 
--- what each answer of a reader of state texts says of the bytes
+-- each answer of a reader of state texts is right about the bytes
 abbrev pub ReadsParts : List ℕ → Result Parts PartsFault → Type 0
 ReadsParts bytes (Ok parts) = IsText bytes parts
 ReadsParts bytes (Err StateMagic) = ¬ HasMagic bytes

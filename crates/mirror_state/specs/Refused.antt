@@ -1,4 +1,4 @@
--- Which note of a state text is why it is not loaded.
+-- The note of a state text for which the text is not loaded.
 use Rattle.std.specs.Prelude.{◌≡◌, ℕ, ◌+◌, ◌⊎◌, List, ◌++◌, take, slice_get, codes, All, Option}
 use Rattle.std.specs.Prelude.{Some, None, Result, Ok, Err, ⊤}
 use Rattle.std.specs.Fmt.{decimal}
@@ -13,15 +13,15 @@ use Rattle.mirror_state.specs.Loading.{HasBadNote, LacksEdge}
 use Rattle.mirror_state.specs.declared.refused.RefusedNote.{RefusedNote}
 use Rattle.mirror_state.specs.declared.refused.RefusedNote.TheVariants as refused
 
--- the item is at that index of the list, and it is the first of which P does not hold
+-- the item is at that index of the list, and it is the first one without the property P
 pub record IsFirstNot (P : List ℕ → Type 0) (items : List (List ℕ)) (index : ℕ) (item : List ℕ)
     : Type 0 where
   pub passed : All P (take index items)
   pub is_there : slice_get items index ≡ Some item
   pub fails : ¬ P item
 
--- the name of a checkpoint: its size, and the first three bytes of its root in base64, which are the
--- first four characters of the root's
+-- the name of a checkpoint: its size, and the first three bytes of its root in base64, which are the first four
+-- characters of the root's base64
 abbrev pub checkpoint_name : ℕ → List ℕ → List ℕ
 checkpoint_name size root =
     codes "checkpoint " ++ (decimal size ++ (codes " " ++ (base64_of (take 3 root) ++ codes "..")))
@@ -31,8 +31,8 @@ abbrev pub note_name : RefusedNote → List ℕ
 note_name (refused.Checkpoint size root) = checkpoint_name size root
 note_name (refused.Note number) = codes "note " ++ decimal number
 
--- how a note at that index is named: by the size and the root of its checkpoint, whoever signed it
--- and whichever log it is of, and where it is none by its number, of which the first is 1
+-- the name of the note at that index: the size and the root of its checkpoint, for every signer and log. If it is no
+-- checkpoint, its name is its number; the first number is 1
 abbrev pub NamesNote : ℕ → List ℕ → RefusedNote → Type 0
 NamesNote index note (refused.Checkpoint size root) =
     (origin : List ℕ) × IsHead note origin size root
@@ -40,15 +40,13 @@ NamesNote index note (refused.Note number) =
     (number ≡ index + 1) × ((origin : List ℕ) (size : ℕ) (root : List ℕ) → ¬ IsHead note origin size root)
 
 module _ (digest : List ℕ → List ℕ) (origin : List ℕ) (keys : List Key) (bytes : List ℕ) where
-  -- the bytes are a state text that is right up to its notes, of which that one is the first that
-  -- does not open
+  -- the bytes are a state text that is right up to its notes, and that note is the first one that does not open
   pub record RefusesClosed (index : ℕ) (note : List ℕ) : Type 0 where
     pub parts : Parts
     pub has_strings : HasStrings origin bytes parts
     pub is_first : IsFirstNot (IsOpenNote origin keys) (listed_notes parts) index note
 
-  -- the bytes are a state text without a collision, of whose notes that one is the first whose edge
-  -- is not held
+  -- the bytes are a state text without a collision, and that note is the first one whose right edge is not held
   pub record RefusesUnheld (index : ℕ) (note : List ℕ) : Type 0 where
     pub parts : Parts
     pub has_no_collision : HasNoCollision digest origin keys bytes parts
@@ -64,20 +62,20 @@ module _ (digest : List ℕ → List ℕ) (origin : List ℕ) (keys : List Key) 
     pub no_closed : ¬ HasBadNote origin keys bytes
     pub no_unheld : ¬ LacksEdge digest origin keys bytes
 
-  -- a note for which a loader refuses the bytes is named so
+  -- the name is that of a note for which a loader refuses the bytes
   pub record RefusesNamed (name : RefusedNote) : Type 0 where
     pub index : ℕ
     pub note : List ℕ
     pub refused : Refuses index note
     pub named : NamesNote index note name
 
-  -- what each answer of a finder of that note says
+  -- each answer of a finder of that note is right
   abbrev pub FindsRefused : {E : Type 0} → Result (Option RefusedNote) E → Type 0
   FindsRefused (Ok (Some name)) = RefusesNamed name
   FindsRefused (Ok None) = RefusesNone
   FindsRefused (Err memory) = ⊤
 
-  -- and of where it stands, and its bytes; private functions' contracts alone cite this
+  -- the same, with the note's index and bytes; only the contracts of private functions cite this
   abbrev pub FindsAt : {E : Type 0} → Result (Option (ℕ × List ℕ)) E → Type 0
   FindsAt (Ok (Some found)) = Refuses found.0 found.1
   FindsAt (Ok None) = RefusesNone

@@ -1,5 +1,5 @@
--- The text of a mirror's state. Version 2 is written and read, version 1 is read alone. Both are
--- this project's own.
+-- The text of a mirror's state. Version 2 is written and read, version 1 is only read. Both are this project's own
+-- formats.
 use Rattle.std.specs.Prelude.{◌≡◌, ◌↔◌, ℕ, List, ◌∷◌, ◌++◌, codes}
 use Rattle.std.specs.List.{Contains}
 use Rattle.std.specs.List.Sorted.{IsStrictlySortedBy}
@@ -12,8 +12,8 @@ use Rattle.mirror_model.specs.Listed.{ListsNotes}
 use Rattle.mirror_state.specs.declared.items.Form.TheVariants.{Short, Long, Hashes}
 use Rattle.mirror_state.specs.Items.{item_text, list_text, IsItem, AreItems}
 
--- what a state text lists: in version 2 pairs of hashes and entries apart, in version 1 strings
--- with their tags
+-- the content of a state text: in version 2 the pairs of hashes and the entries separately, in version 1 strings with
+-- their tags
 pub data Parts : Type 0 where
   VersionTwo : (origin : List ℕ) (notes pairs entries : List (List ℕ)) → Parts
   VersionOne : (origin : List ℕ) (notes strings : List (List ℕ)) → Parts
@@ -23,7 +23,7 @@ abbrev pub magic_of : Parts → List ℕ
 magic_of (VersionTwo origin notes pairs entries) = codes "TLMIRR02"
 magic_of (VersionOne origin notes strings) = codes "TLMIRR01"
 
--- the bytes of what a state text lists
+-- the bytes of a state text's lists
 abbrev pub lists_text : Parts → List ℕ
 lists_text (VersionTwo origin notes pairs entries) =
     item_text Short origin
@@ -31,7 +31,7 @@ lists_text (VersionTwo origin notes pairs entries) =
 lists_text (VersionOne origin notes strings) =
     item_text Short origin ++ (list_text Long notes ++ list_text Long strings)
 
--- the text up to its digest
+-- the text without its digest
 abbrev pub body_text : Parts → List ℕ
 body_text parts = magic_of parts ++ lists_text parts
 

@@ -1,14 +1,14 @@
-//! Why a state is not loaded, or not saved.
+//! Why a state is not loaded or saved.
 use thiserror::Error;
 
-/// Why a mirror is not loaded. Of the refusals of the bytes the first that applies is answered, in the order in which
-/// they stand here. It prints its variant's name.
+/// Why a mirror is not loaded. Of the refusals of the bytes, it is the first that applies, in the order of the
+/// variants. It prints its variant's name.
 #[derive(Debug, Drop, PartialEq, Eq, Clone, Copy, Error)]
 pub enum LoadFault {
-    /// The bytes begin as a state text of neither version.
+    /// The bytes begin like a state text of neither version.
     #[error("StateMagic")]
     StateMagic,
-    /// A part that is counted, or the digest, does not fit into what is there.
+    /// Too few bytes are left for an item, a list or the digest.
     #[error("StateShort")]
     StateShort,
     /// Bytes follow the digest.
@@ -17,7 +17,7 @@ pub enum LoadFault {
     /// The digest is not that of the bytes before it.
     #[error("StateDigest")]
     StateDigest,
-    /// The state is of another origin.
+    /// The state has another origin.
     #[error("OtherOrigin")]
     OtherOrigin,
     /// Notes, pairs, entries or strings are not strictly rising by their bytes.
@@ -26,16 +26,16 @@ pub enum LoadFault {
     /// In version 1, a string is neither that of an entry of at most 65,535 bytes nor that of two hashes.
     #[error("StateString")]
     StateString,
-    /// A note is no note, its text is no checkpoint of the origin, or no key accepts a line of it.
+    /// A note is no note, its text is no checkpoint of the origin, or no key accepts one of its lines.
     #[error("StateHead")]
     StateHead,
-    /// Two different strings share a digest.
+    /// Two different strings have one digest.
     #[error("Collision")]
     Collision,
-    /// The strings of the edge of a note's head are not among the strings.
+    /// The strings of a checkpoint's right edge are not among the strings.
     #[error("StateEdge")]
     StateEdge,
-    /// A read failed, or the reader did not end within as many reads as are made.
+    /// A read failed, or the reader did not end within 16,777,216 reads.
     #[error("ReadFault")]
     ReadFault,
     /// Memory was refused.
@@ -44,7 +44,7 @@ pub enum LoadFault {
 }
 
 /// Why a mirror is not saved. It prints its variant's name.
-/// A full disk, for example, is a `WriteFault`.
+/// A full disk, for example, gives a `WriteFault`.
 #[derive(Debug, Drop, PartialEq, Eq, Clone, Copy, Error)]
 pub enum SaveFault {
     /// A write failed, or took no byte. A prefix of the text was written.

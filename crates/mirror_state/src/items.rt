@@ -5,18 +5,18 @@ ghost use Rattle.mirror_state.specs.Stands.{HasItems, HasList};
 
 use std::alloc::{AllocError, Global};
 
-/// How an item stands in a state text.
+/// The form of an item in a state text.
 #[derive(Clone, Copy)]
 pub enum Form {
-    /// Behind its length in two bytes, big-endian.
+    /// After its length in two bytes, big-endian.
     Short,
-    /// Behind its length in four bytes, big-endian.
+    /// After its length in four bytes, big-endian.
     Long,
     /// Alone: two hashes, 64 bytes.
     Hashes,
 }
 
-// The item at the start, and the bytes behind it.
+// The item at the start, and the bytes after it.
 pub(crate) fn item_at(form: Form, bytes: &[u8]) -> Option<(&[u8], &[u8])>
     ensures found { IfSome result (λ x. IsItem form x.0.now
         × (bytes.now ≡ item_text form x.0.now ++ x.1.now)) }
@@ -76,7 +76,7 @@ fn hashes_at(bytes: &[u8]) -> Option<(&[u8], &[u8])>
     Some(bytes.split_at(64))
 }
 
-// So many items at the start, and the bytes behind them.
+// `count` items at the start, and the bytes after them.
 fn items_at(
     alloc: Global,
     form: Form,
@@ -100,7 +100,7 @@ fn items_at(
     Ok(Some((items, rest)))
 }
 
-// The list at the start, and the bytes behind it.
+// The list at the start, and the bytes after it.
 pub(crate) fn list_at(
     alloc: Global,
     form: Form,

@@ -1,4 +1,4 @@
-//! Files: a mirror loaded from the text of its state, and saved as it.
+//! State files: a mirror is loaded from the text of its state, and saved as such a text.
 //!
 //! ```text
 //! let mirror: Mirror<Sha256Tree> = load(alloc, "example.com/log", &keys, &mut file)?;

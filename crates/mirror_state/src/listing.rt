@@ -1,4 +1,4 @@
-//! What a mirror holds, in the order in which a state text lists it.
+//! The notes and strings of a mirror, in the order in which a state text lists them.
 ghost use Rattle.std.specs.Prelude.{◌≡◌, ◌↔◌, ◌++◌, ℕ, List, map, All, IfOk, OnOk};
 ghost use Rattle.std.specs.List.{Contains};
 ghost use Rattle.mirror_model.specs.Listed.{ListsNotes};
@@ -11,11 +11,11 @@ use std::alloc::{AllocError, Global};
 use tlog_hash::{Hash, TreeHash};
 use tlog_mirror::Mirror;
 
-/// Two hashes behind the first eight bytes of the first one, as a number: by it nearly all pairs are put in order, without
-/// a look at the hashes, which lie apart in memory.
+/// Two hashes after the first eight bytes of the first one, as a number. The number decides the order of nearly all
+/// pairs, so a sort rarely reads the hashes, which are scattered in memory.
 pub(crate) type KeyedPair<'a> = (u64, (&'a Hash, &'a Hash));
 
-/// What a mirror holds, each list in its order.
+/// The notes and strings of a mirror, each list in its order.
 #[derive(Drop)]
 pub(crate) struct Sorted<'a> {
     pub(crate) notes: Vec<&'a [u8]>,
@@ -23,7 +23,7 @@ pub(crate) struct Sorted<'a> {
     pub(crate) entries: Vec<&'a [u8]>,
 }
 
-// What the mirror holds.
+// The sorted lists of the mirror.
 pub(crate) fn sort_all<H: TreeHash>(
     alloc: Global,
     mirror: &Mirror<H>,
@@ -40,7 +40,7 @@ pub(crate) fn sort_all<H: TreeHash>(
     })
 }
 
-// The notes that are held.
+// The held notes.
 fn notes_of<H: TreeHash>(alloc: Global, mirror: &Mirror<H>) -> Result<Vec<&[u8]>, AllocError>
     ensures { IfOk result (λ notes. ListsNotes mirror.now.view (map (λ n. n.now) notes.items)) }
 {
@@ -51,11 +51,11 @@ fn notes_of<H: TreeHash>(alloc: Global, mirror: &Mirror<H>) -> Result<Vec<&[u8]>
             None => return Ok(notes),
         }
     }
-    // No memory holds so many.
+    // No memory holds that number of notes.
     Err(AllocError)
 }
 
-// The entries of a store.
+// The entries of a store, in order.
 fn entries_of<H: TreeHash>(alloc: Global, store: &Store<H>) -> Result<Vec<&[u8]>, AllocError>
     ensures { IfOk result (λ entries. ListsEach 0 store.now (map (λ e. e.now) entries.items)) }
 {
@@ -78,8 +78,8 @@ fn all_entries<H: TreeHash>(alloc: Global, store: &Store<H>) -> Result<Vec<&[u8]
     Ok(entries)
 }
 
-// Puts entries in order, each once. A store that was loaded gives them in order up to those that came later: of such a
-// list the stable sort takes one look at each.
+// Sorts entries and removes duplicates. A store that was loaded gives them in order, apart from those that came later.
+// So the stable sort looks at each entry of such a list about once.
 fn sort_entries(entries: &mut Vec<&[u8]>) -> Result<(), AllocError>
     ensures rises { OnOk result (Rises (map (λ e. e.now) entries.new.items)) }
     ensures same { OnOk result ((e : List ℕ) → Contains (map (λ e. e.now) entries.new.items) e
@@ -90,7 +90,7 @@ fn sort_entries(entries: &mut Vec<&[u8]>) -> Result<(), AllocError>
     Ok(())
 }
 
-// The pairs of a store.
+// The pairs of a store, in order.
 fn pairs_of<H: TreeHash>(alloc: Global, store: &Store<H>) -> Result<Vec<KeyedPair<'_>>, AllocError>
     ensures { IfOk result (λ pairs. ListsEach 1 store.now (map pair_bytes pairs.items)) }
 {
@@ -114,7 +114,7 @@ fn all_pairs<H: TreeHash>(alloc: Global, store: &Store<H>) -> Result<Vec<KeyedPa
     Ok(pairs)
 }
 
-// The two hashes, behind the first eight bytes of the left one.
+// The two hashes, after the first eight bytes of the left one.
 fn pair_of<'a>(left: &'a Hash, right: &'a Hash) -> KeyedPair<'a>
     ensures bytes { pair_bytes result ≡ left.now ++ right.now }
     ensures keyed { IsKeyed result }
@@ -125,7 +125,7 @@ fn pair_of<'a>(left: &'a Hash, right: &'a Hash) -> KeyedPair<'a>
     (key, (left, right))
 }
 
-// Puts pairs in order, each once.
+// Sorts pairs and removes duplicates.
 fn sort_pairs(pairs: &mut Vec<KeyedPair<'_>>) -> Result<(), AllocError>
     requires { All IsKeyed pairs.old.items }
     ensures rises { OnOk result (Rises (map pair_bytes pairs.new.items)) }

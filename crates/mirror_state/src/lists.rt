@@ -1,4 +1,4 @@
-//! What a state text lists, lent from its bytes.
+//! The lists of a state text, borrowed from its bytes.
 ghost use Rattle.std.specs.Prelude.{◌≡◌, ◌↔◌, codes, ℕ, List, map, IfNone, IfOk, IfSome, IsTrue};
 ghost use Rattle.mirror_state.specs.StateText.{VersionTwo, VersionOne, magic_of};
 ghost use Rattle.mirror_state.specs.Loading.{AllRise, AllTaggedWell, listed_notes, listed_origin};
@@ -18,7 +18,6 @@ pub(crate) enum Lists<'a> {
 }
 
 impl<'a> Lists<'a> {
-    // The origin.
     pub(crate) fn origin(&self) -> &[u8]
         ensures { result.now ≡ listed_origin (parts_of self.now) }
     {
@@ -28,7 +27,6 @@ impl<'a> Lists<'a> {
         }
     }
 
-    // The notes.
     pub(crate) fn notes(&self) -> &[&'a [u8]]
         ensures { map (λ n. n.now) result.now ≡ listed_notes (parts_of self.now) }
     {
@@ -38,7 +36,6 @@ impl<'a> Lists<'a> {
         }
     }
 
-    // Whether each list rises strictly.
     pub(crate) fn all_rise(&self) -> bool
         ensures { IsTrue result ↔ AllRise (parts_of self.now) }
     {
@@ -50,7 +47,7 @@ impl<'a> Lists<'a> {
         }
     }
 
-    // Whether the strings of version 1 are such as trees hash.
+    // Whether each string of version 1 is one that a tree hashes.
     pub(crate) fn all_tagged_well(&self) -> bool
         ensures { IsTrue result ↔ AllTaggedWell (parts_of self.now) }
     {
@@ -61,7 +58,7 @@ impl<'a> Lists<'a> {
     }
 }
 
-// The lists of version 2 at the start, and the bytes behind them.
+// The lists of version 2 at the start, and the bytes after them.
 pub(crate) fn parted_at(
     alloc: Global,
     bytes: &[u8],
@@ -88,7 +85,7 @@ pub(crate) fn parted_at(
     Ok(Some((Lists::VersionTwo(origin, notes, pairs, entries), rest)))
 }
 
-// The lists of version 1 at the start, and the bytes behind them.
+// The lists of version 1 at the start, and the bytes after them.
 pub(crate) fn tagged_at(
     alloc: Global,
     bytes: &[u8],

@@ -1,4 +1,4 @@
-//! Loading a mirror from its state.
+//! Loading a mirror from its state text.
 ghost use Rattle.std.specs.Prelude.{◌≡◌, ◌≢◌, ◌↔◌, ◌<◌, ◌∷◌, ◌++◌, ℕ, List, Err, length, map, All, IfOk, IfSome, IsTrue, OnOk};
 ghost use Rattle.std.specs.FinSet as set;
 ghost use Rattle.mirror_model.specs.Origin.{IsOrigin};
@@ -22,11 +22,11 @@ use std::io::Read;
 use tlog_hash::{Hash, TreeHash};
 use tlog_mirror::{Mirror, TakeFault};
 
-// How often a reader is read at most.
+// The maximal number of reads of a reader.
 const READS: u64 = 16_777_216;
 
-/// The mirror of a state text: all that the reader gives is the text, of version 1 or 2, of what a mirror of that
-/// origin holds, and each note opens under the keys. Nothing is remembered of complete heads.
+/// The mirror of a state text. All the bytes of the reader have to be the text of a mirror with that origin, in version
+/// 1 or 2. Each note has to open under the keys. The mirror remembers nothing for complete tree heads.
 ///
 /// ```text
 /// let mirror: Mirror<Sha256Tree> = load(alloc, "example.com/log", &keys, &mut file)?;
@@ -34,9 +34,9 @@ const READS: u64 = 16_777_216;
 ///
 /// # Errors
 ///
-/// `ReadFault`, where a read fails, or the reader has not ended after 16,777,216 reads of at most 65,536 bytes each. It
-/// is read to its end first. Then the first that applies, in the order of `LoadFault`: `StateMagic` to `StateEdge`.
-/// `OutOfMemory` where memory was refused, before any of them or after.
+/// `ReadFault` if a read fails, or the reader has not ended after 16,777,216 reads of at most 65,536 bytes each. The
+/// reader is read to its end first. Then the first that applies, in the order of `LoadFault`: `StateMagic` to
+/// `StateEdge`. `OutOfMemory` if memory was refused, before any of them or after.
 pub fn load<H: TreeHash, R: Read>(
     alloc: Global,
     origin: &str,
@@ -61,7 +61,7 @@ pub fn load<H: TreeHash, R: Read>(
     load_bytes(alloc, origin, keys, input)
 }
 
-// Why the reader's bytes are not had. Nothing is written.
+// The fault for a reader that does not give all its bytes. Nothing is written.
 fn stream_fault(fault: StreamFault) -> LoadFault
     ensures { result ≡ stream_fault_of fault }
 {
@@ -71,14 +71,15 @@ fn stream_fault(fault: StreamFault) -> LoadFault
     }
 }
 
-// Whether there are fewer bytes than were allowed.
+// Whether there are fewer bytes than the limit of the read.
 fn is_below(bytes: &[u8]) -> bool
     ensures { IsTrue result ↔ length bytes.now < 18446744073709551615 }
 {
     bytes.len() < usize::MAX
 }
 
-/// The mirror of a state text: of the same answers as `load`, of bytes that are there already, so that they are kept once.
+/// The mirror of a state text, with the same answers as `load`, from bytes that are in memory already. So the text is
+/// in memory only once.
 ///
 /// ```text
 /// let mirror: Mirror<Sha256Tree> = load_bytes(alloc, "example.com/log", &keys, &bytes)?;
@@ -86,8 +87,8 @@ fn is_below(bytes: &[u8]) -> bool
 ///
 /// # Errors
 ///
-/// The first that applies, in the order of `LoadFault`: `StateMagic` to `StateEdge`, and never `ReadFault`. `OutOfMemory`
-/// where memory was refused, before any of them or after.
+/// The first that applies, in the order of `LoadFault`: `StateMagic` to `StateEdge`, and never `ReadFault`.
+/// `OutOfMemory` if memory was refused, before any of them or after.
 pub fn load_bytes<H: TreeHash>(
     alloc: Global,
     origin: &str,
@@ -106,7 +107,7 @@ pub fn load_bytes<H: TreeHash>(
     loaded
 }
 
-// The mirror of what is listed in order.
+// The mirror of lists that are in order.
 fn load_lists<H: TreeHash>(
     alloc: Global,
     origin: &str,
@@ -126,7 +127,7 @@ fn load_lists<H: TreeHash>(
     loaded
 }
 
-// The mirror of what is listed in order, the notes of which were opened as these heads.
+// The mirror of lists that are in order, with the tree heads of their opened notes.
 fn load_opened<H: TreeHash>(
     alloc: Global,
     origin: &str,
@@ -156,7 +157,7 @@ fn load_opened<H: TreeHash>(
     }
 }
 
-// The mirror of the strings that are listed, without the notes.
+// The mirror of the listed strings, without the notes.
 pub(crate) fn mirror_of<H: TreeHash>(
     alloc: Global,
     origin: &str,
@@ -170,12 +171,12 @@ pub(crate) fn mirror_of<H: TreeHash>(
     let strings = store_of::<H>(alloc, lists)?;
     match Mirror::of_strings(alloc, origin, strings) {
         Ok(mirror) => Ok(mirror),
-        // The origin is lawful, so that nothing but `OutOfMemory` comes here.
+        // The origin is lawful, so the only fault here is `OutOfMemory`.
         Err(_) => Err(AddFault::OutOfMemory),
     }
 }
 
-// How strings are listed.
+// The ways to list strings.
 #[derive(Clone, Copy)]
 pub(crate) enum Kind {
     // As entries.
@@ -186,7 +187,7 @@ pub(crate) enum Kind {
     Strings,
 }
 
-// Why the lists are not read.
+// The fault for lists that cannot be read.
 fn load_fault(fault: PartsFault) -> LoadFault
     ensures { result ≡ load_fault_of fault }
 {
@@ -226,7 +227,7 @@ pub(crate) fn checked_lists<'a>(
     Ok(lists)
 }
 
-// The 32 bytes there.
+// The 32 bytes as a hash.
 fn hash_of(bytes: &[u8]) -> Hash
     requires { length bytes.now ≡ 32 }
     ensures { result ≡ bytes.now }
@@ -236,7 +237,7 @@ fn hash_of(bytes: &[u8]) -> Hash
     hash
 }
 
-// Adds the string that is listed so.
+// Adds the string that is listed in that way.
 fn add_item<H: TreeHash>(store: &mut Store<H>, kind: Kind, item: &[u8]) -> Result<(), AddFault>
     requires { IsListable kind item.now }
     ensures ok { OnOk result ((store.new ≡ set.insert store.old (tagged_as kind item.now))
@@ -251,7 +252,7 @@ fn add_item<H: TreeHash>(store: &mut Store<H>, kind: Kind, item: &[u8]) -> Resul
     }
 }
 
-// Adds the string of a pair, two hashes.
+// Adds the string of a pair of hashes.
 fn add_pair<H: TreeHash>(store: &mut Store<H>, pair: &[u8]) -> Result<(), AddFault>
     requires { length pair.now ≡ 64 }
     ensures ok { OnOk result ((store.new ≡ set.insert store.old (1 ∷ pair.now))
@@ -265,7 +266,7 @@ fn add_pair<H: TreeHash>(store: &mut Store<H>, pair: &[u8]) -> Result<(), AddFau
     store.add(Tagged::Pair(&left, &right))
 }
 
-// Adds a string that stands with its tag.
+// Adds a string that is listed with its tag.
 fn add_tagged<H: TreeHash>(store: &mut Store<H>, string: &[u8]) -> Result<(), AddFault>
     requires { IsStateString string.now }
     ensures ok { OnOk result ((store.new ≡ set.insert store.old string.now)
@@ -280,7 +281,7 @@ fn add_tagged<H: TreeHash>(store: &mut Store<H>, string: &[u8]) -> Result<(), Ad
     }
 }
 
-// Adds all strings that are listed so.
+// Adds all strings that are listed in that way.
 fn add_listed<H: TreeHash>(
     store: &mut Store<H>,
     kind: Kind,
@@ -297,7 +298,8 @@ fn add_listed<H: TreeHash>(
     Ok(())
 }
 
-// How many strings are listed. Each has its bytes in the text, so that no text makes room for more than it has.
+// The number of listed strings. The text has the bytes of each, so no text reserves memory for more strings than it
+// has.
 fn count_of(lists: &Lists) -> usize {
     match lists {
         Lists::VersionTwo(_, _, pairs, entries) => pairs.len().saturating_add(entries.len()),
@@ -305,7 +307,7 @@ fn count_of(lists: &Lists) -> usize {
     }
 }
 
-// The set of the strings that are listed, made at its final size.
+// The set of the listed strings, made at its final size.
 fn store_of<H: TreeHash>(alloc: Global, lists: &Lists) -> Result<Store<H>, AddFault>
     requires { AreListable (parts_of lists.now) }
     ensures { MakesStore H.digest (listed_strings (parts_of lists.now)) result }
@@ -317,7 +319,7 @@ fn store_of<H: TreeHash>(alloc: Global, lists: &Lists) -> Result<Store<H>, AddFa
     Ok(store)
 }
 
-// Adds the strings that are listed.
+// Adds the listed strings.
 fn add_lists<H: TreeHash>(store: &mut Store<H>, lists: &Lists) -> Result<(), AddFault>
     requires listable { AreListable (parts_of lists.now) }
     requires no_clash { NoClash H.digest store.old }
@@ -329,7 +331,7 @@ fn add_lists<H: TreeHash>(store: &mut Store<H>, lists: &Lists) -> Result<(), Add
     }
 }
 
-// Adds strings that stand with their tags.
+// Adds strings that are listed with their tags.
 fn add_strings<H: TreeHash>(store: &mut Store<H>, strings: &[&[u8]]) -> Result<(), AddFault>
     requires listable { All IsStateString (map (λ x. x.now) strings.now) }
     requires no_clash { NoClash H.digest store.old }
@@ -354,7 +356,7 @@ fn add_both<H: TreeHash>(
     add_listed(store, Kind::Pairs, pairs)
 }
 
-// The head of a note, where it opens as a checkpoint of that origin.
+// The tree head of a note, if it opens as a checkpoint of that origin.
 fn open_one(
     alloc: Global,
     origin: &str,
@@ -369,7 +371,7 @@ fn open_one(
     }
 }
 
-// What a fault of reading a head is here.
+// The fault of loading, for a fault of reading a note.
 fn note_fault(fault: TakeFault) -> LoadFault
     ensures { result ≡ note_fault_of fault }
 {
@@ -379,7 +381,7 @@ fn note_fault(fault: TakeFault) -> LoadFault
     }
 }
 
-// The heads of the notes, where all open as checkpoints of that origin. Each is verified here, and nowhere else.
+// The tree heads of the notes, if all open as checkpoints of that origin. Each note is verified here, and nowhere else.
 fn open_all(
     alloc: Global,
     origin: &str,
@@ -399,7 +401,7 @@ fn open_all(
     Ok(heads)
 }
 
-// Keeps the heads, the edges of which are held.
+// Keeps the tree heads. `StateEdge` if the right edge of one is not held.
 fn keep_all<H: TreeHash>(
     alloc: Global,
     mirror: &mut Mirror<H>,

@@ -1,4 +1,4 @@
-//! In which order lists stand, and which strings a tree hashes.
+//! The order of lists, and the strings that a tree hashes.
 ghost use Rattle.std.specs.Prelude.{◌≡◌, ◌↔◌, map, All, IsTrue};
 ghost use Rattle.std.specs.Cmp.Lexicographic.{slice_cmp};
 ghost use Rattle.std.specs.Ordering.{nat_cmp};
@@ -17,7 +17,6 @@ pub(crate) fn rises(items: &[&[u8]]) -> bool
     true
 }
 
-// Whether the one comes before the other.
 fn is_before(first: &[u8], second: &[u8]) -> bool
     ensures { IsTrue result ↔ (slice_cmp nat_cmp first.now second.now ≡ Less) }
 {
@@ -36,7 +35,7 @@ pub(crate) fn all_state_strings(strings: &[&[u8]]) -> bool
     true
 }
 
-// Whether it is an entry's, of at most 65,535 bytes, or a pair's.
+// Whether it is the string of an entry of at most 65,535 bytes, or of a pair.
 fn is_state_string(string: &[u8]) -> bool
     ensures { IsTrue result ↔ IsStateString string.now }
 {

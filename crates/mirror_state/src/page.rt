@@ -8,10 +8,10 @@ use sha2::{Digest, Sha256};
 use std::alloc::{AllocError, Global};
 use std::io::Write;
 
-// From so many bytes on what is held back is written.
+// From this number of bytes on, the page is written.
 const PAGE: usize = 65_536;
 
-/// What was put and is not written yet, and the digest of all that was put.
+/// The bytes that were put and are not written yet, and the digest of all that were put.
 #[derive(Drop)]
 pub(crate) struct Page {
     held: Vec<u8>,
@@ -19,7 +19,6 @@ pub(crate) struct Page {
 }
 
 impl Page {
-    // Nothing was put.
     pub(crate) fn new(alloc: Global) -> Page
         ensures held { result.held.items ≡ [] }
         ensures hashed { Holds256 result.digest [] }
@@ -31,7 +30,7 @@ impl Page {
     }
 }
 
-// Writes what is held back.
+// Writes the bytes that are held back.
 fn flush<W: Write>(writer: &mut W, held: &mut Vec<u8>) -> Result<(), StreamFault>
     ensures writes { Writes (W.contents writer.old) (W.contents writer.new) held.old.items
         held.new.items [] result }
@@ -42,7 +41,7 @@ fn flush<W: Write>(writer: &mut W, held: &mut Vec<u8>) -> Result<(), StreamFault
     Ok(())
 }
 
-// Writes what is held back where it is much.
+// Writes the bytes that are held back, if they are many.
 fn make_room<W: Write>(writer: &mut W, held: &mut Vec<u8>) -> Result<(), StreamFault>
     ensures { Writes (W.contents writer.old) (W.contents writer.new) held.old.items held.new.items
         [] result }
@@ -53,7 +52,7 @@ fn make_room<W: Write>(writer: &mut W, held: &mut Vec<u8>) -> Result<(), StreamF
     flush(writer, held)
 }
 
-// Writes what is held back, and then the piece.
+// Writes the bytes that are held back, and then the piece.
 fn write_through<W: Write>(
     writer: &mut W,
     held: &mut Vec<u8>,
@@ -67,7 +66,7 @@ fn write_through<W: Write>(
     write_whole(writer, piece)
 }
 
-// Holds the piece back. Where memory for it is refused it is written at once.
+// Holds the piece back. If memory for it is refused, it is written at once.
 fn hold<W: Write>(writer: &mut W, held: &mut Vec<u8>, piece: &[u8]) -> Result<(), StreamFault>
     ensures { Writes (W.contents writer.old) (W.contents writer.new) held.old.items held.new.items
         piece.now result }
@@ -92,7 +91,7 @@ pub(crate) fn put<W: Write>(
     hold(writer, &mut page.held, piece)
 }
 
-// Writes what is held back, and the digest of all that was put.
+// Writes the bytes that are held back, and the digest of all that were put.
 pub(crate) fn finish<W: Write>(writer: &mut W, page: &mut Page) -> Result<(), StreamFault>
     ensures { EndsText (W.contents writer.old) (W.contents writer.new) page.old result }
 {

@@ -1,4 +1,4 @@
-//! Reads what a state text lists.
+//! Reads the lists of a state text.
 ghost use Rattle.std.specs.Prelude.{◌≡◌, ◌↔◌, codes, take, IsTrue};
 ghost use Rattle.tlog_text.specs.Answers.{seen};
 ghost use Rattle.mirror_state.specs.AsSaved.{IsAsSaved};
@@ -10,12 +10,12 @@ use crate::lists::{Lists, parted_at, tagged_at};
 use sha2::{Digest, Sha256};
 use std::alloc::{AllocError, Global};
 
-// Why bytes are not the text of a state, as far as they alone decide.
+// Why bytes are not the text of a state, for reasons that the bytes alone decide.
 #[derive(Clone, Copy)]
 pub(crate) enum PartsFault {
-    // The bytes begin as a state text of neither version.
+    // The bytes begin like a state text of neither version.
     StateMagic,
-    // A part that is counted, or the digest, does not fit into what is there.
+    // Too few bytes are left for an item, a list or the digest.
     StateShort,
     // Bytes follow the digest.
     StateLong,
@@ -33,7 +33,7 @@ impl From<AllocError> for PartsFault {
     }
 }
 
-// What is left behind the lists is the digest of what is before it, and no more.
+// Checks that after the lists there is the digest of the body before it, and nothing more.
 fn check_end(body: &[u8], end: &[u8]) -> Result<(), PartsFault>
     ensures { EndsAs body.now end.now result }
 {
@@ -50,19 +50,19 @@ fn check_end(body: &[u8], end: &[u8]) -> Result<(), PartsFault>
     Ok(())
 }
 
-// The first eight bytes are those of version 2.
+// Whether the first eight bytes are those of version 2.
 fn is_new(magic: &[u8]) -> bool
     ensures { IsTrue result ↔ (magic.now ≡ codes "TLMIRR02") }
 {
     magic == b"TLMIRR02".as_slice()
 }
 
-/// Whether the bytes begin as a state text of version 2. A view that is loaded of such bytes is saved as these bytes, so that
-/// a mirror that gained nothing need not be saved again.
+/// Whether the bytes begin like a state text of version 2. A view that is loaded from such bytes is saved as these
+/// bytes. So a mirror that gained nothing need not be saved again.
 ///
 /// ```text
 /// let mirror: Mirror<Sha256Tree> = load_bytes(alloc, "example.com/log", &keys, &bytes)?;
-/// is_as_saved(&bytes)   // true where they are what `save` writes of it
+/// is_as_saved(&bytes)   // true if `save` writes these bytes for it
 /// ```
 pub fn is_as_saved(bytes: &[u8]) -> bool
     ensures begins { IsTrue result ↔ (take 8 bytes.now ≡ codes "TLMIRR02") }
@@ -75,14 +75,14 @@ pub fn is_as_saved(bytes: &[u8]) -> bool
     is_new(magic)
 }
 
-// The first eight bytes are those of version 1.
+// Whether the first eight bytes are those of version 1.
 fn is_old(magic: &[u8]) -> bool
     ensures { IsTrue result ↔ (magic.now ≡ codes "TLMIRR01") }
 {
     magic == b"TLMIRR01".as_slice()
 }
 
-// The lists that the bytes begin with, behind the eight bytes that say which version it is, and what follows them.
+// The lists after the eight bytes of the version, and the bytes that follow the lists.
 fn lists_at(alloc: Global, bytes: &[u8]) -> Result<(Lists<'_>, &[u8]), PartsFault>
     ensures { FindsLists bytes.now (seen (λ x. (parts_of x.0, x.1.now)) result) }
 {
@@ -105,7 +105,7 @@ fn lists_at(alloc: Global, bytes: &[u8]) -> Result<(Lists<'_>, &[u8]), PartsFaul
     Err(PartsFault::StateMagic)
 }
 
-/// The lists of a state text, lent from its bytes.
+/// The lists of a state text, borrowed from its bytes.
 pub(crate) fn read_parts(alloc: Global, bytes: &[u8]) -> Result<Lists<'_>, PartsFault>
     ensures { ReadsParts bytes.now (seen parts_of result) }
 {

@@ -11,7 +11,7 @@ use byte_streams::StreamFault;
 use std::io::Write;
 use tlog_hash::Hash;
 
-// Puts an item behind its length in two bytes.
+// Puts an item after its length in two bytes.
 pub(crate) fn put_short<W: Write>(
     writer: &mut W,
     page: &mut Page,
@@ -26,7 +26,7 @@ pub(crate) fn put_short<W: Write>(
     put(writer, page, item)
 }
 
-// Puts an item behind its length in four bytes.
+// Puts an item after its length in four bytes.
 fn put_long<W: Write>(writer: &mut W, page: &mut Page, item: &[u8]) -> Result<(), StreamFault>
     requires { IsItem Form.Long item.now }
     ensures { Puts (W.contents writer.old) (W.contents writer.new) page.old page.new
@@ -55,7 +55,6 @@ fn put_item<W: Write>(
     }
 }
 
-// Puts items one after the other.
 fn put_items<W: Write>(
     writer: &mut W,
     page: &mut Page,
@@ -81,7 +80,7 @@ fn put_count<W: Write>(writer: &mut W, page: &mut Page, count: usize) -> Result<
     put(writer, page, count.to_be_bytes().as_slice())
 }
 
-// Puts a list of items behind their number.
+// Puts a list of items after their number.
 pub(crate) fn put_list<W: Write>(
     writer: &mut W,
     page: &mut Page,
@@ -96,7 +95,6 @@ pub(crate) fn put_list<W: Write>(
     put_items(writer, page, form, items)
 }
 
-// Puts two hashes.
 fn put_pair<W: Write>(
     writer: &mut W,
     page: &mut Page,
@@ -110,7 +108,6 @@ fn put_pair<W: Write>(
     put(writer, page, right.as_slice())
 }
 
-// Puts pairs one after the other.
 fn put_each_pair<W: Write>(
     writer: &mut W,
     page: &mut Page,
@@ -125,7 +122,7 @@ fn put_each_pair<W: Write>(
     Ok(())
 }
 
-// Puts a list of pairs behind their number.
+// Puts a list of pairs after their number.
 pub(crate) fn put_pairs<W: Write>(
     writer: &mut W,
     page: &mut Page,

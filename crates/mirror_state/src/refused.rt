@@ -1,4 +1,4 @@
-//! Which note of a state text is why it is not loaded.
+//! The note of a state text for which the text is not loaded.
 ghost use Rattle.std.specs.Prelude.{◌≡◌, ◌↔◌, ◌<◌, ◌++◌, ℕ, List, map, take, option_map, string_bytes, All, IfNone, IfOk, IfSome, IsTrue, OnOk};
 ghost use Rattle.mirror_model.specs.Complete.{HasEdge};
 ghost use Rattle.tlog_mirror.specs.Restored.{IsOpenNote};
@@ -20,20 +20,20 @@ use std::alloc::{AllocError, Global};
 use tlog_hash::{Hash, TreeHash};
 use tlog_mirror::{Mirror, RestoreFault, TakeFault};
 
-// How many bytes of a root a name has.
+// The number of a root's bytes that a name has.
 const FRONT_LEN: usize = 3;
 
 /// A note of a state text, for which the text is not loaded.
 #[derive(Debug, Drop, PartialEq, Eq, Clone, Copy)]
 pub enum RefusedNote {
-    /// A checkpoint of this size and root, whoever signed it and whichever log it is of.
+    /// A checkpoint of this size and root; its signer and its log do not matter.
     Checkpoint(u64, Hash),
-    /// No checkpoint: the note of this number, of which the first is 1.
+    /// No checkpoint: the number of the note. The first number is 1.
     Note(usize),
 }
 
 impl RefusedNote {
-    /// `checkpoint 700 uzuW..`, by the size and the first three bytes of the root in base64, or `note 3`.
+    /// Gives `checkpoint 700 uzuW..`, with the size and the first three bytes of the root in base64, or `note 3`.
     ///
     /// # Errors
     ///
@@ -48,7 +48,6 @@ impl RefusedNote {
     }
 }
 
-// How a checkpoint is named.
 fn checkpoint_text(alloc: Global, size: u64, root: &Hash) -> Result<String, AllocError>
     ensures { IfOk result (λ text. string_bytes text ≡ checkpoint_name size root.now) }
 {
@@ -58,7 +57,7 @@ fn checkpoint_text(alloc: Global, size: u64, root: &Hash) -> Result<String, Allo
     Ok(text)
 }
 
-// Adds what a root begins with.
+// Adds the first bytes of a root.
 #[tactic(auto, unfolding(tlog_text::specs::Hash::base64_of))]
 fn push_front(text: &mut String, root: &Hash) -> Result<(), AllocError>
     ensures { OnOk result (string_bytes text.new ≡ string_bytes text.old
@@ -67,8 +66,9 @@ fn push_front(text: &mut String, root: &Hash) -> Result<(), AllocError>
     STANDARD.encode_string(&root[..FRONT_LEN], text)
 }
 
-/// The note for which `load_bytes` answers `StateHead` or `StateEdge`: the first, in the order of the text, that does not
-/// open or, where all do, whose edge is not held. None where it answers neither. It takes as long as a load.
+/// The note for which `load_bytes` gives `StateHead` or `StateEdge`. It is the first that does not open, in the order
+/// of the text. If all open, it is the first whose right edge is not held. `None` if it gives neither fault. It takes
+/// as long as a load.
 ///
 /// ```text
 /// refused_note::<Sha256Tree>(alloc, "example.com/log", &keys, &bytes)?   // a checkpoint, of 700 entries
@@ -91,7 +91,7 @@ pub fn refused_note<H: TreeHash>(
     }
 }
 
-// Where that note stands among the notes of the text, and its bytes.
+// The index and the bytes of that note among the notes of the text.
 fn refused_at<'a, H: TreeHash>(
     alloc: Global,
     origin: &str,
@@ -112,7 +112,7 @@ fn refused_at<'a, H: TreeHash>(
     }
 }
 
-// Where that note stands among the notes that are listed in order, and its bytes.
+// The index and the bytes of that note among notes that are listed in order.
 fn refused_in<'a, H: TreeHash>(
     alloc: Global,
     origin: &str,
@@ -139,7 +139,6 @@ fn refused_in<'a, H: TreeHash>(
     }
 }
 
-// How a note at that index is named.
 fn name_of(alloc: Global, index: usize, note: &[u8]) -> Result<RefusedNote, AllocError>
     requires { index < 18446744073709551615 }
     ensures { IfOk result (λ name. NamesNote index note.now name) }
@@ -154,7 +153,7 @@ fn name_of(alloc: Global, index: usize, note: &[u8]) -> Result<RefusedNote, Allo
     }
 }
 
-// The first of the notes that does not open as a checkpoint of that origin.
+// The first note that does not open as a checkpoint of that origin.
 fn first_closed<'n>(
     alloc: Global,
     origin: &str,
@@ -193,7 +192,7 @@ fn is_open(
     Ok(true)
 }
 
-// The first of the notes, which open, whose edge is not held.
+// The first note whose right edge is not held; all notes open.
 fn first_unheld<'n, H: TreeHash>(
     alloc: Global,
     mirror: &mut Mirror<H>,

@@ -16,8 +16,8 @@ use std::io::Write;
 use tlog_hash::TreeHash;
 use tlog_mirror::Mirror;
 
-/// Writes the text of what a mirror holds, of version 2. It goes through a buffer, so that the writer needs none; it is
-/// not flushed.
+/// Writes the state text of a mirror in version 2. It buffers the bytes, so the writer needs no buffer. It does not
+/// flush.
 ///
 /// ```text
 /// save(alloc, &mirror, &mut file)?;
@@ -25,8 +25,8 @@ use tlog_mirror::Mirror;
 ///
 /// # Errors
 ///
-/// `OutOfMemory` where memory was refused: nothing was written. `WriteFault` where a write failed or took no byte: a
-/// prefix of the text was written.
+/// `OutOfMemory` if memory was refused: nothing was written. `WriteFault` if a write failed or took no byte: a prefix
+/// of the text was written.
 pub fn save<H: TreeHash, W: Write>(
     alloc: Global,
     mirror: &Mirror<H>,
@@ -40,7 +40,7 @@ pub fn save<H: TreeHash, W: Write>(
     }
 }
 
-// Writes the text of a mirror that holds just that.
+// Writes the text of a mirror with these sorted lists.
 fn save_sorted<H: TreeHash, W: Write>(
     alloc: Global,
     mirror: &Mirror<H>,
@@ -50,7 +50,7 @@ fn save_sorted<H: TreeHash, W: Write>(
     requires { ListsView mirror.now.view held.now }
     ensures { Saves mirror.now.view (W.contents writer.old) (W.contents writer.new) result }
 {
-    // What a mirror holds is sound: so each item has a length that can be written.
+    // The state of a mirror is sound, so each item has a length that can be written.
     let _sound = mirror.strings();
     let origin = mirror.origin().as_bytes();
     let notes = held.notes.as_slice();
@@ -82,7 +82,7 @@ fn write_text<W: Write>(
     finish(writer, &mut page)
 }
 
-// Puts the text of these parts, up to its digest.
+// Puts the text of these parts, without its digest.
 fn put_body<W: Write>(
     writer: &mut W,
     page: &mut Page,

@@ -1,4 +1,4 @@
--- The answers of the walk that finds out whether a tree is held.
+-- The answers of the walk that decides whether a tree is held.
 use Rattle.std.proofs.Common.{◌≡◌, ℕ, ◌-◌, ◌≤◌, List, [], ◌∷◌, ◌++◌, length, sym, subst, Bool, true, false, Option}
 use Rattle.std.proofs.Common.{Some, None, eqb}
 use Rattle.std.specs.Prelude.{IsTrue, IfSome, IfNone, is_some, ◌↔◌}
@@ -48,7 +48,7 @@ module _ (digest : List ℕ → List ℕ) (held : Strings) where
   module _ (size : (s : List ℕ) → length (digest s) ≡ 32) (clean : NoClash digest held) (n k : ℕ) (root l r : List ℕ)
       (b : Bool) (two : 2 ≤ n) (k_is : k ≡ split_of n) (len : length l ≡ 32)
       (h : IsHeldAt digest held root (1 ∷ l ++ r)) where
-    -- both parts are walked, the right one if the left one is there
+    -- both parts are walked, the right one if the left one is held
     pub records_both : IsBuilt digest held k l → IsTrue b ↔ IsBuilt digest held (n - k) r →
         IsTrue b ↔ IsBuilt digest held n root
     records_both x y = (

@@ -19,11 +19,11 @@ use Rattle.node_store.proofs.Sets.{Has-empty, Has-insert, Has-insert_same, Has-i
 use Rattle.node_store.proofs.Sets.{Has-union_right, Has-union_cases, same_strings}
 use Rattle.mirror_model.proofs.StringSets.{listed_from_has, has_from_listed, clash_within}
 
--- the list has what the two others have, and one string more
+-- the list has the items of the two others, and one string more
 abbrev pub IsBoth : (left right all : List (List ℕ)) (last : List ℕ) → Type 0
 IsBoth left right all last = (y : List ℕ) → Contains all y ↔ (Contains left y ⊎ (Contains right y ⊎ (y ≡ last)))
 
--- what is added part by part is added
+-- strings that are added part by part are all added
 pub added_parts : (v : Strings) (left right all : List (List ℕ)) (last : List ℕ) → IsBoth left right all last →
     set.insert (set.union (set.union v (set.from_list left)) (set.from_list right)) last
     ≡ set.union v (set.from_list all)
@@ -238,7 +238,7 @@ entries_one (x ∷ y ∷ es) d g h = absurd (omega arith)
 
 -- ---- rows above a value
 
--- what is added in two parts is added
+-- strings that are added in two parts are all added
 pub added_both : (v : Strings) (xs ys : List (List ℕ)) →
     set.union (set.union v (set.from_list xs)) (set.from_list ys) ≡ set.union v (set.from_list (xs ++ ys))
 added_both v xs ys = same_strings _ _

@@ -1,4 +1,4 @@
--- One step of a descent through a tree that is held.
+-- One step of a descent through a held tree.
 use Rattle.std.proofs.Common.{◌≡◌, ℕ, ◌+◌, ◌-◌, ◌<◌, ◌≤◌, List, [], ◌∷◌, ◌++◌, length, take, drop, sym, refl, ap, ◌∙◌}
 use Rattle.std.proofs.Common.{subst, arith, length-append, length-take, length-drop, take-append-drop}
 use Rattle.tlog_shape.specs.Split.{split_of}
@@ -128,7 +128,7 @@ module _ (digest : List ℕ → List ℕ) (held : Strings) where
   no-pair n root two none es t =
       none (mth digest (take (split_of n) es)) (mth digest (drop (split_of n) es)) (tree-join n root es two t).at
 
--- a pair that is held at the root of a tree: its hashes are those of the parts of each list that is held
+-- a pair is held at the root of a tree: its hashes are those of the parts of each held list
 module _ (digest : List ℕ → List ℕ) (held : Strings) (size : (s : List ℕ) → length (digest s) ≡ 32)
     (clean : NoClash digest held) (n k : ℕ) (root l r : List ℕ) (two : 2 ≤ n) (k_is : k ≡ split_of n)
     (len : length l ≡ 32) (h : IsHeldAt digest held root (1 ∷ l ++ r)) (es : List (List ℕ))

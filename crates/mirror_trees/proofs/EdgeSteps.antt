@@ -1,4 +1,4 @@
--- Rows and edges that are held, read off the hash over them.
+-- Held rows and right edges, found from the hash over them.
 use Rattle.std.proofs.Common.{◌≡◌, inl, inr, ℕ, zero, suc, ◌+◌, ◌-◌, ◌<◌, ◌≤◌, List, [], ◌∷◌, ◌++◌, length, take}
 use Rattle.std.proofs.Common.{drop, get_or, map, refl, sym, ap, subst, ◌∙◌, append_assoc, arith, length-append}
 use Rattle.std.proofs.Common.{length-take, length-drop, take-append-drop}
@@ -112,7 +112,7 @@ module _ (digest : List ℕ → List ℕ) (size : (s : List ℕ) → length (dig
   fold_len (h ∷ []) some all = ap length (fold_of-one digest h) ∙ all.0
   fold_len (h ∷ i ∷ row) some all = ap length (fold_of-join digest (h ∷ i ∷ row) (omega arith)) ∙ size _
 
-  -- the parts of a row of two or more, read off the pair that is held
+  -- the parts of a row of two or more, found from the held pair
   pub record HasParts (n k : ℕ) (l r last : List ℕ) : Type 0 where
     pub left_last : List ℕ
     pub left : HasRow digest held k l left_last
@@ -187,7 +187,7 @@ module _ (digest : List ℕ → List ℕ) (size : (s : List ℕ) → length (dig
         };
       }
 
-  -- where no pair has that digest, there is no row of two or more
+  -- if no pair has that digest, there is no row of two or more
   pub no_row : (n : ℕ) (hash last : List ℕ) → 2 ≤ n → ((l r : List ℕ) → IsHeldAt digest held hash (1 ∷ l ++ r) → ⊥) →
       HasRow digest held n hash last → ⊥
   no_row n hash last two none row =
@@ -217,7 +217,7 @@ module _ (digest : List ℕ → List ℕ) (size : (s : List ℕ) → length (dig
             sym (fold_of-append digest xs ys two_parts place) ∙ (ap (fold_of digest) parts ∙ row.fold_is);
       })
 
--- a fact for another, where there is a value, or where there is none
+-- one property from another, for an answer with a value or without one
 pub some_from : {X : Type 0} (P Q : X → Type 0) (o : Option X) → ((x : X) → P x → Q x) → IfSome o P → IfSome o Q
 some_from P Q None f h = tt
 some_from P Q (Some x) f h = f x h
@@ -252,7 +252,7 @@ module _ (digest : List ℕ → List ℕ) (held : Strings) (n level : ℕ) (root
     levels_left : suc (8 - (level + 1)) ≡ 8 - level
     levels_left = omega arith
 
-    -- a level that has no row
+    -- a level without a row
     pub skip_level : (value : List ℕ) → width_of n level ≡ 0 → LeadsUp digest held n (level + 1) root value →
         LeadsUp digest held n level root value
     skip_level value none up =
@@ -267,7 +267,7 @@ module _ (digest : List ℕ → List ℕ) (held : Strings) (n level : ℕ) (root
           are_held = up.are_held;
         }
 
-    -- a level that has one
+    -- a level with a row
     pub add_level : (width : ℕ) (above value : List ℕ) → width ≡ width_of n level → 0 < width →
         LeadsUp digest held n (level + 1) root above → HasRow digest held (width + 1) above value →
         LeadsUp digest held n level root value
@@ -309,7 +309,7 @@ module _ (digest : List ℕ → List ℕ) (held : Strings) (n level : ℕ) (root
             record { rows = up.rows; fit = f.1; value_len = up.value_len; root_is = up.root_is; are_held = up.are_held }
         at (inr f) = absurd (omega (arith, f.3, none))
 
-    -- the row of the level, and the value that it leads to
+    -- the row of the level, and the value to which it leads
     pub record HasLevel (width : ℕ) (value : List ℕ) : Type 0 where
       pub above : List ℕ
       pub up : LeadsUp digest held n (level + 1) root above
@@ -361,7 +361,7 @@ module _ (digest : List ℕ → List ℕ) (held : Strings) (n level : ℕ) (root
               };
             }
 
--- ---- the edge from a level up
+-- ---- the right edge from a level up
 
 module _ (digest : List ℕ → List ℕ) (held : Strings) (n level : ℕ) (root : List ℕ) where
   pub edge_none : (b : Bool) → level ≡ 8 → b ≡ pointwise eqb (digest []) root →
@@ -405,7 +405,7 @@ module _ (digest : List ℕ → List ℕ) (held : Strings) (n level : ℕ) (root
         down e (inl f) = record { rows = e.rows; fit = f.1; root_is = e.root_is; are_held = e.are_held }
         down e (inr f) = absurd (omega (arith, f.3, none))
 
-    -- the lowest row, and the value that it leads to
+    -- the lowest row, and the value to which it leads
     pub record HasLowest (width : ℕ) : Type 0 where
       pub above : List ℕ
       pub up : LeadsUp digest held n (level + 1) root above
@@ -549,7 +549,7 @@ bytes_level n levels level false z later rows (inr f) =
     (ap (λ (rs : List (List (List ℕ))). row ∷ rs) after.1.1 ∙ sym f.2) in
     (row_text row ∷ after.0, (widths, whole))
 
--- rows that fit, in the words of another crate
+-- rows with these widths, in the words of another crate
 rows_from : (n levels level : ℕ) (rows : List (List (List ℕ))) → Fit n levels level rows →
     AreEdgeRows n levels level rows
 rows_from n zero level rows f = f
@@ -563,7 +563,7 @@ bytes_of_rows n zero level rows fit = ([], (refl, sym fit))
 bytes_of_rows n (suc levels) level rows fit =
     bytes_level n levels level (nat_eq (width_of n level) 0) refl (bytes_of_rows n levels (level + 1)) rows fit
 
--- the edge of a head, as rows of bytes
+-- the right edge of a tree, as rows of bytes
 pub edge_is : (digest : List ℕ → List ℕ) (held : Strings) (n : ℕ) (root : List ℕ) (b : Bool) →
     IsTrue b ↔ HoldsEdgeFrom digest held n 0 root → IsTrue b ↔ HoldsEdge digest held n root
 unfolding edge_levels

@@ -1,4 +1,4 @@
--- What holds of sets that have nothing.
+-- Properties of empty sets.
 use Rattle.std.proofs.Common.{◌≡◌, ℕ, List, sym, subst}
 use Rattle.std.specs.FinSet as set
 use Rattle.std.specs.FinSet.{contains-empty}

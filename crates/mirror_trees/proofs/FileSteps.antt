@@ -1,4 +1,4 @@
--- The entries of a tree that is held whole, from all its leaf hashes.
+-- The entries of a held tree, from all its leaf hashes.
 use Rattle.std.proofs.Common.{◌≡◌, ℕ, ◌*◌, ◌+◌, ◌^◌, ◌<◌, ◌≤◌, List, [], ◌∷◌, length, map, ap, ◌∙◌, subst, arith}
 use Rattle.std.proofs.Common.{All, Option, Some, None}
 use Rattle.std.specs.Prelude.{IsSomeAnd, IfNone}
@@ -22,7 +22,7 @@ at_some_and o x P is h = subst (λ p. IsSomeAnd p P) is h
 pub at_none : {X : Type 0} (o : Option X) (P : Type 0) → o ≡ None → IfNone o P → P
 at_none o P is h = subst (λ p. IfNone p P) is h
 
--- what holds of each item that is made holds of what it is made from
+-- a property of each mapped item is a property of the item before the map
 pub all_of_map : {X Y : Type 0} (P : X → Type 0) (f : Y → X) (ys : List Y) → All P (map f ys) → All (λ y. P (f y)) ys
 all_of_map P f [] h = All-nil (λ y. P (f y))
 all_of_map P f (y ∷ ys) h =
@@ -53,7 +53,7 @@ module _ (digest : List ℕ → List ℕ) (held : Strings) (size : ℕ) (root : 
   all_row : (row : List (List ℕ)) → row ≡ full_row digest es 0 → row ≡ level_row digest es 0 (256 * 0) size
   all_row row is = is ∙ ap (λ n. level_row digest es 0 0 n) (div-one (length es) ∙ tree.size_is)
 
-  -- what stands at all the leaf hashes are the entries
+  -- the entries of all the leaf hashes are the entries of the tree
   pub all_leaves : NoClash digest held → (row xs : List (List ℕ)) → row ≡ full_row digest es 0 →
       AreLeaves digest held row xs → xs ≡ es
   all_leaves clean row xs row_is h =

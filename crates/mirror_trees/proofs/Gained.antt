@@ -50,7 +50,7 @@ module _ (left right all : List (List ℕ)) (last : List ℕ) (both : IsBoth lef
       gained_then u w z all (gained_right u v w f g)
       (gained_one r w z s all ((both s).1 (inr (inr s_is))) done kept)
 
--- ---- rows one above another
+-- ---- rows above each other
 
 pub gained_above : (u v w : Strings) (all rest xs : List (List ℕ)) → ((s : List ℕ) → Has u s → Has v s) →
     set.union v (set.from_list rest) ≡ set.union u (set.from_list all) →

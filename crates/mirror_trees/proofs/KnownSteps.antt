@@ -1,4 +1,4 @@
--- What is known of trees, as more of them are found held.
+-- The known trees, as more of them are found held.
 use Rattle.std.proofs.Common.{◌≡◌, ℕ, ◌-◌, ◌≤◌, List, [], ◌∷◌, ◌++◌, length, sym, refl, subst, Bool, true, false, ◌⊎◌, inl, inr}
 use Rattle.std.proofs.Common.{Result, Ok, Err, eqb}
 use Rattle.std.specs.Prelude.{IsTrue, OnOk, OnErr, ◌↔◌}
@@ -18,14 +18,14 @@ use Rattle.mirror_trees.proofs.Descents.{one-tree, join-tree}
 use Rattle.mirror_trees.proofs.Settles.{mark_cases}
 use Rattle.mirror_trees.proofs.SliceSteps.{point_at}
 
--- what adding a size and hash to a set leaves
+-- the set after a size and hash were added, or not
 pub noted : {E : Type 0} (r : Result (Unit {0}) E) (v w : Points) (p : Point) → OnOk r (w ≡ set.insert v p) →
     OnErr r (w ≡ v) → (q : Point) → HasMark w q → (q ≡ p) ⊎ HasMark v q
 noted (Ok x) v w p is same q h = mark_cases v p q (subst (λ s. HasMark s q) is h)
 noted (Err e) v w p is same q h = inr (subst (λ s. HasMark s q) same h)
 
 module _ (digest : List ℕ → List ℕ) (held : Strings) where
-  -- what is known is held
+  -- a known tree is held
   pub known_built : (known : HeldTrees) (n : ℕ) (root : List ℕ) → AreKnown digest held known →
       HasMark known.remembered (record { size = n; root = root }) ⊎ HasMark known.built (record { size = n; root = root }) → IsBuilt digest held n root
   known_built known n root k (inl h) = k.remembered.built n root h
@@ -36,7 +36,7 @@ module _ (digest : List ℕ → List ℕ) (held : Strings) where
       IsTrue true ↔ IsBuilt digest held n root
   known_decides known n root b k has held_is = (λ _. known_built known n root k (has held_is), λ _. refl)
 
-  -- a tree that is held is noted
+  -- a held tree is noted
   pub noted_built : (v w : Points) (n : ℕ) (root : List ℕ) → AreBuilt digest held v → IsBuilt digest held n root →
       ((q : Point) → HasMark w q → (q ≡ point_at n root) ⊎ HasMark v q) → AreBuilt digest held w
   noted_built v w n root known b only = record {
@@ -52,7 +52,7 @@ module _ (digest : List ℕ → List ℕ) (held : Strings) where
   noted_known known w n root k b only =
       record { remembered = k.remembered; built = noted_built known.built w n root k.built b only }
 
-  -- an entry that is held, and a tree of which both parts are
+  -- an entry is held, or both parts of a tree are held
   pub leaf_built : (n : ℕ) (root e : List ℕ) → n ≡ 1 → IsHeldAt digest held root (0 ∷ e) → IsBuilt digest held n root
   leaf_built n root e one_is h =
       subst (λ m. IsBuilt digest held m root) (sym one_is)

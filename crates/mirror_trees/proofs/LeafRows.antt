@@ -23,7 +23,7 @@ module _ (digest : List ℕ → List ℕ) (held : Strings) where
   leaves_push (r ∷ row) [] hash entry h at = absurd h
   leaves_push (r ∷ row) (e ∷ entries) hash entry h at = (h.0, leaves_push row entries hash entry h.1 at)
 
-  -- at a hash of the row that has none, there are none for the row
+  -- if one hash of the row has no entry, the row has none
   pub leaves_none : (row entries : List (List ℕ)) (i : ℕ) (d : List ℕ) → i < length row →
       ((e : List ℕ) → IsHeldAt digest held (get_or row i d) (0 ∷ e) → ⊥) → Leaves row entries → ⊥
   leaves_none [] entries i d lt none h = omega (arith, lt)
@@ -43,7 +43,7 @@ module _ (digest : List ℕ → List ℕ) (held : Strings) where
       let rest = leaves_once clean row xs ys p.1 q.1 in
       λ i. drop 1 (same i) ∷ rest i
 
-  -- the row of entries that are held
+  -- the row of held entries
   row_leaves : (xs : List (List ℕ)) → AllByRecursion (Has held) (map (λ e. 0 ∷ e) xs) →
       Leaves (map (leaf_hash digest) xs) xs
   row_leaves [] h = tt
@@ -79,7 +79,7 @@ module _ (digest : List ℕ → List ℕ) (held : Strings) where
           (λ i. head i ∷ (rest ∙ ap (λ ys. map (leaf_hash digest) (take n ys)) next) i) ∙
           ap (λ ys. map (leaf_hash digest) (take (suc n) ys)) (sym e)
 
-  -- the leaves of a bundle of a tree that is held
+  -- the leaves of a bundle of a held tree
   pub bundle_leaves : (size : ℕ) (root : List ℕ) (es : List (List ℕ)) (index width : ℕ) →
       IsTreeOf digest held size root es → (256 * index + width) * 256 ^ 0 ≤ size →
       Leaves (level_row digest es 0 (256 * index) width) (part (256 * index) width es)
@@ -107,7 +107,7 @@ module _ (digest : List ℕ → List ℕ) (held : Strings) where
       none (part (256 * index) width es)
       (subst (λ r. Leaves r (part (256 * index) width es)) (sym row_is) (bundle_leaves size root es index width t fits))
 
--- ---- claims of an answer
+-- ---- properties of an answer
 pub at_some : {X : Type 0} (o : Option X) (x : X) (P : X → Type 0) → o ≡ Some x → IfSome o P → P x
 at_some o x P is h = subst (λ p. IfSome p P) is h
 

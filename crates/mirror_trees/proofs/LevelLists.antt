@@ -1,4 +1,4 @@
--- The numbers of a level one after another, and the paths of all levels.
+-- The numbers of a level in order, and the paths of all levels.
 use Rattle.std.proofs.Common.{zero, suc, ◌≡◌, ℕ, ◌+◌, ◌-◌, ◌*◌, ◌/◌, ◌^◌, ◌<◌, ◌≤◌, List, [], ◌∷◌, ◌++◌, sym, refl}
 use Rattle.std.proofs.Common.{ap, ◌∙◌, subst, arith, inl, inr, Option, Some, None, Bool, true, false, cond}
 use Rattle.std.specs.Prelude.{nat_lt, ⊤, IfSome}
@@ -129,7 +129,7 @@ rises_append (x ∷ xs) ys p q all = (
   rises_append xs ys p.1 q (λ u v cu cv. all u v (suc cu.0, omega (arith, cu.1), cu.2) cv),
 )
 
--- each number that is not below the bound is in what is fresh, and no other
+-- each number that is not below the bound is among the fresh ones, and no other is
 pub fresh_in : (bound : ℕ) (xs : List ℕ) → Rises xs → (x : ℕ) → Contains xs x → bound ≤ x →
     Contains (fresh_from bound xs) x
 fresh_in bound [] p x c le = absurd (nothing_in x c)

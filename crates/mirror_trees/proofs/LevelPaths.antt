@@ -1,4 +1,4 @@
--- The paths of all levels are those that are missing, in order.
+-- The paths of all levels are the missing ones, in order.
 use Rattle.std.proofs.Common.{zero, suc, ◌≡◌, ℕ, ◌+◌, ◌-◌, ◌*◌, ◌/◌, ◌^◌, ◌<◌, ◌≤◌, min, List, [], ◌∷◌, ◌++◌, map, sym, refl}
 use Rattle.std.proofs.Common.{ap, ◌∙◌, subst, arith, inl, inr, true, false}
 use Rattle.std.specs.Prelude.{nat_lt, ◌↔◌}
@@ -162,7 +162,7 @@ unfolding shape
 none_fails digest held root at many f = subst (λ t. WalkFails digest held t 0 root at many) tree_of-none f
 
 module _ (digest : List ℕ → List ℕ) (held : Strings) (size : ℕ) (root : List ℕ) where
-  -- the path is that of a node where the walk fails, of that level or one above
+  -- the path is that of a node where the walk fails, with that level or a higher one
   record IsLostFrom (low : ℕ) (path : Path) : Type 0 where
     at : ℕ
     many : ℕ
@@ -305,7 +305,7 @@ module _ (digest : List ℕ → List ℕ) (held : Strings) (size : ℕ) (root : 
       pub sorted : IsStrictlySortedBy path_cmp paths
       pub exact : (path : Path) → Contains paths path ↔ IsMissing digest held size root path
 
-    -- all eight levels together are what is missing
+    -- the missing paths of all eight levels together are the missing paths
     pub all_missing : size ≤ 256 ^ 8 → (paths : List Path) → IsLevels 8 paths → AreAllMissing paths
     all_missing small paths lists = record {
       sorted = levels_sorted 8 paths (omega arith) lists;

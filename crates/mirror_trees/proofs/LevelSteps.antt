@@ -1,4 +1,4 @@
--- The numbers of the files of a level that are missing, as the walk meets them.
+-- The numbers of a level's missing files, as the walk meets them.
 use Rattle.std.proofs.Common.{zero, suc, ◌≡◌, ℕ, ◌+◌, ◌-◌, ◌/◌, ◌^◌, ◌<◌, ◌≤◌, List, [], ◌∷◌, ◌++◌, length, take, drop}
 use Rattle.std.proofs.Common.{replicate, sym, refl, ap, ◌∙◌, subst, arith, ◌⊎◌, inl, inr, length-take, length-drop}
 use Rattle.std.specs.Prelude.{⊤, Bool, true, false, not, IsTrue}
@@ -117,7 +117,7 @@ module _ (level : ℕ) where
     | inr not ↦ record { numbers = []; lists = inr (not, refl) }
   ]
 
-  -- nodes of few entries are of no level from 1 on
+  -- no file of a level from 1 on has a node of few entries
   pub few_none : (start many : ℕ) (numbers : List ℕ) → 1 ≤ level → many ≤ 256 ^ level →
       ListsNode level start many numbers → numbers ≡ []
   few_none start many numbers some few (inr n) = n.1
@@ -209,7 +209,7 @@ module _ (level : ℕ) where
           }
     ]
 
-    -- ---- a list that has nothing
+    -- ---- an empty list
 
     pub none_lost : (t : Tree ℕ) (start : ℕ) (hash numbers : List ℕ) → Lists t start hash numbers →
         ((at many : ℕ) → Fails t start hash at many → ⊥) → numbers ≡ []
@@ -236,7 +236,7 @@ module _ (level : ℕ) where
         let b = few_lost r (start + size_of l) y ys some (omega (arith, few)) rs in
         is ∙ (λ i. a i ++ b i)
 
-    -- ---- where the walk fails
+    -- ---- the nodes where the walk fails
 
     pub record IsWithin (start size at many : ℕ) : Type 0 where
       pub from : start ≤ at
@@ -428,7 +428,7 @@ module _ (level : ℕ) where
                   is = is;
                 }
 
-    -- ---- trees that are clear
+    -- ---- clear trees
 
     pub clear_built : ((s : List ℕ) → length (digest s) ≡ 32) → NoClash digest held → (size : ℕ) (root : List ℕ) →
         IsBuilt digest held size root → IsClear digest held level size root
@@ -462,7 +462,7 @@ module _ (level : ℕ) where
         let right = b (start + k) p.right p.right_lists in
         p.is ∙ (λ i. left i ++ right i)
 
-    -- what a step notes
+    -- the notes of a step
 
     pub noted_clear : (v w : Points) (size : ℕ) (root : List ℕ) → AreClear digest held level v →
         IsClear digest held level size root → ((q : Point) → HasMark w q → (q ≡ point_at size root) ⊎ HasMark v q) →

@@ -35,7 +35,7 @@ module _ (digest : List ℕ → List ℕ) (held : Strings) where
       (λ i. size_of-shape (split_of n) i + size_of-shape (n - split_of n) i) ∙
       (let below = split_of-below n two in omega arith)
 
-  -- ---- where a list is held nothing fails
+  -- ---- in a held list the walk fails nowhere
 
   abbrev Sound : List (List ℕ) → Type 0
   Sound es =
@@ -82,7 +82,7 @@ module _ (digest : List ℕ → List ℕ) (held : Strings) where
     sound_all : (es : List (List ℕ)) → Sound es
     sound_all es = induction Sound sound_none sound_one sound_join es
 
-    -- in a tree that is held the walk fails nowhere
+    -- in a held tree the walk fails nowhere
     pub built_not_fails : (size : ℕ) (root : List ℕ) → IsBuilt digest held size root → (start at many : ℕ) →
         Fails (shape size) start root at many → ⊥
     built_not_fails size root b start at many f =
@@ -255,7 +255,7 @@ one_path total start len (Tile level index width) (Tile l i w) h k =
     let b : width ≡ w = h.width_is ∙ sym k.width_is in
     λ j. Tile (e j) (a j) (b j)
 
--- ---- what a step adds to the list
+-- ---- the additions of a step to the list
 
 -- a step that adds the path of the node
 pub adds_one : (total start len : ℕ) (result path : Path) (Lost Old New : Type 0) → IsPathOf total start len result →
@@ -286,7 +286,7 @@ adds_both Left Right Lost Old Mid New lost mid new = (
   ],
 )
 
--- ---- the whole
+-- ---- all missing paths
 
 pub nothing_missing : (digest : List ℕ → List ℕ) (held : Strings) (root : List ℕ) (path : Path) →
     IsMissing digest held 0 root path → ⊥

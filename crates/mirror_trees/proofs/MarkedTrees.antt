@@ -1,4 +1,4 @@
--- What may be remembered of complete heads is held whole.
+-- The points that may be remembered for complete tree heads are those of held trees.
 use Rattle.std.proofs.Common.{◌≡◌, ℕ, ◌+◌, ◌-◌, ◌<◌, ◌≤◌, List, [], ◌∷◌, ◌++◌, length, take, drop, sym, ap, ◌∙◌, subst}
 use Rattle.std.proofs.Common.{arith, inl, inr, length-take, length-drop, take-append-drop}
 use Rattle.std.specs.List.{AllByRecursion}
@@ -22,7 +22,7 @@ module _ (digest : List ℕ → List ℕ) (held : Strings) where
   abbrev AllHeld : List (List ℕ) → Type 0
   AllHeld es = AllByRecursion (Has held) (strings digest es)
 
-  -- the node is a slice of the list, and what its tree hash hashes is held
+  -- the node is a slice of the list, and the strings that its tree hash hashes are held
   record IsSlice (start : ℕ) (es : List (List ℕ)) (x : Node) : Type 0 where
     from : start ≤ x.start
     upto : x.start + x.len ≤ start + length es
@@ -34,7 +34,7 @@ module _ (digest : List ℕ → List ℕ) (held : Strings) where
   sliced_none : Sliced []
   sliced_none start x all n = absurd (subst (λ t. IsNode digest t start x) tree_of-none n)
 
-  -- the whole list
+  -- the complete list
   whole : (es : List (List ℕ)) (start : ℕ) (x : Node) → AllHeld es → x.start ≡ start → x.len ≡ length es →
       IsSlice start es x
   whole es start x all s l = record {
@@ -135,7 +135,7 @@ mark_is_built digest v point m =
       };
     }
 
--- so what a sound mirror remembers needs no walk
+-- so no walk is needed for the points that a sound mirror remembers
 pub sound_is_built : (digest : List ℕ → List ℕ) (state : State) → IsSound digest state →
     AreBuilt digest state.view.strings state.remembered
 sound_is_built digest state s =

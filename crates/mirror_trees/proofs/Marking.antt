@@ -64,7 +64,7 @@ add_point old new key is = same_set point_total point_same (points_of new) (inse
 pub keep_points : (old new : List (ℕ × List ℕ)) → old ≡ new → points_of new ≡ points_of old
 keep_points old new is = ap points_of (sym is)
 
--- ---- how many
+-- ---- the number of points
 
 none_same : (k : ℕ × List ℕ) (keys : List (ℕ × List ℕ)) → AllByRecursion (λ y. same_key k y ≡ false) keys →
     list_any (same_key k) keys ≡ false

@@ -1,4 +1,4 @@
--- The order of the paths of what is missing.
+-- The order of missing paths.
 use Rattle.std.proofs.Common.{◌≡◌, ℕ, sym, refl, ap, ◌∙◌, subst, Bool, true, false, nat_eq, eq-eqb}
 use Rattle.std.specs.Ordering.{nat_cmp, ordering_then, on, then_cmp, flip_args, eq_by_cmp, is_eq}
 use Rattle.std.specs.declared.cmp.Ordering.{Ordering}
@@ -60,7 +60,7 @@ same_order Checkpoint Checkpoint = refl
 pub path_total : IsTotalOrder path_cmp
 path_total = subst IsTotalOrder (λ i a b. same_order a b i) by_numbers_total
 
--- paths that tie are one
+-- paths that compare as equal are equal
 pub then_equal : (a b : Ordering) → ordering_then a b ≡ Equal → (a ≡ Equal) × (b ≡ Equal)
 then_equal Less b h = absurd (cc h)
 then_equal Equal b h = (refl, h)
@@ -87,7 +87,7 @@ path_tied Checkpoint (Tile l i w) h = absurd (cc h)
 path_tied Checkpoint (Entries i w) h = absurd (cc h)
 path_tied Checkpoint Checkpoint h = refl
 
--- ---- a test that is equality, as it is derived
+-- ---- the derived test for equality
 
 first_true : (a b : Bool) → (a && b) ≡ true → a ≡ true
 first_true true b h = refl
@@ -117,7 +117,7 @@ pub record IsDerived (E : Path → Path → Bool) : Type 0 where
   pub bundle_checkpoint : (i w : ℕ) → E (Entries i w) Checkpoint ≡ false
   pub checkpoint_bundle : (i w : ℕ) → E Checkpoint (Entries i w) ≡ false
 
--- the equality that is derived for paths is that of their parts
+-- the derived equality of paths is that of their parts
 pub derived : IsDerived (path_eq.ghosts).eq
 derived = record {
   tiles = λ l i w k j v. refl;

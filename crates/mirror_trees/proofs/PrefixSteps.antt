@@ -1,4 +1,4 @@
--- One step of the two descents that find out whether a tree begins another.
+-- One step of the two descents that decide whether one tree is a prefix of another.
 use Rattle.std.proofs.Common.{◌≡◌, ℕ, ◌+◌, ◌-◌, ◌<◌, ◌≤◌, List, [], ◌∷◌, ◌++◌, length, take, drop, sym, refl, ap, ◌∙◌}
 use Rattle.std.proofs.Common.{subst, Bool, true, false, eqb, not, arith, append_assoc, length-append, take-append-drop}
 use Rattle.std.specs.Prelude.{IsTrue, ◌↔◌, ◌≢◌}
@@ -38,7 +38,7 @@ begins_none : (xs ys : List (List ℕ)) → length xs ≡ 0 → IsPrefix xs ys
 begins_none [] ys none = record { rest = ys; is = refl }
 begins_none (x ∷ xs) ys none = absurd (omega arith)
 
--- at k, within the first list
+-- a split at k, within the first list
 cut_prefix : (k : ℕ) (xs ys : List (List ℕ)) → k ≤ length xs →
     IsPrefix xs ys ↔ ((take k xs ≡ take k ys) × IsPrefix (drop k xs) (drop k ys))
 cut_prefix k xs ys fits = (
@@ -54,7 +54,7 @@ cut_prefix k xs ys fits = (
   },
 )
 
--- what `!=` on hashes tells
+-- the answer of `!=` on hashes
 module _ (x y : List ℕ) (b : Bool) (is : b ≡ not (pointwise eqb x y)) where
   pub differ_tells : b ≡ true → x ≡ y → ⊥
   differ_tells h same =
@@ -69,7 +69,7 @@ module _ (x y : List ℕ) (b : Bool) (is : b ≡ not (pointwise eqb x y)) where
       at true e = refl
       at false e = absurd (cc e)
 
--- a power of two below m, of which the double is at least m
+-- a power of two below m, whose double is at least m
 pub one_split : (m n k : ℕ) → 2 ≤ n → k ≡ split_of n → m ≤ n → k < m → k ≡ split_of m
 one_split m n k two k_is fits above =
     let positive = split_of-positive n two in
@@ -82,7 +82,7 @@ module _ (digest : List ℕ → List ℕ) (held : Strings) (m n : ℕ) (small la
   tells_empty none = (λ _. begins_none xs ys (t.size_is ∙ none), λ _. refl)
 
   module _ (size : (s : List ℕ) → length (digest s) ≡ 32) (clean : NoClash digest held) where
-    -- equal sizes: one hash is one list
+    -- equal sizes: equal hashes mean equal lists
     pub records_equal : m ≡ n → (b : Bool) → b ≡ pointwise eqb small large → IsTrue b ↔ IsPrefix xs ys
     records_equal equal b is =
         let decides = slice_eq-Decides Decides-eqb small large b is in (
@@ -133,7 +133,7 @@ module _ (digest : List ℕ → List ℕ) (held : Strings) (m n : ℕ) (small la
               (differ (sym left_x.root_is ∙ ap (mth digest) ((cut_prefix k xs ys within).0 p).0 ∙ left_y.root_is)),
         )
 
-        -- the left parts are one
+        -- the left parts are equal
         pub tells_beyond : own_l ≡ l →
             ((vs ws : List (List ℕ)) → IsTreeOf digest held (m - k) own_r vs → IsTreeOf digest held (n - k) r ws →
             IsTrue b ↔ IsPrefix vs ws) → IsTrue b ↔ IsPrefix xs ys
@@ -149,14 +149,14 @@ module _ (digest : List ℕ → List ℕ) (held : Strings) (m n : ℕ) (small la
 
 -- ---- forks
 
--- neither of two lists begins the other
+-- neither of two lists is a prefix of the other
 abbrev Apart : List (List ℕ) → List (List ℕ) → Type 0
 Apart xs ys = (IsPrefix xs ys → ⊥) × (IsPrefix ys xs → ⊥)
 
 length_prefix : (xs ys : List (List ℕ)) → IsPrefix xs ys → length xs ≤ length ys
 length_prefix xs ys p = let total = ap length p.is in omega (arith, length-append xs p.rest, total)
 
--- a list that is no longer is apart where it begins not the other
+-- a list that is no longer than another is apart from it if it is no prefix of it
 apart_short : (xs ys : List (List ℕ)) → length xs ≤ length ys → (IsPrefix xs ys → ⊥) → Apart xs ys
 apart_short xs ys short not = (
   not,
@@ -166,7 +166,7 @@ apart_short xs ys short not = (
       not (record { rest = []; is = append-nil xs ∙ sym same }),
 )
 
--- heads that are one have one list, which is not apart from itself
+-- equal tree heads have one list, which is not apart from itself
 apart_differ : (digest : List ℕ → List ℕ) → IsDigest digest → (v : View) → IsLawful digest v →
     (a b : Point) (xs ys : List (List ℕ)) → Complete digest v a.size a.root xs → Complete digest v b.size b.root ys →
     Apart xs ys → a ≢ b

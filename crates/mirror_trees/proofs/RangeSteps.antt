@@ -13,7 +13,7 @@ use Rattle.mirror_model.specs.Complete.{IsTreeOf}
 use Rattle.mirror_trees.proofs.Descents.{left-tree, right-tree}
 
 module _ {A : Type 0} (es : List A) where
-  -- within the first k
+  -- a range within the first k
   pub part-take : (k start len : ℕ) → start + len ≤ k → part start len (take k es) ≡ part start len es
   part-take k start len upto =
       let whole : start + (k - start) ≡ k = omega arith in
@@ -21,13 +21,13 @@ module _ {A : Type 0} (es : List A) where
       ∙ ap (take len) (drop-take start (k - start) es)
       ∙ take-take len (k - start) (drop start es) (omega arith)
 
-  -- past the first k
+  -- a range after the first k
   pub part-drop : (k start len : ℕ) → k ≤ start → part (start - k) len (drop k es) ≡ part start len es
   part-drop k start len past =
       let whole : k + (start - k) ≡ start = omega arith in
       ap (take len) (drop-drop (start - k) k es ∙ ap (λ n. drop n es) whole)
 
-  -- in two
+  -- a range in two parts
   pub part-split : (start j len : ℕ) → j ≤ len → part start len es ≡ part start j es ++ part (start + j) (len - j) es
   part-split start j len upto =
       let whole : len ≡ j + (len - j) = omega arith in
@@ -43,7 +43,7 @@ module _ {A : Type 0} (es : List A) where
   pub part-whole : (start len : ℕ) → start ≡ 0 → len ≡ length es → part start len es ≡ es
   part-whole start len s l = ap (λ n. take len (drop n es)) s ∙ ap (λ n. take n es) l ∙ take-length es
 
--- what is so of a value is so of it
+-- one property from another, for the value of an answer
 pub some_from : {X : Type 0} (r : Option X) (P Q : X → Type 0) → ((x : X) → P x → Q x) → IfSome r P → IfSome r Q
 some_from None P Q f h = tt
 some_from (Some x) P Q f h = f x h
@@ -52,7 +52,7 @@ pub none_from : {X : Type 0} (r : Option X) (P Q : Type 0) → (P → Q) → IfN
 none_from None P Q f h = f h
 none_from (Some x) P Q f h = tt
 
--- a range that lies in both parts
+-- a range in both parts
 pub mth-straddle : (digest : List ℕ → List ℕ) (es : List (List ℕ)) (start len j : ℕ) (a b : List ℕ) → 2 ≤ len →
     start + len ≤ length es → j ≡ split_of len → j < len → a ≡ mth digest (part start j es) →
     b ≡ mth digest (part (start + j) (len - j) es) → digest (1 ∷ a ++ b) ≡ mth digest (part start len es)

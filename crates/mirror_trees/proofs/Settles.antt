@@ -1,4 +1,4 @@
--- What is remembered of a tree, step by step.
+-- The remembered points of a tree, step by step.
 use Rattle.std.proofs.Common.{◌≡◌, ℕ, ◌-◌, ◌≤◌, List, ◌∷◌, ◌++◌, length, sym, ap, ◌∙◌, subst, ◌⊎◌}
 use Rattle.std.proofs.Common.{inl, inr, Result, Ok, Err}
 use Rattle.std.specs.Prelude.{OnOk, OnErr}
@@ -40,7 +40,7 @@ module _ (digest : List ℕ → List ℕ) (held : Strings) where
   pub gains_nothing : (n : ℕ) (root : List ℕ) (v : Points) → AreSettled digest held v → Gains digest held n root v v
   gains_nothing n root v s = record { at_least = λ p h. h; at_most = λ p h. inl h; settled = s }
 
-  -- the whole is added, after all its smaller slices
+  -- the complete tree is added, after all its smaller slices
   module _ (n : ℕ) (root : List ℕ) (some : 1 ≤ n) (b : IsBuilt digest held n root) (v : Points)
       (parts : (p : Point) → IsSliceOf digest held n root p → (p ≡ point_at n root) ⊎ HasMark v p) where
     pub whole_done : HasSlices digest held (set.insert v (point_at n root)) n root
@@ -116,9 +116,9 @@ module _ (digest : List ℕ → List ℕ) (held : Strings) where
           | inr (inr s) ↦ inr (right p s)
         ]
 
--- ---- what adding answers
+-- ---- the answers of adding a point
 
--- the set is as it was, or has the point too
+-- the set is unchanged, or has the point too
 pub added_done : {E : Type 0} (digest : List ℕ → List ℕ) (held : Strings) (n : ℕ) (root : List ℕ)
     (r : Result (Unit {0}) E) (v w : Points) (p : Point) → OnOk r (w ≡ set.insert v p) →
     HasSlices digest held (set.insert v p) n root → OnOk r (HasSlices digest held w n root)
@@ -133,7 +133,7 @@ added_gains digest held n root (Err e) u v w p is same f g = subst (Gains digest
 
 -- ---- laws
 
--- what is held stays so as more is held
+-- held trees stay held if more strings are held
 pub built_stays : (digest : List ℕ → List ℕ) (held more : Strings) →
     ((string : List ℕ) → Has held string → Has more string) → (points : Points) → AreBuilt digest held points →
     AreBuilt digest more points

@@ -23,7 +23,7 @@ abbrev pub point_at : ℕ → List ℕ → Point
 point_at size root = record { size = size; root = root }
 
 module _ (digest : List ℕ → List ℕ) where
-  -- ---- nodes, further on and further back
+  -- ---- nodes, moved forward and back
 
   abbrev up : ℕ → Node → Node
   up d x = record { start = d + x.start; len = x.len; string = x.string }
@@ -178,7 +178,7 @@ module _ (digest : List ℕ → List ℕ) where
                   (sym (part-drop es k m.node.start m.node.len (omega (arith, inside.start_in, sized))));
             }))
 
-  -- ---- the slices of a tree that is held
+  -- ---- the slices of a held tree
 
   from_among : (held : Strings) (n : ℕ) (root : List ℕ) (es : List (List ℕ)) (p : Point) →
       IsTreeOf digest held n root es → IsAmong es p → IsSliceOf digest held n root p
@@ -254,7 +254,7 @@ module _ (digest : List ℕ → List ℕ) where
             | inr (inr a) ↦ inr (inr (from_among held (n - k) r (drop k b.entries) p rights a))
           ]
 
-  -- more is held, and it does not collide
+  -- more strings are held, and they do not collide
   pub slice_stays : (held more : Strings) → ((s : List ℕ) → Has held s → Has more s) →
       (size : (s : List ℕ) → length (digest s) ≡ 32) → NoClash digest more → (n : ℕ) (root : List ℕ) (p : Point) →
       IsBuilt digest held n root → IsSliceOf digest more n root p → IsSliceOf digest held n root p

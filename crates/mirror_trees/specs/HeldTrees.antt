@@ -1,4 +1,4 @@
--- What is known of a store beforehand.
+-- Trees of a store that are known beforehand.
 use Rattle.std.specs.Prelude.{ℕ, List, IsTrue}
 use Rattle.std.specs.FinSet.{contains}
 use Rattle.node_store.specs.Strings.{Strings}
@@ -11,17 +11,17 @@ use Rattle.mirror_trees.specs.declared.known.HeldTrees.{HeldTrees}
 abbrev pub HasMark : Points → Point → Type 0
 HasMark points point = IsTrue (contains points point)
 
--- each size and root of the set is that of a tree that is held
+-- each size and root of the set is that of a held tree
 pub record AreBuilt (digest : List ℕ → List ℕ) (held : Strings) (points : Points) : Type 0 where
   pub built : (size : ℕ) (root : List ℕ) →
       HasMark points (record { size = size; root = root }) → IsBuilt digest held size root
 
--- all that is known of a store beforehand is held
+-- all trees that are known beforehand are held
 pub record AreKnown (digest : List ℕ → List ℕ) (held : Strings) (known : HeldTrees) : Type 0 where
   pub remembered : AreBuilt digest held known.remembered
   pub built : AreBuilt digest held known.built
 
--- what a sound mirror remembers is held whole
+-- the trees that a sound mirror remembers are held
 abbrev pub RememberedIsHeld : Type 0
 RememberedIsHeld =
     (digest : List ℕ → List ℕ) (state : State) → IsSound digest state →

@@ -1,11 +1,10 @@
--- Leaf hashes and the entries that are held at them. The contracts of private functions alone cite
--- these words.
+-- Leaf hashes and their held entries. Only the contracts of private functions cite these words.
 use Rattle.std.specs.Prelude.{ℕ, List, [], ◌∷◌, ⊤}
 use Rattle.node_store.specs.Strings.{Strings, IsHeldAt}
 
 module _ (digest : List ℕ → List ℕ) (held : Strings) where
-  -- the entries stand at the leaf hashes of the row: at each hash the entry of that place is held,
-  -- and there are as many of both
+  -- the entries are those of the row's leaf hashes: for each hash the entry at the same place is held, and both lists
+  -- have one length
   abbrev pub AreLeaves : List (List ℕ) → List (List ℕ) → Type 0
   AreLeaves [] [] = ⊤
   AreLeaves [] (entry ∷ entries) = ⊥

@@ -1,18 +1,19 @@
--- Prefixes of lists of entries, and forks by them.
+-- Prefixes of lists of entries, and the forks that follow from them.
 use Rattle.std.specs.Prelude.{◌≤◌, ◌↔◌, List, ℕ, length}
 use Rattle.mirror_model.specs.View.{View}
 use Rattle.mirror_model.specs.Complete.{Complete, IsLawful}
 use Rattle.mirror_model.specs.Forks.{IsPrefix, Point, IsFork}
 use Rattle.mirror_model.specs.Strings.{IsDigest}
 
--- a list no longer than a prefix of another begins the other exactly where it begins that prefix
+-- if a list is no longer than a prefix of another list, it is a prefix of that list exactly if it is a prefix of that
+-- prefix
 abbrev pub PrefixOfPrefix : Type 0
 PrefixOfPrefix =
     (first second third : List (List ℕ)) → IsPrefix second third → length first ≤ length second →
     IsPrefix first third ↔ IsPrefix first second
 
--- of complete heads by rising size: where the second's list begins the third's, the third is a fork
--- of the first exactly where the second is
+-- for complete tree heads by rising size: if the second's list is a prefix of the third's, the third is a fork of the
+-- first exactly if the second is
 abbrev pub ForksGoOn : Type 0
 ForksGoOn =
     (digest : List ℕ → List ℕ) → IsDigest digest → (v : View) → IsLawful digest v →

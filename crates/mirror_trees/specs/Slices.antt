@@ -1,5 +1,5 @@
--- The slices of a tree that is held, and sets of sizes and hashes that have them all. `Gains` is
--- cited by the contracts of private functions alone.
+-- The slices of a held tree, and sets of sizes and hashes that have them all. Only the contracts of private functions
+-- cite `Gains`.
 use Rattle.std.specs.Prelude.{◌≡◌, ◌⊎◌, ◌↔◌, ℕ, List}
 use Rattle.tlog_hash.specs.Tree.{tree_of, mth}
 use Rattle.tlog_hash.specs.Nodes.{Node, IsNode}
@@ -14,9 +14,8 @@ use Rattle.mirror_model.specs.Strings.{IsDigest}
 use Rattle.mirror_trees.specs.HeldTrees.{HasMark, AreBuilt}
 
 module _ (digest : List ℕ → List ℕ) (held : Strings) where
-  -- the point is a slice of a tree that is held: the number of entries and the tree hash of a part
-  -- that the recursion of MTH (RFC 6962, section 2.1) meets on a list of that size and root, the
-  -- whole list among them
+  -- the point is a slice of a held tree. The recursion of MTH (RFC 6962, section 2.1) on its list meets parts,
+  -- including the complete list. The point is the number of entries and the tree hash of such a part
   pub record IsSliceOf (size : ℕ) (root : List ℕ) (point : Point) : Type 0 where
     pub entries : List (List ℕ)
     pub tree : IsTreeOf digest held size root entries
@@ -29,21 +28,21 @@ module _ (digest : List ℕ → List ℕ) (held : Strings) where
   abbrev pub HasSlices : Points → ℕ → List ℕ → Type 0
   HasSlices points size root = (point : Point) → IsSliceOf size root point → HasMark points point
 
-  -- all that may be remembered is: each size and root of the set is that of a tree that is held,
-  -- and all slices of that tree are in the set too
+  -- the set is settled: each size and root of the set is that of a held tree, and all slices of that tree are in the
+  -- set too
   pub record AreSettled (points : Points) : Type 0 where
     pub known : AreBuilt digest held points
     pub closed : (size : ℕ) (root : List ℕ) → HasMark points (record { size = size; root = root }) → HasSlices points size root
 
-  -- what settling the tree of that size and root adds to what is remembered: slices of that tree at
-  -- most, and what is remembered afterwards is settled
+  -- settling the tree of that size and root adds at most slices of that tree to the remembered points, and afterwards
+  -- the remembered points are settled
   pub record Gains (size : ℕ) (root : List ℕ) (old new : Points) : Type 0 where
     pub at_least : (point : Point) → HasMark old point → HasMark new point
     pub at_most : (point : Point) → HasMark new point →
         HasMark old point ⊎ IsSliceOf size root point
     pub settled : AreSettled new
 
--- what is settled stays settled as more is held, where nothing collides
+-- a settled set stays settled if more strings are held, unless strings collide
 abbrev pub SettledStays : Type 0
 SettledStays =
     (digest : List ℕ → List ℕ) → IsDigest digest → (held more : Strings) →
@@ -51,14 +50,14 @@ SettledStays =
     NoClash digest more → (points : Points) →
     AreSettled digest held points → AreSettled digest more points
 
--- the point is a slice of the tree of a head of the view
+-- the point is a slice of the tree of one of the view's tree heads
 pub record IsHeadSlice (digest : List ℕ → List ℕ) (v : View) (point : Point) : Type 0 where
   pub size : ℕ
   pub root : List ℕ
   pub head : HasHead v size root
   pub slice : IsSliceOf digest v.strings size root point
 
--- what may be remembered of a view are exactly the slices of the trees of its heads
+-- the points that may be remembered for a view are exactly the slices of the trees of its tree heads
 abbrev pub MarksAreSlices : Type 0
 MarksAreSlices =
     (digest : List ℕ → List ℕ) (v : View) (point : Point) →

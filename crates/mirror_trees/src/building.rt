@@ -1,5 +1,5 @@
-//! Trees that are built in a store, in one pass from the leaves up: each string is hashed once, and what
-//! its hashing gives is the hash of the node above it.
+//! Builds trees in a store, in one pass from the leaves up: each string is hashed once, and the result is the hash of
+//! the node above it.
 ghost use Rattle.std.specs.Prelude.{◌≡◌, ◌<◌, length, map, IfOk, OnOk, OnErr};
 ghost use Rattle.std.specs.FinSet as set;
 ghost use Rattle.node_store.specs.Strings.{IsWithout, NoClash, Strings};
@@ -13,16 +13,16 @@ use std::alloc::Global;
 use tlog_hash::{Hash, TreeHash};
 use tlog_shape::split;
 
-/// Adds the strings that join the hashes of a row, and gives the hash over them: the tree hash of a list of which
-/// these are the leaf hashes (RFC 6962, section 2.1), as over the row of a full tile (C2SP tlog-tiles).
+/// Adds the strings that join the hashes of a row, and gives the hash over them. That is the tree hash of a list with
+/// these leaf hashes (RFC 6962, section 2.1), as over the row of a full tile (C2SP tlog-tiles).
 ///
-/// Each string is hashed once, and of each the store is asked once.
+/// It hashes each string once, and looks it up in the store once.
 ///
 /// # Errors
 ///
-/// `Collision` comes only where the strings of the store and of the row collide. Where they collide the answer is it or
-/// `OutOfMemory`, which comes where memory was refused. After either the store has what it had, and besides that strings
-/// of the row at most.
+/// `Collision` only if the strings of the store and of the row collide; `OutOfMemory` if memory was refused. If the
+/// strings collide, the answer is one of the two. After either fault the store has all its earlier strings, and some
+/// strings of the row may be added.
 pub fn add_row<H: TreeHash>(store: &mut Store<H>, row: &[Hash]) -> Result<Hash, AddFault>
     requires some { 0 < length row.now }
     requires no_clash { NoClash H.digest store.old }
@@ -46,12 +46,12 @@ pub fn add_row<H: TreeHash>(store: &mut Store<H>, row: &[Hash]) -> Result<Hash, 
 /// Adds the strings that the tree hash of a list of entries hashes, and gives that hash (RFC 6962, section 2.1). The
 /// hash of no entries is that of no bytes, and is not added.
 ///
-/// Each string is hashed once, and of each the store is asked once. Each entry is copied once, into the store.
+/// It hashes each string once, and looks it up in the store once. It copies each entry once, into the store.
 ///
 /// # Errors
 ///
-/// `Collision` comes only where the strings of the store and of the tree collide. Where they collide the answer is it or
-/// `OutOfMemory`, which comes where memory was refused. After either the store is as it was.
+/// `Collision` only if the strings of the store and of the tree collide; `OutOfMemory` if memory was refused. If the
+/// strings collide, the answer is one of the two. After either fault the store is unchanged.
 pub fn add_entries<H: TreeHash>(
     alloc: Global,
     store: &mut Store<H>,
@@ -79,7 +79,7 @@ pub fn add_entries<H: TreeHash>(
     }
 }
 
-// Adds the strings of the tree of these entries, and gives its hash. The digests of those that are new are noted.
+// Adds the strings of the tree of these entries, and gives its hash. It notes the digests of the new strings.
 fn add_part<H: TreeHash>(
     store: &mut Store<H>,
     entries: &[&[u8]],
@@ -108,17 +108,17 @@ fn add_part<H: TreeHash>(
     }
 }
 
-/// Adds the strings of rows, lowest first, each of which has the value so far as one more hash at its end, and gives
-/// the value that they lead to. The value so far is `start` at first, and then the hash over the row before.
+/// Adds the strings of rows, lowest first, and gives the value to which they lead. Each row has the value so far as one
+/// more hash at its end. The value so far is `start` at first, and then the hash over the row before.
 ///
-/// So the rows of the partial tiles at the right edge of a tree (C2SP tlog-tiles), the lowest left out, lead from the
-/// hash over the lowest to the root.
+/// For example, take the rows of the partial tiles at the right edge of a tree (C2SP tlog-tiles), without the lowest
+/// one. They lead from the hash over the lowest one to the root.
 ///
 /// # Errors
 ///
-/// `Collision` comes only where the strings of the store and of the rows collide. Where they collide the answer is it or
-/// `OutOfMemory`, which comes where memory was refused. After either the store has what it had, and besides that strings
-/// of the rows at most.
+/// `Collision` only if the strings of the store and of the rows collide; `OutOfMemory` if memory was refused. If the
+/// strings collide, the answer is one of the two. After either fault the store has all its earlier strings, and some
+/// strings of the rows may be added.
 pub fn add_above<H: TreeHash>(
     store: &mut Store<H>,
     start: Hash,

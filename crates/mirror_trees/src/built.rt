@@ -9,10 +9,10 @@ use std::alloc::AllocError;
 use tlog_hash::{Hash, TreeHash};
 use tlog_shape::split;
 
-/// Whether the store holds all strings of the tree of a list of that size and root (RFC 6962, section 2.1), the strings
-/// of its entries among them.
+/// Whether the store holds all strings of the tree of a list with that size and root (RFC 6962, section 2.1), including
+/// the strings of its entries.
 ///
-/// It does not walk into what is known, each of which is to be held, nor into the second of two equal halves. It takes
+/// It walks neither into known trees, all of which have to be held, nor into the second of two equal halves. It takes
 /// no memory.
 pub fn is_built<H: TreeHash>(store: &Store<H>, known: &HeldTrees, size: u64, root: &Hash) -> bool
     requires { AreKnown H.digest store.now known.now }
@@ -42,13 +42,13 @@ pub fn is_built<H: TreeHash>(store: &Store<H>, known: &HeldTrees, size: u64, roo
     is_built(store, known, size - k, &right)
 }
 
-/// Whether that tree is held, as `is_built` answers it. What it finds held whole it notes among what is known, but for
-/// trees of few entries, and no later walk goes into that again. So its time goes by the number of different trees, and
-/// not by that of entries.
+/// Whether that tree is held, like `is_built`. It notes the trees that it finds held among the known ones, except small
+/// trees, and no later walk enters those again. So its time grows with the number of different trees, and not with that
+/// of entries.
 ///
 /// # Errors
 ///
-/// `AllocError` comes only where a growth was refused. What was known before is known still.
+/// `AllocError` only if a growth was refused. It keeps all trees that were known before.
 pub fn check_built<H: TreeHash>(
     store: &Store<H>,
     known: &mut HeldTrees,

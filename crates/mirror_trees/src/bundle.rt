@@ -11,13 +11,13 @@ use node_store::Store;
 use std::alloc::{AllocError, Global};
 use tlog_hash::{Hash, TreeHash};
 
-/// The entries of a bundle (C2SP tlog-tiles, "Log Entries") of the tree of that size and root: as many as `width`, from
-/// the one with the number `256 * index` on. They are lent from the store. `None` where the bundle is not within the
-/// tree; so it is for a width outside 1 to 256. Where the tree is not held nothing else is said of the answer.
+/// The entries of a bundle (C2SP tlog-tiles, "Log Entries") of the tree with that size and root: `width` entries, from
+/// number `256 * index` on. They are borrowed from the store. `None` if the bundle is not within the tree, as for a
+/// width outside 1 to 256. If the tree is not held, the contract says nothing else about the answer.
 ///
 /// # Errors
 ///
-/// `AllocError` comes only where a growth was refused.
+/// `AllocError` only if a growth was refused.
 pub fn entries_at<'a, H: TreeHash>(
     alloc: Global,
     store: &'a Store<H>,

@@ -1,4 +1,4 @@
-//! How many paths may be missing of a tree, counted before they are listed.
+//! The number of paths that may be missing in a tree, counted before they are listed.
 ghost use Rattle.std.specs.Prelude.{◌≡◌, ◌≤◌, ◌≢◌, IfOk, IfSome};
 ghost use Rattle.mirror_model.specs.Complete.{IsBuilt};
 ghost use Rattle.mirror_trees.specs.HeldTrees.{AreBuilt, AreKnown};
@@ -12,21 +12,21 @@ use std::collections::HashMap;
 use tlog_hash::{Hash, TreeHash};
 use tlog_shape::split;
 
-// What was counted of trees that are not held whole, by size and hash.
+// The counts of trees that are not held completely, by size and hash.
 #[derive(Drop)]
 pub(crate) struct Counts {
     counts: HashMap<MarkKey, u64>,
 }
 
 impl Counts {
-    // Nothing was counted. It takes no memory.
+    // No counts. It takes no memory.
     pub(crate) fn new(alloc: Global) -> Self {
         Counts {
             counts: HashMap::new(alloc),
         }
     }
 
-    // What was counted of a tree, if it has many entries.
+    // The count of a tree, if it has many entries and was counted.
     fn of(&self, size: u64, root: &Hash) -> Option<u64>
         ensures { IfSome result (λ count. count ≢ 0) }
     {
@@ -39,7 +39,7 @@ impl Counts {
         }
     }
 
-    // Keeps what was counted of a tree, if it has many entries.
+    // Keeps the count of a tree, if it has many entries.
     fn keep(&mut self, size: u64, root: &Hash, count: u64) -> Result<(), AllocError> {
         if size < MANY {
             return Ok(());
@@ -51,11 +51,11 @@ impl Counts {
     }
 }
 
-// How many paths the nodes have where the walk from a root fails: 0 only where the tree is held. Those of one bundle
-// count once, and those of one tile as often as it has such nodes.
+// The number of paths for the nodes where the walk from a root fails: 0 only if the tree is held. Nodes in one bundle
+// count once; a tile counts once for each such node.
 //
-// A tree that stands at several places is walked once, while the list would have its paths at each. So it takes no
-// longer than what is held is large, and the memory of the whole list can be asked for at once.
+// A tree that occurs at several places is walked once, while the list has its paths for each place. So the time is
+// limited by the number of held strings, and the memory of the complete list can be requested at once.
 pub(crate) fn count_lost<H: TreeHash>(
     store: &Store<H>,
     known: &HeldTrees,
@@ -102,7 +102,7 @@ pub(crate) fn count_lost<H: TreeHash>(
     Ok(count)
 }
 
-// The count of a tree of that size, of the counts of its parts.
+// The count of a tree of that size, from the counts of its parts.
 fn count_of(size: u64, first: u64, second: u64) -> u64
     ensures first { result ≡ 0 → first ≡ 0 }
     ensures second { result ≡ 0 → second ≡ 0 }

@@ -1,4 +1,4 @@
-//! Whether the edge of a head is held.
+//! Whether the right edge of a tree is held.
 ghost use Rattle.std.specs.Prelude.{◌≡◌, ◌↔◌, ◌≤◌, ℕ, List, IfNone, IfSome, IsTrue};
 ghost use Rattle.node_store.specs.Strings.{NoClash};
 ghost use Rattle.mirror_model.specs.Complete.{HoldsEdge};
@@ -8,7 +8,7 @@ use node_store::Store;
 use tlog_hash::{Hash, TreeHash};
 use tlog_shape::{edge_width, split};
 
-// The last of so many hashes that fold to this one, where all their joins are held.
+// The last of `count` hashes that fold to this one, if all their joins are held.
 fn last_of_row<H: TreeHash>(store: &Store<H>, count: u64, hash: &Hash) -> Option<Hash>
     requires some { 1 ≤ count }
     requires clean { NoClash H.digest store.now }
@@ -33,7 +33,7 @@ fn last_of_row<H: TreeHash>(store: &Store<H>, count: u64, hash: &Hash) -> Option
     last_of_row(store, count - k, &right)
 }
 
-// The value that the levels below this one lead to, read off the root.
+// The value to which the levels below this one lead, found from the root.
 fn value_below<H: TreeHash>(store: &Store<H>, size: u64, root: &Hash, level: u32) -> Option<Hash>
     requires within { level ≤ 8 }
     requires clean { NoClash H.digest store.now }
@@ -56,7 +56,7 @@ fn value_below<H: TreeHash>(store: &Store<H>, size: u64, root: &Hash, level: u32
     last_of_row(store, width as u64 + 1, &value)
 }
 
-// Whether the edge is held, where no level below this one has a part of it.
+// Whether the right edge is held, if no level below this one has a part of it.
 fn holds_edge_from<H: TreeHash>(store: &Store<H>, size: u64, root: &Hash, level: u32) -> bool
     requires within { level ≤ 8 }
     requires clean { NoClash H.digest store.now }
@@ -75,8 +75,9 @@ fn holds_edge_from<H: TreeHash>(store: &Store<H>, size: u64, root: &Hash, level:
     last_of_row(store, width as u64, &value).is_some()
 }
 
-/// Whether rows as wide as the edge of a tree of that size (C2SP tlog-tiles, "Merkle Tree") lead to the root, and all
-/// that is hashed on the way is held: what a head brings. It takes no memory.
+/// Whether the right edge of a tree is held (C2SP tlog-tiles, "Merkle Tree"). It is, if rows with its widths lead to
+/// the root, and the store holds all strings that are hashed on the way. These are the strings that a take of a tree
+/// head adds. It takes no memory.
 pub fn holds_edge<H: TreeHash>(store: &Store<H>, size: u64, root: &Hash) -> bool
     requires { NoClash H.digest store.now }
     ensures { IsTrue result ↔ HoldsEdge H.digest store.now size root.now }

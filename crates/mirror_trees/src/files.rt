@@ -12,8 +12,8 @@ use tlog_files::LogFiles;
 use tlog_hash::{Hash, TreeHash};
 use tlog_tiles::write_row;
 
-/// The files of the log whose tree, of that size and root, is held whole, laid out. They are always found. Nothing is
-/// hashed: each hash and each entry is read from the store.
+/// The files of a log, laid out. The tree with that size and root has to be held; then the answer is `Some`. It hashes
+/// nothing: each hash and each entry is read from the store.
 ///
 /// ```text
 /// let root = add_entries(alloc, &mut store, &[b"a", b"b", b"c"])?;
@@ -47,7 +47,7 @@ pub fn files_of<H: TreeHash>(
     Ok(Some(LogFiles::from_rows(alloc, entries.as_slice(), *root, rows)?))
 }
 
-// The hashes of all full nodes of a level. `None` where the tree is not held so far.
+// The hashes of all full nodes of a level. `None` if a part of the tree is not held.
 fn level_hashes<H: TreeHash>(
     alloc: Global,
     store: &Store<H>,
@@ -72,7 +72,7 @@ fn level_hashes<H: TreeHash>(
     }
 }
 
-// The bytes of the hashes of all levels, of which those are the lowest. `None` where the tree is not held so far.
+// The bytes of the hashes of all levels, given the hashes of the lowest ones. `None` if a part of the tree is not held.
 fn rows_above<H: TreeHash>(
     alloc: Global,
     store: &Store<H>,

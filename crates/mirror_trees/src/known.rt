@@ -1,4 +1,4 @@
-//! What is known of trees beforehand.
+//! Trees that are known beforehand.
 ghost use Rattle.std.specs.Prelude.{◌≡◌, ◌⊎◌, IsTrue};
 ghost use Rattle.std.specs.FinSet as set;
 ghost use Rattle.mirror_model.specs.Forks.{Point};
@@ -8,26 +8,26 @@ use crate::marks::Marks;
 use std::alloc::{AllocError, Global};
 use tlog_hash::Hash;
 
-// The number of entries from which on a tree that is found held is noted. A walk through a smaller one is short.
+// The number of entries from which on a held tree is noted. A walk through a smaller one is short.
 pub(crate) const MANY: u64 = 32;
 
-/// What is known of the trees of a store, so that no walk goes into them.
+/// The known trees of a store, so that no walk enters them.
 ///
 /// ```text
 /// let mut known = HeldTrees::new(alloc);
 /// settle(&store, &mut known, 3, &root)?;
-/// known.remembered.len()  // 5, where the tree of three different entries is held
+/// known.remembered.len()  // 5, if the tree of three different entries is held
 /// ```
 #[derive(Drop)]
 pub struct HeldTrees {
-    /// What is remembered: of each tree that was settled and is held whole all its slices.
+    /// The remembered points: all slices of each tree that was settled and is held.
     pub remembered: Marks,
-    /// Trees of many entries that a walk found held whole, slices of trees that are not held among them.
+    /// Trees of many entries that a walk found held, including slices of trees that are not held.
     pub built: Marks,
 }
 
 impl HeldTrees {
-    /// Nothing is known. It takes no memory.
+    /// No tree is known. It takes no memory.
     pub fn new(alloc: Global) -> Self
         ensures remembered { result.remembered ≡ set.empty }
         ensures built { result.built ≡ set.empty }
@@ -48,14 +48,14 @@ impl HeldTrees {
     }
 }
 
-// Whether a tree was noted as one that is held.
+// Whether a tree was noted as held.
 pub(crate) fn is_noted(built: &Marks, size: u64, root: &Hash) -> bool
     ensures { IsTrue result → HasMark built.now (record { size = size; root = root.now }) }
 {
     size >= MANY && built.contains(size, root)
 }
 
-// Notes a tree that is held, if it has many entries.
+// Notes a held tree, if it has many entries.
 pub(crate) fn note_built(built: &mut Marks, size: u64, root: &Hash) -> Result<(), AllocError>
     ensures { (point : Point) → HasMark built.new point
         → (point ≡ record { size = size; root = root.now }) ⊎ HasMark built.old point }

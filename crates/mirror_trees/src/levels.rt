@@ -1,4 +1,4 @@
-//! What is missing of a tree, level by level.
+//! The missing files of a tree, level by level.
 ghost use Rattle.std.specs.Prelude.{◌≡◌, ◌+◌, ◌*◌, ◌^◌, ◌≤◌, ◌<◌, ℕ, List, IfOk, IfSome, IsTrue, ◌↔◌};
 ghost use Rattle.node_store.specs.Strings.{NoClash};
 ghost use Rattle.tlog_hash.specs.Shape.{shape};
@@ -13,10 +13,11 @@ use std::alloc::{AllocError, Global};
 use tlog_hash::{Hash, TreeHash};
 use tlog_shape::{edge_index, split};
 
-/// Of the trees of many entries that the walk from the root of that size meets: those of which no file of that level is
-/// missing. `next_missing` does not go into them. Of level 0 the files are the bundles, and of a level from 1 on its tiles.
+/// The clear trees of that level: among the trees of many entries that the walk from the root meets, those without
+/// missing files of that level. `next_missing` does not enter them. The files of level 0 are the bundles, and those of
+/// a level from 1 on are its tiles.
 ///
-/// It goes into each tree of many entries once, wherever that is.
+/// It enters each tree of many entries once, for all its places.
 ///
 /// ```text
 /// let clear = clear_of(alloc, &store, &known, 0, size, &root)?;
@@ -25,7 +26,7 @@ use tlog_shape::{edge_index, split};
 ///
 /// # Errors
 ///
-/// `AllocError` comes only where a growth was refused.
+/// `AllocError` only if a growth was refused.
 pub fn clear_of<H: TreeHash>(
     alloc: Global,
     store: &Store<H>,
@@ -47,8 +48,8 @@ pub fn clear_of<H: TreeHash>(
     Ok(clear)
 }
 
-// True only if no file of that level is missing of the tree. It notes each such tree of many entries among those that are
-// clear, and each other one among those that it has seen.
+// True only if no file of that level is missing in the tree. It notes each such tree of many entries as clear, and each
+// other one as seen.
 fn note_clear<H: TreeHash>(
     store: &Store<H>,
     known: &HeldTrees,
@@ -101,10 +102,11 @@ fn note_clear<H: TreeHash>(
     Ok(false)
 }
 
-/// The number of the first file of that level, from the number `from` on, that is missing of the tree of that size and
-/// root. `None` exactly where none is. Of level 0 the files are the bundles, and of a level from 1 on its tiles.
+/// The number of the first missing file of that level, from the number `from` on, in the tree with that size and root.
+/// `None` exactly if no such file is missing. The files of level 0 are the bundles, and those of a level from 1 on are
+/// its tiles.
 ///
-/// It goes down to that file, and not into what is clear. It takes no memory.
+/// It goes down to that file, and enters no clear tree. It takes no memory.
 pub fn next_missing<H: TreeHash>(
     store: &Store<H>,
     known: &HeldTrees,
@@ -128,7 +130,7 @@ pub fn next_missing<H: TreeHash>(
     next_lost(store, known, clear, level, from, 0, size, root)
 }
 
-// The same of the subtree of `size` entries from `start` on.
+// The same for the subtree of `size` entries from `start` on.
 fn next_lost<H: TreeHash>(
     store: &Store<H>,
     known: &HeldTrees,
@@ -187,7 +189,7 @@ fn next_lost<H: TreeHash>(
     }
 }
 
-// The number of the file of that level that has the node, if one has it and the number is not below `from`.
+// The number of the file of that level that has the node, if there is one and its number is not below `from`.
 fn number_from(level: u32, from: u64, start: u64, size: u64) -> Option<u64>
     requires level { level ≤ 7 }
     ensures { (numbers : List ℕ) → ListsNode level start size numbers → result ≡ first_from from

@@ -1,10 +1,13 @@
-//! Trees that a store holds: built in it, and walked through it.
+//! The trees that a store holds: they are built in it, and walked through it.
 //!
-//! A tree (RFC 6962, section 2.1) is given by its size and its root hash. `add_entries`, `add_row` and `add_above`
-//! add the strings of a tree from the leaves up. From the root down, `is_built` tells whether all of a tree is held,
-//! `missing_of` names the files of a log that have what is not (C2SP tlog-tiles), `row_at` and `entries_at` give the
-//! hashes of a tile and the entries of a bundle, `range_hash` the hash of a range, and `is_prefix` tells whether one
-//! tree begins another. `settle` remembers a tree that is held, so that no later walk goes into it.
+//! A tree (RFC 6962, section 2.1) is given by its size and its root hash. `add_entries`, `add_row` and `add_above` add
+//! the strings of a tree from the leaves up. The other calls go from the root down:
+//! - `is_built` says whether a tree is held;
+//! - `missing_of` names the files of a log that have the missing strings (C2SP tlog-tiles);
+//! - `row_at` and `entries_at` give the hashes of a tile and the entries of a bundle;
+//! - `range_hash` gives the hash of a range;
+//! - `is_prefix` says whether one tree is a prefix of another;
+//! - `settle` remembers a held tree, so that no later walk enters it.
 //!
 //! ```text
 //! let mut store: Store<Sha256Tree> = Store::new(alloc);

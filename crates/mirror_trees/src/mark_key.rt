@@ -8,9 +8,9 @@ ghost use Rattle.std.proofs.Common.{rules};
 use std::hash::{Hash, Hasher};
 use std::marker::Model;
 
-// A size with a hash, as a key of the set. It is seen as the two.
+// A size with a hash, as a key of the set. Contracts see the two.
 //
-// The set's hasher is given the bytes of the hash in one piece: those of an array it is given one by one.
+// The hash's bytes go to the set's hasher in one piece; the bytes of an array would go one by one.
 #[derive(Drop)]
 pub(crate) struct MarkKey {
     size: u64,

@@ -1,4 +1,4 @@
-//! The sizes and hashes that are remembered.
+//! The remembered sizes and hashes.
 ghost use Rattle.std.specs.Prelude.{◌≡◌, ◌↔◌, IsTrue, OnOk, OnErr};
 ghost use Rattle.std.specs.FinSet as set;
 ghost use Rattle.mirror_trees.specs.HeldTrees.{HasMark};
@@ -9,7 +9,7 @@ use std::collections::HashSet;
 use std::marker::Model;
 use tlog_hash::Hash;
 
-/// A set of sizes with hashes: what is remembered of trees.
+/// A set of sizes with hashes: the remembered points of trees.
 ///
 /// ```text
 /// let mut marks = Marks::new(alloc);
@@ -47,7 +47,7 @@ impl Marks {
     ///
     /// # Errors
     ///
-    /// `AllocError` comes only where a growth was refused. The set is as it was.
+    /// `AllocError` only if a growth was refused. The set is then unchanged.
     pub fn add(&mut self, size: u64, root: &Hash) -> Result<(), AllocError>
         ensures ok { OnOk result (self.new
             ≡ set.insert self.old (record { size = size; root = root.now })) }
@@ -59,7 +59,7 @@ impl Marks {
         Ok(())
     }
 
-    /// How many there are. It takes no memory.
+    /// The number of points. It takes no memory.
     pub fn len(&self) -> usize
         ensures { result ≡ set.len self.now }
     {

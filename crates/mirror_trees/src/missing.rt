@@ -1,4 +1,4 @@
-//! What is missing of a tree.
+//! The missing paths of a tree.
 ghost use Rattle.std.specs.Prelude.{◌≡◌, ◌↔◌, ◌⊎◌, ◌+◌, ◌≤◌, ◌<◌, ◌^◌, IfOk, OnOk, IsTrue};
 ghost use Rattle.std.specs.List.{Contains};
 ghost use Rattle.std.specs.List.Sorted.{IsStrictlySortedBy};
@@ -21,19 +21,19 @@ use tlog_hash::{Hash, TreeHash};
 use tlog_shape::{edge_index, split};
 use tlog_tiles::Path;
 
-/// The paths (C2SP tlog-tiles) of the nodes where the walk from the root of that size fails: full tiles by falling level
-/// and rising index, then bundles by rising index, each once. There is none exactly where the tree is held.
+/// The paths (C2SP tlog-tiles) of the nodes where the walk from the root of that size fails, each once. Full tiles come
+/// by falling level and rising index, then bundles by rising index. The list is empty exactly if the tree is held.
 ///
-/// From a node of two or more entries the walk goes on to both parts where the pair of its hash is held, and else
-/// fails there; at one entry it fails where no entry of the hash is held. It does not go into what is known, each of which
-/// is to be held, nor again into a tree of many entries that it found held whole.
+/// At a node of two or more entries, the walk goes on to both parts if the pair of its hash is held; else it fails
+/// there. At one entry it fails if no entry with the hash is held. It enters no known tree, all of which have to be
+/// held, and enters no tree of many entries again that it found held.
 ///
-/// A tree of equal entries may stand at so many places that no memory has all paths. They are counted first, and the
-/// memory of the list is asked for at once.
+/// A tree of equal entries may occur at so many places that the paths exceed all memory. So it counts them first, and
+/// requests the memory of the list at once.
 ///
 /// # Errors
 ///
-/// `AllocError` comes only where a growth was refused. Where the list is too long for the memory it comes before a path is
+/// `AllocError` only if a growth was refused. If the list is too long for the memory, the fault comes before a path is
 /// made.
 pub fn missing_of<H: TreeHash>(
     alloc: Global,
@@ -53,7 +53,7 @@ pub fn missing_of<H: TreeHash>(
     Ok(paths)
 }
 
-// The paths that are missing of a head, in the order of the walk, and some more than once.
+// The missing paths of a tree, in the order of the walk, and some more than once.
 fn all_lost<H: TreeHash>(
     alloc: Global,
     store: &Store<H>,
@@ -77,7 +77,7 @@ fn all_lost<H: TreeHash>(
     Ok(paths)
 }
 
-// Sorts paths, and leaves each once.
+// Sorts paths, and removes duplicates.
 fn put_in_order(paths: &mut Vec<Path>)
     ensures sorted { IsStrictlySortedBy path_cmp paths.new.items }
     ensures same { (path : AnyPath) → Contains paths.new.items path
@@ -115,8 +115,8 @@ fn order(a: &Path, b: &Path) -> Ordering
     }
 }
 
-// Adds the paths of the nodes where the walk fails, of the subtree of `size` entries from `start` on in a tree of
-// `total`. True where there are none. What it finds held whole it notes among what was found.
+// Adds the paths of the nodes where the walk fails, for the subtree of `size` entries from `start` on in a tree of
+// `total`. True if there are none. It notes the trees that it finds held.
 fn push_lost<H: TreeHash>(
     store: &Store<H>,
     known: &HeldTrees,
@@ -179,7 +179,7 @@ fn push_lost<H: TreeHash>(
     Ok(true)
 }
 
-// Adds a path that is not the last one.
+// Adds a path, unless it is the last one already.
 fn push_path(paths: &mut Vec<Path>, path: Path) -> Result<(), AllocError>
     ensures { OnOk result ((other : AnyPath) → Contains paths.new.items other
         ↔ (Contains paths.old.items other ⊎ (other ≡ path))) }

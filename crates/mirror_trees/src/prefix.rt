@@ -1,4 +1,4 @@
-//! Whether one held tree begins another.
+//! Whether one held tree is a prefix of another.
 ghost use Rattle.std.specs.Prelude.{◌↔◌, ℕ, List, IsTrue};
 ghost use Rattle.node_store.specs.Strings.{NoClash};
 ghost use Rattle.mirror_model.specs.Complete.{IsTreeOf};
@@ -9,10 +9,10 @@ use tlog_hash::{Hash, TreeHash};
 use tlog_shape::split;
 
 /// Whether the entries of the first tree are a prefix of those of the second, each given by its size and root. Both
-/// are to be held; of others nothing is said of the answer.
+/// have to be held; for other trees the contract says nothing about the answer.
 ///
-/// It compares hashes of nodes that are held, and hashes nothing: under a digest that collides a list can have the
-/// hash of another list's beginning. It takes no memory.
+/// It compares hashes of held nodes, and hashes nothing. Under a digest that collides, a list can have the hash of
+/// another list's prefix. It takes no memory.
 pub fn is_prefix<H: TreeHash>(store: &Store<H>, small: (u64, &Hash), large: (u64, &Hash)) -> bool
     requires clean { NoClash H.digest store.now }
     ensures { (first second : List (List ℕ)) → IsTreeOf H.digest store.now small.entry.0

@@ -8,9 +8,9 @@ use node_store::Store;
 use tlog_hash::{Hash, TreeHash};
 use tlog_shape::split;
 
-/// The tree hash (RFC 6962, section 2.1) of the entries from `start` on, as many as `len`, of the tree of that size and
-/// root; of no entries it is the digest of no bytes. `None` where the range is not within the tree. Where the tree is
-/// not held nothing else is said of the answer.
+/// The tree hash (RFC 6962, section 2.1) of `len` entries from `start` on, in the tree with that size and root. For no
+/// entries it is the digest of no bytes. `None` if the range is not within the tree. If the tree is not held, the
+/// contract says nothing else about the answer.
 ///
 /// It takes no memory.
 pub fn range_hash<H: TreeHash>(

@@ -11,16 +11,16 @@ use std::alloc::{AllocError, Global};
 use tlog_hash::{Hash, TreeHash};
 use tlog_shape::split;
 
-/// The hashes of a tile (C2SP tlog-tiles, "Merkle Tree") of the tree of that size and root: as many as `width`, each of
-/// `256^level` entries, from the one with the number `256 * index` of its level on. `None` where the tile is not within
-/// the tree; so it is for a level above 7 and for a width outside 1 to 256. Where the tree is not held nothing else is
-/// said of the answer.
+/// The hashes of a tile (C2SP tlog-tiles, "Merkle Tree") of the tree with that size and root: `width` hashes, from
+/// number `256 * index` of the level on. Each is over `256^level` entries. `None` if the tile is not within the tree,
+/// as for a level above 7 or a width outside 1 to 256. If the tree is not held, the contract says nothing else about
+/// the answer.
 ///
-/// From the root it goes down to the nodes that cover the tile, and along them once.
+/// It goes down from the root to the nodes of the tile, and visits each of them once.
 ///
 /// # Errors
 ///
-/// `AllocError` comes only where a growth was refused.
+/// `AllocError` only if a growth was refused.
 pub fn row_at<H: TreeHash>(
     alloc: Global,
     store: &Store<H>,
@@ -57,7 +57,7 @@ pub fn row_at<H: TreeHash>(
     }
 }
 
-// How many entries a hash of that level has.
+// The number of entries below a hash of that level.
 pub(crate) fn unit_of(level: u32) -> u64
     requires { level ≤ 7 }
     ensures value { result ≡ 256 ^ level }
@@ -66,7 +66,7 @@ pub(crate) fn unit_of(level: u32) -> u64
     1 << (8 * level)
 }
 
-// The number of a tile's first hash in its level, where the tile is within a tree of that size.
+// The number of a tile's first hash in its level, if the tile is within a tree of that size.
 fn first_of(size: u64, level: u32, index: u64, width: u32) -> Option<u64>
     ensures some { IfSome result (λ first. (first ≡ 256 * index) × IsTileWithin size level index
         width) }
@@ -86,8 +86,8 @@ fn first_of(size: u64, level: u32, index: u64, width: u32) -> Option<u64>
     Some(first)
 }
 
-// Adds the hashes of the nodes of `unit` entries each, from the one with that number on, as many as `count`. True
-// where the tree is held so far.
+// Adds the hashes of `count` nodes of `unit` entries each, from the one with that number on. True if this part of the
+// tree is held.
 pub(crate) fn push_row<H: TreeHash>(
     store: &Store<H>,
     size: u64,

@@ -1,4 +1,4 @@
-//! Remembering the trees that are held.
+//! Remembers held trees.
 ghost use Rattle.std.specs.Prelude.{◌⊎◌, OnOk};
 ghost use Rattle.node_store.specs.Strings.{NoClash};
 ghost use Rattle.mirror_model.specs.Complete.{IsBuilt};
@@ -14,16 +14,16 @@ use std::alloc::AllocError;
 use tlog_hash::{Hash, TreeHash};
 use tlog_shape::split;
 
-/// Remembers the tree of that size and root, if it is held whole: the size and hash of each of its slices, the whole
-/// tree among them.
+/// Remembers the tree with that size and root, if it is held: the size and hash of each of its slices, including the
+/// complete tree.
 ///
-/// It does not walk into what is known already, and of each size and hash it walks into one tree. The order in which
-/// trees are remembered is of no matter; by rising size each costs a walk through what is new to it.
+/// It enters no known tree, and for each size and hash it enters only one tree. The trees may be remembered in any
+/// order. By rising size, each costs a walk through its new nodes.
 ///
 /// # Errors
 ///
-/// `AllocError` comes only where a growth was refused. What was remembered before is remembered still, and of the
-/// tree some whole slices may be.
+/// `AllocError` only if a growth was refused. It keeps all that was remembered before, and some complete slices of the
+/// tree may be remembered.
 pub fn settle<H: TreeHash>(
     store: &Store<H>,
     known: &mut HeldTrees,
@@ -47,8 +47,8 @@ pub fn settle<H: TreeHash>(
     remember(store, &mut known.remembered, size, root)
 }
 
-// Remembers the slices of a tree that is held whole. A size and hash is added after those of both parts, so that at
-// each moment all slices of what is remembered are remembered.
+// Remembers the slices of a held tree. It adds a size and hash after those of both parts. So at each moment all slices
+// of a remembered tree are remembered.
 fn remember<H: TreeHash>(
     store: &Store<H>,
     marks: &mut Marks,

@@ -1,11 +1,11 @@
--- A set that another is being added to, string by string.
+-- A set to which another one is being added, string by string.
 use Rattle.std.proofs.Common.{◌≡◌, ℕ, List, sym, subst, ◌⊎◌, inl, inr}
 use Rattle.std.specs.FinSet.{insert, empty, union}
 use Rattle.node_store.specs.Strings.{Strings, Has, Clashes, ClashesWith, NoClash}
 use Rattle.node_store.proofs.Sets.{Has-insert, Has-insert_same, Has-insert_other, Has-empty, Has-union_left}
 use Rattle.node_store.proofs.Sets.{Has-union_right, Has-union_cases, same_strings}
 
--- now is old with the strings of other but for some of rest
+-- `now` is `old` with all strings of `other`, except some of `rest`
 pub record IsPartway (old other now rest : Strings) : Type 0 where
   pub grows : (s : List ℕ) → Has old s → Has now s
   pub within : (s : List ℕ) → Has now s → Has (union old other) s
@@ -50,7 +50,7 @@ partway_end old other now rest none p =
       | inr m ↦ elim (p.covers s m) [ inl k ↦ k | inr k ↦ absurd (Has-empty s (subst (λ v. Has v s) none k)) ]
     ])
 
--- what is in rest collides with nothing that is there
+-- no string of `rest` collides with the strings so far
 pub partway_clash : (digest : List ℕ → List ℕ) (old other now rest : Strings) (x : List ℕ) → NoClash digest other →
     (ClashesWith digest old other → ⊥) → IsPartway old other now rest → Has rest x → Clashes digest now x → ⊥
 partway_clash digest old other now rest x clean apart p in_rest c =
@@ -70,9 +70,9 @@ partway_clash digest old other now rest x clean apart p in_rest c =
       | inr m ↦ c.differs (clean.same c.other x m in_other c.same_digest)
     ]
 
--- ---- looking for a collision
+-- ---- the search for a collision
 
--- none of other but rest collides
+-- no string of `other` outside `rest` collides
 pub record IsPassed (digest : List ℕ → List ℕ) (now other rest : Strings) : Type 0 where
   pub left : (s : List ℕ) → Has rest s → Has other s
   pub passed : (s : List ℕ) → Has other s → (Clashes digest now s → ⊥) ⊎ Has rest s

@@ -1,4 +1,4 @@
--- Sets without some of their strings, and what was noted of strings that were added.
+-- Sets without some of their strings, and the notes of added strings.
 use Rattle.std.proofs.Common.{◌≡◌, ℕ, List, [], ◌∷◌, ◌++◌, Result, Ok, Err, sym, ap, ◌∙◌, subst, inl, inr, arith}
 use Rattle.std.specs.Prelude.{OnOk, OnErr}
 use Rattle.std.specs.List.{Contains}
@@ -8,11 +8,11 @@ use Rattle.node_store.specs.Strings.{Strings, Has, IsWithout, NoClash, AllTagged
 use Rattle.node_store.proofs.Sets.{Has-insert, Has-insert_other, same_strings}
 
 module _ (digest : List ℕ → List ℕ) where
-  -- without no string it is itself
+  -- if there are no digests, the rest is the set itself
   pub rest_none : (v : Strings) → IsWithout digest v [] v
   rest_none v = record { within = λ s h. h; apart = λ s h c. omega (arith, c.1); kept = λ s h not. h }
 
-  -- the strings of one digest more are taken out
+  -- the strings of one more digest are removed
   pub rest_more : (u v w : Strings) (ds : List (List ℕ)) (k : List ℕ) → IsWithout digest u ds v →
       IsWithout digest v (k ∷ []) w → IsWithout digest u (ds ++ k ∷ []) w
   rest_more u v w ds k p q = record {
@@ -25,7 +25,7 @@ module _ (digest : List ℕ → List ℕ) where
         (λ c. not (Contains-append_right ds (k ∷ []) (digest s) c));
   }
 
-  -- the rest is one set
+  -- the rest is unique
   pub same_rest : (u v w : Strings) (ds : List (List ℕ)) → IsWithout digest u ds v → IsWithout digest u ds w → v ≡ w
   same_rest u v w ds p q =
       same_strings v w (λ s h. q.kept s (p.within s h) (p.apart s h)) (λ s h. p.kept s (q.within s h) (q.apart s h))
@@ -38,7 +38,7 @@ module _ (digest : List ℕ → List ℕ) where
   pub rest_tagged : (u v : Strings) (ds : List (List ℕ)) → AllTagged u → IsWithout digest u ds v → AllTagged v
   rest_tagged u v ds tagged p = λ s h. tagged s (p.within s h)
 
-  -- a string of a new digest is added, or not, and its digest is noted
+  -- a string with a new digest is added, or not, and its digest is noted
   module _ (u v before : Strings) (ds : List (List ℕ)) (k x : List ℕ) (key : k ≡ digest x)
       (fresh : (s : List ℕ) → Has u s → digest s ≡ k → ⊥) (p : IsWithout digest u ds before) where
     still_apart : (s : List ℕ) → Has before s → Contains (ds ++ k ∷ []) (digest s) → ⊥

@@ -1,4 +1,4 @@
--- Sets of strings by what they have.
+-- Sets of strings, by their strings.
 use Rattle.std.proofs.Common.{◌≡◌, ℕ, List, Bool, true, false, sym, refl, ap, ◌∙◌, subst, ◌⊎◌, inl, inr}
 use Rattle.std.specs.Prelude.{◌||◌, ◌≢◌}
 use Rattle.std.specs.Ordering.{nat_cmp, eq_by_cmp, is_eq}
@@ -22,11 +22,11 @@ pub or_right : (a b : Bool) → b ≡ true → (a || b) ≡ true
 or_right true b h = refl
 or_right false b h = h
 
--- a string is tied to itself alone
+-- a string compares as equal to itself
 pub tied : (s : List ℕ) → eq_by_cmp (slice_cmp nat_cmp) s s ≡ true
 tied s = ap is_eq (tied_itself nat_list_cmp_total s)
 
--- two strings are the same or not
+-- two strings are equal or different
 pub decide : (x y : List ℕ) → (x ≡ y) ⊎ (x ≢ y)
 decide x y = at (eq_by_cmp (slice_cmp nat_cmp) x y) refl
   where
@@ -39,7 +39,7 @@ decide x y = at (eq_by_cmp (slice_cmp nat_cmp) x y) refl
 pub Has-empty : (q : List ℕ) → Has empty q → ⊥
 Has-empty q h = let e = contains-empty (slice_cmp nat_cmp) q in cc (e, h)
 
--- what a set has after an insertion
+-- the strings of a set after an insertion
 pub Has-insert : (v : Strings) (k q : List ℕ) → Has (insert v k) q → (q ≡ k) ⊎ Has v q
 Has-insert v k q h =
     elim (or_either (eq_by_cmp (slice_cmp nat_cmp) q k) (contains v q)
@@ -54,7 +54,7 @@ Has-insert_same v k = contains-insert nat_list_cmp_total v k k ∙ ap (λ b. b |
 pub Has-insert_other : (v : Strings) (k q : List ℕ) → Has v q → Has (insert v k) q
 Has-insert_other v k q h = contains-insert nat_list_cmp_total v k q ∙ or_right _ _ h
 
--- what a union has
+-- the strings of a union
 pub Has-union_left : (v w : Strings) (q : List ℕ) → Has v q → Has (union v w) q
 Has-union_left v w q h = contains-union nat_list_cmp_total v w q ∙ or_left _ _ h
 
@@ -64,19 +64,19 @@ Has-union_right v w q h = contains-union nat_list_cmp_total v w q ∙ or_right _
 pub Has-union_cases : (v w : Strings) (q : List ℕ) → Has (union v w) q → Has v q ⊎ Has w q
 Has-union_cases v w q h = or_either _ _ (sym (contains-union nat_list_cmp_total v w q) ∙ h)
 
--- two truth values that imply each other are one
+-- two booleans that imply each other are equal
 pub same_bool : (a b : Bool) → (a ≡ true → b ≡ true) → (b ≡ true → a ≡ true) → a ≡ b
 same_bool true b f g = sym (f refl)
 same_bool false true f g = g refl
 same_bool false false f g = refl
 
--- two sets with the same strings are one
+-- two sets with the same strings are equal
 pub same_strings : (s t : Strings) → ((q : List ℕ) → Has s q → Has t q) → ((q : List ℕ) → Has t q → Has s q) → s ≡ t
 same_strings s t to from =
     same_set nat_list_cmp_total (slice_cmp-IsAntisymmetric nat_cmp-IsAntisymmetric) s t
     (λ q. same_bool _ _ (to q) (from q))
 
--- to insert what is held changes nothing
+-- to insert a held string changes nothing
 pub insert_held : (v : Strings) (k : List ℕ) → Has v k → insert v k ≡ v
 insert_held v k held =
     same_strings _ _ (λ q h. elim (Has-insert v k q h) [ inl e ↦ subst (Has v) (sym e) held | inr m ↦ m ])

@@ -1,4 +1,4 @@
-//! The strings of a store, one after another.
+//! The strings of a store, in any order.
 ghost use Rattle.std.specs.Iterator.{YieldsFirstBy, item_count};
 ghost use Rattle.node_store.specs.Strings.{string_of};
 
@@ -8,10 +8,9 @@ use crate::strings::Tagged;
 use std::collections::hash_map::Values;
 use std::marker::Model;
 
-/// Goes over the strings of a store, each once. The order is open.
+/// Gives the strings of a store, each once, in any order.
 ///
-/// It is seen as the list of the strings that are left. Entries are borrowed from the store, and nothing
-/// is copied.
+/// Contracts see the list of the remaining strings. Entries are borrowed from the store, and nothing is copied.
 #[derive(Drop)]
 pub struct Iter<'a> {
     left: Values<'a, DigestKey, Slot>,
@@ -34,7 +33,7 @@ impl<'a> Iter<'a> {
     ghost use Rattle.std.specs.Prelude.{◌≡◌};
     ghost use Rattle.node_store.specs.Slots.{held_strings, AllWithin};
 
-    // The strings of what is left, all of them within the pool.
+    // The strings of the remaining slots, all of them within the pool.
     pub(crate) fn new(left: Values<'a, DigestKey, Slot>, pool: &'a [u8]) -> Self
         requires { AllWithin pool.now left }
         ensures { result ≡ held_strings pool.now left.entry }

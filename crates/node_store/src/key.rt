@@ -8,9 +8,9 @@ ghost use Rattle.std.proofs.Common.{rules};
 use std::hash::{Hash, Hasher};
 use std::marker::Model;
 
-// A digest, as a key of the map. It is seen as its bytes.
+// A digest, as a key of the map. Contracts see its bytes.
 //
-// The map's hasher is given them in one piece: those of an array it is given one by one.
+// The bytes go to the map's hasher in one piece; the bytes of an array would go one by one.
 #[derive(Drop)]
 pub(crate) struct DigestKey {
     bytes: tlog_hash::Hash,

@@ -1,4 +1,4 @@
-//! How strings are kept: the bytes of entries in one pool, and the hashes of pairs beside it.
+//! The form in which strings are kept: the bytes of entries in one pool, and the hashes of pairs in the map.
 ghost use Rattle.std.specs.Prelude.{◌≡◌, ◌+◌, ◌<◌, ◌≤◌, ◌++◌, length, vec_len, nat_eq, OnOk};
 ghost use Rattle.std.specs.Vec.{vec_capacity};
 ghost use Rattle.std.specs.Cmp.Lexicographic.{pointwise};
@@ -12,21 +12,20 @@ use std::alloc::AllocError;
 use std::collections::HashMap;
 use tlog_hash::Hash;
 
-// Where an entry lies in the pool.
+// The place of an entry in the pool.
 #[derive(Clone, Copy)]
 pub(crate) struct PoolSpan {
     start: usize,
     len: usize,
 }
 
-// What the map has at a digest: where the entry lies in the pool, or the two hashes.
+// The value of the map for a digest: the place of the entry in the pool, or the two hashes.
 #[derive(Clone, Copy)]
 pub(crate) enum Slot {
     Entry(PoolSpan),
     Hashes(Hash, Hash),
 }
 
-// The bytes that lie there.
 pub(crate) fn bytes_at(pool: &[u8], place: PoolSpan) -> &[u8]
     requires { place.start + place.len ≤ length pool.now }
     ensures { result.now ≡ bytes_at pool.now place }
@@ -47,7 +46,7 @@ pub(crate) fn borrow_string<'a>(slot: &'a Slot, pool: &'a [u8]) -> Tagged<'a>
     }
 }
 
-// Makes room for a string that is new, and changes nothing else.
+// Makes room for a new string, and changes nothing else.
 pub(crate) fn make_room(
     held: &mut HashMap<DigestKey, Slot>,
     pool: &mut Vec<u8>,
@@ -67,7 +66,7 @@ pub(crate) fn make_room(
     }
 }
 
-// Puts the string's bytes behind the pool, which has room for them.
+// Appends the string's bytes to the pool, which has room for them.
 pub(crate) fn keep(pool: &mut Vec<u8>, string: Tagged) -> Slot
     requires { vec_len pool.old + length (pooled_bytes string) ≤ vec_capacity pool.old }
     ensures pool { pool.new.items ≡ pool.old.items ++ pooled_bytes string.entry }
@@ -88,7 +87,7 @@ pub(crate) fn keep(pool: &mut Vec<u8>, string: Tagged) -> Slot
     }
 }
 
-// The two hashes, to be held.
+// The two hashes as a slot.
 fn held_pair(left: &Hash, right: &Hash) -> Slot
     ensures value { result ≡ Slot.Hashes left.now right.now }
     ensures sized { IsSized result }

@@ -20,7 +20,7 @@ use tlog_hash::{Hash, TreeHash};
 /// Why a string was not added. It prints its variant's name.
 #[derive(Debug, Drop, PartialEq, Eq, Clone, Copy, Error)]
 pub enum AddFault {
-    /// Another string of the same digest is held.
+    /// Another string with the same digest is held.
     #[error("Collision")]
     Collision,
     /// Memory was refused.
@@ -28,10 +28,10 @@ pub enum AddFault {
     OutOfMemory,
 }
 
-/// A set of tagged strings, no two of which share a digest.
+/// A set of tagged strings, in which no two have one digest.
 ///
-/// The digest is that of the `TreeHash` in use, and the strings are `0x00 || entry` and
-/// `0x01 || left || right` with hashes of 32 bytes. Contracts see the set, and nothing of how it is kept.
+/// The digest is that of the `TreeHash` in use, and the strings are `0x00 || entry` and `0x01 || left || right` with
+/// hashes of 32 bytes. Contracts see the set, and nothing of the form in which it is kept.
 ///
 /// ```text
 /// let mut store: Store<Sha256Tree> = Store::new(alloc);
@@ -40,8 +40,8 @@ pub enum AddFault {
 /// store.pair_of(&root)  // Some((leaf, leaf))
 /// ```
 //
-// The map has the two hashes of a pair, or where an entry lies in the pool, which has the bytes of all
-// entries one after the other. So an entry costs no allocation of its own, and is borrowed in place.
+// The map has the two hashes of a pair, or the place of an entry in the pool, which has the bytes of all entries in one
+// piece. So an entry costs no allocation of its own, and is borrowed in place.
 #[derive(Drop)]
 pub struct Store<H: TreeHash> {
     held: HashMap<DigestKey, Slot>,
@@ -66,7 +66,7 @@ impl<H: TreeHash> Model for Store<H> {
 }
 
 impl<H: TreeHash> Store<H> {
-    /// A store of no strings. It takes no memory.
+    /// A store without strings. It takes no memory.
     pub fn new(alloc: Global) -> Self
         ensures { result ≡ set.empty }
     {
@@ -77,8 +77,8 @@ impl<H: TreeHash> Store<H> {
         }
     }
 
-    /// A store of no strings, with places for so many: adding them moves none that is held. The bytes of entries have no
-    /// room yet.
+    /// A store without strings, with room for that number of strings: adding them moves none of the held ones. The
+    /// bytes of entries have no room yet.
     ///
     /// # Errors
     ///
@@ -92,12 +92,12 @@ impl<H: TreeHash> Store<H> {
         Ok(Self { held, pool, by })
     }
 
-    /// Adds a string. One that is held already is passed over, and takes no memory.
+    /// Adds a string. A string that is held already changes nothing, and takes no memory.
     ///
     /// # Errors
     ///
-    /// `Collision` comes exactly where another string of its digest is held, and `OutOfMemory` only where
-    /// a growth was refused. Both leave the set as it was.
+    /// `Collision` exactly if another string with its digest is held, and `OutOfMemory` only if a growth was refused.
+    /// After both the set is unchanged.
     pub fn add(&mut self, string: Tagged) -> Result<(), AddFault>
         ensures ok { OnOk result (self.new ≡ set.insert self.old (string_of string.entry)) }
         ensures err { OnErr result (self.new ≡ self.old) }
@@ -110,12 +110,12 @@ impl<H: TreeHash> Store<H> {
         self.add_at(&digest_of::<H>(string), string)
     }
 
-    /// Adds a string as `add` does, and gives its digest, by which it is found again. So a tree is built
-    /// from its leaves up with each of its strings hashed once.
+    /// Adds a string like `add`, and gives its digest, which finds it again. So a tree can be built from its leaves up,
+    /// and each of its strings is hashed once.
     ///
     /// # Errors
     ///
-    /// Those of `add`, which leave the set as it was.
+    /// Those of `add`. The set is then unchanged.
     pub fn insert(&mut self, string: Tagged) -> Result<Hash, AddFault>
         ensures digest { IfOk result (λ hash. hash ≡ H.digest (string_of string.entry)) }
         ensures ok { OnOk result (self.new ≡ set.insert self.old (string_of string.entry)) }
@@ -133,18 +133,18 @@ impl<H: TreeHash> Store<H> {
         }
     }
 
-    /// Adds a string as `insert` does. A string that is new has its digest noted at the end of `added`, so that `take_out`
-    /// of all that is noted there gives back the set from before.
+    /// Adds a string like `insert`. If the string is new, it notes the digest at the end of `added`. So `take_out` of
+    /// all the noted digests gives back the earlier set.
     ///
     /// ```text
     /// let mut added = Vec::new(alloc);
     /// store.insert_noted(Tagged::Leaf(b"a"), &mut added)?;
-    /// store.take_out(&added); // as it was
+    /// store.take_out(&added); // the store is as before
     /// ```
     ///
     /// # Errors
     ///
-    /// Those of `add`, which leave the set as it was.
+    /// Those of `add`. The set is then unchanged.
     pub fn insert_noted(&mut self, string: Tagged, added: &mut Vec<Hash>) -> Result<Hash, AddFault>
         ensures digest { IfOk result (λ hash. hash ≡ H.digest (string_of string.entry)) }
         ensures ok { OnOk result (self.new ≡ set.insert self.old (string_of string.entry)) }
@@ -163,7 +163,7 @@ impl<H: TreeHash> Store<H> {
         }
     }
 
-    // Adds a string that has that digest, which is noted where the string is new.
+    // Adds the string with that digest, and notes the digest if the string is new.
     fn add_noted(
         &mut self,
         digest: &Hash,
@@ -196,27 +196,27 @@ impl<H: TreeHash> Store<H> {
         }
     }
 
-    /// Takes out the strings of these digests, those that are held. It takes no memory.
+    /// Removes the strings with these digests that are held. It takes no memory.
     pub fn take_out(&mut self, digests: &[Hash])
         ensures rest { IsWithout H.digest self.old digests.now self.new }
         ensures no_clash { NoClash H.digest self.new }
         ensures tagged { AllTagged self.new }
     {
-        // What it ensures holds also where there is no digest.
+        // The call is for its contract, which is needed also if there is no digest.
         let _own = self.keyed();
         for digest in digests {
             self.take_one(digest);
         }
     }
 
-    // Takes out the string of that digest, if it is held. The pool keeps the bytes of an entry.
+    // Removes the string with that digest, if it is held. The pool keeps the bytes of an entry.
     fn take_one(&mut self, digest: &Hash)
         ensures { IsWithout H.digest self.old (digest.now ∷ []) self.new }
     {
         let _ = self.held.remove(&DigestKey::new(digest));
     }
 
-    // Adds a string that has that digest.
+    // Adds the string with that digest.
     fn add_at(&mut self, digest: &Hash, string: Tagged) -> Result<(), AddFault>
         requires { digest.now ≡ H.digest (string_of string) }
         ensures ok { OnOk result (self.new ≡ set.insert self.old (string_of string.entry)) }
@@ -259,7 +259,7 @@ impl<H: TreeHash> Store<H> {
         Ok(())
     }
 
-    /// Whether another string of its digest is held, so that `add` would refuse it. It takes no memory.
+    /// Whether another string with its digest is held, so that `add` would refuse it. It takes no memory.
     pub fn clashes(&self, string: Tagged) -> bool
         ensures { IsTrue result ↔ Clashes H.digest self.now (string_of string.entry) }
     {
@@ -276,8 +276,7 @@ impl<H: TreeHash> Store<H> {
         }
     }
 
-    /// The two hashes of the pair of that digest that is held, and `None` exactly where no pair of that
-    /// digest is. It takes no memory.
+    /// The two hashes of the held pair with that digest. `None` exactly if no such pair is held. It takes no memory.
     pub fn pair_of(&self, hash: &Hash) -> Option<(Hash, Hash)>
         ensures some { IfSome result (λ p. IsHeldAt H.digest self.now hash.now (joined p)) }
         ensures none { IfNone result ((l r : List ℕ) → ¬ IsHeldAt H.digest self.now hash.now
@@ -290,8 +289,8 @@ impl<H: TreeHash> Store<H> {
         }
     }
 
-    /// The entry of that digest that is held, and `None` exactly where no entry of that digest is.
-    /// It is borrowed from the store, without a copy, and takes no memory.
+    /// The held entry with that digest. `None` exactly if no such entry is held. It is borrowed from the store, without
+    /// a copy, and takes no memory.
     pub fn entry_of(&self, hash: &Hash) -> Option<&[u8]>
         ensures some { IfSome result (λ e. IsHeldAt H.digest self.now hash.now (0 ∷ e.now)) }
         ensures none { IfNone result ((e : List ℕ) → ¬ IsHeldAt H.digest self.now hash.now
@@ -304,15 +303,14 @@ impl<H: TreeHash> Store<H> {
         }
     }
 
-    /// How many strings are held. It takes no memory.
+    /// The number of held strings. It takes no memory.
     pub fn len(&self) -> usize
         ensures { result ≡ set.len self.now }
     {
         self.held.len()
     }
 
-    /// The strings that are held, each once. The order is open. They are borrowed from the store, without
-    /// a copy, and take no memory.
+    /// The held strings, each once, in any order. They are borrowed from the store, without a copy, and take no memory.
     pub fn iter(&self) -> Iter<'_>
         ensures all { set.from_list result ≡ self.now }
         ensures once { length result ≡ set.len self.now }
@@ -326,9 +324,9 @@ impl<H: TreeHash> Store<H> {
     ///
     /// # Errors
     ///
-    /// `Collision` comes exactly where the two sets together collide. It leaves the set as it was, and
-    /// comes before any memory is asked for. After `OutOfMemory`, which comes only where a growth was
-    /// refused, the set lies between what it was and the union.
+    /// `Collision` exactly if a string of one set and a different string of the other have one digest. The set is then
+    /// unchanged, and no memory was requested. `OutOfMemory` only if a growth was refused. The set then has all its
+    /// earlier strings, and some strings of the other store may be added.
     pub fn add_all(&mut self, other: &Store<H>) -> Result<(), AddFault>
         ensures ok { OnOk result (self.new ≡ set.union self.old other.now) }
         ensures collision { (result ≡ Err AddFault.Collision) ↔ ClashesWith H.digest self.old
@@ -345,13 +343,13 @@ impl<H: TreeHash> Store<H> {
         self.add_each(other)
     }
 
-    // Whether a string of the other store collides.
+    // Whether a string of the other store collides with a held one.
     fn clashes_with(&self, other: &Store<H>) -> bool
         ensures clashes { IsTrue result ↔ ClashesWith H.digest self.now other.now }
         ensures no_clash { NoClash H.digest self.now }
         ensures tagged { AllTagged self.now }
     {
-        // What it ensures of this store holds also where the other one is empty.
+        // The call is for its contract about this store, which is needed also if the other store is empty.
         let _own = self.keyed();
         for (digest, string) in other.keyed() {
             if self.clashes_at(digest, string) {
@@ -361,7 +359,7 @@ impl<H: TreeHash> Store<H> {
         false
     }
 
-    // Adds all strings of another store, of which none collides.
+    // Adds all strings of another store; none of them collides.
     fn add_each(&mut self, other: &Store<H>) -> Result<(), AddFault>
         requires apart { ¬ ClashesWith H.digest self.old other.now }
         requires no_clash { NoClash H.digest self.old }
@@ -382,7 +380,7 @@ impl<H: TreeHash> Store<H> {
         Ok(())
     }
 
-    // Whether another string of that digest, the string's own, is held.
+    // Whether another string with that digest, which is the string's own, is held.
     fn clashes_at(&self, digest: &Hash, string: Tagged) -> bool
         requires { digest.now ≡ H.digest (string_of string) }
         ensures { IsTrue result ↔ Clashes H.digest self.now (string_of string.entry) }
@@ -393,7 +391,7 @@ impl<H: TreeHash> Store<H> {
         }
     }
 
-    // The strings that are held, each beside its digest.
+    // The held strings, each with its digest.
     fn keyed(&self) -> KeyedStrings<'_>
         ensures all { set.from_list (values_of result) ≡ self.now }
         ensures digests { AllKeyed H.digest result }
@@ -403,7 +401,7 @@ impl<H: TreeHash> Store<H> {
         KeyedStrings::new(self.held.iter(), self.pool.as_slice())
     }
 
-    // Finds the string of that digest that is held.
+    // Finds the held string with that digest.
     fn find(&self, digest: &Hash) -> Option<Tagged<'_>>
         ensures some { IfSome result (λ s. IsHeldAt H.digest self.now digest.now (string_of s)) }
         ensures none { IfNone result ((s : List ℕ) → ¬ IsHeldAt H.digest self.now digest.now s) }

@@ -13,7 +13,6 @@ pub enum Tagged<'a> {
     Pair(&'a Hash, &'a Hash),
 }
 
-// The digest of the string.
 pub(crate) fn digest_of<H: TreeHash>(string: Tagged) -> Hash
     ensures { result ≡ H.digest (string_of string.entry) }
 {
@@ -23,7 +22,6 @@ pub(crate) fn digest_of<H: TreeHash>(string: Tagged) -> Hash
     }
 }
 
-// Whether the two strings are one.
 pub(crate) fn is_same(first: Tagged, second: Tagged) -> bool
     ensures { IsTrue result ↔ (string_of first.entry ≡ string_of second.entry) }
 {
@@ -34,7 +32,6 @@ pub(crate) fn is_same(first: Tagged, second: Tagged) -> bool
     }
 }
 
-// Whether the two pairs have one string.
 fn is_same_pair(l: &Hash, r: &Hash, left: &Hash, right: &Hash) -> bool
     ensures { IsTrue result ↔ (1 ∷ l.now ++ r.now ≡ 1 ∷ left.now ++ right.now) }
 {

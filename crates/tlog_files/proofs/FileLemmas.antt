@@ -1,4 +1,4 @@
--- Where a file is within a list of entries.
+-- The place of a file within a list of entries.
 use Rattle.std.proofs.Common.{ℕ, ◌+◌, ◌*◌, ◌/◌, ◌^◌, ◌≤◌, arith}
 use Rattle.std.proofs.Math.Nat.{div-mul-le_self}
 use Rattle.std.proofs.lemmas.Nat.{le-div, mul-le}
@@ -6,7 +6,7 @@ use Rattle.tlog_shape.proofs.Levels.{level_positive}
 use Rattle.tlog_tiles.specs.Tiles.{IsTileWithin}
 use Rattle.tlog_files.specs.Layout.{HoldsFile}
 
--- a tile is within n entries where its level has all its hashes
+-- a tile is within n entries if its level has all its hashes
 pub tile_of_file : (n level index width : ℕ) → level ≤ 7 → HoldsFile (n / 256 ^ level) index width →
     IsTileWithin n level index width
 tile_of_file n level index width low h = record {
@@ -27,7 +27,7 @@ file_of_tile n level index width h = record {
   within = le-div (256 * index + width) n (256 ^ level) (level_positive level) h.within;
 }
 
--- so is a bundle where the list has all its entries
+-- a bundle is within n entries if the list has all its entries
 pub tile_of_bundle : (n index width : ℕ) → HoldsFile n index width → IsTileWithin n 0 index width
 tile_of_bundle n index width h = record {
   level_fits = omega arith;

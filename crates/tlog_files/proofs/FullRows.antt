@@ -18,7 +18,7 @@ use Rattle.tlog_hash.proofs.Folds.{length-ranges, joined_ranges, all_ranges, cut
 use Rattle.tlog_hash.specs.Blocks.{IsCut, joined_up}
 use Rattle.tlog_files.specs.Layout.{full_row, AreFullRows}
 
--- one range more
+-- one more range
 range_after : {A : Type 0} (b first count : ℕ) (es : List A) →
     ranges b first (count + 1) es ≡ ranges b first count es ++ part ((first + count) * b) b es ∷ []
 range_after b first zero es = let e : first * b ≡ (first + 0) * b = omega arith in ap (λ n. part n b es ∷ []) e
@@ -53,7 +53,7 @@ part_ranges b first (suc at) w (suc m) es le =
     let e : (first + 1) + at ≡ first + suc at = omega arith in
     part_ranges b (first + 1) at w m es (omega arith) ∙ ap (λ n. ranges b n w es) e
 
--- what a test of a length says
+-- the answer of a test of a length
 pub some_of : (n : ℕ) → false ≡ (n == 0) → 0 < n
 some_of zero e = absurd cc
 some_of (suc n) e = omega arith
@@ -77,7 +77,7 @@ module _ (digest : List ℕ → List ℕ) (entries : List (List ℕ)) where
       ∙ ap (map (mth digest))
       (part_ranges b 0 at w m entries le ∙ ap (λ n. ranges b n w entries) (let e : 0 + at ≡ at = omega arith in e))
 
-  -- the hashes above are those of 256 each
+  -- each hash of the level above is the hash over 256 hashes
   above : (level first count m : ℕ) → (first + count) * 256 ≤ m → m * 256 ^ level ≤ length entries →
       map (fold_of digest) (ranges 256 first count (level_row digest entries level 0 m))
       ≡ level_row digest entries (level + 1) first count
@@ -123,7 +123,7 @@ module _ (digest : List ℕ → List ℕ) (entries : List (List ℕ)) where
       ∙ rows_of_leaves digest n 0 entries (omega arith)
       ∙ ap (map (leaf_hash digest)) (take_all n entries (omega arith))
 
-  -- one level more
+  -- one more level
   pub more_rows : (count : ℕ) (rows : List (List ℕ)) (row : List ℕ) →
       AreFullRows digest entries count rows → row ≡ row_text (full_row digest entries count) →
       AreFullRows digest entries (count + 1) (rows ++ row ∷ [])
@@ -138,7 +138,7 @@ module _ (digest : List ℕ → List ℕ) (entries : List (List ℕ)) where
     ];
   }
 
-  -- the first level alone
+  -- the first level only
   pub one_row : (row : List ℕ) → row ≡ row_text (full_row digest entries 0) → AreFullRows digest entries 1 (row ∷ [])
   one_row row is = record {
     count_is = refl;
@@ -146,7 +146,7 @@ module _ (digest : List ℕ → List ℕ) (entries : List (List ℕ)) where
         omega arith in subst (λ k. get_or (row ∷ []) k [] ≡ row_text (full_row digest entries k)) zeroth is;
   }
 
-  -- the entries behind the last full range
+  -- the entries after the last full range
   abbrev tail : List (List ℕ)
   tail = drop (length entries / 256 * 256) entries
 
@@ -160,7 +160,7 @@ module _ (digest : List ℕ → List ℕ) (entries : List (List ℕ)) where
   joined_groups : joined_up groups ≡ take (length entries / 256 * 256) entries
   joined_groups = joined_ranges 256 0 (length entries / 256) entries
 
-  -- the leaf hashes behind the first ones
+  -- the leaf hashes after the first ones
   leaves_behind : (leaves upper : List (List ℕ)) → leaves ≡ full_row digest entries 0 →
       upper ≡ full_row digest entries 1 → drop (256 * length upper) leaves ≡ map (leaf_hash digest) tail
   leaves_behind leaves upper is_leaves is_upper =
@@ -172,7 +172,7 @@ module _ (digest : List ℕ → List ℕ) (entries : List (List ℕ)) where
   tail_size : length tail ≡ length entries - length entries / 256 * 256
   tail_size = length-drop (length entries / 256 * 256) entries
 
-  -- the tree hash of the entries, where there are some behind the last full range
+  -- the tree hash of the entries, if there are some after the last full range
   pub root_with_rest : (leaves upper rest row : List (List ℕ)) → leaves ≡ full_row digest entries 0 →
       upper ≡ full_row digest entries 1 → rest ≡ drop (256 * length upper) leaves → 0 < length rest →
       row ≡ upper ++ fold_of digest rest ∷ [] → fold_of digest row ≡ mth digest entries
@@ -192,7 +192,7 @@ module _ (digest : List ℕ → List ℕ) (entries : List (List ℕ)) where
       sym (map-append (mth digest) groups (tail ∷ [])) in
       ap (fold_of digest) rows ∙ sym (mth-level digest 1 (groups ++ tail ∷ []) cut) ∙ ap (mth digest) whole
 
-  -- the root of all entries from the upper row alone, where no leaf hashes are left
+  -- the root of all entries from the upper row only, if no leaf hashes are left
   pub root_without_rest : (leaves upper rest : List (List ℕ)) → leaves ≡ full_row digest entries 0 →
       upper ≡ full_row digest entries 1 → rest ≡ drop (256 * length upper) leaves → 0 < length leaves →
       length rest ≡ 0 → fold_of digest upper ≡ mth digest entries
@@ -209,7 +209,7 @@ module _ (digest : List ℕ → List ℕ) (entries : List (List ℕ)) where
       let whole : joined_up groups ≡ entries = joined_groups ∙ take_all (length entries / 256 * 256) entries most in
       ap (fold_of digest) is_upper ∙ sym (mth-level digest 1 groups cut) ∙ ap (mth digest) whole
 
-  -- no entries, no leaf hashes
+  -- without entries there are no leaf hashes
   pub no_root : (leaves : List (List ℕ)) → leaves ≡ full_row digest entries 0 → length leaves ≡ 0 →
       digest [] ≡ mth digest entries
   no_root leaves is_leaves none =
@@ -217,7 +217,7 @@ module _ (digest : List ℕ → List ℕ) (entries : List (List ℕ)) where
       omega (arith, none, ap length (is_leaves ∙ leaf_level), length-map entries (leaf_hash digest)) in
       sym (mth-none digest) ∙ ap (mth digest) (sym (is_empty entries empty))
 
-  -- a level as it is read from a list of levels
+  -- a level, read from a list of levels
   pub read_row : {X : Type 0} (f : X → List ℕ) (levels : List X) (count level : ℕ) (x : X) →
       AreFullRows digest entries count (map f levels) → level < count → x ≡ get_or levels level x →
       f x ≡ row_text (full_row digest entries level)
@@ -225,14 +225,14 @@ module _ (digest : List ℕ → List ℕ) (entries : List (List ℕ)) where
       ap f is ∙ sym (get_or-map f levels level x [] (omega (arith, h.count_is, length-map levels f, lt))) ∙
       h.each level lt
 
-  -- a hash of a level has 32 bytes where each digest has
+  -- if each digest has 32 bytes, each hash of a level has 32 bytes
   pub full_row_sizes : ((s : List ℕ) → length (digest s) ≡ 32) → (level : ℕ) →
       All (λ hash. length hash ≡ 32) (full_row digest entries level)
   full_row_sizes size level =
       All-map (λ (h : List ℕ). length h ≡ 32) (mth digest)
       (ranges (256 ^ level) 0 (length entries / 256 ^ level) entries) (λ k d p. mth_size digest size _)
 
-  -- 256 hashes make one of the level above
+  -- 256 hashes give one of the level above
   pub rows_fit : (leaves upper : List (List ℕ)) → leaves ≡ full_row digest entries 0 →
       upper ≡ full_row digest entries 1 → 256 * length upper ≤ length leaves
   rows_fit leaves upper is_leaves is_upper =

@@ -14,7 +14,7 @@ use Rattle.tlog_tiles.specs.Bundle.{bundle_text, entry_text}
 use Rattle.tlog_tiles.proofs.RowLemmas.{length-row_text}
 use Rattle.tlog_files.specs.Layout.{ends_of, entries_in}
 
--- ---- a claim of an answer, moved to another
+-- ---- a property of an answer, moved to another one
 pub some_from : {X : Type 0} (o : Option X) (P Q : X → Type 0) → ((x : X) → P x → Q x) → IfSome o P → IfSome o Q
 some_from (Some x) P Q f h = f x h
 some_from None P Q f h = tt
@@ -23,7 +23,7 @@ pub none_from : {X : Type 0} (o : Option X) (P Q : Type 0) → (P → Q) → IfN
 none_from (Some x) P Q f h = tt
 none_from None P Q f h = f h
 
--- ---- texts, one after the other
+-- ---- texts, in order
 
 module _ {A : Type 0} (f : A → List ℕ) (a w : ℕ) (es : List A) where
   split_text : flat_map f es ≡
@@ -40,7 +40,7 @@ module _ {A : Type 0} (f : A → List ℕ) (a w : ℕ) (es : List A) where
       ∙ ap length (flat_map-append f (take a es) (part a w es))
       ∙ length-append (flat_map f (take a es)) (flat_map f (part a w es))
 
-  -- the texts of a part are a piece
+  -- the texts of a part are one piece
   pub piece : (from to : ℕ) → from ≡ length (flat_map f (take a es)) → to ≡ length (flat_map f (take (a + w) es)) →
       take (to - from) (drop from (flat_map f es)) ≡ flat_map f (part a w es)
   piece from to from_is to_is =
@@ -101,7 +101,7 @@ end_of from (suc i) (e ∷ es) d lt =
     length-append (entry_text e) (bundle_text (take (suc i) es)) in
     omega (arith, rest, len)
 
--- where the entry of that number starts
+-- the start of the entry with that number
 pub start_of_entry : (at : ℕ) (es : List (List ℕ)) (d : ℕ) → at ≤ length es → 1 ≤ at →
     get_or (ends_of 0 es) (at - 1) d ≡ length (bundle_text (take at es))
 start_of_entry at es d le some =
@@ -125,7 +125,7 @@ ends_append from (x ∷ xs) ys =
     ends_append next xs ys ∙ ap (λ n. ends_of next xs ++ ends_of n ys) at in
     ap (λ (es : List ℕ). next ∷ es) rest
 
--- the entries are known from their text and their ends
+-- the text and the ends determine the entries
 pub entries_back : (from : ℕ) (before : List ℕ) (es : List (List ℕ)) → length before ≡ from →
     entries_in from (ends_of from es) (before ++ bundle_text es) ≡ es
 entries_back from before [] len = refl
@@ -146,7 +146,7 @@ entries_back from before (e ∷ es) len =
     entries_back next (before ++ entry_text e) es len' in
     λ i. first i ∷ rest i
 
--- ---- one entry more
+-- ---- one more entry
 
 module _ {X : Type 0} (f : X → List ℕ) (xs : List X) (i : ℕ) (d : X) (lt : i < length xs) where
   abbrev x : X

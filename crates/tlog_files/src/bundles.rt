@@ -1,11 +1,11 @@
-//! The entries in the form of bundles, one after the other.
+//! The entries in the form of bundles, in order.
 ghost use Rattle.std.specs.Prelude.{◌≡◌, ◌<◌, ◌^◌, ◌++◌, ◌∷◌, [], All, length, map, IfOk, OnOk};
 ghost use Rattle.tlog_tiles.specs.Bundle.{bundle_text, entry_text};
 ghost use Rattle.tlog_files.specs.Layout.{ends_of};
 
 use std::alloc::{AllocError, Global};
 
-/// The entries, each after its length of two bytes, and where each ends.
+/// The entries, each after its length of two bytes, and the end of each.
 pub(crate) fn bundles_of(
     alloc: Global,
     entries: &[&[u8]],
@@ -22,7 +22,7 @@ pub(crate) fn bundles_of(
     Ok((text, ends))
 }
 
-// Adds an entry after its length, and where it ends.
+// Adds an entry after its length, and its end.
 fn push_entry(text: &mut Vec<u8>, ends: &mut Vec<usize>, entry: &[u8]) -> Result<(), AllocError>
     requires { length entry.now < 2 ^ 16 }
     ensures text { OnOk result (text.new.items ≡ text.old.items ++ entry_text entry.now) }

@@ -8,7 +8,6 @@ use std::alloc::{AllocError, Global};
 use tlog_hash::{Hash, TreeHash, fold};
 use tlog_tiles::write_row;
 
-/// The leaf hashes of the entries.
 fn leaf_hashes<H: TreeHash>(alloc: Global, entries: &[&[u8]]) -> Result<Vec<Hash>, AllocError>
     ensures { IfOk result (λ row. row.items ≡ map (λ e. leaf_hash H.digest e.now) entries.now) }
 {
@@ -19,7 +18,7 @@ fn leaf_hashes<H: TreeHash>(alloc: Global, entries: &[&[u8]]) -> Result<Vec<Hash
     Ok(row)
 }
 
-/// The hashes of the level above: each is that of 256 hashes. Hashes behind the last 256 have none.
+/// The hashes of the level above: each is that of 256 hashes. The hashes after the last full 256 give none.
 fn level_above<H: TreeHash>(alloc: Global, below: &[Hash]) -> Result<Vec<Hash>, AllocError>
     ensures { IfOk result (λ row. row.items
         ≡ map (fold_of H.digest) (ranges 256 0 (length below.now / 256) below.now)) }

@@ -1,8 +1,8 @@
-//! The files of a log of some entries, laid out in memory (C2SP tlog-tiles).
+//! The files of a log, laid out in memory (C2SP tlog-tiles).
 //!
 //! A log serves the hashes of its levels as tiles and its entries as bundles. `LogFiles` has the hashes of each level
-//! one after the other, and the entries in the form of bundles one after the other. So a tile or a bundle of any width
-//! is a piece of memory, lent with no copy and no hashing.
+//! in order, and the entries in the form of bundles in order. So a tile or a bundle of any width is one piece of
+//! memory, borrowed without a copy and without hashing.
 //!
 //! ```text
 //! let files: LogFiles<Sha256Tree> = LogFiles::new(alloc, &entries)?;

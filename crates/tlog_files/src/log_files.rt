@@ -1,4 +1,4 @@
-//! The files of a log of some entries.
+//! The files of a log.
 ghost use Rattle.std.specs.Prelude.{◌≡◌, ◌<◌, ◌^◌, All, map, length, IfOk, IfSome, IfNone};
 ghost use Rattle.tlog_hash.specs.Tree.{mth};
 ghost use Rattle.tlog_tiles.specs.Tiles.{IsTileWithin, tile_bytes, bundle_bytes};
@@ -11,9 +11,9 @@ use std::alloc::{AllocError, Global};
 use std::marker::{Model, PhantomData};
 use tlog_hash::{Hash, TreeHash};
 
-/// The tiles and bundles of a log of some entries, and their tree hash, in memory.
+/// The tiles and bundles of a log, and its tree hash, in memory.
 ///
-/// Contracts see the list of entries, and nothing of how it lies. It has 33 bytes for each entry and, beside the entry
+/// Contracts see the list of entries, and not the layout. It takes 33 bytes for each entry and, beside the entry
 /// itself, 10 bytes more.
 ///
 /// ```text
@@ -25,11 +25,11 @@ use tlog_hash::{Hash, TreeHash};
 pub struct LogFiles<H: TreeHash> {
     // The tree hash of the entries.
     root: Hash,
-    // Of each level from 0 to 7 the hashes of its full nodes, one after the other.
+    // For each level from 0 to 7 the hashes of its full nodes, in order.
     rows: Vec<Vec<u8>>,
-    // The entries, each after its two-byte length, one after the other.
+    // The entries in order, each after its two-byte length.
     text: Vec<u8>,
-    // Where each entry ends in the text.
+    // The end of each entry in the text.
     ends: Vec<usize>,
     by: PhantomData<H>,
 }
@@ -47,7 +47,7 @@ impl<H: TreeHash> Model for LogFiles<H> {
 }
 
 impl<H: TreeHash> LogFiles<H> {
-    /// The files of a log of those entries, each of at most 65,535 bytes. Each entry is hashed once.
+    /// The files of a log with those entries, each of at most 65,535 bytes. It hashes each entry once.
     ///
     /// # Errors
     ///
@@ -60,8 +60,8 @@ impl<H: TreeHash> LogFiles<H> {
         LogFiles::from_rows(alloc, entries, root, rows)
     }
 
-    /// The files of a log of those entries, each of at most 65,535 bytes, whose tree hash and hashes are known: `rows` has
-    /// the bytes of the hashes of each level from 0 to 7, of all its full nodes. Nothing is hashed.
+    /// The files of a log with those entries, each of at most 65,535 bytes, from its known tree hash and hashes. `rows`
+    /// has the bytes of the hashes of each level from 0 to 7, for all its full nodes. It hashes nothing.
     ///
     /// # Errors
     ///
@@ -88,7 +88,7 @@ impl<H: TreeHash> LogFiles<H> {
         })
     }
 
-    /// How many entries there are. It takes no memory.
+    /// The number of entries. It takes no memory.
     pub fn size(&self) -> u64
         ensures { result ≡ length self.now }
     {
@@ -103,8 +103,8 @@ impl<H: TreeHash> LogFiles<H> {
     }
 
     /// The bytes of a tile of the entries (C2SP tlog-tiles, "Merkle Tree"): `width` hashes of that level from number
-    /// `256 * index` on. `None` exactly where the tile is not within the entries, as for a level over 7 or a width
-    /// outside 1 to 256. It takes no memory.
+    /// `256 * index` on. `None` exactly if the tile is not within the entries, as for a level over 7 or a width outside
+    /// 1 to 256. It takes no memory.
     pub fn tile(&self, level: u32, index: u64, width: u32) -> Option<&[u8]>
         ensures some { IfSome result (λ bytes. bytes.now
             ≡ tile_bytes H.digest self.now level index width) }
@@ -118,8 +118,7 @@ impl<H: TreeHash> LogFiles<H> {
     }
 
     /// The bytes of a bundle of the entries (C2SP tlog-tiles, "Log Entries"): `width` entries from number `256 * index`
-    /// on. `None` exactly where the bundle is not within the entries, as for a width outside 1 to 256. It takes no
-    /// memory.
+    /// on. `None` exactly if the bundle is not within the entries, as for a width outside 1 to 256. It takes no memory.
     pub fn bundle(&self, index: u64, width: u32) -> Option<&[u8]>
         ensures some { IfSome result (λ bytes. bytes.now ≡ bundle_bytes self.now index width) }
         ensures within { IfSome result (λ bytes. IsTileWithin (length self.now) 0 index width) }

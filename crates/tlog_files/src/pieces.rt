@@ -1,10 +1,10 @@
-//! Pieces of what is laid out.
+//! Pieces of the layout.
 ghost use Rattle.std.specs.Prelude.{◌≡◌, ◌*◌, ◌≤◌, ℕ, List, length, take, IfSome, IfNone};
 ghost use Rattle.tlog_tiles.specs.Bundle.{bundle_text};
 ghost use Rattle.tlog_files.specs.Layout.{ends_of, HoldsFile, IsRowPiece, IsTextPiece};
 ghost use Rattle.tlog_files.specs.Layout.{LacksRowPiece, LacksTextPiece};
 
-/// The number of the first of a file, where a list of so many has all of the file.
+/// The number of a file's first item, if a list of `len` items has all items of the file.
 fn first_of(len: usize, index: u64, width: u32) -> Option<usize>
     ensures some { IfSome result (λ first. (first ≡ 256 * index) × HoldsFile len index width) }
     ensures none { IfNone result (HoldsFile len index width → ⊥) }
@@ -52,7 +52,7 @@ pub(crate) fn text_piece<'a>(
     Some(&text[start..end])
 }
 
-/// Where the entry of that number starts: where the one before it ends.
+/// The start of the entry with that number: the end of the one before it.
 fn start_of(ends: &[usize], at: usize) -> usize
     requires { at ≤ length ends.now }
     ensures { (entries : List (List ℕ)) → ends.now ≡ ends_of 0 entries

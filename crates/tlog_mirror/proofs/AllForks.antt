@@ -1,4 +1,4 @@
--- The forks that the marks give are those of the heads, in order.
+-- The forks that the marks give are those of the tree heads, in order.
 use Rattle.std.proofs.Common.{◌≡◌, ℕ, zero, suc, ◌-◌, ◌<◌, ◌≤◌, List, [], ◌∷◌, ◌++◌, length, map, take, drop, get_or, ◌+◌}
 use Rattle.std.proofs.Common.{Bool, true, false, not, cond, ◌&&◌, ◌||◌, sym, refl, ap, subst, ◌∙◌, ◌⊎◌, inl, inr, arith}
 use Rattle.std.proofs.Common.{nat_eq, set, eqb-true, eq-eqb, get_or-set_other, get_or-set_same}
@@ -26,7 +26,7 @@ use Rattle.tlog_mirror.proofs.BestNotes.{any_default}
 use Rattle.tlog_mirror.proofs.HeadLists.{pairs_total, source_of}
 use Rattle.tlog_mirror.proofs.BranchSteps.{head_of, not_both, less_size, rising, goes_on, goes_back}
 
--- ---- what is left of a list from a place on
+-- ---- the rest of a list from a place on
 
 module _ {X : Type 0} where
   pub left_lt : (xs : List X) (at : ℕ) (a : X) (rest : List X) → a ∷ rest ≡ drop at xs → at < length xs
@@ -127,7 +127,7 @@ module _ {K : Type 0} (cmp : K → K → Ordering) where
   unfolding IsStrictlySortedBy
   sorted_none = tt
 
--- ---- the marks tell which heads the first begins
+-- ---- the marks say of which tree heads the first is a prefix
 
 module _ (digest : List ℕ → List ℕ) (held : Strings) (branches : List Branch)
     (each : AreBranches digest held branches) (sorted : IsStrictlySortedBy by_point (map head_of branches)) where
@@ -149,12 +149,12 @@ module _ (digest : List ℕ → List ℕ) (held : Strings) (branches : List Bran
         let size : a.head.0 ≡ b.head.0 = ap (λ (x : Branch). x.head.0) same in omega (arith, size)
   ]
 
-  -- the mark tells whether the first begins the other
+  -- the mark says whether the first is a prefix of the other
   pub record IsMark (a b : Branch) (mark : Bool) : Type 0 where
     pub yes : mark ≡ true → Departs digest held a.head b.head → ⊥
     pub no : mark ≡ false → Departs digest held a.head b.head
 
-  -- what is marked of the heads behind the first, up to a place
+  -- the marks of the tree heads after the first, up to a place
   pub record Marked (at : ℕ) (a : Branch) (marks : List Bool) (next : ℕ) : Type 0 where
     pub len : length marks ≡ length branches
     pub first : get_or marks at false ≡ true
@@ -179,7 +179,7 @@ module _ (digest : List ℕ → List ℕ) (held : Strings) (branches : List Bran
           (own next b is_b).none at a b_whole le (omega (arith, len_before, behind)) (before at a behind is_a) a_whole;
     }
 
-    -- the last head that begins this one stands at the place g
+    -- the last tree head that is a prefix of this one is at the place g
     module _ (g : ℕ) (g_is : b.after - 1 ≡ g) (some : 0 < b.after) where
       fits : g < next
       fits = omega (arith, (own next b is_b).fits, len_before, g_is, some)
@@ -237,13 +237,13 @@ module _ (digest : List ℕ → List ℕ) (held : Strings) (branches : List Bran
           ])
     ]
 
-  -- ---- the forks of one head as the smaller one
+  -- ---- the forks whose smaller tree head is this one
 
   conflict_along : (a b c d : ℕ × List ℕ) → a ≡ c → b ≡ d → Conflicts digest held a b → Conflicts digest held c d
   conflict_along a b c d p q h =
       subst (λ x. Conflicts digest held c x) q (subst (λ x. Conflicts digest held x b) p h)
 
-  -- the fork is of the first head and one of those behind it that conflict
+  -- the fork is of the first tree head and a later one that conflicts
   abbrev pub IsOfFirst : Branch → List Branch → Fork → Type 0
   IsOfFirst a rest fork =
       (fork.small ≡ a.head) × Contains (map head_of rest) fork.large × Conflicts digest held fork.small fork.large
@@ -292,7 +292,7 @@ module _ (digest : List ℕ → List ℕ) (held : Strings) (branches : List Bran
       others = λ k one behind upto p wa wo. absurd (omega (arith, behind, upto));
     }
 
-    -- those behind it are greater
+    -- the later ones are greater
     greater : (rest : List Branch) → rest ≡ drop (suc at) branches → (p : ℕ × List ℕ) → Contains (map head_of rest) p →
         by_point a.head p ≡ Less
     greater rest e p c =
@@ -375,7 +375,7 @@ module _ (digest : List ℕ → List ℕ) (held : Strings) (branches : List Bran
             subst (λ (z : ℕ × List ℕ). by_point o.head z ≡ Less) s.2
             (rising branches sorted n w.0 o s.0 (omega (arith, w.1)) w.2 is_o.1 w.3)
 
-  -- ---- the forks of all
+  -- ---- all forks
 
   marked_len : (at : ℕ) (marks : List Bool) (next : ℕ) (rest : List Branch) →
       length (marked at marks next rest) ≡ length marks
@@ -384,7 +384,7 @@ module _ (digest : List ℕ → List ℕ) (held : Strings) (branches : List Bran
       marked_len at (set marks next (under_of at marks b.after)) (suc next) rest
       ∙ length-set marks next (under_of at marks b.after)
 
-  -- of a calm head there is no fork with one behind it
+  -- a calm tree head has no fork with a later one
   module _ (at : ℕ) (a : Branch) (is_a : At at a)
       (calm : (k : ℕ) (b : Branch) → at < k → At k b → AreCalmTwo at a b) where
     calm_begins : (n k : ℕ) (b : Branch) → k < n → at < k → At k b → Departs digest held a.head b.head → ⊥

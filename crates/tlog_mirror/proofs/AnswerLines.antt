@@ -1,9 +1,9 @@
--- Lists that are told of one after another.
+-- Lists of reports, item by item.
 use Rattle.std.proofs.Common.{◌≡◌, ℕ, ◌+◌, ◌<◌, List, [], ◌∷◌, ◌++◌, length, take, get_or, sym, ap, ◌∙◌}
 use Rattle.std.specs.List.{flat_map}
 use Rattle.std.proofs.lemmas.List.{flat_map_more, take_more}
 
--- what is told of one more stands behind what was told of those before it
+-- the report of one more item follows the reports of those before it
 pub recorded_more :
     {X A : Type 0} (f : X → List A) (base : List A) (xs : List X) (i : ℕ) (x d : X) → x ≡ get_or xs i d →
     i < length xs → (old new : List A) → old ≡ base ++ flat_map f (take i xs) → new ≡ old ++ f x →

@@ -1,4 +1,4 @@
--- The best of the kept notes, and the first of a size and root.
+-- The best kept note, and the first one with a size and root.
 use Rattle.std.proofs.Common.{◌≡◌, ◌≢◌, ℕ, zero, suc, ◌+◌, ◌-◌, ◌<◌, ◌≤◌, List, [], ◌∷◌, length, drop, get_or}
 use Rattle.std.proofs.Common.{slice_index_or, Option, Some, None, Bool, true, false, sym, refl, ap, subst, ◌∙◌, ◌⊎◌}
 use Rattle.std.proofs.Common.{inl, inr, arith, nat_eq}
@@ -52,7 +52,7 @@ module _ (digest : List ℕ → List ℕ) (held : Strings) where
         ap (λ (k : HeldNote). is_gt (served_cmp (kept_point one) (kept_point k))) (sym same) ∙
         ap is_gt (tied_itself served_total (kept_point one))
 
-    -- a better one
+    -- the next note is better
     better : (found : Option (ℕ × List ℕ)) → IsBestOf digest held rest found → IsAhead (kept_point one) found →
         Built (kept_point one) → IsBestOf digest held (one ∷ rest) (Some (one.size, one.root))
     better None h ahead built = record {
@@ -71,7 +71,7 @@ module _ (digest : List ℕ → List ℕ) (held : Strings) where
       ];
     }
 
-    -- one that is no better, or is not held whole
+    -- the next note is not better, or its tree is not held
     no_better : (found : Option (ℕ × List ℕ)) → IsBestOf digest held rest found →
         (IsAhead (kept_point one) found → ⊥) ⊎ (Built (kept_point one) → ⊥) → IsBestOf digest held (one ∷ rest) found
     no_better None h not = λ other c b. elim (head_or one rest other c) [
@@ -120,7 +120,7 @@ module _ (digest : List ℕ → List ℕ) (held : Strings) where
   best_of_all kept at found zero_at h =
       let none : at ≡ 0 = omega (arith, zero_at) in subst (λ n. IsBestOf digest held (drop n kept) found) none h
 
--- ---- the first of a size and root
+-- ---- the first note with a size and root
 
 module _ (kept : List HeldNote) (size : ℕ) (root : List ℕ) where
   abbrev point : Point

@@ -1,4 +1,4 @@
--- What is kept of heads, step by step.
+-- The branches of tree heads, step by step.
 use Rattle.std.proofs.Common.{◌≡◌, ℕ, zero, suc, ◌+◌, ◌-◌, ◌<◌, ◌≤◌, List, [], ◌∷◌, ◌++◌, length, map, take, get_or}
 use Rattle.std.proofs.Common.{Bool, true, false, sym, refl, ap, subst, ◌∙◌, inl, inr, arith, length-append}
 use Rattle.std.specs.Prelude.{All, IsTrue, ◌↔◌}
@@ -23,7 +23,7 @@ use Rattle.tlog_mirror.proofs.ServedNotes.{size_at_most}
 abbrev pub head_of : Branch → ℕ × List ℕ
 head_of branch = branch.head
 
--- ---- the order of heads
+-- ---- the order of tree heads
 
 pub not_both : {X : Type 0} (a b : ℕ × List ℕ) → by_point a b ≡ Less → by_point b a ≡ Less → X
 not_both a b p q =
@@ -39,7 +39,7 @@ in_all P [] h k b lt is = absurd (omega (arith, lt))
 in_all P (x ∷ xs) h zero b lt is = subst (λ (y : Branch). P y.head) is h.0
 in_all P (x ∷ xs) h (suc k) b lt is = in_all P xs h.1 k b (omega (arith, lt)) is
 
--- of branches in order the head at an earlier place is less
+-- in sorted branches, the tree head at an earlier place is less
 pub rising : (xs : List Branch) → IsStrictlySortedBy by_point (map head_of xs) → (k l : ℕ) (a b : Branch) → k < l →
     l < length xs → get_or xs k a ≡ a → get_or xs l b ≡ b → by_point a.head b.head ≡ Less
 unfolding IsStrictlySortedBy
@@ -52,10 +52,10 @@ rising (x ∷ xs) s zero (suc l) a b lt fits p q =
 rising (x ∷ xs) s (suc k) (suc l) a b lt fits p q =
     rising xs s.1 k l a b (omega (arith, lt)) (omega (arith, fits)) p q
 
--- ---- heads that depart
+-- ---- tree heads that depart
 
 module _ (digest : List ℕ → List ℕ) (held : Strings) where
-  -- the test tells of the entries whether the first begin the second
+  -- the test decides whether the entries of the first are a prefix of the entries of the second
   abbrev pub DecidesFork : Bool → ℕ × List ℕ → ℕ × List ℕ → Type 0
   DecidesFork b small large =
       (first second : List (List ℕ)) → IsTreeOf digest held small.0 small.1 first →
@@ -76,8 +76,8 @@ module _ (digest : List ℕ → List ℕ) (held : Strings) where
         (tells p.entries q.entries p.is q.is).1 pre in let wrong : true ≡ false = sym yes_is ∙ recorded_no in cc wrong;
   }
 
-  -- where the entries of the second begin those of the third, the third departs from no longer a list exactly where
-  -- the second does
+  -- if the second's entries are a prefix of the third's, the third departs from the first exactly if the second does;
+  -- the first is no longer than the second
   module _ (second third : ℕ × List ℕ) (start : Precedes digest held second third) (first : ℕ × List ℕ)
       (short : first.0 ≤ second.0) where
     pub goes_on : Built third → Departs digest held first second → Departs digest held first third
@@ -104,12 +104,12 @@ module _ (digest : List ℕ → List ℕ) (held : Strings) where
           (omega (arith, d.first_tree.size_is, q.is.size_is, short))).1 pre);
     }
 
-  -- ---- one head, against those before it
+  -- ---- one tree head, against those before it
 
   module _ (before : List Branch) (branches : AreBranches digest held before) (head : ℕ × List ℕ)
       (built : Built head) (at : ℕ) (some : 0 < at) (fits : at ≤ length before) (one : Branch)
       (is : one ≡ get_or before (at - 1) one) where
-    -- the head departs from each branch from a place on whose tree is held
+    -- the tree head departs from each branch from a place on whose tree is held
     abbrev pub DepartsFrom : ℕ → Type 0
     DepartsFrom from =
         (k : ℕ) (other : Branch) → from ≤ k → k < length before → get_or before k other ≡ other → IsTrue other.whole →
@@ -118,7 +118,7 @@ module _ (digest : List ℕ → List ℕ) (held : Strings) where
     pub is_built : one.whole ≡ true → Built one.head
     is_built whole = (branches (at - 1) one (omega (arith, some, fits)) (sym is)).whole.0 whole
 
-    -- the head departs from this one
+    -- the tree head departs from this one
     pub one_more : (one.whole ≡ true → Departs digest held one.head head) → DepartsFrom at → DepartsFrom (at - 1)
     one_more this rest k other from lt there whole =
         elim (cases_lt k at) [
@@ -136,7 +136,7 @@ module _ (digest : List ℕ → List ℕ) (held : Strings) where
         Departs digest held one.head head
     not_begun b tells recorded_no whole = departs b one.head head tells recorded_no (is_built whole) built
 
-    -- this is the last one that begins the head
+    -- this is the last one that is a prefix of the tree head
     pub last_is : (b : Bool) → DecidesFork b one.head head → b ≡ true → one.whole ≡ true → (n : ℕ) → n ≡ at - 1 →
         (other : Branch) → get_or before n other ≡ other →
         (other.whole ≡ true) × Precedes digest held other.head head
@@ -147,14 +147,14 @@ module _ (digest : List ℕ → List ℕ) (held : Strings) where
         subst (λ (o : Branch). (o.whole ≡ true) × Precedes digest held o.head head) same
         (whole, λ first second p q. (tells first second p q).0 recorded_yes)
 
-  -- the place of the last that begins a head is one of the list
+  -- the place of the last prefix of a tree head is in the list
   pub fits_all : (branches : List Branch) → AreBranches digest held branches →
       All (λ b. b.after ≤ length branches) branches
   fits_all branches each k d lt =
       let own = each k (get_or branches k d) lt (any_default branches k (get_or branches k d) d lt) in
       omega (arith, own.fits, length-take k branches)
 
-  -- ---- all heads, one after another
+  -- ---- all tree heads, in order
 
   module _ (before : List Branch) (branch : Branch) (after : List Branch) (is : after ≡ before ++ branch ∷ []) where
     pub heads_more : (heads : List (ℕ × List ℕ)) (i : ℕ) (d : ℕ × List ℕ) → i < length heads →

@@ -1,4 +1,4 @@
--- What is told of heads that are calm.
+-- Calm tree heads.
 use Rattle.std.proofs.Common.{◌≡◌, ◌≢◌, ℕ, ◌+◌, ◌-◌, ◌<◌, ◌≤◌, List, ◌∙◌, length, map, get_or, set, Bool, false, sym, ap}
 use Rattle.std.proofs.Common.{subst, inl, inr, arith, get_or-set_other, get_or-set_same}
 use Rattle.std.specs.Prelude.{IsTrue}
@@ -11,12 +11,12 @@ use Rattle.tlog_mirror.proofs.BestNotes.{any_default}
 use Rattle.tlog_mirror.proofs.BranchSteps.{head_of, less_size, rising}
 
 module _ (branches : List Branch) where
-  -- no branch from a place on whose tree is held has less
+  -- no branch from a place on whose tree is held has a lesser `after`
   abbrev pub IsLeast : ℕ → ℕ → Type 0
   IsLeast from least =
       (k : ℕ) (b : Branch) → from ≤ k → k < length branches → get_or branches k b ≡ b → IsTrue b.whole → least ≤ b.after
 
-  -- what is told from a place on is so
+  -- the flags from a place on are right
   abbrev pub IsDecidedFrom : ℕ → List Bool → Type 0
   IsDecidedFrom from calm =
       (p k : ℕ) (a b : Branch) → from ≤ p → IsTrue (get_or calm p false) → p < k → k < length branches →

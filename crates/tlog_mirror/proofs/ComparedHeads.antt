@@ -1,4 +1,4 @@
--- Heads compared with a list of entries, and what is evidence of what.
+-- Tree heads compared with a list of entries, and the evidence that this gives.
 use Rattle.std.proofs.Common.{◌≡◌, ℕ, List, [], ◌∷◌, ◌++◌, map, take, get_or, sym, subst, refl}
 use Rattle.std.proofs.Common.{Option, Some, None, ap, ◌∙◌, arith}
 use Rattle.std.specs.Prelude.{◌≢◌, All, Result, Ok, Err, IfOk, IfSome, find, nat_eq, unwrap_or}
@@ -95,7 +95,7 @@ compared_once digest hash v lawful heads first second p q =
     lists_one digest p.entries first second (p.heads_are ∙ sym q.heads_are) (recursion_from_All _ _ p.each)
     (recursion_from_All _ _ (subst (λ es. All (IsCompared digest es) second) (sym same) q.each))
 
--- ---- the case by numbers
+-- ---- the case with numbers
 
 first_byte : (n m : ℕ) → sum_hash n ≡ sum_hash m → n ≡ m
 first_byte n m e = ap (λ (xs : List ℕ). get_or xs 0 0) e
@@ -107,7 +107,7 @@ other_byte e = let wrong : 51 ≡ 9 = first_byte 51 9 e in omega (arith, wrong)
 abbrev both : List (List ℕ)
 both = strings sum_digest small_list ++ strings sum_digest large_list
 
--- the first of them whose digest has the same first byte
+-- the first of them whose digest has that first byte
 abbrev with_digest : List ℕ → List ℕ
 with_digest hash = unwrap_or (find (λ s. nat_eq (get_or (sum_digest s) 0 0) (get_or hash 0 0)) both) []
 
@@ -142,7 +142,7 @@ compares_large = record {
     other_root : IsCompared sum_digest large_list (Fork 2 (sum_hash 9) (sum_hash 163)) → ⊥
     other_root (w, is, differs) = let wrong : 51 ≡ 163 = first_byte 51 163 is in omega (arith, wrong)
 
--- ---- the heads that are held
+-- ---- the held tree heads
 
 pub held_reported : {A E : Type 0} (digest : List ℕ → List ℕ) (v : View) (items : A → List Compared)
     (points : List (ℕ × List ℕ)) (r : Result (Option A) E) → ListsHeads v (map point_of points) →

@@ -1,4 +1,4 @@
--- The edge rows of a head: the widths that they have, how they are read, and what their strings are.
+-- The edge rows of a tree head: their widths, how they are read, and their strings.
 use Rattle.std.proofs.Common.{◌≡◌, ◌≢◌, ℕ, zero, suc, ◌+◌, ◌*◌, ◌/◌, ◌<◌, Bool, true, false, cond, List, [], ◌∷◌}
 use Rattle.std.proofs.Common.{◌++◌, length, map, take, get_or, Vec, Global, All, refl, sym, ap}
 use Rattle.std.proofs.Common.{subst, ◌∙◌, arith, if◌then◌else◌}
@@ -26,7 +26,7 @@ use Rattle.mirror_model.proofs.StringSets.{has_left, clash_within}
 
 -- ---- widths
 
--- the widths of the levels below a number of levels
+-- the widths of the levels below a level
 abbrev pub widths_below : ℕ → ℕ → List ℕ
 widths_below n zero = []
 widths_below n (suc level) = widths_below n level ++ (if width_of n level == 0 then [] else width_of n level ∷ [])
@@ -81,7 +81,7 @@ items_of rows = map (λ row. row.items) rows
 abbrev pub bytes_of : List (Bor (List ℕ)) → List (List ℕ)
 bytes_of rows = map (λ row. row.now) rows
 
--- a row of some width has some hashes
+-- a row whose width is not 0 has hashes
 rows_some_at :
     (vs : List (Vec (List ℕ) Global)) (rows : List (List ℕ)) (widths : List ℕ) → items_of vs ≡ map row_of rows →
     HaveWidths widths rows → AllByRecursion (λ w. 0 < w) widths → AllByRecursion (λ row. 0 < length row.items) vs
@@ -102,13 +102,13 @@ pub rows_some :
 rows_some n vs rows e f =
     All-from_recursion (λ row. 0 < length row.items) vs (rows_some_at vs rows (edge_widths n) e f (widths_some n))
 
--- one more of what a function gives
+-- one more result of a function
 pub mapped_more :
     {X Y : Type 0} (f : X → Y) (xs more : List X) (x : X) (ys : List Y) (y : Y) → more ≡ xs ++ x ∷ [] →
     map f xs ≡ ys → f x ≡ y → map f more ≡ ys ++ y ∷ []
 mapped_more f xs more x ys y is old new = ap (map f) is ∙ map-append f xs (x ∷ []) ∙ (λ i. old i ++ new i ∷ [])
 
--- where a row has another length, the rows have not these widths
+-- if a row has another length, the rows do not have these widths
 pub other_width :
     (widths : List ℕ) (rows : List (Bor (List ℕ))) (i : ℕ) (d : Bor (List ℕ)) → i < length rows →
     length rows ≡ length widths → length (get_or rows i d).now ≢ 32 * get_or widths i 0 →
@@ -125,7 +125,7 @@ other_width widths rows i d lt same differs have =
     length_bytes [] = refl
     length_bytes (x ∷ xs) = ap suc (length_bytes xs)
 
--- one row more is read
+-- one more row is read
 pub rows_more :
     (es : List (Bor (List ℕ))) (ws : List ℕ) (i : ℕ) (d : Bor (List ℕ)) (rows more : List (Vec (List ℕ) Global))
     (row : Vec (List ℕ) Global) → i < length es → i < length ws → more ≡ rows ++ row ∷ [] →

@@ -1,4 +1,4 @@
--- The forks of one head after another, as loops find them.
+-- The forks of each tree head, as loops find them.
 use Rattle.std.proofs.Common.{◌≡◌, ℕ, suc, ◌+◌, ◌<◌, ◌≤◌, List, [], ◌∷◌, ◌++◌, length, drop, get_or, Bool, true, false}
 use Rattle.std.proofs.Common.{cond, set, sym, refl, ap, ◌∙◌, ◌⊎◌, inl, inr, append_assoc, append-nil, arith}
 use Rattle.std.specs.Prelude.{IsTrue, ◌↔◌, ◌≢◌, codes, string_bytes}
@@ -27,7 +27,7 @@ from_length false at marks [] = refl
 from_length false at marks (a ∷ rest) = marked_length at (set marks at true) (suc at) rest ∙ length-set marks at true
 
 module _ (branches : List Branch) where
-  -- ---- the loop over the heads behind one
+  -- ---- the loop over the tree heads after one
 
   module _ (at : ℕ) (a : Branch) (is_a : a ≡ get_or branches at a) (lt : at < length branches) (marks : List Bool) where
     here : drop at branches ≡ a ∷ drop (at + 1) branches
@@ -77,7 +77,7 @@ module _ (branches : List Branch) where
       marked at marks next (drop next branches) ≡ marks
   marked_end at next marks le = ap (marked at marks next) (drop_all next branches le)
 
-  -- ---- the loop over all heads
+  -- ---- the loop over all tree heads
 
   module _ (calm : List Bool) where
     pub all_step : (at : ℕ) (marks : List Bool) → at < length branches →
@@ -108,7 +108,7 @@ pub listed : (items more rest new all : List Fork) → items ++ (more ++ rest) �
     new ++ rest ≡ all
 listed items more rest new all was is = ap (λ fs. fs ++ rest) is ∙ append_assoc items more rest ∙ was
 
--- nothing is left
+-- no fork is left
 pub listed_all : (items rest all : List Fork) → items ++ rest ≡ all → rest ≡ [] → items ≡ all
 listed_all items rest all was none = sym (append-nil items) ∙ ap (λ fs. items ++ fs) (sym none) ∙ was
 

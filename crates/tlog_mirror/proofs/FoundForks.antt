@@ -54,7 +54,7 @@ module _ (digest : List ℕ → List ℕ) (origin : List ℕ) (kept : List HeldN
       let self : by_point b b ≡ Less = subst (λ (q : ℕ × List ℕ). by_point q b ≡ Less) one less in
       not_both b b self self
 
-  -- what begins no longer a list is begun by it only where they are one
+  -- if a list is no prefix of one that is at least as long, that one is no prefix of it either
   not_extended : (xs ys : List (List ℕ)) → length xs ≤ length ys → (IsPrefix xs ys → ⊥) → IsPrefix ys xs → ⊥
   not_extended xs ys short not back =
       not ((prefix_of_prefix xs ys xs back short).0 (record { rest = []; is = append-nil xs }))
@@ -130,7 +130,7 @@ module _ (digest : List ℕ → List ℕ) (origin : List ℕ) (kept : List HeldN
       );
     })
 
-    -- the forks that the marks give, of the branches of these heads
+    -- the forks that the marks give, for the branches of these tree heads
     pub reports_forks : (branches : List Branch) → AreBranches digest strings branches → map head_of branches ≡ points →
         IsStrictlySortedBy by_point points → (calm : List Bool) → AreCalm branches calm → (marks : List Bool) → length marks ≡ length branches → (forks : List Fork) →
         forks ≡ all_forks calm 0 marks branches → ReportsForks digest old.view forks
@@ -143,7 +143,7 @@ module _ (digest : List ℕ → List ℕ) (origin : List ℕ) (kept : List HeldN
         (λ f. subst (λ ps. Contains (all_forks calm 0 marks branches) f ↔ IsForkOf digest strings ps f) heads
         (all_exact digest strings branches each rising calm are_calm 0 marks branches refl len f)))
 
--- what a writer of these forks answers
+-- the answers of a writer of these forks
 module _ (digest : List ℕ → List ℕ) (v : View) (old new : Option (List ℕ)) (forks : List Fork)
     (reported : ReportsForks digest v forks) where
   no_text : (fs : List Fork) → forks_text fs ≡ [] → fs ≡ []

@@ -1,4 +1,4 @@
--- The list of the heads that are held, in order.
+-- The list of the held tree heads, in order.
 use Rattle.std.proofs.Common.{◌≡◌, ℕ, ◌<◌, List, [], ◌∷◌, map, get_or, true, sym}
 use Rattle.std.proofs.Common.{ap, subst, ◌∙◌, nat_eq}
 use Rattle.std.specs.Prelude.{All, ◌↔◌, Result, Ok, Err, IfOk}
@@ -27,7 +27,7 @@ use Rattle.tlog_mirror.specs.Best.{HasKept, by_point, IsBuiltFlag}
 use Rattle.tlog_mirror.specs.declared.kept.HeldNote.{HeldNote}
 use Rattle.tlog_mirror.proofs.ServedNotes.{unmapped, head_from_kept, kept_head, with_head}
 
--- ---- the order of sizes and roots, and the test that is equality
+-- ---- the order of sizes and roots, and the test for equality
 
 pub pairs_total : IsTotalOrder by_point
 pairs_total = on_total point_of point_total
@@ -80,7 +80,7 @@ module _ {X Y : Type 0} (f : X → Y) (cmp : Y → Y → Ordering) where
   sorted_in [] s = tt
   sorted_in (x ∷ xs) s = (all_in x xs s.0, sorted_in xs s.1)
 
--- the sizes and roots of the notes that are kept
+-- the sizes and roots of the kept notes
 pub kept_points : (kept : List HeldNote) (p : ℕ × List ℕ) →
     Contains (map (λ (one : HeldNote). (one.size, one.root)) kept) p ↔ HasKept kept (point_of p)
 kept_points kept p = (
@@ -96,7 +96,7 @@ kept_points kept p = (
       (mapped (λ (one : HeldNote). (one.size, one.root)) kept h.one h.is_kept),
 )
 
--- ---- the heads
+-- ---- the tree heads
 
 module _ (digest : List ℕ → List ℕ) (origin : List ℕ) (kept : List HeldNote) (strings : Strings) (remembered : Points)
     (ok : IsKeptWell digest origin kept strings remembered) (old : State)
@@ -144,7 +144,7 @@ module _ (digest : List ℕ → List ℕ) (origin : List ℕ) (kept : List HeldN
   reported items (Err e) p q = p
   reported items (Ok heads) p q = reports (items heads) p q
 
-  -- the sizes and roots are those of the heads
+  -- the sizes and roots are those of the tree heads
   pub listed_points : ListsHeads old.view (map point_of points)
   listed_points = record {
     sorted = sorted_out point_of point_cmp points sorted;

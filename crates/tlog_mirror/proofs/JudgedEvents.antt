@@ -1,4 +1,4 @@
--- Which refusals the events of a play are answered by.
+-- The refusals that the events of a play give.
 use Rattle.std.proofs.Common.{◌≡◌, ℕ, ◌+◌, ◌<◌, List, [], ◌∷◌, ◌++◌, length, take, set, get_or, Some, Result}
 use Rattle.std.proofs.Common.{sym, ap, subst, ◌∙◌}
 use Rattle.std.specs.Prelude.{slice_get, option_map}
@@ -36,7 +36,7 @@ module _ (digest : List ℕ → List ℕ) (keys : List Key) where
         map-set_same (λ (s : State). s.view.origin) world target w d
         (sym (takes_grow digest keys (get_or world target d).view w.view item answer takes).origin_is)
 
-  -- ---- one event more
+  -- ---- one more event
 
   one_more : (origins : List (List ℕ)) (events : List Event) (answers : List (Result (Unit {0}) TakeFault))
       (event : Event) (answer : Result (Unit {0}) TakeFault) → JudgesEvents digest keys origins events answers →
@@ -60,7 +60,7 @@ module _ (digest : List ℕ → List ℕ) (keys : List Key) where
       take_more events i event lt ∙ ap (λ x. take i events ++ x ∷ []) (sym is) in
       rw (more, items) (one_more origins (take i events) answers event answer judged last)
 
--- one mirror of several is merged with another
+-- one of several mirrors is merged with another
 pub merged_origins : (digest : List ℕ → List ℕ) (world : List State) (target : ℕ) (d before w : State) (other : View)
     (answer : Answer) → get_or world target d ≡ before → Merges digest before.view other answer w.view →
     origins_of (set world target w) ≡ origins_of world

@@ -1,4 +1,4 @@
--- Kept notes, which rise by their bytes: where a note is among them, and what one more changes.
+-- Kept notes in rising order of bytes: the place of a note, and the change by one more.
 use Rattle.std.proofs.Common.{◌≡◌, ℕ, ◌+◌, ◌-◌, ◌<◌, ◌≤◌, false, List, [], ◌∷◌, length}
 use Rattle.std.proofs.Common.{map, get_or, Ok, Err, inl, inr, refl, sym, ap, subst, ◌∙◌, arith}
 use Rattle.std.specs.FinSet as set
@@ -35,7 +35,7 @@ use Rattle.tlog_mirror.specs.declared.kept.HeldNote.{HeldNote}
 abbrev pub by_bytes : List ℕ → List ℕ → Ordering
 by_bytes = slice_cmp nat_cmp
 
--- ---- where a note is
+-- ---- the place of a note
 
 is_lt_after : (a b : List ℕ) → by_bytes a b ≡ Less → is_lt (by_bytes b a) ≡ false
 is_lt_after a b e = ap is_lt (nat_list_cmp_total.antisymm b a) ∙ ap (λ o. is_lt (ordering_reverse o)) e
@@ -56,7 +56,7 @@ module _ (kept : List HeldNote) (rising : IsStrictlySortedBy by_bytes (map note_
   comparisons_rise : (bytes : List ℕ) → IsNonDecreasingBy (λ k. ordering_index (by_bytes (note_bytes k) bytes)) kept
   comparisons_rise bytes = searchable_from_sorted nat_list_cmp_total note_bytes kept bytes rises
 
-  -- a note that is not found goes between the lesser and the greater
+  -- a note that is not found goes between the lesser notes and the greater ones
   module _ (k : HeldNote) (at : ℕ) (within : at ≤ length kept)
       (gap : IsBinarySearchResult (λ x. by_bytes (note_bytes x) (note_bytes k)) kept (Err at)) where
     below : (j : ℕ) → j < at → by_bytes (note_bytes (get_or kept j k)) (note_bytes k) ≡ Less
@@ -121,7 +121,7 @@ found_is_kept (x ∷ xs) bytes at lt found =
     has_from_listed (map note_bytes (x ∷ xs)) bytes
     (at, within, lists.get_or-map note_bytes (x ∷ xs) at x bytes lt ∙ same)
 
--- ---- one note more
+-- ---- one more note
 
 module _ (kept : List HeldNote) (at : ℕ) (k : HeldNote) where
   same_notes : IsPermutation (map note_bytes (k ∷ kept)) (map note_bytes (insert kept at k))
@@ -150,7 +150,7 @@ module _ (kept : List HeldNote) (at : ℕ) (k : HeldNote) where
             (listed_from_has (note_bytes k ∷ []) q b)
       ])))
 
--- a note that is kept changes nothing
+-- adding a note that is kept changes nothing
 pub kept_already : (notes : Strings) (note : List ℕ) → Has notes note →
     notes ≡ set.union notes (set.from_list (note ∷ []))
 kept_already notes note held = same_strings _ _

@@ -1,4 +1,4 @@
--- What a mirror knows of its trees is held.
+-- The trees that a mirror knows as held are held.
 use Rattle.std.proofs.Common.{ℕ, List}
 use Rattle.node_store.specs.Strings.{Strings}
 use Rattle.mirror_trees.specs.HeldTrees.{AreBuilt, AreKnown}

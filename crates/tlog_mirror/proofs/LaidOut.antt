@@ -1,4 +1,4 @@
--- What is laid out is what is served.
+-- The laid out entries are the served ones.
 use Rattle.std.proofs.Common.{ℕ, List, Some}
 use Rattle.mirror_model.specs.View.{View}
 use Rattle.mirror_model.specs.Complete.{IsTreeOf}
@@ -7,7 +7,7 @@ use Rattle.tlog_mirror.specs.LaidOut.{IsLaidOut}
 use Rattle.tlog_mirror.specs.Tops.{IsServedAs}
 use Rattle.tlog_mirror.specs.declared.kept.HeldNote.{HeldNote}
 
--- the note that is served, with the entries of its tree as they were found
+-- the served note, with the entries of its tree as they were found
 pub laid_anew :
     (digest : List ℕ → List ℕ) (v : View) (kept : HeldNote) (entries : List (List ℕ)) →
     IsServedAs digest v (note_bytes kept) kept.size kept.root →

@@ -1,4 +1,4 @@
--- What a merge makes of a view: all strings of the other, and then its notes, one by one.
+-- The result of a merge for a view: all strings of the other, and then its notes, one by one.
 use Rattle.std.proofs.Common.{◌≡◌, ℕ, ◌+◌, ◌<◌, List, [], ◌∷◌, ◌++◌, length, map, take, drop, get_or, All, inl, inr}
 use Rattle.std.proofs.Common.{refl, sym, ap, subst, ◌∙◌, arith}
 use Rattle.std.specs.FinSet as set
@@ -21,7 +21,7 @@ use Rattle.tlog_mirror.specs.declared.kept.HeldNote.{HeldNote}
 abbrev pub first_notes : ℕ → List HeldNote → List (List ℕ)
 first_notes n kept = map note_bytes (take n kept)
 
--- the edge of a note is held where its strings are
+-- the right edge of a note is held if its strings are
 edge_moves :
     (digest : List ℕ → List ℕ) (v w : View) (note : List ℕ) → v.origin ≡ w.origin →
     ((q : List ℕ) → Has v.strings q → Has w.strings q) → HasEdge digest v note → HasEdge digest w note
@@ -36,7 +36,7 @@ edge_moves digest v w note same more e = record {
   };
 }
 
--- ---- notes, one after the other
+-- ---- notes, in order
 
 -- no note yet
 pub noted_none : (v : View) (kept : List HeldNote) → v ≡ with_notes v (first_notes 0 kept)
@@ -44,7 +44,7 @@ noted_none v kept i = record { origin = v.origin; notes = added_none v.notes i; 
 
 module _ (v : View) (kept : List HeldNote) (i : ℕ) (k : HeldNote) (lt : i < length kept)
     (at : k ≡ get_or kept i k) where
-  -- one note more
+  -- one more note
   pub noted_more :
       (between new : View) → between ≡ with_notes v (first_notes i kept) → new ≡ with_note between (note_bytes k) →
       new ≡ with_notes v (first_notes (i + 1) kept)
@@ -64,7 +64,7 @@ module _ (v : View) (kept : List HeldNote) (i : ℕ) (k : HeldNote) (lt : i < le
   is_listed : Contains kept k
   is_listed = (i, lt, sym at)
 
-  -- the note is a head, and its edge is held
+  -- the note is a tree head, and its right edge is held
   module _ (between : View) (before : between ≡ with_notes v (first_notes i kept)) where
     pub note_said : All (λ x. IsHead (note_bytes x) v.origin x.size x.root) kept →
         IsHead (note_bytes k) between.origin k.size k.root
@@ -86,7 +86,7 @@ module _ (digest : List ℕ → List ℕ) (old : View) (origin : List ℕ) (kept
   abbrev other : View
   other = (state_of origin kept strings remembered).view
 
-  -- the edges of its notes are held where its strings are
+  -- the right edges of its notes are held if its strings are
   pub others_edges :
       IsKeptWell digest origin kept strings remembered → old.origin ≡ origin → (between : View) →
       between ≡ with_strings old strings → (notes : List HeldNote) → notes ≡ kept →

@@ -1,4 +1,4 @@
--- The lines of what is missing, one after another.
+-- The lines of missing paths, in order.
 use Rattle.std.proofs.Common.{zero, suc, ◌≡◌, ℕ, ◌+◌, ◌-◌, ◌*◌, ◌%◌, ◌^◌, ◌<◌, ◌≤◌, min, List, [], ◌∷◌, ◌++◌, map, sym, refl, ap, subst}
 use Rattle.std.proofs.Common.{◌∙◌, ◌⊎◌, inl, inr, append_assoc, append-nil, arith, Bool, true, false, cond, Option, Some, None}
 use Rattle.std.specs.Prelude.{◌↔◌, ◌≢◌, IsTrue, codes, Result, Ok, Err, OnErr, OnOk, IsErrAnd}
@@ -172,12 +172,12 @@ pub at_err : {T E P : Type 0} (r : Result T E) (e : E) → r ≡ Err e → OnErr
 at_err (Ok x) e is h = absurd (cc is)
 at_err (Err f) e is h = h
 
--- the fault that a `?` hands on as it is
+-- a `?` returns the fault unchanged
 pub is_err : {T E : Type 0} (r : Result T E) (f : E) → IsErrAnd r (λ y. y ≡ f) → r ≡ Err f
 is_err (Ok x) f h = absurd h
 is_err (Err y) f h = ap Err h
 
--- ---- the whole
+-- ---- all lines
 
 module _ (digest : List ℕ → List ℕ) (v : View) (size : ℕ) (root : List ℕ) where
   module _ (head : HasHead v size root) (clean : NoClash digest v.strings) (small : size ≤ 256 ^ 8) where

@@ -1,4 +1,4 @@
--- A mirror of nothing is kept well.
+-- An empty mirror has the invariant.
 use Rattle.std.proofs.Common.{◌≡◌, ℕ, List, [], sym, subst}
 use Rattle.std.specs.FinSet as set
 use Rattle.std.specs.List.Sorted.{IsStrictlySortedBy}

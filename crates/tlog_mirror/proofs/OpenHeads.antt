@@ -1,4 +1,4 @@
--- A head whose note was opened is taken as its bytes are.
+-- A tree head whose note was opened is taken like its bytes.
 use Rattle.std.proofs.Common.{◌≡◌, ℕ, List, Bool, true, false, Result, subst, sym}
 use Rattle.std.specs.Prelude.{◌↔◌, IsTrue}
 use Rattle.signed_note.specs.Keys.{Key}
@@ -15,7 +15,7 @@ use Rattle.tlog_mirror.specs.Opened.{IsOpenUnder, SaysHead}
 
 module _ (bytes origin : List ℕ) (keys : List Key) (head : HeadNote)
     (opened : IsOpenCheckpoint bytes origin keys head.checkpoint) (bytes_are : head.note.bytes ≡ bytes) where
-  -- it is open for the origin that the reader was given
+  -- it is open for the origin that the reader got
   pub open_here : (there : List ℕ) → origin ≡ there → IsOpenUnder there keys head
   open_here there same =
       subst (λ b. IsOpenCheckpoint b there keys head.checkpoint) (sym bytes_are)
@@ -38,7 +38,7 @@ module _ (digest : List ℕ → List ℕ) (bytes origin : List ℕ) (keys : List
       subst (λ b. JudgesHead digest old.origin keys b rows result) bytes_are
       (judges (open_here bytes origin keys head opened bytes_are old.origin same))
 
--- whether the edge of a head is held is whether that of its size and root is
+-- the right edge of a tree head is held exactly if that of its size and root is
 module _ (digest : List ℕ → List ℕ) (v : View) (head : HeadNote) (said : SaysHead v.origin head) (b : Bool)
     (tells : IsTrue b ↔ HoldsEdge digest v.strings head.checkpoint.size head.checkpoint.root) where
   pub edge_is_held : b ≡ true → HasEdge digest v head.note.bytes

@@ -1,4 +1,4 @@
--- Events on mirrors, as they happen to views: one more, and one again.
+-- Events on mirrors and the views: one more event, and one event again.
 use Rattle.std.proofs.Common.{◌≡◌, ℕ, zero, suc, ◌+◌, ◌-◌, ◌<◌, List, [], ◌∷◌, ◌++◌, length, map, take, set}
 use Rattle.std.proofs.Common.{get_or, Some, add-one, refl, sym, ap, subst, ◌∙◌, arith}
 use Rattle.std.specs.Prelude.{slice_get, option_map}
@@ -40,7 +40,7 @@ module _ (world : List State) (target : ℕ) (d : State) (lt : target < length w
       slice_get-map (λ (s : State). s.view) world target
       ∙ ap (option_map (λ (s : State). s.view)) (slice_get-get_or world target d lt ∙ ap Some is)
 
-  -- one that takes or is merged, and remembers what it did
+  -- one mirror takes or is merged, and the remembered points stay
   pub remembers : (w : State) → w.remembered ≡ (get_or world target d).remembered →
       all_remembered (set world target w) ≡ all_remembered world
   remembers w same = map-set_same (λ (s : State). s.remembered) world target w d same
@@ -75,7 +75,7 @@ module _ (world : List State) (target : ℕ) (d : State) (lt : target < length w
     set = map-set (λ (s : State). s.view) world target w;
   }
 
-  -- one that is merged with itself, and stays as it is
+  -- a mirror is merged with itself, and does not change
   pub merged_itself :
       (digest : List ℕ → List ℕ) (keys : List Key) (source : ℕ) → target ≡ source → (answer : Answer) →
       Merges digest (get_or world target d).view (get_or world target d).view answer (get_or world target d).view →
@@ -97,7 +97,7 @@ module _ (digest : List ℕ → List ℕ) (keys : List Key) (old new : View) (it
       ((ks : List Key) → Takes digest ks old (Bundle width read) answer new) → Takes digest keys old item answer new
   bundle_taken is takes = subst (λ x. Takes digest keys old x answer new) (ap (Bundle width) same ∙ sym is) (takes keys)
 
--- the values of a list of slices, one more
+-- the values of a list of slices, with one more
 pub slices_more :
     {A B C : Type 0} (f : A → C) (g : B → C) (xs ys : List A) (a : A) (bs : List B) (i : ℕ) (b : B) →
     ys ≡ xs ++ a ∷ [] →
@@ -109,7 +109,7 @@ slices_more f g xs ys a bs i b grown same lt at before =
 
 -- a list in two parts
 module _ (world front back : List State) (parts : world ≡ front ++ back) (target source : ℕ) (d e w : State) where
-  -- the target in the first part, the source first in the second part
+  -- the target is in the first part, the source is the first of the second part
   module _ (len : length front ≡ source) (below : target < source) where
     pub target_in_front : get_or world target d ≡ get_or front target d
     target_in_front = ap (λ xs. get_or xs target d) parts ∙ get_or_append_left front back d target (omega arith)
@@ -123,7 +123,7 @@ module _ (world front back : List State) (parts : world ≡ front ++ back) (targ
     pub set_in_front : set world target w ≡ set front target w ++ back
     set_in_front = ap (λ xs. set xs target w) parts ∙ set-append_left front back target w (omega arith)
 
-  -- the source in the first part, the target first in the second part
+  -- the source is in the first part, the target is the first of the second part
   module _ (len : length front ≡ target) (below : source < target) where
     pub source_in_front : get_or world source e ≡ get_or front source e
     source_in_front = ap (λ xs. get_or xs source e) parts ∙ get_or_append_left front back e source (omega arith)
@@ -140,7 +140,7 @@ module _ (world front back : List State) (parts : world ≡ front ++ back) (targ
         ap (λ xs. set xs target w) parts ∙ set-append_right front back target target w len (omega arith) ∙
         ap (λ i. front ++ set back i w) none
 
--- ---- one event more, and one again
+-- ---- one more event, and one event again
 
 module _ (digest : List ℕ → List ℕ) (keys : List Key) where
   within_push :
@@ -160,7 +160,7 @@ module _ (digest : List ℕ → List ℕ) (keys : List Key) where
   again (suc times) old between new e a r h =
       again times old r.0 new e a r.1 (event_again digest keys r.0 between new e a r.2 h)
 
-  -- an event that happens again comes to the same as one that happens once
+  -- an event that happens again has the same result as one that happens once
   pub runs_once :
       (tries : ℕ) (old new : List View) (es : List Event) (answers : List Answer) →
       RunsWithin digest keys tries old es answers new → Run digest keys old es answers new
@@ -170,7 +170,7 @@ module _ (digest : List ℕ → List ℕ) (keys : List Key) where
   runs_once tries old new [] (a ∷ answers) r = absurd r
   runs_once tries old new (e ∷ es) [] r = absurd r
 
-  -- one time more
+  -- one more time
   pub ran_out_more : (times : ℕ) (old between new : List View) (e : Event) → RunsOut digest keys times old e between →
       Happens digest keys between e Exhausted new → RunsOut digest keys (times + 1) old e new
   ran_out_more times old between new e r h =

@@ -1,4 +1,4 @@
--- One mirror of several merged with another, each in a part of the list.
+-- One of several mirrors is merged with another, each in a part of the list.
 use Rattle.std.proofs.Common.{◌≡◌, ℕ, ◌<◌, List, ◌++◌, length, set, get_or, sym, ap, subst, ◌∙◌}
 use Rattle.signed_note.specs.Keys.{Key}
 use Rattle.mirror_model.specs.Marks.{State}
@@ -8,7 +8,7 @@ use Rattle.tlog_mirror.proofs.JudgedEvents.{merged_origins}
 use Rattle.tlog_mirror.proofs.PlayedEvents.{merged_at, remembers, set_in_back, set_in_front}
 use Rattle.tlog_mirror.proofs.PlayedEvents.{source_in_back, source_in_front, target_in_back, target_in_front}
 
--- what the merge says of all the mirrors
+-- the result of the merge for all the mirrors
 pub record IsMerged (digest : List ℕ → List ℕ) (world after : List State) (target source : ℕ) (answer : Answer)
     : Type 0 where
   pub merges : (keys : List Key) → MergesAt digest keys (views_of world) target source answer (views_of after)
@@ -17,7 +17,7 @@ pub record IsMerged (digest : List ℕ → List ℕ) (world after : List State) 
 
 module _ (digest : List ℕ → List ℕ) (world front back : List State) (parts : world ≡ front ++ back) (target source : ℕ)
     (d e : State) (here : target < length world) (there : source < length world) (w : State) (answer : Answer) where
-  -- wherever the two are found, and however the parts are put together again
+  -- for every place of the two, and however the parts are joined again
   merged_where :
       (before other : State) (after : List State) → get_or world target d ≡ before → get_or world source e ≡ other →
       set world target w ≡ after → Merges digest before.view other.view answer w.view →
@@ -32,7 +32,7 @@ module _ (digest : List ℕ → List ℕ) (world front back : List State) (parts
         ∙ remembers world target d here w (same ∙ ap (λ (s : State). s.remembered) (sym is));
   }
 
-  -- the target in the first part, the source first in the second part
+  -- the target is in the first part, the source is the first of the second part
   pub merged_in_front : length front ≡ source → target < source →
       Merges digest (get_or front target d).view (get_or back 0 e).view answer w.view →
       w.remembered ≡ (get_or front target d).remembered →
@@ -43,7 +43,7 @@ module _ (digest : List ℕ → List ℕ) (world front back : List State) (parts
       (source_in_back world front back parts target source d e w len below)
       (set_in_front world front back parts target source d e w len below)
 
-  -- the source in the first part, the target first in the second part
+  -- the source is in the first part, the target is the first of the second part
   pub merged_in_back : length front ≡ target → source < target →
       Merges digest (get_or back 0 d).view (get_or front source e).view answer w.view →
       w.remembered ≡ (get_or back 0 d).remembered →

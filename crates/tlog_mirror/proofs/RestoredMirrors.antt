@@ -1,4 +1,4 @@
--- A mirror that is made of strings is kept well, and what is answered of a note that is kept over them.
+-- A mirror made of strings has the invariant, and the answers for a note that is kept over them.
 use Rattle.std.proofs.Common.{◌≡◌, ◌≢◌, ◌≤◌, ℕ, List, [], ◌∷◌, length, Result, Ok, Err, refl, sym}
 use Rattle.std.proofs.Common.{subst}
 use Rattle.std.specs.FinSet as set
@@ -63,7 +63,7 @@ module _ (note origin : List ℕ) (keys : List Key) where
         (record { checkpoint = checkpoint; is_open = h; size_is = refl; root_is = refl });
   }
 
-  -- what is refused does not open
+  -- a refused note does not open
   pub not_open : (fault : TakeFault) → fault ≢ taking.OutOfMemory → ReadsHead note origin keys (Err fault) →
       IsOpenNote origin keys note → ⊥
   not_open fault memory h opened =
@@ -73,7 +73,7 @@ module _ (note origin : List ℕ) (keys : List Key) where
       (λ e. memory (cc e)) (λ e. cc e) in
       cc same
 
--- a note that is refused is not kept
+-- a refused note is not kept
 module _ (digest : List ℕ → List ℕ) (old : View) (keys : List Key) (note : List ℕ) where
   refused : (fault : TakeFault) → ReadsHead note old.origin keys (Err fault) →
       KeepsHeld digest old keys note (Err (held_fault_of fault)) old

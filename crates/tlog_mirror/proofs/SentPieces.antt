@@ -1,4 +1,4 @@
--- Pieces that are sent one after another.
+-- Pieces that are sent in order.
 use Rattle.std.proofs.Common.{◌≡◌, ℕ, zero, suc, ◌+◌, List, [], ◌∷◌, ◌++◌, length, take, Option, sym, ap, subst}
 use Rattle.std.proofs.Common.{◌∙◌, inl, inr, append_assoc, append-nil, arith}
 use Rattle.std.specs.Prelude.{Result, Ok, Err, OnErr}
@@ -9,7 +9,7 @@ use Rattle.std.proofs.lemmas.List.{take-append-le, take_all}
 use Rattle.byte_streams.specs.Streams.{AppendsPrefix}
 use Rattle.tlog_mirror.specs.Pieces.{Sends}
 
--- what holds in any case holds at an Err
+-- a property that is always true is true at an Err
 pub in_err : {T E P : Type 0} (r : Result T E) → P → OnErr r P
 in_err (Ok x) h = tt
 in_err (Err e) h = h
@@ -21,7 +21,7 @@ take_past (x ∷ xs) ys n =
     ap (λ k. take k (x ∷ (xs ++ ys))) e ∙ ap (λ zs. x ∷ zs) (take_past xs ys n)
 
 module _ (a b : Option (List ℕ)) where
-  -- a prefix is one of what goes on further
+  -- a prefix of a text is a prefix of a longer text
   pub prefix_more : (x y : List ℕ) → AppendsPrefix a b x → AppendsPrefix a b (x ++ y)
   prefix_more x y (n, is) = elim (cases_lt (length x) n) [
     | inl more ↦ (
@@ -33,7 +33,7 @@ module _ (a b : Option (List ℕ)) where
     | inr within ↦ (n, subst (Appends a b) (sym (take-append-le n x y within)) is)
   ]
 
-  -- what was written, and then a prefix of what comes
+  -- the written bytes, and then a prefix of the next ones
   pub prefix_then : (c : Option (List ℕ)) (x y : List ℕ) → Appends a b x → AppendsPrefix b c y →
       AppendsPrefix a c (x ++ y)
   prefix_then c x y p (n, q) =
@@ -51,7 +51,7 @@ module _ (a b : Option (List ℕ)) where
     is = ap (λ zs. (x ++ y) ++ zs) empty ∙ append-nil (x ++ y);
   }
 
-  -- one piece after another
+  -- two pieces in order
   module _ (c : Option (List ℕ)) (had mid first second : List ℕ) (p : Sends a b mid (had ++ first)) where
     joined : p.bytes ++ (mid ++ second) ≡ had ++ (first ++ second)
     joined =
@@ -67,7 +67,7 @@ module _ (a b : Option (List ℕ)) where
     pub fails_then : AppendsPrefix b c (mid ++ second) → AppendsPrefix a c (had ++ (first ++ second))
     fails_then q = subst (AppendsPrefix a c) joined (prefix_then c p.bytes (mid ++ second) p.appends q)
 
--- the last of what is held back is written
+-- the bytes that are held back are written last
 module _ (a b c : Option (List ℕ)) (held text : List ℕ) (p : Sends a b held text) where
   pub ends : Appends b c held → Appends a c text
   ends q = subst (Appends a c) p.is (Appends-trans a b c p.bytes held p.appends q)

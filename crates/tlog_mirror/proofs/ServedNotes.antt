@@ -1,4 +1,4 @@
--- What a mirror serves, from the notes that it keeps.
+-- The served note, found among the kept notes.
 use Rattle.std.proofs.Common.{◌≡◌, ℕ, zero, suc, ◌<◌, ◌≤◌, List, [], ◌∷◌, length, map, get_or, slice_index_or}
 use Rattle.std.proofs.Common.{Option, Some, None, Bool, true, false, Bor, sym, refl, ap, subst, ◌∙◌, inl, inr}
 use Rattle.std.proofs.Common.{arith}
@@ -51,7 +51,7 @@ sorted_at cmp (x ∷ xs) s (suc i) zero d lt fits = absurd (omega (arith, lt))
 sorted_at cmp (x ∷ xs) s (suc i) (suc j) d lt fits =
     sorted_at cmp xs s.1 i j d (omega (arith, lt)) (omega (arith, fits))
 
--- what a mapped list has at a place
+-- an item of a mapped list, with the item before the map
 pub record Unmapped {X Y : Type 0} (f : X → Y) (xs : List X) (k : ℕ) (y : Y) : Type 0 where
   pub one : X
   pub within : k < length xs
@@ -92,7 +92,7 @@ less_at_most a b e = ap is_le e
 same_at_most : (a b : List ℕ) → a ≡ b → IsAtMost a b
 same_at_most a b e = subst (IsAtMost a) e (ap is_le (tied_itself nat_list_cmp_total a))
 
--- ---- the notes that are kept
+-- ---- the kept notes
 
 module _ (digest : List ℕ → List ℕ) (origin : List ℕ) (kept : List HeldNote) (strings : Strings) (remembered : Points)
     (ok : IsKeptWell digest origin kept strings remembered) where
@@ -102,7 +102,7 @@ module _ (digest : List ℕ → List ℕ) (origin : List ℕ) (kept : List HeldN
   abbrev says : HeldNote → Type 0
   says k = IsHead (note_bytes k) origin k.size k.root
 
-  -- the kept note of a head that is held
+  -- the kept note of a held tree head
   record KeptOf (note : List ℕ) (point : Point) : Type 0 where
     at : ℕ
     one : HeldNote
@@ -144,7 +144,7 @@ module _ (digest : List ℕ → List ℕ) (origin : List ℕ) (kept : List HeldN
         is_head = All-contains says kept one ok.said (at, fits, there);
       }
 
-  -- a note that is kept further on is not less
+  -- a later kept note is not less
   later_note : (i j : ℕ) (a b : HeldNote) → i ≤ j → j < length kept → slice_index_or kept i a ≡ a →
       slice_index_or kept j b ≡ b → IsAtMost (note_bytes a) (note_bytes b)
   later_note i j a b upto fits at_a at_b =
@@ -167,7 +167,7 @@ module _ (digest : List ℕ → List ℕ) (origin : List ℕ) (kept : List HeldN
             same_at_most (note_bytes a) (note_bytes b) (ap note_bytes (sym read ∙ any_default kept j a b fits ∙ at_b))
       ]
 
-  -- ---- what is served
+  -- ---- the served note
 
   module _ (point : Point) (one : HeldNote) (best : IsBest digest strings kept point)
       (f : IsFirstWith kept point one) where
@@ -209,7 +209,7 @@ module _ (digest : List ℕ → List ℕ) (origin : List ℕ) (kept : List HeldN
       none k.one (k.at, k.within, k.is_there)
       (subst (IsBuiltAt digest strings) (sym k.is) (record { entries = entries; is = served.tree }))
 
-  -- ---- what is complete
+  -- ---- complete tree heads
 
   pub head_of : (size : ℕ) (root : List ℕ) (one : HeldNote) →
       IsFirstWith kept (record { size = size; root = root }) one → HasHead v size root
@@ -234,7 +234,7 @@ module _ (digest : List ℕ → List ℕ) (origin : List ℕ) (kept : List HeldN
       let k = kept_of h.note size root h.holds in
       record { one = k.one; is_kept = (k.at, k.within, k.is_there); is = k.is }
 
--- ---- in the words of the calls
+-- ---- as the calls state it
 
 module _ (digest : List ℕ → List ℕ) (origin : List ℕ) (kept : List HeldNote) (strings : Strings) (remembered : Points)
     (ok : IsKeptWell digest origin kept strings remembered) (old : State)

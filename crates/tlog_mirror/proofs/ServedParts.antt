@@ -1,4 +1,4 @@
--- What is served is that of the list that is found once.
+-- The served parts are those of the list that is found once.
 use Rattle.std.proofs.Common.{◌≡◌, ℕ, ◌+◌, ◌*◌, ◌<◌, ◌≤◌, List, [], ◌∷◌, length, map, get_or, slice_index_or}
 use Rattle.std.proofs.Common.{Option, Some, None, Bor, sym, subst, ◌∙◌, arith}
 use Rattle.std.specs.Prelude.{Result, Ok, Err, IfOk, IfSome, IfNone, All}
@@ -21,7 +21,7 @@ use Rattle.tlog_mirror.specs.Tops.{Top, IsWhole, IsListOf, IsServedAs, IsServedT
 use Rattle.tlog_mirror.specs.Tops.{ProofsAreServed}
 
 module _ (digest : List ℕ → List ℕ) (v : View) where
-  -- two lists that are served have one length
+  -- two served lists have one length
   size_once : (note other : List ℕ) (size n : ℕ) (root r : List ℕ) (first second : List (List ℕ)) →
       Served digest v note size root first → Served digest v other n r second → length first ≡ length second
   size_once note other size n root r first second p q =
@@ -126,7 +126,7 @@ module _ (digest : List ℕ → List ℕ) (v : View) where
       bundle_none (Ok None) h =
           λ bytes q. h (subst (λ n. IsTileWithin n 0 index width) (same_size q.entries q.served) q.within)
 
-  -- ---- nothing
+  -- ---- nothing is served
 
   module _ (nothing : SaysServed digest v None) where
     nothing_listed : (es : List (List ℕ)) → IsServedList digest v es → ⊥
@@ -186,7 +186,7 @@ module _ (digest : List ℕ → List ℕ) (top : Top) (whole : IsWhole digest to
       (map (λ (e : Bor (List ℕ)). e.now) lent) k d.now within shorts in
       subst (λ (e : List ℕ). length e < 65536) (get_or-map (λ (e : Bor (List ℕ)). e.now) lent k d d.now lt) at_k
 
--- ---- the list that is found is the one that is served
+-- ---- the list that is found is the served one
 
 pub top_has_served : TopHasServed
 top_has_served digest hash v lawful top is es = (

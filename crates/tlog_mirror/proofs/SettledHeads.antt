@@ -1,4 +1,4 @@
--- What is remembered of the heads of a mirror, one after another.
+-- The slices that are remembered for the tree heads of a mirror, step by step.
 use Rattle.std.proofs.Common.{◌≡◌, ℕ, ◌+◌, ◌<◌, ◌≤◌, List, [], ◌∷◌, ◌++◌, length, take, drop, get_or, Ok, Err, ◌⊎◌, inl, inr}
 use Rattle.std.proofs.Common.{sym, subst}
 use Rattle.std.specs.Prelude.{All, Result, OnOk, ◌↔◌}
@@ -20,7 +20,7 @@ use Rattle.tlog_mirror.specs.declared.kept.HeldNote.{HeldNote}
 use Rattle.tlog_mirror.proofs.ServedNotes.{head_from_kept, kept_head}
 
 module _ (digest : List ℕ → List ℕ) (held : Strings) where
-  -- one head more
+  -- one more tree head
   module _ (heads : List (ℕ × List ℕ)) (i : ℕ) (fits : i < length heads) (d : ℕ × List ℕ) (v w : Points)
       (at_least : (point : Point) → HasMark v point → HasMark w point) where
     abbrev first : List (ℕ × List ℕ)
@@ -61,7 +61,7 @@ module _ (digest : List ℕ → List ℕ) (held : Strings) where
       settled = settled;
     })
 
-  -- what the first heads add is among what all of them may add
+  -- the additions of the first tree heads are among the additions that all of them may make
   pub gains_all : (heads : List (ℕ × List ℕ)) (i : ℕ) (u v : Points) → GainsAny digest held (take i heads) u v →
       GainsAny digest held heads u v
   gains_all heads i u v g = record {
@@ -82,7 +82,7 @@ module _ (digest : List ℕ → List ℕ) (held : Strings) where
       All (HasSlicesOf digest held v) (take i heads) → All (HasSlicesOf digest held v) heads
   all_done heads i upto v all = subst (All (HasSlicesOf digest held v)) (take_all i heads upto) all
 
--- ---- a mirror that has settled its heads
+-- ---- a mirror that has settled its tree heads
 
 module _ (digest : List ℕ → List ℕ) (origin : List ℕ) (kept : List HeldNote) (strings : Strings)
     (remembered now : Points) (ok : IsKeptWell digest origin kept strings remembered) (heads : List (ℕ × List ℕ))

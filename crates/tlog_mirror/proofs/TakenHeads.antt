@@ -1,4 +1,4 @@
--- The take of a head: what is answered of its note and of its edge rows is answered of the head.
+-- The take of a tree head: the answer for its note or for its edge rows is the answer for the tree head.
 use Rattle.std.proofs.Common.{◌≡◌, ◌≤◌, ℕ, List, [], ◌∷◌, length, map, Result, Ok, Err, inl, inr, refl, sym, ap}
 use Rattle.std.proofs.Common.{subst, ◌∙◌}
 use Rattle.std.specs.FinSet as set
@@ -63,7 +63,7 @@ module _ (note origin : List ℕ) (keys : List Key) (checkpoint : Checkpoint)
     has_edge = edge;
   }
 
-  -- what is answered of the edge rows of a note that is read is answered of the head
+  -- the answer for the edge rows of a note that is read is the answer for the tree head
   pub edge_judged : (digest : List ℕ → List ℕ) (rows : List (List ℕ)) (r : Result (Unit {0}) TakeFault) →
       JudgesEdge digest checkpoint.size checkpoint.root rows r → JudgesHead digest origin keys note rows r
   edge_judged digest rows (Ok done) h = open_is_good digest rows h
@@ -82,7 +82,7 @@ module _ (note origin : List ℕ) (keys : List Key) (checkpoint : Checkpoint)
   edge_judged digest rows (Err taking.Collision) h = open_is_good digest rows h
   edge_judged digest rows (Err taking.OutOfMemory) h = tt
 
--- a note that is refused refuses the head
+-- if a note is refused, the tree head is refused
 pub note_judged : (digest : List ℕ → List ℕ) (note origin : List ℕ) (keys : List Key) (rows : List (List ℕ))
     (fault : TakeFault) → ReadsHead note origin keys (Err fault) → JudgesHead digest origin keys note rows (Err fault)
 note_judged digest note origin keys rows (taking.Note fault) h = h
@@ -98,14 +98,14 @@ note_judged digest note origin keys rows taking.BundleLong h = absurd h
 note_judged digest note origin keys rows taking.Collision h = absurd h
 note_judged digest note origin keys rows taking.OutOfMemory h = tt
 
--- ---- what a refusal is to the view
+-- ---- a refusal and the view
 
 module _ (digest : List ℕ → List ℕ) (keys : List Key) (old : View) (note : List ℕ) (rows : List (List ℕ)) where
   refused : (fault : TakeFault) → JudgesHead digest old.origin keys note rows (Err fault) →
       answer_of (Err fault) ≡ Refused → (IsGoodHead digest old.origin keys note rows → ⊥) × (old ≡ old)
   refused fault h is = ((heads_are_judged digest old.origin keys note rows).refused (Err fault) h is, refl)
 
-  -- a head that is not taken leaves the view as it was
+  -- a tree head that is not taken leaves the view unchanged
   pub fault_takes :
       (fault : TakeFault) → JudgesHead digest old.origin keys note rows (Err fault) →
       (fault ≡ taking.Collision → HasClash digest (set.from_list (edge_strings digest (map row_of rows)))) →
@@ -129,7 +129,7 @@ module _ (digest : List ℕ → List ℕ) (keys : List Key) (old : View) (note :
   )
   fault_takes taking.OutOfMemory h clash = inl refl
 
-  -- a head that is taken, or collides with what is held, or finds no memory
+  -- a tree head is taken, or collides with held strings, or memory is refused
   pub head_takes :
       IsGoodHead digest old.origin keys note rows → (strings : Strings) →
       strings ≡ set.from_list (edge_strings digest (map row_of rows)) → (answer : Result (Unit {0}) AddFault)
@@ -164,7 +164,7 @@ module _ (digest : List ℕ → List ℕ) (keys : List Key) (old : View) (note :
 
 -- ---- strings first, then the note
 
--- all strings of a list are in the set of it
+-- all strings of a list are in the set of the list
 listed_held : (v : Strings) (strings : List (List ℕ)) (all : Strings) → all ≡ set.from_list strings →
     HasAll (set.union v all) strings
 listed_held v strings all is =
@@ -173,7 +173,7 @@ listed_held v strings all is =
     (λ q h. has_right v all q (subst (λ s. Has s q) (sym is) (has_from_listed strings q h))) strings
     (All-contains_itself strings)))
 
--- the edge of a head is held once its strings are
+-- the right edge of a tree head is held once its strings are
 pub edge_held :
     (digest : List ℕ → List ℕ) (old : View) (note : List ℕ) (size : ℕ) (root : List ℕ) (rows : List (List ℕ))
     (strings : Strings) → IsHead note old.origin size root → HasEdgeRows digest size root rows →
@@ -193,7 +193,7 @@ module _ (digest : List ℕ → List ℕ) (old : View) (strings : Strings) (note
   abbrev most : View
   most = with_note (with_strings old strings) note
 
-  -- where the strings are not all added, the note is not
+  -- if not all strings are added, the note is not added
   pub strings_refused :
       (fault : AddFault) (new : View) →
       Answers digest old (Unit {0}) (with_strings old strings) (added (Err fault)) new →
@@ -216,12 +216,12 @@ module _ (digest : List ℕ → List ℕ) (old : View) (strings : Strings) (note
     )
   ]
 
-  -- where they are, the note is entered
+  -- if all strings are added, the note is entered
   pub note_entered : (between new : View) → Answers digest old (Unit {0}) (with_strings old strings) Done between →
       new ≡ with_note between note → Answers digest old (Unit {0}) most Done new
   note_entered between new h is = (tt, h.1, is ∙ ap (λ v. with_note v note) h.2)
 
-  -- or finds no memory
+  -- or memory is refused
   pub note_refused : (between new : View) → Answers digest old (Unit {0}) (with_strings old strings) Done between →
       new ≡ between → Answers digest old (Unit {0}) most Exhausted new
   note_refused between new h is = inr (
@@ -245,7 +245,7 @@ module _ (digest : List ℕ → List ℕ) (old : View) (strings : Strings) (note
 
 module _ (digest : List ℕ → List ℕ) (keys : List Key) (old : View) (note : List ℕ) (rows : List (List ℕ))
     (origin : List ℕ) (same : origin ≡ old.origin) where
-  -- a note that is refused
+  -- the note is refused
   pub note_takes : (fault : TakeFault) → ReadsHead note origin keys (Err fault) →
       Takes digest keys old (Head note rows) (answer_of (Err fault)) old
   note_takes fault reads =
@@ -278,7 +278,7 @@ module _ (digest : List ℕ → List ℕ) (keys : List Key) (old : View) (note :
         head_judged digest keys old note rows (open_is_good note old.origin keys checkpoint here digest rows good) answer
         result is
 
-    -- edge rows that are refused, or collide among themselves
+    -- the edge rows are refused, or collide among themselves
     pub edge_takes :
         (fault : TakeFault) → JudgesEdge digest checkpoint.size checkpoint.root rows (Err fault) → (none : Strings) →
         none ≡ set.empty →

@@ -1,4 +1,4 @@
--- What adding the strings of an item to a mirror's makes of its state, and which answer that is.
+-- Adding the strings of an item to a mirror: the state afterwards, and the answer.
 use Rattle.std.proofs.Common.{◌≡◌, ℕ, ◌*◌, ◌≤◌, List, [], ◌∷◌, length, sym, refl, ap, subst, ◌∙◌}
 use Rattle.std.proofs.Common.{inl, inr, Ok, Err}
 use Rattle.std.specs.Prelude.{OnErr, OnOk, Result}
@@ -34,7 +34,7 @@ use Rattle.mirror_model.proofs.StringSets.{clash_within, union_clash}
 use Rattle.mirror_trees.proofs.Settles.{settled_stays}
 use Rattle.mirror_trees.proofs.BuiltTrees.{added_none}
 
--- ---- two sets together
+-- ---- the union of two sets
 
 module _ (digest : List ℕ → List ℕ) (v w : Strings) where
   pub union_no_clash : NoClash digest v → NoClash digest w → (ClashesWith digest v w → ⊥) →
@@ -65,7 +65,7 @@ module _ (digest : List ℕ → List ℕ) (v w : Strings) where
         ];
   }
 
--- ---- a mirror to whose strings more are added
+-- ---- more strings are added to a mirror
 
 module _ (digest : List ℕ → List ℕ) (origin : List ℕ) (kept : List HeldNote) (strings more now : Strings)
     (remembered : Points) (ok : IsKeptWell digest origin kept strings remembered) where
@@ -175,7 +175,7 @@ module _ (digest : List ℕ → List ℕ) (origin : List ℕ) (kept : List HeldN
 
 -- ---- the take of an item
 
--- what is answered where all is allowed is answered where this is allowed
+-- an answer without a condition is an answer under a condition that is true
 pub allowed : (digest : List ℕ → List ℕ) (Allowed : Type 0) (full old : View) (answer : Answer) (new : View) → Allowed →
     Answers digest old (Unit {0}) full answer new → Answers digest old Allowed full answer new
 allowed digest Allowed full old Done new good h = (good, h.1, h.2)
@@ -183,13 +183,13 @@ allowed digest Allowed full old Refused new good h = absurd (h.0 tt)
 allowed digest Allowed full old Clashed new good h = (good, h.1, h.2)
 allowed digest Allowed full old Exhausted new good h = elim h [ inl e ↦ inl e | inr m ↦ inr (good, m.1, m.2) ]
 
--- an answer is of one kind, in the words of the store and in those of a take
+-- an answer of the store and the answer of the take have one kind
 pub same_kind : (answer : Result (Unit {0}) AddFault) → answer_of (taken_of answer) ≡ added answer
 same_kind (Ok done) = refl
 same_kind (Err Collision) = refl
 same_kind (Err OutOfMemory) = refl
 
--- what was added to an empty set
+-- the strings that were added to an empty set
 pub gathered : (none strings : Strings) (xs ys : List (List ℕ)) → none ≡ set.empty →
     strings ≡ set.union none (set.from_list xs) → xs ≡ ys → strings ≡ set.from_list ys
 gathered none strings xs ys empty is same =
@@ -259,7 +259,7 @@ module _ (width : ℕ) (bytes : List ℕ) (wide : IsWidth width) where
   pub bundle_good : (entries : List (List ℕ)) → IsBundle width bytes entries → IsGoodBundle width bytes
   bundle_good entries b = record { is_width = wide; entries = entries; is_bundle = b }
 
--- a valid tile is answered by a collision or OutOfMemory alone
+-- the take of a valid tile fails only by a collision or OutOfMemory
 pub tile_judged :
     (width : ℕ) (bytes : List ℕ) → IsGoodTile width bytes → (answer : Result (Unit {0}) AddFault)
     (result : Result (Unit {0}) TakeFault) → result ≡ taken_of answer → JudgesTile width bytes result
@@ -270,7 +270,7 @@ tile_judged width bytes good answer result is = subst (JudgesTile width bytes) (
     at (Err Collision) = good
     at (Err OutOfMemory) = tt
 
--- a valid bundle is answered by a collision or OutOfMemory alone
+-- the take of a valid bundle fails only by a collision or OutOfMemory
 pub bundle_judged :
     (width : ℕ) (bytes : List ℕ) → IsGoodBundle width bytes → (answer : Result (Unit {0}) AddFault)
     (result : Result (Unit {0}) TakeFault) → result ≡ taken_of answer → JudgesBundle width bytes result

@@ -1,4 +1,4 @@
--- Lines that are written one after another.
+-- Lines that are written in order.
 use Rattle.std.proofs.Common.{◌≡◌, ℕ, List, [], ◌∷◌, ◌++◌, Bool, sym, refl, ap, subst, ◌∙◌, ◌⊎◌, inl, inr, append_assoc, append-nil, Option}
 use Rattle.std.specs.Prelude.{IsTrue, ◌↔◌, ◌≢◌}
 use Rattle.std.specs.List.{flat_map}
@@ -18,7 +18,7 @@ module _ {X : Type 0} (line : X → List ℕ) where
   pub one_text : (x : X) → lines_of (x ∷ []) ≡ line x
   one_text x = append-nil (line x)
 
-  -- some lines of all were written, or held back, and the rest are to come
+  -- some of the lines were written, or are held back, and the rest will follow
   pub record IsWritten (old now : Option (List ℕ)) (had held : List ℕ) (before any : Bool) (all rest : List X) : Type 0
     where
       pub done : List X
@@ -85,7 +85,7 @@ module _ {X : Type 0} (line : X → List ℕ) where
           (subst (AppendsPrefix old new) text
           (fails_then old now new had held (lines_of w.done) (lines_of more) w.sends q))))
 
-    -- no more
+    -- no more lines
     module _ (rest : List X) (none : rest ≡ []) (w : IsWritten old now had held before any all rest) where
       all_is : all ≡ w.done
       all_is = w.is ∙ ap (λ xs. w.done ++ xs) none ∙ append-nil w.done

@@ -1,6 +1,5 @@
--- Which of the kept notes is served: of those whose head is complete the one of the greatest size,
--- then of the least root, then the least by bytes. The contracts of private functions alone cite
--- these words.
+-- The kept note that is served: its tree is held. It has the greatest size, then the least root, then the least bytes.
+-- Only the contracts of private functions cite these words.
 use Rattle.std.specs.Prelude.{◌≡◌, ℕ, ◌<◌, List, length, slice_index_or, Option, Some, None, false}
 use Rattle.std.specs.Prelude.{IsTrue, ◌↔◌, ⊤}
 use Rattle.std.specs.Ordering.{nat_cmp, ordering_then, is_gt}
@@ -15,20 +14,19 @@ use Rattle.mirror_model.specs.declared.reports.Head.{Head}
 use Rattle.mirror_trees.specs.Marked.{point_of}
 use Rattle.tlog_mirror.specs.declared.kept.HeldNote.{HeldNote}
 
--- the size and the root that a kept note says
+-- the size and root of a kept note
 abbrev pub kept_point : HeldNote → Point
 kept_point kept = record { size = kept.size; root = kept.root }
 
--- the order of pairs of a size and a root: by size, and then by root
+-- the order of pairs of a size and a root: by size, then by root
 abbrev pub by_point : ℕ × List ℕ → ℕ × List ℕ → Ordering
 by_point a b = point_cmp (point_of a) (point_of b)
 
--- which of two complete heads is served before the other: the one of the greater size, then the one
--- of the lesser root
+-- the order in which complete tree heads are served: the greater size first, then the lesser root
 abbrev pub served_cmp : Point → Point → Ordering
 served_cmp a b = ordering_then (nat_cmp b.size a.size) (slice_cmp nat_cmp a.root b.root)
 
--- the head is served before the one that was found, if one was
+-- the tree head is served before the one that was found, if there is one
 abbrev pub IsAhead : Point → Option (ℕ × List ℕ) → Type 0
 IsAhead point None = ⊤
 IsAhead point (Some found) = served_cmp point (point_of found) ≡ Less
@@ -44,24 +42,24 @@ module _ (digest : List ℕ → List ℕ) (held : Strings) where
   abbrev pub IsBuiltAt : Point → Type 0
   IsBuiltAt point = IsBuilt digest held point.size point.root
 
-  -- the flag of a head tells whether its tree is held
+  -- the flag of a tree head is true exactly if its tree is held
   abbrev pub IsBuiltFlag : Head → Type 0
   IsBuiltFlag head = IsTrue head.complete ↔ IsBuilt digest held head.size head.root
 
-  -- of the kept notes whose tree is held one has that size and root, and none is served before it
+  -- a kept note has that size and root, its tree is held, and no kept note whose tree is held is served before it
   pub record IsBest (kept : List HeldNote) (point : Point) : Type 0 where
     pub has : HasKept kept point
     pub built : IsBuiltAt point
     pub first : (other : HeldNote) → Contains kept other → IsBuiltAt (kept_point other) →
         is_gt (served_cmp point (kept_point other)) ≡ false
 
-  -- what is found among the kept notes: None where the tree of none is held, else the size and root
-  -- of which none is served before it
+  -- the answer of the search among the kept notes: None if no tree of a kept note is held, else the size and root that
+  -- are served first
   abbrev pub IsBestOf : List HeldNote → Option (ℕ × List ℕ) → Type 0
   IsBestOf kept None = (other : HeldNote) → Contains kept other → ¬ IsBuiltAt (kept_point other)
   IsBestOf kept (Some found) = IsBest kept (point_of found)
 
--- the note is the first of the kept notes of that size and root
+-- the note is the first kept note with that size and root
 pub record IsFirstWith (kept : List HeldNote) (point : Point) (one : HeldNote) : Type 0 where
   pub at : ℕ
   pub within : at < length kept

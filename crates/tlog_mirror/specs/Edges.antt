@@ -1,5 +1,4 @@
--- What is said of the edge rows of a head. The contracts of private functions alone cite these
--- words.
+-- Answers about the edge rows of a tree head. Only the contracts of private functions cite these words.
 use Rattle.std.specs.Prelude.{◌≡◌, ◌≢◌, ℕ, ◌*◌, List, length, map, Result, Ok, Err, ⊤}
 use Rattle.mirror_model.specs.Edge.{edge_root}
 use Rattle.mirror_model.specs.Item.{row_of, HasEdgeRows}
@@ -11,8 +10,8 @@ use Rattle.mirror_model.specs.declared.fault.TakeFault.TheVariants as taking
 abbrev pub HaveWidths : List ℕ → List (List ℕ) → Type 0
 HaveWidths widths rows = map length rows ≡ map (λ width. 32 * width) widths
 
--- what each answer of a reader of rows of those widths says: they have them, and the hashes are
--- theirs, or they have not
+-- each answer of a reader of rows with those widths is right: the rows have the widths and these hashes, or they do not
+-- have the widths
 abbrev pub ReadsRows : List ℕ → List (List ℕ) → Result (List (List (List ℕ))) TakeFault → Type 0
 ReadsRows widths rows (Ok hashes) = HaveWidths widths rows × (hashes ≡ map row_of rows)
 ReadsRows widths rows (Err (taking.Note fault)) = ⊥
@@ -28,8 +27,8 @@ ReadsRows widths rows (Err taking.BundleLong) = ⊥
 ReadsRows widths rows (Err taking.Collision) = ⊥
 ReadsRows widths rows (Err taking.OutOfMemory) = ⊤
 
--- what each answer of a reader of edge rows says: there are as many rows as the size has partial
--- tiles, and they have these widths
+-- each answer of a reader of edge rows is right: there are as many rows as the size has partial tiles, with their
+-- widths
 abbrev pub ReadsEdge : ℕ → List (List ℕ) → Result (List (List (List ℕ))) TakeFault → Type 0
 ReadsEdge size rows (Ok hashes) = HasEdgeLengths size rows × (hashes ≡ map row_of rows)
 ReadsEdge size rows (Err (taking.Note fault)) = ⊥
@@ -46,8 +45,8 @@ ReadsEdge size rows (Err taking.BundleLong) = ⊥
 ReadsEdge size rows (Err taking.Collision) = ⊥
 ReadsEdge size rows (Err taking.OutOfMemory) = ⊤
 
--- what each answer of taking edge rows says: they are as the size has them, and lead to the root; a
--- collision is told of such rows alone
+-- each answer of taking edge rows is right: the rows have the lengths for the size, and lead to the root. Only such
+-- rows give a collision
 abbrev pub JudgesEdge : (List ℕ → List ℕ) → ℕ → List ℕ → List (List ℕ) →
     Result (Unit {0}) TakeFault → Type 0
 JudgesEdge digest size root rows (Ok done) = HasEdgeRows digest size root rows

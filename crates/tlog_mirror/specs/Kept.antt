@@ -1,4 +1,4 @@
--- What a mirror keeps, and what holds of it.
+-- The parts of a mirror, and their invariant.
 use Rattle.std.specs.Prelude.{ℕ, List, map, All}
 use Rattle.std.specs.Ordering.{nat_cmp}
 use Rattle.std.specs.Cmp.Lexicographic.{slice_cmp}
@@ -14,7 +14,7 @@ use Rattle.tlog_mirror.specs.declared.kept.HeldNote.{HeldNote}
 abbrev pub note_bytes : HeldNote → List ℕ
 note_bytes kept = kept.note.bytes
 
--- what a mirror of these parts stands for
+-- the state of a mirror with these parts
 abbrev pub state_of : List ℕ → List HeldNote → Strings → Points → State
 state_of origin kept strings remembered =
     record {
@@ -27,9 +27,8 @@ state_of origin kept strings remembered =
       remembered = remembered;
     }
 
--- the parts of a mirror are as it keeps them: what they stand for is sound; of each tree that is
--- remembered all slices are; the kept notes rise by their bytes, and each stands beside the size
--- and the root that it says
+-- the invariant of a mirror's parts. Their state is sound. For each remembered tree all slices are remembered. The kept
+-- notes rise by their bytes, and each is kept with the size and root of its text
 pub record IsKeptWell
     (digest : List ℕ → List ℕ) (origin : List ℕ) (kept : List HeldNote) (strings : Strings)
     (remembered : Points) : Type 0 where

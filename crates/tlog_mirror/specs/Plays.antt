@@ -1,5 +1,4 @@
--- Plays: events on mirrors, one after another. `HasWidth` is cited by the contracts of private
--- functions alone.
+-- Plays: events on mirrors, in order. Only the contracts of private functions cite `HasWidth`.
 use Rattle.std.specs.Prelude.{◌≡◌, ℕ, zero, suc, ◌+◌, ◌<◌, List, [], ◌∷◌, map, Some, Result, Ok}
 use Rattle.std.specs.Prelude.{Err, slice_get, ⊤}
 use Rattle.signed_note.specs.Keys.{Key}
@@ -20,7 +19,7 @@ use Rattle.mirror_model.specs.Steps.{Answer, Exhausted, Happens}
 abbrev pub views_of : List State → List View
 views_of world = map (λ state. state.view) world
 
--- what mirrors remember
+-- the points that mirrors remember
 abbrev pub all_remembered : List State → List Points
 all_remembered world = map (λ state. state.remembered) world
 
@@ -28,28 +27,27 @@ all_remembered world = map (λ state. state.remembered) world
 abbrev pub origins_of : List State → List (List ℕ)
 origins_of world = map (λ state. state.view.origin) world
 
--- the answer is one that a merge may have, among those of takes
+-- a merge may give this answer, in the form of a take's answer
 abbrev pub IsMergeAnswer : Result (Unit {0}) TakeFault → Type 0
 IsMergeAnswer (Ok done) = ⊤
 IsMergeAnswer (Err fault) = (merging : MergeFault) × (fault ≡ take_fault_of merging)
 
 module _ (digest : List ℕ → List ℕ) (keys : List Key) where
-  -- a take is answered by the first refusal that applies, as the call for its kind of item answers
-  -- it
+  -- the answer of a take is the first refusal that applies, as from the call for its kind of item
   abbrev pub JudgesItem : List ℕ → Item → Result (Unit {0}) TakeFault → Type 0
   JudgesItem origin (Head note edge) answer = JudgesHead digest origin keys note edge answer
   JudgesItem origin (Tile width bytes) answer = JudgesTile width bytes answer
   JudgesItem origin (Bundle width bytes) answer = JudgesBundle width bytes answer
 
-  -- an event on mirrors of these origins is answered as its kind may be: a take by what its item
-  -- is, a merge by an answer of merges, and a merge of a mirror with itself by Ok
+  -- the answer to an event on mirrors of these origins is possible. For a take the item decides; a merge has an answer
+  -- of merges; a merge of a mirror with itself has Ok
   abbrev pub JudgesEvent : List (List ℕ) → Event → Result (Unit {0}) TakeFault → Type 0
   JudgesEvent origins (Take target item) answer =
       (origin : List ℕ) → slice_get origins target ≡ Some origin → JudgesItem origin item answer
   JudgesEvent origins (Merge target source) answer =
       IsMergeAnswer answer × (target ≡ source → answer ≡ Ok tt)
 
-  -- events on mirrors of these origins, one after another, are each answered as its kind may be
+  -- each answer to events on mirrors of these origins, in order, is possible
   abbrev pub JudgesEvents :
       List (List ℕ) → List Event → List (Result (Unit {0}) TakeFault) → Type 0
   JudgesEvents origins [] [] = ⊤
@@ -58,15 +56,14 @@ module _ (digest : List ℕ → List ℕ) (keys : List Key) where
   JudgesEvents origins [] (answer ∷ answers) = ⊥
   JudgesEvents origins (event ∷ events) [] = ⊥
 
-  -- the event happens that many times, and each time memory is refused
+  -- the event happens that number of times, and each time memory is refused
   abbrev pub RunsOut : ℕ → List View → Event → List View → Type 0
   RunsOut zero old event new = new ≡ old
   RunsOut (suc times) old event new =
       (between : List View) × RunsOut times old event between
       × Happens digest keys between event Exhausted new
 
-  -- an event happens until it is answered otherwise than by OutOfMemory, at most that many times, and this is its
-  -- last answer
+  -- an event happens until its answer is not OutOfMemory, at most that number of times, and this is its last answer
   pub record HappensWithin (tries : ℕ) (old : List View) (event : Event) (answer : Answer)
       (new : List View) : Type 0 where
     pub before : ℕ
@@ -76,7 +73,7 @@ module _ (digest : List ℕ → List ℕ) (keys : List Key) where
     pub last : Happens digest keys between event answer new
     pub all_tried : answer ≡ Exhausted → before + 1 ≡ tries
 
-  -- events happen one after another, each tried so many times at most, with an answer each
+  -- events happen in order, each at most that number of times, with one answer each
   abbrev pub RunsWithin : ℕ → List View → List Event → List Answer → List View → Type 0
   RunsWithin tries old [] [] new = new ≡ old
   RunsWithin tries old (event ∷ events) (answer ∷ answers) new =
@@ -85,7 +82,7 @@ module _ (digest : List ℕ → List ℕ) (keys : List Key) where
   RunsWithin tries old [] (answer ∷ answers) new = ⊥
   RunsWithin tries old (event ∷ events) [] new = ⊥
 
--- the item, where it is a tile or a bundle, has a width from 1 to 256
+-- if the item is a tile or a bundle, its width is from 1 to 256
 abbrev pub HasWidth : Item → Type 0
 HasWidth (Head note edge) = ⊤
 HasWidth (Tile width bytes) = IsWidth width

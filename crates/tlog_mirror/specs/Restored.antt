@@ -1,5 +1,5 @@
--- A mirror that is made again of what was kept of one: of its strings, and then of its notes.
--- `held_fault_of` is cited by the contract of a private function alone.
+-- A mirror that is restored from kept strings and then from kept notes. Only the contract of a private function cites
+-- `held_fault_of`.
 use Rattle.std.specs.Prelude.{◌≡◌, ℕ, List, Result, Ok, Err}
 use Rattle.std.specs.FinSet as set
 use Rattle.signed_note.specs.Keys.{Key}
@@ -13,7 +13,7 @@ use Rattle.tlog_mirror.specs.Adding.{with_note}
 use Rattle.tlog_mirror.specs.declared.fault.RestoreFault.{RestoreFault}
 use Rattle.tlog_mirror.specs.declared.fault.RestoreFault.TheVariants.{BadHead, UnheldEdge, OutOfMemory}
 
--- the view of these strings, and of no note
+-- the view with these strings and no notes
 abbrev pub strings_alone : List ℕ → Strings → View
 strings_alone origin strings = record { origin = origin; notes = set.empty; strings = strings }
 
@@ -24,8 +24,8 @@ pub record IsOpenNote (origin : List ℕ) (keys : List Key) (note : List ℕ) : 
   pub is_head : IsOpenHead note origin keys size root
 
 module _ (digest : List ℕ → List ℕ) where
-  -- what each answer of keeping a note says: it is kept exactly where it opens and the strings of
-  -- its edge are held already
+  -- each answer of keeping a note is right: it is kept exactly if it opens and the strings of its right edge are held
+  -- already
   abbrev pub KeepsHeld : View → List Key → List ℕ → Result (Unit {0}) RestoreFault → View → Type 0
   KeepsHeld old keys note (Ok done) new =
       IsOpenNote old.origin keys note × HasEdge digest old note × (new ≡ with_note old note)
@@ -34,7 +34,7 @@ module _ (digest : List ℕ → List ℕ) where
       IsOpenNote old.origin keys note × (¬ HasEdge digest old note) × (new ≡ old)
   KeepsHeld old keys note (Err OutOfMemory) new = new ≡ old
 
--- which fault of keeping a note a fault of reading it as a head is
+-- the fault of keeping a note, for a fault of reading it as a tree head
 abbrev pub held_fault_of : TakeFault → RestoreFault
 held_fault_of (taking.Note fault) = BadHead
 held_fault_of (taking.Checkpoint fault) = BadHead

@@ -1,4 +1,4 @@
-//! Which of the kept notes is served.
+//! The kept note that is served.
 ghost use Rattle.std.specs.Prelude.{◌↔◌, IsTrue, IfSome, IfNone};
 ghost use Rattle.mirror_trees.specs.HeldTrees.{AreKnown};
 ghost use Rattle.tlog_mirror.specs.Best.{HasKept, IsAhead, IsBestOf, IsFirstWith};
@@ -9,9 +9,9 @@ use node_store::Store;
 use std::cmp::Ordering;
 use tlog_hash::{Hash, TreeHash};
 
-// Of the heads that are held whole, the size and root that are served.
+// Finds the size and root that are served, among the complete tree heads.
 //
-// The notes rise by their bytes, so from the back the larger sizes mostly come first, and few heads are walked.
+// The notes rise by their bytes, so from the back the larger sizes mostly come first, and few trees are walked.
 pub(crate) fn best_of<H: TreeHash>(
     store: &Store<H>,
     known: &HeldTrees,
@@ -30,7 +30,7 @@ pub(crate) fn best_of<H: TreeHash>(
     best
 }
 
-// Whether a size and root are served before what was found.
+// Whether a size and root are served before the best one so far.
 fn is_ahead(size: u64, root: &Hash, best: &Option<(u64, Hash)>) -> bool
     ensures { IsTrue result ↔ IsAhead (record { size = size; root = root.now }) best.now }
 {
@@ -40,7 +40,7 @@ fn is_ahead(size: u64, root: &Hash, best: &Option<(u64, Hash)>) -> bool
     }
 }
 
-// The first kept note of that size and root.
+// The first kept note with that size and root.
 pub(crate) fn first_with<'a>(kept: &'a [HeldNote], size: u64, root: &Hash) -> Option<&'a HeldNote>
     ensures some { IfSome result (λ one. IsFirstWith kept.now
         (record { size = size; root = root.now }) one.now) }

@@ -1,4 +1,4 @@
-//! What is kept of each head on the way to the forks: the last complete head before it that begins it.
+//! For each tree head on the way to the forks: the last complete tree head before it that is its prefix.
 ghost use Rattle.std.specs.Prelude.{◌≡◌, ◌≤◌, ◌<◌, ◌-◌, ◌++◌, ◌∷◌, [], ℕ, List, length, map, All, IfOk, IsTrue, ◌↔◌, slice_index_or, string_bytes, codes};
 ghost use Rattle.std.specs.List.{Contains};
 ghost use Rattle.node_store.specs.Strings.{NoClash};
@@ -14,20 +14,20 @@ use node_store::Store;
 use std::alloc::{AllocError, Global};
 use tlog_hash::{Hash, TreeHash};
 
-// A head with what the lines of its forks have of it.
+// A tree head, with the pieces of its fork lines.
 #[derive(Drop)]
 pub(crate) struct Branch {
     pub(crate) head: (u64, Hash),
     // Whether its tree is held.
     pub(crate) whole: bool,
-    // One more than the place of the last head before it whose tree is held and whose entries begin its own, or 0.
+    // One more than the place of the last earlier tree head whose tree is held and is a prefix of its own, or 0.
     pub(crate) after: usize,
     // The pieces of a line.
     pub(crate) as_small: String,
     pub(crate) as_large: String,
 }
 
-// The branches of heads that rise by size and root.
+// The branches of tree heads that rise by size and root.
 pub(crate) fn branches_of<H: TreeHash>(
     alloc: Global,
     store: &Store<H>,
@@ -48,7 +48,7 @@ pub(crate) fn branches_of<H: TreeHash>(
     Ok(branches)
 }
 
-// The branch of a head behind those before it.
+// The branch of a tree head after those before it.
 fn branch_of<H: TreeHash>(
     alloc: Global,
     store: &Store<H>,
@@ -80,7 +80,7 @@ fn branch_of<H: TreeHash>(
     })
 }
 
-// One more than the place of the last of those whose tree is held and whose entries begin those of the head, or 0.
+// One more than the place of the last one whose tree is held and is a prefix of the tree head's, or 0.
 fn after_of<H: TreeHash>(store: &Store<H>, before: &[Branch], head: (u64, Hash)) -> usize
     requires clean { NoClash H.digest store.now }
     requires built { IsBuilt H.digest store.now head.0 head.1 }
@@ -101,7 +101,7 @@ fn after_of<H: TreeHash>(store: &Store<H>, before: &[Branch], head: (u64, Hash))
     0
 }
 
-// What a line has of its smaller head, up to the larger one.
+// The part of a fork line for its smaller tree head, up to the larger one.
 fn small_piece(alloc: Global, head: (u64, Hash)) -> Result<String, AllocError>
     ensures { IfOk result (λ text. string_bytes text ≡ codes "fork " ++ point_text head.0 head.1
         ++ 32 ∷ []) }
@@ -112,7 +112,7 @@ fn small_piece(alloc: Global, head: (u64, Hash)) -> Result<String, AllocError>
     Ok(text)
 }
 
-// What a line has of its larger head.
+// The part of a fork line for its larger tree head.
 fn large_piece(alloc: Global, head: (u64, Hash)) -> Result<String, AllocError>
     ensures { IfOk result (λ text. string_bytes text ≡ point_text head.0 head.1 ++ 10 ∷ []) }
 {

@@ -1,4 +1,4 @@
-//! Heads that have no fork as the smaller head, found at once.
+//! Finds the tree heads that cannot be the smaller one of a fork, in one pass.
 ghost use Rattle.std.specs.Prelude.{◌≡◌, ◌≢◌, ◌≤◌, ◌<◌, ◌+◌, length, map, IfOk, IsTrue, slice_index_or};
 ghost use Rattle.std.specs.List.Sorted.{IsStrictlySortedBy};
 ghost use Rattle.tlog_mirror.specs.Best.{by_point};
@@ -8,8 +8,8 @@ ghost use Rattle.tlog_mirror.specs.declared.branches.Branch.{Branch as AnyBranch
 use crate::branches::Branch;
 use std::alloc::{AllocError, Global};
 
-// Of each head whether it is calm: it begins all those behind it whose trees are held, and none has its size. So a log that
-// only grew has nothing to look for.
+// For each tree head whether it is calm: it is a prefix of all later ones whose trees are held, and none of those has
+// its size. So a log that only grew needs no search for forks.
 pub(crate) fn calm_of(alloc: Global, branches: &[Branch]) -> Result<Vec<bool>, AllocError>
     requires { IsStrictlySortedBy by_point (map (λ b. b.head) branches.now) }
     ensures len { IfOk result (λ calm. length calm.items ≡ length branches.now) }
@@ -20,7 +20,7 @@ pub(crate) fn calm_of(alloc: Global, branches: &[Branch]) -> Result<Vec<bool>, A
     Ok(calm)
 }
 
-// Finds which heads are calm.
+// Finds the calm tree heads.
 fn find_calm(calm: &mut [bool], branches: &[Branch])
     requires len { length calm.old ≡ length branches.now }
     requires rising { IsStrictlySortedBy by_point (map (λ b. b.head) branches.now) }
@@ -33,7 +33,7 @@ fn find_calm(calm: &mut [bool], branches: &[Branch])
     }
 }
 
-// Whether the head at a place is calm, of what is the least kept of those behind it.
+// Whether the tree head at a place is calm; `least` is the least `after` of the later ones whose trees are held.
 fn is_calm(branches: &[Branch], at: usize, least: usize) -> bool
     requires { at < length branches.now }
     ensures least { IsTrue result → at < least }
@@ -47,7 +47,7 @@ fn is_calm(branches: &[Branch], at: usize, least: usize) -> bool
     at < least
 }
 
-// The least of what is kept of heads whose trees are held, with one more.
+// The least `after` of tree heads whose trees are held, with one more of them.
 fn least_after(branch: &Branch, least: usize) -> usize
     ensures least { result ≤ least }
     ensures own { IsTrue branch.now.whole → result ≤ branch.now.after }

@@ -1,4 +1,4 @@
-//! Heads compared with what is served: a checkpoint that was shown once, though its entries cannot be had.
+//! Tree heads compared with the served entries. This needs only the checkpoint, and not its entries.
 ghost use Rattle.std.specs.Prelude.{◌≡◌, ◌++◌, ◌∷◌, [], ℕ, List, map, All, IfOk, IfSome, IfNone, None, OnOk, string_bytes};
 ghost use Rattle.mirror_model.specs.Texts.{point_text};
 ghost use Rattle.mirror_trees.specs.Marked.{point_of};
@@ -16,41 +16,42 @@ use tlog_hash::{Hash, TreeHash};
 use tlog_proof::Ranges;
 use tlog_text::push_hash;
 
-/// A head, compared with the entries that are served.
+/// A tree head, compared with the served entries.
 ///
 /// ```
 /// let forked = compared.iter().any(|one| matches!(one, Compared::Fork { .. }));
 /// ```
 #[derive(Debug, PartialEq, Eq, Clone, Copy)]
 pub enum Compared {
-    /// As many of the served entries have its root.
+    /// The first `size` served entries have its root.
     Same {
-        /// How many entries its tree has.
+        /// The number of entries of its tree.
         size: u64,
-        /// Its tree's hash.
+        /// The tree hash of its entries.
         root: Hash,
     },
-    /// As many of the served entries have another root: a log that made both has forked.
+    /// The first `size` served entries have another root: a log that made both has forked.
     Fork {
-        /// How many entries its tree has.
+        /// The number of entries of its tree.
         size: u64,
-        /// Its tree's hash.
+        /// The tree hash of its entries.
         root: Hash,
-        /// The tree hash of as many of the served entries.
+        /// The tree hash of the first `size` served entries.
         own: Hash,
     },
-    /// It has more entries than are served: nothing is known.
+    /// Its size is over the number of served entries: nothing is known.
     Larger {
-        /// How many entries its tree has.
+        /// The number of entries of its tree.
         size: u64,
-        /// Its tree's hash.
+        /// The tree hash of its entries.
         root: Hash,
     },
 }
 
 impl<H: TreeHash> Mirror<H> {
-    /// These sizes and roots, one for one, compared with the entries that are served (RFC 6962, section 2.1). `None`
-    /// exactly where nothing is served. Nothing has to be held of a head: one hash of what is served decides each.
+    /// Compares each of these sizes and roots with the served entries (RFC 6962, section 2.1), in order. `None` exactly
+    /// if nothing is served. The mirror need not hold anything of a tree head: one hash over the served entries decides
+    /// each.
     ///
     /// ```text
     /// mirror.compare(alloc, &[(400, root)])?   // Some([Fork { size: 400, root, own }])
@@ -75,8 +76,8 @@ impl<H: TreeHash> Mirror<H> {
         Ok(Some(compare_all(alloc, &top, heads)?))
     }
 
-    /// Each size and root of the held notes once, by size and then by the root's bytes, compared with the entries that
-    /// are served. `None` exactly where nothing is served.
+    /// Compares each size and root of the held notes with the served entries, once, by size and then by the root's
+    /// bytes. `None` exactly if nothing is served.
     ///
     /// ```text
     /// mirror.compare_heads(alloc)?   // Some([Same { size: 3, root }])
@@ -95,7 +96,7 @@ impl<H: TreeHash> Mirror<H> {
     }
 }
 
-// Each of the heads, compared with the list that the top stands for.
+// Compares each of the tree heads with the list of the top.
 fn compare_all<H: TreeHash>(
     alloc: Global,
     top: &TopRanges<'_, H>,
@@ -113,7 +114,7 @@ fn compare_all<H: TreeHash>(
     Ok(compared)
 }
 
-// A head, compared with the list that the top stands for: by one hash of a range, found in one descent.
+// Compares a tree head with the list of the top: by one hash of a range, found in one descent.
 fn compare_one<H: TreeHash>(top: &TopRanges<'_, H>, size: u64, root: &Hash) -> Compared
     ensures head { compared_point result ≡ record { size = size; root = root.now } }
     ensures is { (entries : List (List ℕ)) → IsListOf H.digest top.now entries
@@ -132,8 +133,8 @@ fn compare_one<H: TreeHash>(top: &TopRanges<'_, H>, size: u64, root: &Hash) -> C
     }
 }
 
-/// The text of what was compared, a line each: `same SIZE ROOT`, `fork SIZE ROOT OWN` or `larger SIZE ROOT`, in
-/// decimal and standard base64. No head gives no bytes.
+/// The text of the comparisons, one line each: `same SIZE ROOT`, `fork SIZE ROOT OWN` or `larger SIZE ROOT`, in decimal
+/// and standard base64. The text is empty if there are no tree heads.
 ///
 /// ```text
 /// comparison_text(alloc, &[Compared::Larger { size: 3, root }])?
@@ -153,7 +154,7 @@ pub fn comparison_text(alloc: Global, compared: &[Compared]) -> Result<String, A
     Ok(text)
 }
 
-// Adds the line of a head that was compared.
+// Adds the line of a comparison.
 fn push_compared(text: &mut String, one: &Compared) -> Result<(), AllocError>
     ensures { OnOk result (string_bytes text.new ≡ string_bytes text.old ++ compared_line one.now) }
 {

@@ -1,4 +1,4 @@
-//! The edge rows of a head: the partial tiles at the right end of its tree (C2SP tlog-tiles, "Merkle Tree").
+//! The edge rows of a tree head: the partial tiles at the right end of its tree (C2SP tlog-tiles, "Merkle Tree").
 ghost use Rattle.std.specs.Prelude.{◌≡◌, ◌<◌, length, map, All, IfOk, OnOk};
 ghost use Rattle.std.specs.FinSet as set;
 ghost use Rattle.mirror_model.specs.Edge.{edge_root, edge_strings, edge_widths, root_from};
@@ -16,10 +16,10 @@ use tlog_hash::{Hash, TreeHash, fold};
 use tlog_shape::edge_width;
 use tlog_tiles::{RowFault, read_row};
 
-// Adds the strings of edge rows that lead to the root of a tree of that many entries.
+// Adds the strings of edge rows that lead to the root of a tree of that size.
 //
-// The first refusal that applies is answered: `EdgeCount`, `EdgeLength`, `EdgeMismatch`, and then
-// `Collision`. After a fault some of the strings may have been added.
+// It gives the first refusal that applies: `EdgeCount`, `EdgeLength`, `EdgeMismatch`, and then `Collision`. After a
+// fault some of the strings may have been added.
 pub(crate) fn take_edge<H: TreeHash>(
     alloc: Global,
     store: &mut Store<H>,
@@ -54,7 +54,7 @@ pub(crate) fn take_edge<H: TreeHash>(
     }
 }
 
-// What is answered where the strings of the rows collide: rows that lead elsewhere are refused for that.
+// The answer if the strings of the rows collide. Rows that do not lead to the root are refused for that.
 fn clash_of<H: TreeHash>(alloc: Global, size: u64, root: &Hash, edge: &[&[u8]]) -> TakeFault
     ensures { JudgesEdge H.digest size root.now (map (λ row. row.now) edge.now) (Err result) }
 {
@@ -74,7 +74,7 @@ fn clash_of<H: TreeHash>(alloc: Global, size: u64, root: &Hash, edge: &[&[u8]]) 
     }
 }
 
-// Adds the strings of edge rows, lowest level first, and gives the hash that they lead to.
+// Adds the strings of edge rows, lowest level first, and gives the hash to which they lead.
 fn add_edge<H: TreeHash>(store: &mut Store<H>, mut rows: Vec<Vec<Hash>>) -> Result<Hash, AddFault>
     requires some { All (λ row. 0 < length row.items) rows.items }
     requires no_clash { NoClash H.digest store.old }
@@ -98,7 +98,7 @@ fn add_edge<H: TreeHash>(store: &mut Store<H>, mut rows: Vec<Vec<Hash>>) -> Resu
     }
 }
 
-// The hash that edge rows lead to, lowest level first.
+// The hash to which edge rows lead, lowest level first.
 fn root_of<H: TreeHash>(mut rows: Vec<Vec<Hash>>) -> Result<Hash, AllocError>
     requires { All (λ row. 0 < length row.items) rows.items }
     ensures { IfOk result (λ hash. hash ≡ edge_root H.digest (map (λ row. row.items) rows.items)) }
@@ -110,7 +110,7 @@ fn root_of<H: TreeHash>(mut rows: Vec<Vec<Hash>>) -> Result<Hash, AllocError>
     root_above::<H>(fold::<H>(lowest.as_slice()), rows)
 }
 
-// The hash that rows lead to which stand above a value.
+// The hash to which a value and the rows above it lead.
 fn root_above<H: TreeHash>(start: Hash, rows: Vec<Vec<Hash>>) -> Result<Hash, AllocError>
     ensures { IfOk result (λ hash. hash
         ≡ root_from H.digest start (map (λ row. row.items) rows.items)) }
@@ -123,7 +123,7 @@ fn root_above<H: TreeHash>(start: Hash, rows: Vec<Vec<Hash>>) -> Result<Hash, Al
     Ok(value)
 }
 
-// The edge rows of a tree of that many entries, each as its hashes.
+// The edge rows of a tree of that size, each as its hashes.
 fn read_edge(alloc: Global, size: u64, edge: &[&[u8]]) -> Result<Vec<Vec<Hash>>, TakeFault>
     ensures reads { ReadsEdge size (map (λ row. row.now) edge.now)
         (seen (λ rows. map (λ row. row.items) rows.items) result) }
@@ -158,7 +158,7 @@ fn read_rows(alloc: Global, widths: &[u32], edge: &[&[u8]]) -> Result<Vec<Vec<Ha
     Ok(rows)
 }
 
-// The widths of the partial tiles of a tree of that many entries, lowest level first.
+// The widths of the partial tiles of a tree of that size, lowest level first.
 fn partial_widths(alloc: Global, size: u64) -> Result<Vec<u32>, AllocError>
     ensures { IfOk result (λ widths. widths.items ≡ edge_widths size) }
 {

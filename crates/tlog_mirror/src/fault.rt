@@ -1,4 +1,4 @@
-//! Why a mirror is not made, or made again.
+//! Why a mirror is not made or restored.
 use thiserror::Error;
 
 /// Why a mirror was not made. It prints its variant's name.
@@ -12,13 +12,13 @@ pub enum NewFault {
     OutOfMemory,
 }
 
-/// Why a head is not kept over the strings that are held. It prints its variant's name.
+/// Why a tree head is not kept over the held strings. It prints its variant's name.
 #[derive(Debug, Drop, PartialEq, Eq, Clone, Copy, Error)]
 pub enum RestoreFault {
-    /// The bytes are no note, its text is no checkpoint of the mirror's origin, or no key accepts a line of it.
+    /// The bytes are no note, its text is no checkpoint of the mirror's origin, or no key accepts one of its lines.
     #[error("BadHead")]
     BadHead,
-    /// The strings of its edge are not held.
+    /// The strings of its right edge are not held.
     #[error("UnheldEdge")]
     UnheldEdge,
     /// Memory was refused.

@@ -1,4 +1,4 @@
-//! Forks: heads that one log, which only grows, cannot both have made.
+//! Forks: pairs of tree heads that one log, which only grows, cannot both have made.
 ghost use Rattle.std.specs.Prelude.{◌≡◌, ◌≢◌, ◌≤◌, ◌<◌, ◌+◌, ◌++◌, ◌⊎◌, [], drop, length, All, IfErr, IfOk, IsTrue, ◌↔◌, OnErr, OnOk};
 ghost use Rattle.std.specs.Io.KnownBytes.{Appends};
 ghost use Rattle.byte_streams.specs.Streams.{AppendsPrefix};
@@ -20,11 +20,11 @@ use std::io::Write;
 use tlog_hash::TreeHash;
 
 impl<H: TreeHash> Mirror<H> {
-    /// The forks: each two heads that one log, which only grows, cannot both have made, once, by the smaller head
-    /// and then by the larger one. They have one size and other roots, or both are complete and the entries of
-    /// neither are a prefix of those of the other (RFC 6962, section 2.1.2).
+    /// The forks: each pair of tree heads that one log, which only grows, cannot both have made, once. They are in
+    /// order of the smaller tree head and then the larger one. The two have one size and different roots, or both are
+    /// complete and neither list of entries is a prefix of the other (RFC 6962, section 2.1.2).
     ///
-    /// Hashes of nodes that are held are compared, and nothing is hashed.
+    /// It compares hashes of held nodes, and hashes nothing.
     ///
     /// # Errors
     ///
@@ -44,11 +44,11 @@ impl<H: TreeHash> Mirror<H> {
         )
     }
 
-    /// Writes the forks, a line each, the smaller head first: `fork SIZE ROOT SIZE ROOT`, in the order of `forks`. Where
-    /// there is none it writes nothing. Whether there is one.
+    /// Writes the forks in the order of `forks`, a line each, the smaller tree head first: `fork SIZE ROOT SIZE ROOT`.
+    /// It returns whether there is a fork, and writes nothing if there is none.
     ///
-    /// The lines are written as they are made: memory is asked for by head and not by fork, and before the first byte is
-    /// written. It does not flush.
+    /// It writes each line as it makes it. Memory is needed for each tree head and not for each fork, and before the
+    /// first byte is written. It does not flush.
     ///
     /// ```text
     /// let forked = mirror.write_forks(alloc, &mut output)?;
@@ -56,8 +56,8 @@ impl<H: TreeHash> Mirror<H> {
     ///
     /// # Errors
     ///
-    /// `OutOfMemory` where memory was refused; then nothing was written. `WriteFault` where a write failed or took no
-    /// byte; then a prefix of the lines was written. There is no other.
+    /// `OutOfMemory` if memory was refused: nothing was written. `WriteFault` if a write failed or took no byte: a
+    /// prefix of the lines was written. There is no other fault.
     pub fn write_forks<W: Write>(&self, alloc: Global, output: &mut W) -> Result<bool, StreamFault>
         ensures { WritesForks H.digest self.now.view (W.contents output.old) (W.contents output.new)
             result }
@@ -76,7 +76,7 @@ impl<H: TreeHash> Mirror<H> {
     }
 }
 
-// Whether the head at a place begins the one of which `after` is kept.
+// Whether the tree head at a place is a prefix of the one with this `after`.
 fn is_under(marks: &[bool], at: usize, after: usize) -> bool
     requires { after ≤ length marks.now }
     ensures { result ≡ under_of at marks.now after }
@@ -84,14 +84,14 @@ fn is_under(marks: &[bool], at: usize, after: usize) -> bool
     at < after && marks[after - 1]
 }
 
-// Whether two heads conflict, the first of which begins the second or does not.
+// Whether two tree heads conflict; `under` says whether the first is a prefix of the second.
 fn is_apart(a: &Branch, b: &Branch, under: bool) -> bool
     ensures { result ≡ apart_of a.now b.now under }
 {
     a.head.0 == b.head.0 || (a.whole && b.whole && !under)
 }
 
-// The forks of the heads. There is a mark for each head, whatever it is before.
+// The forks of the tree heads. There is one mark for each tree head; the marks' values before the call do not matter.
 fn list_forks(
     alloc: Global,
     calm: &[bool],
@@ -110,7 +110,7 @@ fn list_forks(
     Ok(forks)
 }
 
-// Adds the forks of one head as the smaller one: of one that is calm there are none.
+// Adds the forks whose smaller tree head is this one; a calm one has none.
 fn push_forks(
     forks: &mut Vec<Fork>,
     calm: bool,
@@ -139,7 +139,7 @@ fn push_forks(
     Ok(())
 }
 
-// Adds the fork of two heads, if they conflict.
+// Adds the fork of two tree heads, if they conflict.
 fn push_fork(
     forks: &mut Vec<Fork>,
     small: &Branch,
@@ -159,7 +159,8 @@ fn push_fork(
     Ok(())
 }
 
-// Writes the forks of the heads. Whether there is one. There is a mark for each head, whatever it is before.
+// Writes the forks of the tree heads, and returns whether there is one. There is one mark for each tree head; the marks'
+// values before the call do not matter.
 fn write_all<W: Write>(
     alloc: Global,
     output: &mut W,
@@ -188,8 +189,8 @@ fn write_all<W: Write>(
     Ok(any)
 }
 
-// Writes the forks of one head as the smaller one: of one that is calm there are none. Whether there was a fork before, or
-// is one of these.
+// Writes the forks whose smaller tree head is this one; a calm one has none. Returns whether there was a fork before or
+// among these.
 fn write_forks_of<W: Write>(
     output: &mut W,
     held: &mut Vec<u8>,
@@ -227,7 +228,7 @@ fn write_forks_of<W: Write>(
     Ok(any)
 }
 
-// Writes the fork of two heads, if they conflict. Whether there was a fork before, or is this one.
+// Writes the fork of two tree heads, if they conflict. Returns whether there was a fork before or this is one.
 fn write_fork<W: Write>(
     output: &mut W,
     held: &mut Vec<u8>,
@@ -253,7 +254,7 @@ fn write_fork<W: Write>(
     Ok(true)
 }
 
-// Writes the line of the fork of two heads.
+// Writes the line of the fork of two tree heads.
 fn write_line<W: Write>(
     output: &mut W,
     held: &mut Vec<u8>,

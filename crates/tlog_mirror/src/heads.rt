@@ -1,4 +1,4 @@
-//! The heads that a mirror holds, and which of them are complete.
+//! The tree heads that a mirror holds, and which of them are complete.
 ghost use Rattle.std.specs.Prelude.{◌≡◌, ◌↔◌, ℕ, List, map, All, IsTrue, IfOk};
 ghost use Rattle.std.specs.List.{Contains};
 ghost use Rattle.std.specs.List.Sorted.{IsStrictlySortedBy};
@@ -18,8 +18,8 @@ use std::alloc::{AllocError, Global};
 use tlog_hash::{Hash, TreeHash};
 
 impl<H: TreeHash> Mirror<H> {
-    /// Whether a held note has that size and root, and all that the tree of some entries of that size and root
-    /// hashes is held. It takes no memory.
+    /// Whether a held note has that size and root, and the mirror holds all strings that the tree hash of some entries
+    /// with that size and root hashes. It takes no memory.
     pub fn is_complete(&self, size: u64, root: &Hash) -> bool
         ensures { IsTrue result ↔ IsComplete H.digest self.now.view size root.now }
     {
@@ -27,8 +27,7 @@ impl<H: TreeHash> Mirror<H> {
             && is_built(&self.strings, &self.known, size, root)
     }
 
-    /// Each size and root of the held notes once, by size and then by the root's bytes, with whether it is
-    /// complete.
+    /// Each size and root of the held notes once, by size and then by the root's bytes, with whether it is complete.
     ///
     /// # Errors
     ///
@@ -41,7 +40,7 @@ impl<H: TreeHash> Mirror<H> {
     }
 }
 
-// The heads of these sizes and roots, each with whether its tree is held.
+// The tree heads of these sizes and roots, each with whether its tree is held.
 pub(crate) fn flag_heads<H: TreeHash>(
     alloc: Global,
     store: &Store<H>,
@@ -85,14 +84,13 @@ pub(crate) fn points_of(alloc: Global, kept: &[HeldNote]) -> Result<Vec<(u64, Ha
     Ok(points)
 }
 
-// The sizes and roots of kept notes.
 fn all_points(alloc: Global, kept: &[HeldNote]) -> Result<Vec<(u64, Hash)>, AllocError>
     ensures { IfOk result (λ points. points.items ≡ map (λ one. (one.size, one.root)) kept.now) }
 {
     kept.iter().map(|one| (one.size, one.root)).collect(alloc)
 }
 
-// Sorts sizes and roots, and leaves each once.
+// Sorts sizes and roots, and removes duplicates.
 fn put_in_order(points: &mut Vec<(u64, Hash)>)
     ensures sorted { IsStrictlySortedBy by_point points.new.items }
     ensures same { (p : ℕ × List ℕ) → Contains points.new.items p ↔ Contains points.old.items p }

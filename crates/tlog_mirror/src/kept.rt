@@ -10,7 +10,7 @@ use std::alloc::{AllocError, Global};
 use std::cmp::Ordering;
 use tlog_hash::Hash;
 
-// A note, with the size and the root that its text says.
+// A note, with the size and the root of its text.
 #[derive(Drop)]
 pub(crate) struct HeldNote {
     pub(crate) note: Note,
@@ -19,7 +19,6 @@ pub(crate) struct HeldNote {
 }
 
 impl HeldNote {
-    // An equal one.
     pub(crate) fn copy(&self, alloc: Global) -> Result<HeldNote, AllocError>
         ensures { IfOk result (λ kept. kept ≡ self.now) }
     {
@@ -32,7 +31,7 @@ impl HeldNote {
     }
 }
 
-// Where the note of those bytes is among kept notes that rise, or where it would go.
+// The place of the note with those bytes among kept notes in rising order, or the place where it would go.
 pub(crate) fn find_note(kept: &[HeldNote], bytes: &[u8]) -> Result<usize, usize>
     ensures bound { IsSearchInRange result (length kept.now) }
     ensures place { IsBinarySearchResult (λ k. slice_cmp nat_cmp (note_bytes k) bytes.now) kept.now
@@ -41,7 +40,6 @@ pub(crate) fn find_note(kept: &[HeldNote], bytes: &[u8]) -> Result<usize, usize>
     kept.binary_search_by(|k| compare_bytes(k, bytes))
 }
 
-// How the bytes of a kept note compare to others.
 fn compare_bytes(kept: &HeldNote, bytes: &[u8]) -> Ordering
     ensures { result ≡ slice_cmp nat_cmp (note_bytes kept.now) bytes.now }
 {

@@ -1,4 +1,4 @@
-//! What is served, laid out in memory.
+//! The served entries, laid out in memory.
 ghost use Rattle.std.specs.Prelude.{◌≡◌, length, IfOk, IfSome, IfNone};
 ghost use Rattle.tlog_tiles.specs.Tiles.{IsTileWithin, tile_bytes, bundle_bytes};
 ghost use Rattle.tlog_mirror.specs.LaidOut.{IsLaidOut};
@@ -11,12 +11,12 @@ use tlog_files::LogFiles;
 use tlog_hash::TreeHash;
 
 impl<H: TreeHash> Mirror<H> {
-    /// Lays out what is served, so that each of its tiles and bundles is one piece of memory: 43 bytes for each entry, and
-    /// the entry itself once more. It changes no answer.
+    /// Lays out the served entries, so that each tile and bundle is one piece of memory. This takes 43 bytes for each
+    /// entry, and the entry's own bytes once more. It changes no answer.
     ///
-    /// A take or a merge lets it go, unless it is refused before it comes to what is held. Nothing is laid out where nothing is
-    /// served, and where it would take more bytes than the strings that are held, as of 2^62 entries of which few nodes are
-    /// different.
+    /// A take or a merge discards it, unless the call is refused before it would change the mirror. Nothing is laid out
+    /// if nothing is served, or if it would take more bytes than the held strings, as for 2^62 entries with few
+    /// different nodes.
     ///
     /// ```text
     /// mirror.settle(alloc)?;
@@ -26,7 +26,7 @@ impl<H: TreeHash> Mirror<H> {
     ///
     /// # Errors
     ///
-    /// Memory was refused. What is served is then looked up among the strings, as before.
+    /// Memory was refused. The served entries are then looked up among the strings, as before.
     pub fn lay_out(&mut self, alloc: Global) -> Result<(), AllocError>
         ensures view { self.new.view ≡ self.old.view }
         ensures remembered { self.new.remembered ≡ self.old.remembered }
@@ -38,7 +38,7 @@ impl<H: TreeHash> Mirror<H> {
         Ok(())
     }
 
-    // What is served, laid out anew. None where nothing is served, or there is no room for it.
+    // Lays out the served entries anew. `None` if nothing is served, or there is no room for it.
     fn laid_now(&self, alloc: Global) -> Result<Option<(HeldNote, LogFiles<H>)>, AllocError>
         ensures { IfOk result (λ laid. IsLaidOut H.digest self.now.view laid) }
     {

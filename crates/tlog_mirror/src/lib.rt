@@ -1,8 +1,8 @@
-//! A mirror of one transparency log: it takes heads, tiles and bundles from several downloads, checks
-//! what it takes, and serves what it holds whole.
+//! A mirror of one transparency log: it takes tree heads, tiles and bundles from several downloads, checks them, and
+//! serves the tree heads that are complete.
 //!
-//! Contracts see a `Mirror` as a state of `mirror_model`: an origin with a set of notes and a set of
-//! strings, and what is remembered of complete heads beside them.
+//! Contracts see a `Mirror` as a state of `mirror_model`: an origin, a set of notes, a set of strings, and the points
+//! that it remembers for complete tree heads.
 //!
 //! ```text
 //! let mut mirror = Mirror::<Sha256Tree>::new(alloc, "example.com/log")?;

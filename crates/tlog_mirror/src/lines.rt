@@ -1,4 +1,4 @@
-//! The lines of what is missing of a head, written one after another.
+//! The lines of a tree head's missing paths, written one by one.
 ghost use Rattle.std.specs.Prelude.{◌≡◌, ◌≢◌, ◌++◌, ◌∷◌, [], ◌+◌, ◌-◌, ◌*◌, ◌≤◌, ◌<◌, ◌%◌, ℕ, List, map, IfErr, IfOk, IsTrue, ◌↔◌, ◌⊎◌, OnErr, OnOk, Err, string_bytes};
 ghost use Rattle.std.specs.Io.KnownBytes.{Appends, Keeps};
 ghost use Rattle.byte_streams.specs.Streams.{AppendsPrefix};
@@ -19,7 +19,7 @@ use std::alloc::{AllocError, Global};
 use std::io::Write;
 use tlog_hash::{Hash, TreeHash};
 
-// How the line of the partial bundle of a tree of that size ends.
+// How the line of a tree's partial bundle ends.
 pub(crate) fn part_of(alloc: Global, size: u64) -> Result<String, AllocError>
     ensures { IfOk result (λ text. string_bytes text ≡ part_text size) }
 {
@@ -37,7 +37,7 @@ fn begin_of(alloc: Global, level: u32) -> Result<String, AllocError>
     format!(in alloc; "tile/{level}/")
 }
 
-// Writes the paths that are missing of a head. Whether there is one.
+// Writes the missing paths of a tree head. Returns whether there is one.
 pub(crate) fn write_all<H: TreeHash, W: Write>(
     alloc: Global,
     output: &mut W,
@@ -69,9 +69,9 @@ pub(crate) fn write_all<H: TreeHash, W: Write>(
     Ok(any)
 }
 
-// Writes the paths that are missing, of the first of the levels, counted from level 7 down. Whether there is one.
+// Writes the missing paths of the first levels, counted from level 7 down. Returns whether there is one.
 //
-// What is clear is found first, of all levels: so all memory is asked for before the first byte is written.
+// It first finds the clear trees of all levels, so it needs all its memory before the first byte is written.
 fn write_levels<H: TreeHash, W: Write>(
     alloc: Global,
     output: &mut W,
@@ -134,7 +134,7 @@ fn write_levels<H: TreeHash, W: Write>(
     )
 }
 
-// Writes the paths of a level that are missing. Whether there was a path before, or is one of these.
+// Writes the missing paths of a level. Returns whether there was a path before or among these.
 fn write_level<H: TreeHash, W: Write>(
     output: &mut W,
     held: &mut Vec<u8>,
@@ -177,7 +177,7 @@ fn write_level<H: TreeHash, W: Write>(
     Ok(any)
 }
 
-// Writes the line of a file of that level, by its number.
+// Writes the line of the level's file with that number.
 fn write_file<W: Write>(
     output: &mut W,
     held: &mut Vec<u8>,
@@ -210,7 +210,7 @@ fn is_part(level: u32, size: u64, number: u64) -> bool
     level == 0 && size - 256 * number < 256
 }
 
-// Writes a line: how it begins, the index in groups of three digits, and how it ends.
+// Writes a line: its beginning, the index in groups of three digits, and its end.
 fn write_line<W: Write>(
     output: &mut W,
     held: &mut Vec<u8>,
@@ -228,7 +228,7 @@ fn write_line<W: Write>(
     write_index(output, held, index, end)
 }
 
-// Writes the index and how the line ends.
+// Writes the index and the end of the line.
 fn write_index<W: Write>(
     output: &mut W,
     held: &mut Vec<u8>,
@@ -245,7 +245,7 @@ fn write_index<W: Write>(
     write_last(output, held, index, end)
 }
 
-// Writes the groups of a number, each of which others follow; 0 has none.
+// Writes the groups of a number that others follow; 0 has none.
 fn write_groups<W: Write>(
     output: &mut W,
     held: &mut Vec<u8>,
@@ -265,7 +265,7 @@ fn write_groups<W: Write>(
     send(output, held, &group)
 }
 
-// Writes the last group of an index and how the line ends.
+// Writes the last group of an index and the end of the line.
 fn write_last<W: Write>(
     output: &mut W,
     held: &mut Vec<u8>,

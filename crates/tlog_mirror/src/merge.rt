@@ -1,4 +1,4 @@
-//! Mirrors that are merged.
+//! Merges of mirrors.
 ghost use Rattle.std.specs.Prelude.{◌≡◌, ℕ, All, OnOk, OnErr, map, take};
 ghost use Rattle.mirror_model.specs.Answered.{merge_answer_of};
 ghost use Rattle.mirror_model.specs.Complete.{HasEdge};
@@ -15,14 +15,15 @@ use std::alloc::{AllocError, Global};
 use tlog_hash::TreeHash;
 
 impl<H: TreeHash> Mirror<H> {
-    /// Adds all that another mirror of the log holds: its strings, and then its notes. The other stays as it is.
+    /// Adds all that another mirror of the log holds: its strings, and then its notes. The other mirror does not
+    /// change.
     ///
     /// # Errors
     ///
-    /// The first that applies: `OtherOrigin`, where the other is of another origin; `Collision`, where two
-    /// different strings, of those that the two hold, share a digest. They leave the mirror as it was.
-    /// `OutOfMemory` where a growth was refused: the mirror then lies between what it was and what it would
-    /// have been, it has a new note only where it has all strings of the other, and merging again completes it.
+    /// The first that applies: `OtherOrigin`, if the other mirror has another origin; `Collision`, if two different
+    /// strings of the two mirrors have one digest. After these the mirror is unchanged. `OutOfMemory` if a growth was
+    /// refused: part of the other mirror may have been added, and a new note only if all strings of the other are
+    /// there. Merging again completes it.
     pub fn merge(&mut self, alloc: Global, other: &Mirror<H>) -> Result<(), MergeFault>
         ensures merges { Merges H.digest self.old.view other.now.view (merge_answer_of result)
             self.new.view }
@@ -42,7 +43,7 @@ impl<H: TreeHash> Mirror<H> {
         }
     }
 
-    // Enters notes, each in its place, one after the other.
+    // Enters notes in order, each at its place.
     fn keep_notes(&mut self, alloc: Global, notes: &[HeldNote]) -> Result<(), AllocError>
         requires said { All (λ k. IsHead (note_bytes k) self.old.view.origin k.size k.root)
             notes.now }

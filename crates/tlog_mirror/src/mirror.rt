@@ -16,19 +16,19 @@ use std::marker::Model;
 use tlog_files::LogFiles;
 use tlog_hash::TreeHash;
 
-/// What was gathered of one log.
+/// The notes and strings that were gathered from one log.
 ///
-/// It is seen as its view, an origin with a set of notes and a set of strings, and what it remembers of
-/// complete heads beside it.
+/// Its view is an origin with a set of notes and a set of strings. Beside it there are the points that it remembers
+/// for complete tree heads.
 #[derive(Drop)]
 pub struct Mirror<H: TreeHash> {
     pub(crate) origin: String,
     pub(crate) kept: Vec<HeldNote>,
     pub(crate) strings: Store<H>,
     pub(crate) known: HeldTrees,
-    // What is served, laid out: its note, and the files of its entries. `lay_out` alone makes it, and whatever adds a
-    // string or a note lets it go first. So, where it stands, it is of what is served now, and no change has to be shown
-    // to keep it so.
+    // The served entries, laid out: the served note, and the files of its entries. Only `lay_out` makes it. Each call
+    // that adds a string or a note discards it first. So it always matches the served checkpoint, and no change needs a
+    // proof of that.
     pub(crate) laid: Option<(HeldNote, LogFiles<H>)>,
 }
 
@@ -49,12 +49,12 @@ impl<H: TreeHash> Model for Mirror<H> {
 }
 
 impl<H: TreeHash> Mirror<H> {
-    /// A mirror that holds nothing, of the log of that origin.
+    /// A mirror of the log with that origin, without notes and strings.
     ///
     /// # Errors
     ///
-    /// `BadOrigin` exactly where the origin is empty, has more than 65,535 bytes, or has a character below
-    /// U+0020. `OutOfMemory` where memory was refused.
+    /// `BadOrigin` exactly if the origin is empty, has more than 65,535 bytes, or has a character below U+0020.
+    /// `OutOfMemory` if memory was refused.
     pub fn new(alloc: Global, origin: &str) -> Result<Mirror<H>, NewFault>
         ensures view { IfOk result (λ mirror. mirror.view ≡ nothing origin.now) }
         ensures remembered { IfOk result (λ mirror. mirror.remembered ≡ set.empty) }
@@ -83,15 +83,15 @@ impl<H: TreeHash> Mirror<H> {
         &self.origin
     }
 
-    /// How many sizes with roots are remembered of complete heads. It takes no memory.
+    /// The number of points (a size with a hash) that are remembered for complete tree heads. It takes no memory.
     pub fn remembered(&self) -> usize
         ensures { result ≡ set.len self.now.remembered }
     {
         self.known.remembered.len()
     }
 
-    /// The bytes of the notes that are held, one by one: they rise, from number 0 on. `None` past the last. It
-    /// takes no memory.
+    /// The bytes of the held note with that number; the notes rise by their bytes, from number 0 on. `None` past the
+    /// last. It takes no memory.
     ///
     /// ```
     /// while let Some(note) = mirror.note_at(i) {
@@ -107,7 +107,7 @@ impl<H: TreeHash> Mirror<H> {
         }
     }
 
-    /// The strings that are held. It takes no memory. What is held is sound, whatever was done with the mirror.
+    /// The strings that are held. It takes no memory. The state is sound after every call.
     pub fn strings(&self) -> &Store<H>
         ensures strings { result.now ≡ self.now.view.strings }
         ensures sound { IsSound H.digest self.now }

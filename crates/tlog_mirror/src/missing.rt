@@ -1,4 +1,4 @@
-//! What is missing of a head.
+//! The missing paths of a tree head.
 ghost use Rattle.std.specs.Prelude.{IfOk, IfSome, IfNone};
 ghost use Rattle.mirror_model.specs.Heads.{HasHead};
 ghost use Rattle.mirror_model.specs.Listed.{ListsMissing};
@@ -15,9 +15,9 @@ use tlog_hash::{Hash, TreeHash};
 use tlog_tiles::Path;
 
 impl<H: TreeHash> Mirror<H> {
-    /// The paths of what is missing of the head of that size and root: of the nodes where the walk from its root
-    /// fails, tiles by falling level and rising index, then bundles by rising index, each once. There are none
-    /// exactly where the head is complete. `None` exactly where no held note has that size and root.
+    /// The missing paths of the tree head with that size and root: those of the nodes where the walk from its root
+    /// fails. Tiles come by falling level and rising index, then bundles by rising index, each once. The list is empty
+    /// exactly if the tree head is complete. `None` exactly if no held note has that size and root.
     ///
     /// # Errors
     ///
@@ -41,11 +41,11 @@ impl<H: TreeHash> Mirror<H> {
         Ok(Some(paths))
     }
 
-    /// Writes the paths of what is missing of a head, a line each, in the order of `missing`. Where none is missing it
-    /// writes nothing. Whether one is, and `None` exactly where no held note has that size and root.
+    /// Writes the missing paths of a tree head in the order of `missing`, a line each. It returns whether a path is
+    /// missing, and `None` exactly if no held note has that size and root.
     ///
-    /// The lines are written as they are found: memory is asked for by tree and not by path, and before the first byte is
-    /// written. So a list that no memory can hold is begun at once. It does not flush.
+    /// It writes each line as it finds it. Memory is needed for each tree and not for each path, and before the first
+    /// byte is written. So it starts to write at once even a list that is too large for memory. It does not flush.
     ///
     /// ```text
     /// let partial = mirror.write_missing(alloc, 3, &root, &mut output)?;
@@ -53,8 +53,8 @@ impl<H: TreeHash> Mirror<H> {
     ///
     /// # Errors
     ///
-    /// `OutOfMemory` where memory was refused; then nothing was written. `WriteFault` where a write failed or took no
-    /// byte; then a prefix of the lines was written. There is no other.
+    /// `OutOfMemory` if memory was refused: nothing was written. `WriteFault` if a write failed or took no byte: a
+    /// prefix of the lines was written. There is no other fault.
     pub fn write_missing<W: Write>(
         &self,
         alloc: Global,

@@ -1,4 +1,4 @@
-//! Bytes that are gathered, so that a write has many of them.
+//! Bytes that are gathered, so that one write has many of them.
 ghost use Rattle.std.specs.Prelude.{◌≡◌, ◌++◌, IfErr, OnErr, OnOk, if◌then◌else◌};
 ghost use Rattle.byte_streams.specs.Streams.{AppendsPrefix};
 ghost use Rattle.tlog_mirror.specs.Pieces.{Sends};
@@ -6,17 +6,17 @@ ghost use Rattle.tlog_mirror.specs.Pieces.{Sends};
 use byte_streams::{StreamFault, write_whole};
 use std::io::Write;
 
-// From how many bytes on they are written.
+// The number of bytes from which on they are written.
 const MANY: usize = 65_536;
 
-// Puts bytes behind those that are held back, unless these are many, or memory is refused. Whether it did.
+// Appends bytes to those that are held back, unless these are many or memory is refused. Returns whether it did.
 fn hold_back(held: &mut Vec<u8>, bytes: &[u8]) -> bool
     ensures { held.new.items ≡ (if result then held.old.items ++ bytes.now else held.old.items) }
 {
     held.len() < MANY && held.extend_from_slice(bytes).is_ok()
 }
 
-// Puts bytes behind those that are held back, or writes both. Memory that is refused is no fault: then it writes.
+// Appends bytes to those that are held back, or writes both. Refused memory is no fault: it then writes.
 pub(crate) fn send<W: Write>(
     output: &mut W,
     held: &mut Vec<u8>,

@@ -1,4 +1,4 @@
-//! Events on mirrors, one after another.
+//! Events on mirrors, in order.
 ghost use Rattle.std.specs.Prelude.{◌≡◌, ◌≤◌, ◌<◌, ◌↔◌, List, IsTrue, IfOk, OnErr, MatchResult, length, map};
 ghost use Rattle.mirror_model.specs.Answered.{answer_of, merge_answer_of, take_fault_of};
 ghost use Rattle.mirror_model.specs.Events.{Fits, IsFitting};
@@ -14,15 +14,14 @@ use signed_note::Verifier;
 use std::alloc::{AllocError, Global};
 use tlog_hash::TreeHash;
 
-/// Whether the events are of mirrors below that count, and of items whose widths are from 1 to 256. It takes no
-/// memory.
+/// Whether the events are on mirrors below that count, and their items have widths from 1 to 256. It takes no memory.
 pub fn fits(events: &[Event], count: usize) -> bool
     ensures { IsTrue result ↔ Fits events.now count }
 {
     events.iter().all(|event| is_fitting(event, count))
 }
 
-// Whether one event is so.
+// Whether one event fits.
 fn is_fitting(event: &Event, count: usize) -> bool
     ensures { IsTrue result ↔ IsFitting count event.now }
 {
@@ -32,7 +31,6 @@ fn is_fitting(event: &Event, count: usize) -> bool
     }
 }
 
-// Whether a tile or a bundle has a width from 1 to 256.
 fn has_width(item: &Item) -> bool
     ensures { IsTrue result ↔ HasWidth item.now }
 {
@@ -43,16 +41,15 @@ fn has_width(item: &Item) -> bool
     }
 }
 
-// Whether it is a width of tiles and bundles.
 fn is_width(width: u32) -> bool
     ensures { IsTrue result ↔ IsWidth width }
 {
     1 <= width && width <= 256
 }
 
-/// Lets events happen to mirrors, one after another, and gives one answer for each: that of the take, or of the
-/// merge, whose faults keep their names. A merge of a mirror with itself is answered `Ok` and changes nothing. The keys
-/// are those that heads are opened with.
+/// Applies events to mirrors in order, and gives one answer for each: that of the take or of the merge, whose faults
+/// keep their names. A merge of a mirror with itself gives `Ok` and changes nothing. The keys are those that open the
+/// notes of tree heads.
 ///
 /// ```
 /// let events = [
@@ -66,8 +63,8 @@ fn is_width(width: u32) -> bool
 ///
 /// # Errors
 ///
-/// Memory for the list of answers was refused: it is made first, and no mirror has changed. `OutOfMemory` at an event is
-/// that event's answer, `TakeFault::OutOfMemory`.
+/// Memory for the list of answers was refused. The list is made first, so no mirror has changed. If an event runs out
+/// of memory, its answer is `TakeFault::OutOfMemory`.
 pub fn play<H: TreeHash>(
     alloc: Global,
     world: &mut [Mirror<H>],
@@ -85,12 +82,12 @@ pub fn play<H: TreeHash>(
     play_again(alloc, world, keys, events, 1)
 }
 
-/// As `play`, but an event that runs out of memory happens again before any other, that many times in all at most; its
-/// last answer counts. Such an event comes to the same as one that happens once.
+/// Like `play`, but applies an event that runs out of memory again, at most `tries` times in all, before the next one.
+/// Its last answer counts. Such an event has the same result as one that happens once.
 ///
 /// # Errors
 ///
-/// Memory for the list of answers was refused: it is made first, and no mirror has changed.
+/// Memory for the list of answers was refused. The list is made first, so no mirror has changed.
 pub fn play_again<H: TreeHash>(
     alloc: Global,
     world: &mut [Mirror<H>],
@@ -119,7 +116,7 @@ pub fn play_again<H: TreeHash>(
     Ok(answers)
 }
 
-// Applies an event until it is answered otherwise than by `OutOfMemory`, that many times at most.
+// Applies an event until its answer is not `OutOfMemory`, at most `tries` times.
 fn apply_again<H: TreeHash>(
     alloc: Global,
     world: &mut [Mirror<H>],
@@ -166,7 +163,6 @@ fn apply<H: TreeHash>(
     }
 }
 
-// One mirror takes an item.
 fn take_at<H: TreeHash>(
     alloc: Global,
     world: &mut [Mirror<H>],
@@ -213,7 +209,7 @@ fn merge_at<H: TreeHash>(
     answer_of_merge(back[0].merge(alloc, &front[source]))
 }
 
-// The answer of a merge among those of takes: its faults keep their names.
+// The answer of a merge as that of a take: its faults keep their names.
 fn answer_of_merge(answer: Result<(), MergeFault>) -> Result<(), TakeFault>
     ensures same { answer_of result ≡ merge_answer_of answer }
     ensures names { MatchResult answer (λ done. result ≡ Ok done) (λ fault. result
@@ -236,7 +232,6 @@ impl<H: TreeHash> Mirror<H> {
         Ok(())
     }
 
-    // Takes an item.
     fn take(
         &mut self,
         alloc: Global,

@@ -1,4 +1,4 @@
-//! Mirrors that are made again of what was kept of one.
+//! Mirrors that are restored from kept strings and notes.
 ghost use Rattle.std.specs.Prelude.{◌≡◌, ◌≤◌, ◌↔◌, ℕ, List, ◌∷◌, length, map, IfOk, IsTrue, OnOk};
 ghost use Rattle.std.specs.FinSet as set;
 ghost use Rattle.mirror_model.specs.Complete.{HoldsEdge};
@@ -18,8 +18,7 @@ use std::alloc::{AllocError, Global};
 use tlog_hash::{Hash, TreeHash};
 
 impl<H: TreeHash> Mirror<H> {
-    /// A mirror of the log of that origin that holds these strings and no note. The strings are moved, and none is
-    /// copied.
+    /// A mirror of the log with that origin that holds these strings and no note. It moves the strings and copies none.
     ///
     /// ```text
     /// let mut mirror = Mirror::of_strings(alloc, "example.com/log", strings)?;
@@ -28,7 +27,7 @@ impl<H: TreeHash> Mirror<H> {
     ///
     /// # Errors
     ///
-    /// `BadOrigin` exactly where `new` answers it. `OutOfMemory` where memory was refused.
+    /// `BadOrigin` exactly if `new` gives it. `OutOfMemory` if memory was refused.
     pub fn of_strings(alloc: Global, origin: &str, strings: Store<H>) -> Result<Mirror<H>, NewFault>
         requires short { (entry : List ℕ) → Has strings (0 ∷ entry) → length entry ≤ 65535 }
         ensures view { IfOk result (λ mirror. mirror.view ≡ strings_alone origin.now strings) }
@@ -42,7 +41,7 @@ impl<H: TreeHash> Mirror<H> {
         let Ok(origin) = String::from_str(alloc, origin) else {
             return Err(NewFault::OutOfMemory);
         };
-        // What it ensures of the strings holds of each store.
+        // The call is for its contract: what it says about the strings is true for each store.
         let _all = strings.iter();
         Ok(Mirror {
             origin,
@@ -53,13 +52,14 @@ impl<H: TreeHash> Mirror<H> {
         })
     }
 
-    /// Keeps a head whose edge is held already: a checkpoint note, of which the strings that its edge rows hash on the
-    /// way to the root (C2SP tlog-tiles, "Merkle Tree") are among the strings of the mirror. It adds the note alone.
+    /// Keeps a checkpoint note whose right edge is held already: the mirror has the strings that its edge rows hash on
+    /// the way to the root (C2SP tlog-tiles, "Merkle Tree"). It adds only the note.
     ///
     /// # Errors
     ///
-    /// The first that applies: `BadHead`, where `open_head` refuses the note; `UnheldEdge`, where no edge of its size and
-    /// root is held. `OutOfMemory` where memory was refused, before any of them or after. The mirror is then as it was.
+    /// The first that applies: `BadHead`, if `open_head` refuses the note; `UnheldEdge`, if the right edge of its size
+    /// and root is not held. `OutOfMemory` if memory was refused, before any of them or after. The mirror is then
+    /// unchanged.
     pub fn keep_held_head(
         &mut self,
         alloc: Global,
@@ -81,7 +81,8 @@ impl<H: TreeHash> Mirror<H> {
         }
     }
 
-    /// Keeps a head that `open_head` gave, where its edge is held already: the note is not verified again. Whether it is held; where it is not, and where memory was refused, the mirror is as it was.
+    /// Keeps a tree head that `open_head` gave, if its right edge is held already, without verifying the note again. It
+    /// returns whether the edge is held. If not, or if memory was refused, the mirror is unchanged.
     ///
     /// ```text
     /// let head = mirror.open_head(alloc, &keys, note)?;
@@ -107,7 +108,6 @@ impl<H: TreeHash> Mirror<H> {
         Ok(true)
     }
 
-    // Whether the edge of that size and root is held.
     fn has_edge(&self, size: u64, root: &Hash) -> bool
         ensures { IsTrue result ↔ HoldsEdge H.digest self.now.view.strings size root.now }
     {
@@ -115,7 +115,7 @@ impl<H: TreeHash> Mirror<H> {
     }
 }
 
-// What a fault of reading a head is here.
+// The fault of keeping a note, for a fault of reading it.
 fn held_fault(fault: TakeFault) -> RestoreFault
     ensures { result ≡ held_fault_of fault }
 {

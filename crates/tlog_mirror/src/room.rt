@@ -1,4 +1,4 @@
-//! Whether there is room to lay out what is served.
+//! Whether there is room to lay out the served entries.
 use crate::mirror::Mirror;
 use crate::top_ranges::TopRanges;
 use node_store::{Store, Tagged};
@@ -7,8 +7,8 @@ use tlog_hash::TreeHash;
 use tlog_proof::Ranges;
 
 impl<H: TreeHash> Mirror<H> {
-    // Whether something is served that takes no more bytes, laid out, than the strings that are held. Entries that are all
-    // different do not. But a log can sign a head of 2^62 entries of which few nodes are different.
+    // Whether something is served and its layout takes at most as many bytes as the held strings. This is always so if
+    // all entries are different. But a log can sign a tree head of 2^62 entries with few different nodes.
     pub(crate) fn has_room(&self, alloc: Global) -> Result<bool, AllocError> {
         let Some(top) = self.top_ranges() else {
             return Ok(false);
@@ -17,7 +17,8 @@ impl<H: TreeHash> Mirror<H> {
     }
 }
 
-// Whether all entries take so many bytes at most: each its own in its bundle, and some 40 more of hashes and places.
+// Whether all entries take at most that number of bytes: each its own bytes in its bundle, and some 40 more for hashes
+// and offsets.
 fn is_within<H: TreeHash>(
     alloc: Global,
     top: &TopRanges<'_, H>,
@@ -39,7 +40,7 @@ fn is_within<H: TreeHash>(
     Ok(true)
 }
 
-// How many bytes the strings take: an entry its own, a pair its two hashes, and each some 64 of its place.
+// The number of bytes that the strings take: an entry its own, a pair its two hashes, and each some 64 for its slot.
 fn room_of<H: TreeHash>(strings: &Store<H>) -> u64 {
     let mut room = 0u64;
     for string in strings.iter() {

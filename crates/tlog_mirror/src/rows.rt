@@ -1,4 +1,4 @@
-//! Edge rows that a caller owns.
+//! Edge rows that the caller owns.
 ghost use Rattle.std.specs.Prelude.{◌≡◌, IfOk, List, map};
 ghost use Rattle.mirror_model.specs.Answered.{answer_of};
 ghost use Rattle.mirror_model.specs.Refusals.{JudgesHead};
@@ -14,7 +14,7 @@ use std::alloc::{AllocError, Global};
 use tlog_hash::TreeHash;
 
 impl<H: TreeHash> Mirror<H> {
-    /// Takes a head, as `take_head` does, of rows that the caller owns, as a download leaves them.
+    /// Takes a tree head like `take_head`, with rows that the caller owns, as a download gives them.
     ///
     /// ```text
     /// mirror.take_head_rows(alloc, &keys, &note, &[row_of_level_0, row_of_level_1])?;
@@ -22,7 +22,7 @@ impl<H: TreeHash> Mirror<H> {
     ///
     /// # Errors
     ///
-    /// Those of `take_head`, which says what they leave.
+    /// Those of `take_head`, with the same state of the mirror afterwards.
     pub fn take_head_rows(
         &mut self,
         alloc: Global,
@@ -43,8 +43,8 @@ impl<H: TreeHash> Mirror<H> {
         self.take_opened_rows(alloc, head, rows)
     }
 
-    /// Takes a head that `open_head` gave, with rows that the caller owns. The note is not verified again: for each list of
-    /// keys that opens it this is `take_head_rows` of its bytes.
+    /// Takes a tree head that `open_head` gave, with rows that the caller owns. It does not verify the note again: for
+    /// each list of keys that opens the note, this is `take_head_rows` of its bytes.
     ///
     /// ```text
     /// let head = mirror.open_head(alloc, &keys, &note)?;
@@ -53,7 +53,7 @@ impl<H: TreeHash> Mirror<H> {
     ///
     /// # Errors
     ///
-    /// Those of `take_head` but for the ones of `open_head`.
+    /// Those of `take_head`, except the faults of `open_head`.
     pub fn take_opened_rows(
         &mut self,
         alloc: Global,

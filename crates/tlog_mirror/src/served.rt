@@ -1,4 +1,4 @@
-//! What a mirror serves.
+//! The checkpoint and the files that a mirror serves.
 ghost use Rattle.std.specs.Prelude.{ℕ, List, IfOk, IfSome, IfNone, None};
 ghost use Rattle.mirror_model.specs.Served.{IsRangeHash, IsServedBundle, IsServedNote, IsServedTile, Replies};
 ghost use Rattle.mirror_model.specs.Reports.{SaysServed};
@@ -18,9 +18,8 @@ use tlog_proof::Ranges;
 use tlog_tiles::Path;
 
 impl<H: TreeHash> Mirror<H> {
-    /// What is served, found once: of the complete checkpoints the one of the greatest size, then of the least
-    /// root, then of the least note by bytes, with its entries. `None` exactly where none is complete. It takes no
-    /// memory.
+    /// The served checkpoint with its entries, found once. It is a complete checkpoint with the greatest size, then the
+    /// least root, then the least bytes of the note. `None` exactly if no checkpoint is complete. It takes no memory.
     pub fn top_ranges(&self) -> Option<TopRanges<'_, H>>
         ensures some { IfSome result (λ top. IsServedTop H.digest self.now.view top) }
         ensures none { IfNone result (SaysServed H.digest self.now.view None) }
@@ -37,7 +36,7 @@ impl<H: TreeHash> Mirror<H> {
         })
     }
 
-    /// The checkpoint's note that is served, as `top_ranges` finds it. It takes no memory.
+    /// The note of the served checkpoint, as `top_ranges` finds it. It takes no memory.
     pub fn top(&self) -> Option<&Note>
         ensures some { IfSome result (λ note. IsServedNote H.digest self.now.view note.now.bytes) }
         ensures none { IfNone result (SaysServed H.digest self.now.view None) }
@@ -71,7 +70,7 @@ impl<H: TreeHash> Mirror<H> {
         }
     }
 
-    // The kept note that is served, looked for among all.
+    // The kept note that is served, searched among all.
     fn found_note(&self) -> Option<&HeldNote>
         ensures some { IfSome result (λ kept. IsServedAs H.digest self.now.view kept.now.note.bytes
             kept.now.size kept.now.root) }
@@ -84,8 +83,8 @@ impl<H: TreeHash> Mirror<H> {
         first_with(self.kept.as_slice(), best.0, &root)
     }
 
-    /// The tree hash of `len` of the served entries from `start` on (RFC 6962, section 2.1), that of no bytes for
-    /// `len` 0. `None` exactly where the range is not within the served entries, or nothing is served. It takes no
+    /// The tree hash of `len` of the served entries from `start` on (RFC 6962, section 2.1). For `len` 0 it is the hash
+    /// of no bytes. `None` exactly if the range is not within the served entries, or nothing is served. It takes no
     /// memory.
     pub fn range_hash(&self, start: u64, len: u64) -> Option<Hash>
         ensures some { IfSome result (λ hash. IsRangeHash H.digest self.now.view start len hash) }
@@ -98,8 +97,8 @@ impl<H: TreeHash> Mirror<H> {
         top.hash(start, len)
     }
 
-    /// The bytes of a tile of the served entries (C2SP tlog-tiles, "Merkle Tree"). `None` exactly where the tile is
-    /// not within them, as for a level over 7 or a width outside 1 to 256, or nothing is served.
+    /// The bytes of a tile of the served entries (C2SP tlog-tiles, "Merkle Tree"). `None` exactly if the tile is not
+    /// within them, as for a level over 7 or a width outside 1 to 256, or nothing is served.
     ///
     /// # Errors
     ///
@@ -145,8 +144,8 @@ impl<H: TreeHash> Mirror<H> {
         top.tile(alloc, level, index, width)
     }
 
-    /// The bytes of a bundle of the served entries (C2SP tlog-tiles, "Log Entries"). `None` exactly where the bundle
-    /// is not within them, as for a width outside 1 to 256, or nothing is served.
+    /// The bytes of a bundle of the served entries (C2SP tlog-tiles, "Log Entries"). `None` exactly if the bundle is
+    /// not within them, as for a width outside 1 to 256, or nothing is served.
     ///
     /// # Errors
     ///
@@ -190,8 +189,8 @@ impl<H: TreeHash> Mirror<H> {
         top.bundle(alloc, index, width)
     }
 
-    /// The bytes of a file of the log at its path: the note that is served, or a tile or a bundle of the served entries
-    /// (C2SP tlog-tiles, "Parameters"). `None` exactly where nothing is served there.
+    /// The bytes of a file of the log at its path: the served note, or a tile or a bundle of the served entries (C2SP
+    /// tlog-tiles, "Parameters"). `None` exactly if nothing is served at that path.
     ///
     /// ```text
     /// mirror.file(alloc, &Path::Checkpoint)?   // the note

@@ -1,4 +1,4 @@
-//! What a mirror remembers of complete heads.
+//! The slices that a mirror remembers for complete tree heads.
 ghost use Rattle.std.specs.Prelude.{◌≡◌, ◌↔◌, All, OnOk};
 ghost use Rattle.node_store.specs.Strings.{NoClash};
 ghost use Rattle.mirror_model.specs.Forks.{Point};
@@ -15,17 +15,18 @@ use std::alloc::{AllocError, Global};
 use tlog_hash::{Hash, TreeHash};
 
 impl<H: TreeHash> Mirror<H> {
-    /// Remembers the complete heads, so that no later walk goes into them: the size and the hash of each slice that
-    /// the recursion of the tree hash (RFC 6962, section 2.1) meets on their entries, the whole lists among them.
+    /// Remembers the complete tree heads, so that no later walk enters their trees. It remembers the size and the hash
+    /// of each slice that the recursion of the tree hash (RFC 6962, section 2.1) meets on their entries, the complete
+    /// lists included.
     ///
-    /// It changes no answer, and what was remembered stays. Heads go by rising size, so that each costs a walk
-    /// through what is new to it. Equal subtrees are walked into once, and what is held whole of a head that is not
-    /// complete is noted too, so that no later walk goes into that either.
+    /// It changes no answer, and keeps all that was remembered. It takes tree heads by rising size, so each one costs
+    /// a walk through its new nodes. It walks equal subtrees once. It also notes the complete subtrees of tree heads
+    /// that are not complete, so that no later walk enters those either.
     ///
     /// # Errors
     ///
-    /// Memory was refused. What was remembered before is remembered still, and of the complete heads some slices
-    /// may be.
+    /// Memory was refused. It keeps all that was remembered before, and some slices of the complete tree heads may be
+    /// remembered.
     pub fn settle(&mut self, alloc: Global) -> Result<(), AllocError>
         ensures view { self.new.view ≡ self.old.view }
         ensures done { OnOk result ((point : Point) → HasMark self.new.remembered point
@@ -39,11 +40,12 @@ impl<H: TreeHash> Mirror<H> {
         settle_all(&self.strings, &mut self.known, heads.as_slice())
     }
 
-    /// Notes of each head what is held of its tree, so that no later walk goes into that again. It changes no answer, and
-    /// remembers nothing.
+    /// Notes for each tree head which of its subtrees are held, so that no later walk enters those again. It changes no
+    /// answer, and remembers nothing.
     ///
-    /// It is for a mirror that is asked once: it makes one walk and few notes, where `settle` makes two and remembers each
-    /// slice. Heads go by rising size, so that each costs a walk through what is new to it, and through few entries before.
+    /// It is for a mirror that is queried once: it makes one walk and few notes, where `settle` makes two walks and
+    /// remembers each slice. It takes tree heads by rising size, so each one costs a walk through its new nodes, and
+    /// through few earlier entries.
     ///
     /// ```text
     /// mirror.note_heads(alloc)?;
@@ -52,7 +54,7 @@ impl<H: TreeHash> Mirror<H> {
     ///
     /// # Errors
     ///
-    /// Memory was refused. What was noted before is noted still.
+    /// Memory was refused. It keeps all that was noted before.
     pub fn note_heads(&mut self, alloc: Global) -> Result<(), AllocError>
         ensures view { self.new.view ≡ self.old.view }
         ensures remembered { self.new.remembered ≡ self.old.remembered }
@@ -62,7 +64,7 @@ impl<H: TreeHash> Mirror<H> {
     }
 }
 
-// Notes what is held of these trees.
+// Notes the held subtrees of these trees.
 fn note_all<H: TreeHash>(
     store: &Store<H>,
     known: &mut HeldTrees,

@@ -1,4 +1,4 @@
-//! The takes of heads.
+//! Takes of tree heads.
 ghost use Rattle.std.specs.Prelude.{◌≡◌, ◌≤◌, ℕ, List, ◌∷◌, length, map, IfOk, OnOk, OnErr};
 ghost use Rattle.mirror_model.specs.Answered.{answer_of};
 ghost use Rattle.mirror_model.specs.Complete.{HasEdge};
@@ -24,9 +24,9 @@ use tlog_checkpoint::Checkpoint;
 use tlog_hash::TreeHash;
 
 impl<H: TreeHash> Mirror<H> {
-    /// A head's note and its checkpoint, where the note is valid: it is a checkpoint of the mirror's origin, and it opens
-    /// under the keys (C2SP signed-note and tlog-checkpoint). Its edge is not asked for, and nothing is taken. What it
-    /// gives is taken by `take_opened_rows` without verifying it again.
+    /// The note and the checkpoint of a tree head, if the note is valid (C2SP signed-note, tlog-checkpoint): a
+    /// checkpoint of the mirror's origin that opens under the keys. This needs no edge rows, and changes nothing.
+    /// `take_opened_rows` takes the result without verifying it again.
     ///
     /// ```text
     /// mirror.open_head(alloc, &keys, &note)?.checkpoint.size   // 257
@@ -34,9 +34,9 @@ impl<H: TreeHash> Mirror<H> {
     ///
     /// # Errors
     ///
-    /// The first that applies: `Note`, where the bytes are no note; `Checkpoint`, where its text is no
-    /// checkpoint; `OtherOrigin`; `NoTrustedSignature`, where no key accepts a line of it. `OutOfMemory` where
-    /// memory was refused, before any of them or after.
+    /// The first that applies: `Note`, if the bytes are no note; `Checkpoint`, if its text is no checkpoint;
+    /// `OtherOrigin`; `NoTrustedSignature`, if no key accepts one of its lines. `OutOfMemory` if memory was refused,
+    /// before any of them or after.
     pub fn open_head(
         &self,
         alloc: Global,
@@ -50,7 +50,7 @@ impl<H: TreeHash> Mirror<H> {
         open_head(alloc, self.origin(), keys, note)
     }
 
-    /// The checkpoint of a head's note, as `open_head` gives it.
+    /// The checkpoint of a note, as `open_head` gives it.
     ///
     /// # Errors
     ///
@@ -69,19 +69,22 @@ impl<H: TreeHash> Mirror<H> {
         }
     }
 
-    /// Takes a head: a checkpoint note, and the edge rows of its size, lowest level first (C2SP tlog-tiles,
-    /// "Merkle Tree"). Extension lines and lines of unknown keys keep no note from being taken.
+    /// Takes a tree head: a checkpoint note, and the edge rows of its size, lowest level first (C2SP tlog-tiles,
+    /// "Merkle Tree"). A note may have extension lines and lines of unknown keys.
     ///
-    /// Its strings are those that the edge rows hash on the way to the root. The note is entered last.
+    /// It adds the strings that the edge rows hash on the way to the root, and then the note.
     ///
     /// # Errors
     ///
-    /// The first that applies: those of `open_head`; `EdgeCount`, where there are not as many rows as the
-    /// size has partial tiles; `EdgeLength`, where a row has not 32 bytes for each hash of its tile;
-    /// `EdgeMismatch`, where the rows do not lead to the root; `Collision`, where two different strings, of
-    /// those that are held and the rows' own, share a digest. They leave the mirror as it was. `OutOfMemory`
-    /// where a growth was refused: the mirror then lies between what it was and what it would have been, it
-    /// has the note only where it has all the strings, and taking the head again completes it.
+    /// The first that applies, after which the mirror is unchanged:
+    /// - those of `open_head`;
+    /// - `EdgeCount`: the number of rows is not the number of partial tiles of the size;
+    /// - `EdgeLength`: a row does not have 32 bytes for each hash of its tile;
+    /// - `EdgeMismatch`: the rows do not lead to the root;
+    /// - `Collision`: two different strings, held ones or the rows' own, have one digest.
+    ///
+    /// `OutOfMemory` if a growth was refused: some of the strings may have been added, and the note only if all of them
+    /// were. Taking the tree head again completes it.
     pub fn take_head(
         &mut self,
         alloc: Global,
@@ -102,7 +105,7 @@ impl<H: TreeHash> Mirror<H> {
         self.take_opened(alloc, head, edge)
     }
 
-    // Takes a head whose note was opened: it is not verified again.
+    // Takes a tree head whose note was opened, without verifying it again.
     pub(crate) fn take_opened(
         &mut self,
         alloc: Global,
@@ -129,7 +132,7 @@ impl<H: TreeHash> Mirror<H> {
         take_answer(self.keep_head(HeldNote { note, size, root }, &strings))
     }
 
-    // Adds the strings of a head, and then its note.
+    // Adds the strings of a tree head, and then its note.
     fn keep_head(&mut self, kept: HeldNote, strings: &Store<H>) -> Result<(), AddFault>
         requires no_clash { NoClash H.digest strings.now }
         requires short { (entry : List ℕ) → Has strings.now (0 ∷ entry) → length entry ≤ 65535 }
@@ -150,7 +153,7 @@ impl<H: TreeHash> Mirror<H> {
         }
     }
 
-    // Enters a note in its place, if it is not kept yet.
+    // Enters a note at its place, if it is not kept yet.
     pub(crate) fn keep_note(&mut self, kept: HeldNote) -> Result<(), AllocError>
         requires said { IsHead kept.note.bytes self.old.view.origin kept.size kept.root }
         requires edge { HasEdge H.digest self.old.view kept.note.bytes }

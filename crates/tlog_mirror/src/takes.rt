@@ -1,4 +1,4 @@
-//! The takes of tiles and bundles.
+//! Takes of tiles and bundles.
 ghost use Rattle.std.specs.Prelude.{◌≡◌, ◌≤◌, ℕ, List, ◌∷◌, length, map};
 ghost use Rattle.mirror_model.specs.Answered.{answer_of};
 ghost use Rattle.mirror_model.specs.Refusals.{JudgesTile, JudgesBundle};
@@ -19,14 +19,13 @@ use tlog_tiles::{BundleFault, RowFault, read_bundle, read_row};
 impl<H: TreeHash> Mirror<H> {
     /// Takes a tile: the bytes of a row of `width` hashes (C2SP tlog-tiles, "Merkle Tree").
     ///
-    /// Its strings are added, whether or not a known head reaches them.
+    /// It adds the tile's strings, even if no held tree head reaches them.
     ///
     /// # Errors
     ///
-    /// The first that applies: `RowLength`, where there are not `32 * width` bytes; `Collision`, where two
-    /// different strings, of those that are held and the tile's own, share a digest. Both leave the mirror
-    /// as it was. `OutOfMemory` where a growth was refused: the mirror then lies between what it was and
-    /// what it would have been, and taking the tile again completes it.
+    /// The first that applies: `RowLength`, if there are not `32 * width` bytes; `Collision`, if two different strings,
+    /// held ones or the tile's own, have one digest. After both the mirror is unchanged. `OutOfMemory` if a growth was
+    /// refused: some of the strings may have been added, and taking the tile again completes it.
     pub fn take_tile(&mut self, alloc: Global, width: u32, bytes: &[u8]) -> Result<(), TakeFault>
         requires some { 1 ≤ width }
         requires most { width ≤ 256 }
@@ -52,15 +51,17 @@ impl<H: TreeHash> Mirror<H> {
 
     /// Takes a bundle of `width` entries (C2SP tlog-tiles, "Log Entries").
     ///
-    /// Its strings are those of its entries and of the joins above them, whatever the width.
+    /// It adds the strings of its entries and of the nodes above them, for every width.
     ///
     /// # Errors
     ///
-    /// The first that applies: `BundleShort`, where no prefix of the bytes is a bundle of that width;
-    /// `BundleLong`, where one is and more bytes follow it; `Collision`, where two different strings, of
-    /// those that are held and the bundle's own, share a digest. They leave the mirror as it was.
-    /// `OutOfMemory` where a growth was refused: the mirror then lies between what it was and what it would
-    /// have been, and taking the bundle again completes it.
+    /// The first that applies, after which the mirror is unchanged:
+    /// - `BundleShort`: no prefix of the bytes is a bundle of that width;
+    /// - `BundleLong`: a prefix is such a bundle, and more bytes follow it;
+    /// - `Collision`: two different strings, held ones or the bundle's own, have one digest.
+    ///
+    /// `OutOfMemory` if a growth was refused: some of the strings may have been added, and taking the bundle again
+    /// completes it.
     pub fn take_bundle(&mut self, alloc: Global, width: u32, bytes: &[u8]) -> Result<(), TakeFault>
         requires some { 1 ≤ width }
         requires most { width ≤ 256 }
@@ -78,7 +79,7 @@ impl<H: TreeHash> Mirror<H> {
         take_answer(self.add_tree(alloc, entries.as_slice()))
     }
 
-    // Adds the strings of the tree of these entries, or none of them.
+    // Adds the strings of the tree of these entries, all or none.
     fn add_tree(&mut self, alloc: Global, entries: &[&[u8]]) -> Result<(), AddFault>
         requires tagged { AllTagged (tree_strings H.digest (map (λ e. e.now) entries.now)) }
         requires short { (entry : List ℕ)
@@ -95,7 +96,7 @@ impl<H: TreeHash> Mirror<H> {
         }
     }
 
-    // Adds strings, of which none collide and none is a long entry's.
+    // Adds strings that do not collide and are not those of a long entry.
     pub(crate) fn add_strings(&mut self, strings: &Store<H>) -> Result<(), AddFault>
         requires no_clash { NoClash H.digest strings.now }
         requires short { (entry : List ℕ) → Has strings.now (0 ∷ entry) → length entry ≤ 65535 }

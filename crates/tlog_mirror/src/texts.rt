@@ -1,4 +1,4 @@
-//! The texts in which a mirror tells of itself.
+//! The texts that report the state of a mirror.
 ghost use Rattle.std.specs.Prelude.{◌≡◌, ◌++◌, IfOk, IfSome, IfNone, OnOk, string_bytes};
 ghost use Rattle.std.specs.Option.{option_map};
 ghost use Rattle.std.specs.List.{flat_map};
@@ -14,7 +14,7 @@ use tlog_text::{push_hash, push_number};
 use tlog_tiles::{Path, print};
 
 impl<H: TreeHash> Mirror<H> {
-    /// The origin, each head and whether it is complete, and what is served, a line each: `origin O`,
+    /// The origin, each tree head with its state, and the served checkpoint, a line each. The lines are `origin O`,
     /// `head SIZE ROOT complete` or `head SIZE ROOT partial`, and `served SIZE ROOT` or `served none`.
     ///
     /// # Errors
@@ -33,8 +33,8 @@ impl<H: TreeHash> Mirror<H> {
         Ok(text)
     }
 
-    /// The forks, a line each, the smaller head first: `fork SIZE ROOT SIZE ROOT`. Where there is none there are no
-    /// bytes.
+    /// The forks, a line each, the smaller tree head first: `fork SIZE ROOT SIZE ROOT`. The text is empty if there is
+    /// no fork.
     ///
     /// # Errors
     ///
@@ -48,8 +48,7 @@ impl<H: TreeHash> Mirror<H> {
         Ok(text)
     }
 
-    /// The paths of what is missing of a head, a line each. `None` exactly where no held note has that size and
-    /// root.
+    /// The missing paths of a tree head, a line each. `None` exactly if no held note has that size and root.
     ///
     /// # Errors
     ///
@@ -84,7 +83,6 @@ pub(crate) fn push_point(text: &mut String, size: u64, root: &Hash) -> Result<()
     push_hash(text, root)
 }
 
-// Adds the line of a head.
 fn push_head(text: &mut String, head: &Head) -> Result<(), AllocError>
     ensures { OnOk result (string_bytes text.new ≡ string_bytes text.old ++ head_line head.now) }
 {
@@ -97,7 +95,6 @@ fn push_head(text: &mut String, head: &Head) -> Result<(), AllocError>
     })
 }
 
-// Adds a line for each head.
 fn push_heads(text: &mut String, heads: &[Head]) -> Result<(), AllocError>
     ensures { OnOk result (string_bytes text.new ≡ string_bytes text.old
         ++ flat_map head_line heads.now) }
@@ -108,7 +105,6 @@ fn push_heads(text: &mut String, heads: &[Head]) -> Result<(), AllocError>
     Ok(())
 }
 
-// Adds the line of what is served.
 fn push_served(text: &mut String, served: &Option<(u64, Hash)>) -> Result<(), AllocError>
     ensures { OnOk result (string_bytes text.new ≡ string_bytes text.old
         ++ served_line (option_map point_of served.now)) }
@@ -123,7 +119,6 @@ fn push_served(text: &mut String, served: &Option<(u64, Hash)>) -> Result<(), Al
     }
 }
 
-// Adds the line of a fork.
 fn push_fork(text: &mut String, fork: &Fork) -> Result<(), AllocError>
     ensures { OnOk result (string_bytes text.new ≡ string_bytes text.old ++ fork_line fork.now) }
 {
@@ -134,7 +129,6 @@ fn push_fork(text: &mut String, fork: &Fork) -> Result<(), AllocError>
     text.push_str("\n")
 }
 
-// Adds a line for each fork.
 fn push_forks(text: &mut String, forks: &[Fork]) -> Result<(), AllocError>
     ensures { OnOk result (string_bytes text.new ≡ string_bytes text.old ++ forks_text forks.now) }
 {
@@ -144,7 +138,6 @@ fn push_forks(text: &mut String, forks: &[Fork]) -> Result<(), AllocError>
     Ok(())
 }
 
-// Adds a line for each path.
 fn push_paths(alloc: Global, text: &mut String, paths: &[Path]) -> Result<(), AllocError>
     ensures { OnOk result (string_bytes text.new ≡ string_bytes text.old
         ++ missing_text paths.now) }
@@ -155,7 +148,6 @@ fn push_paths(alloc: Global, text: &mut String, paths: &[Path]) -> Result<(), Al
     Ok(())
 }
 
-// Adds the line of a path.
 fn push_path(alloc: Global, text: &mut String, path: &Path) -> Result<(), AllocError>
     ensures { OnOk result (string_bytes text.new ≡ string_bytes text.old ++ path_line path.now) }
 {

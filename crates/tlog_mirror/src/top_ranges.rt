@@ -1,4 +1,4 @@
-//! What is served, found once.
+//! The served checkpoint and its entries, found once.
 ghost use Rattle.std.specs.Prelude.{◌≡◌, ℕ, List, IfOk, IfSome, IfNone};
 ghost use Rattle.tlog_tiles.specs.Tiles.{IsTileWithin, tile_bytes, bundle_bytes};
 ghost use Rattle.tlog_mirror.specs.Tops.{IsListOf};
@@ -12,10 +12,10 @@ use tlog_hash::{Hash, TreeHash};
 use tlog_proof::Ranges;
 use tlog_tiles::{write_bundle, write_row};
 
-/// What a mirror serves: a checkpoint with the tree hashes, tiles and bundles of its entries.
+/// The checkpoint that a mirror serves, with the tree hashes, tiles and bundles of its entries.
 ///
-/// It stands for one list of entries, that of the served checkpoint. A proof that the first entry is among the
-/// entries that are served:
+/// It has one list of entries, that of the served checkpoint. A proof that the first entry is among the served
+/// entries:
 ///
 /// ```
 /// let Some(top) = mirror.top_ranges() else { return Ok(()) };
@@ -50,9 +50,9 @@ impl<'a, H: TreeHash> TopRanges<'a, H> {
         self.note
     }
 
-    /// The bytes of a tile of the served entries (C2SP tlog-tiles, "Merkle Tree"): `width` hashes of that
-    /// level from number `256 * index` on. `None` exactly where the tile is not within the entries, as for a
-    /// level over 7 or a width outside 1 to 256.
+    /// The bytes of a tile of the served entries (C2SP tlog-tiles, "Merkle Tree"): `width` hashes of that level from
+    /// number `256 * index` on. `None` exactly if the tile is not within the entries, as for a level over 7 or a width
+    /// outside 1 to 256.
     ///
     /// # Errors
     ///
@@ -87,9 +87,8 @@ impl<'a, H: TreeHash> TopRanges<'a, H> {
         Ok(Some(write_row(alloc, row.as_slice())?))
     }
 
-    /// The bytes of a bundle of the served entries (C2SP tlog-tiles, "Log Entries"): `width` entries from
-    /// number `256 * index` on. `None` exactly where the bundle is not within the entries, as for a width
-    /// outside 1 to 256.
+    /// The bytes of a bundle of the served entries (C2SP tlog-tiles, "Log Entries"): `width` entries from number
+    /// `256 * index` on. `None` exactly if the bundle is not within the entries, as for a width outside 1 to 256.
     ///
     /// # Errors
     ///
@@ -120,7 +119,7 @@ impl<'a, H: TreeHash> Ranges for TopRanges<'a, H> {
 
     ghost digest = { H.digest };
 
-    /// How many entries are served. It takes no memory.
+    /// The number of served entries. It takes no memory.
     fn size(&self) -> u64 {
         self.size
     }

@@ -20,7 +20,7 @@ returns-in_err-found g c =
       counted = count_of (Unit {0}) (failed c.args.shelf.now) (failed c.read.new.self) e c.in_err-found.ensures.counted;
     }
 
--- what was found is no checkpoint of the log
+-- the bytes that were found are no checkpoint of the log
 pub returns-in_err-since : goal.returns-in_err-since
 returns-in_err-since g c =
     let puts = g.S.Shelf.puts in
@@ -35,7 +35,7 @@ returns-in_err-since g c =
           (failed c.read.new.self) fault c.in_err-since.ensures c.in_ok-found.ensures.counted;
     }
 
--- the tiles and bundles were not all put
+-- some tiles or bundles were not put
 pub returns-in_err-put_parts-clause-recorded : goal.returns-in_err-put_parts-clause-recorded
 returns-in_err-put_parts-clause-recorded g c =
     let puts = g.S.Shelf.puts in

@@ -4,7 +4,7 @@ use Rattle.tlog_mirror.specs.Adding.{with_notes}
 use Rattle.mirror_state.specs.LoadSteps.{head_bytes}
 use Rattle.mirror_state.proofs.loading.keep_all.Given as goal
 
--- the heads so far are kept
+-- the tree heads so far are kept
 abbrev pub invariant-loop-head : goal.invariant-loop-head
 invariant-loop-head g l = record {
   view : l.mirror.view ≡ with_notes l.fn.mirror.view (take l.head-index (map head_bytes l.heads));

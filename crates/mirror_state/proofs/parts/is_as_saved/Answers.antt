@@ -4,7 +4,7 @@ use Rattle.mirror_state.specs.StateText.{Parts, VersionOne}
 use Rattle.mirror_state.proofs.BodyLemmas.{magic_in, versions_differ}
 use Rattle.mirror_state.proofs.parts.is_as_saved.Goals as goal
 
--- bytes that begin as version 2 are no text of version 1
+-- bytes that begin like version 2 are no text of version 1
 as_saved : (bytes : List ℕ) → take 8 bytes ≡ codes "TLMIRR02" → IsAsSaved bytes
 as_saved bytes new digest origin keys v loads = elim loads.text [
   | inl text ↦ text

@@ -6,7 +6,7 @@ use Rattle.mirror_state.specs.Putting.{KeyedPair, pair_bytes}
 use Rattle.mirror_state.proofs.Putting.{puts_short, puts_then}
 use Rattle.mirror_state.proofs.saving.put_body.Goals as goal
 
--- what stands behind the pairs, behind the notes, and behind the origin
+-- the parts after the pairs, after the notes, and after the origin
 abbrev items_in : List (Bor (List ℕ)) → List (List ℕ)
 items_in items = map (λ (i : Bor (List ℕ)). i.now) items
 

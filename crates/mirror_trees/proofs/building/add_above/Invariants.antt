@@ -5,7 +5,7 @@ use Rattle.node_store.specs.Strings.{Has, NoClash}
 use Rattle.mirror_model.specs.Edge.{root_from, strings_from}
 use Rattle.mirror_trees.proofs.building.add_above.Given as goal
 
--- what is left leads to the same
+-- the remaining rows lead to the same value
 abbrev pub invariant-loop-row : goal.invariant-loop-row
 invariant-loop-row g l = record {
   root : root_from g.H.TreeHash.digest l.value (map (λ row. row.items) (into_iter_items l.row-iterator))

@@ -3,7 +3,7 @@ use Rattle.tlog_mirror.specs.Best.{kept_point}
 use Rattle.tlog_mirror.specs.declared.kept.HeldNote.{HeldNote}
 use Rattle.tlog_mirror.proofs.best.first_with.Given as goal
 
--- none of those before is of that size and root
+-- no earlier note has that size and root
 abbrev pub invariant-loop-one : goal.invariant-loop-one
 invariant-loop-one l =
     (k : ℕ) (other : HeldNote) → k < l.one-index → slice_index_or l.kept k other ≡ other →

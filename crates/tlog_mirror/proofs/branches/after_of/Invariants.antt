@@ -4,7 +4,7 @@ use Rattle.tlog_mirror.specs.Branches.{Departs}
 use Rattle.tlog_mirror.specs.declared.branches.Branch.{Branch}
 use Rattle.tlog_mirror.proofs.branches.after_of.Given as goal
 
--- from each branch from here on whose tree is held the head departs
+-- the tree head departs from each branch from here on whose tree is held
 abbrev pub invariant-loop-at : goal.invariant-loop-at
 invariant-loop-at g l =
     (k : ℕ) (one : Branch) → l.at ≤ k → k < length l.before → slice_index_or l.before k one ≡ one →

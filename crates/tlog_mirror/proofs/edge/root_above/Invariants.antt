@@ -3,7 +3,7 @@ use Rattle.std.specs.Vec.Iter.{into_iter_items, into_iter_len}
 use Rattle.mirror_model.specs.Edge.{root_from}
 use Rattle.tlog_mirror.proofs.edge.root_above.Given as goal
 
--- what is left leads to the same
+-- the remaining rows lead to the same hash
 abbrev pub invariant-loop-row : goal.invariant-loop-row
 invariant-loop-row g l = record {
   root : root_from g.H.TreeHash.digest l.value (map (λ row. row.items) (into_iter_items l.row-iterator))

@@ -2,7 +2,7 @@ use Rattle.std.proofs.Common.{◌≡◌, ◌++◌, drop, length}
 use Rattle.tlog_mirror.specs.Branches.{all_forks}
 use Rattle.tlog_mirror.proofs.forks.list_forks.Given as goal
 
--- the forks so far, and those of the heads from here on, are all of them
+-- the forks so far, and those of the tree heads from here on, are all forks
 abbrev pub invariant-loop-at : goal.invariant-loop-at
 invariant-loop-at l = record {
   len : length l.marks ≡ length l.branches;

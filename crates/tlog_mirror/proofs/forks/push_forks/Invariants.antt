@@ -2,7 +2,7 @@ use Rattle.std.proofs.Common.{◌≡◌, ◌++◌, ◌+◌, drop, length}
 use Rattle.tlog_mirror.specs.Branches.{forks_with, marked}
 use Rattle.tlog_mirror.proofs.forks.push_forks.Given as goal
 
--- the forks so far, and those with the heads from here on, are all of them
+-- the forks so far, and those with the tree heads from here on, are all forks
 abbrev pub invariant-loop-next : goal.invariant-loop-next
 invariant-loop-next l = record {
   len : length l.marks ≡ length l.branches;

@@ -4,7 +4,7 @@ use Rattle.tlog_mirror.specs.Branches.{all_forks}
 use Rattle.tlog_mirror.proofs.WrittenLines.{IsWritten}
 use Rattle.tlog_mirror.proofs.forks.write_all.Given as goal
 
--- what was written, and the forks of the heads from here on, are all of them
+-- the written forks, and those of the tree heads from here on, are all forks
 abbrev pub invariant-loop-at : goal.invariant-loop-at
 invariant-loop-at g l = record {
   len : length l.marks ≡ length l.branches;

@@ -4,7 +4,7 @@ use Rattle.tlog_mirror.specs.Branches.{forks_with, marked}
 use Rattle.tlog_mirror.proofs.WrittenLines.{IsWritten}
 use Rattle.tlog_mirror.proofs.forks.write_forks_of.Given as goal
 
--- what was written, and the forks with the heads from here on, are all of them
+-- the written forks, and those with the tree heads from here on, are all forks
 abbrev pub invariant-loop-next : goal.invariant-loop-next
 invariant-loop-next g l = record {
   len : length l.marks ≡ length l.branches;

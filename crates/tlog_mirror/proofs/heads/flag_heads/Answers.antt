@@ -6,7 +6,7 @@ use Rattle.mirror_trees.specs.Marked.{point_of}
 use Rattle.tlog_mirror.specs.Best.{IsBuiltFlag}
 use Rattle.tlog_mirror.proofs.heads.flag_heads.Goals as goal
 
--- what was pushed is seen as the next of the other list
+-- the pushed item is the next one of the other list
 seen_more : {X Y Z : Type 0} (f : Y → Z) (g : X → Z) (xs : List X) (i : ℕ) (d : X) (old new : List Y) (y : Y) →
     i < length xs → new ≡ old ++ y ∷ [] → map f old ≡ map g (take i xs) → f y ≡ g (get_or xs i d) →
     map f new ≡ map g (take (i + 1) xs)

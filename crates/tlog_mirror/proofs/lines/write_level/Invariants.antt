@@ -5,7 +5,7 @@ use Rattle.tlog_mirror.specs.MissingLines.{IsLevelOf, paths_of}
 use Rattle.tlog_mirror.proofs.WrittenLines.{IsWritten}
 use Rattle.tlog_mirror.proofs.lines.write_level.Given as goal
 
--- what was written, and the paths from this number on, are all of the level
+-- the written paths, and those from this number on, are all of the level
 abbrev pub invariant-loop-number : goal.invariant-loop-number
 invariant-loop-number g l =
     (numbers : List ℕ) → IsLevelOf g.H.TreeHash.digest l.store l.size l.root l.level numbers →

@@ -2,7 +2,7 @@ use Rattle.std.proofs.Common.{◌≡◌}
 use Rattle.mirror_trees.specs.HeldTrees.{AreKnown}
 use Rattle.tlog_mirror.proofs.settle.note_all.Given as goal
 
--- what is known is held, and what is remembered stays
+-- the known trees are held, and the remembered points stay
 abbrev pub invariant-loop-head : goal.invariant-loop-head
 invariant-loop-head g l = record {
   known : AreKnown g.H.TreeHash.digest l.store l.known;

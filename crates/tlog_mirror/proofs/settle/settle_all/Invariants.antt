@@ -4,7 +4,7 @@ use Rattle.mirror_trees.specs.HeldTrees.{AreKnown}
 use Rattle.tlog_mirror.specs.Settled.{GainsAny, HasSlicesOf}
 use Rattle.tlog_mirror.proofs.settle.settle_all.Given as goal
 
--- the trees so far are remembered, and what is known is held
+-- the trees so far are remembered, and the known trees are held
 abbrev pub invariant-loop-head : goal.invariant-loop-head
 invariant-loop-head g l = record {
   done : All (HasSlicesOf g.H.TreeHash.digest l.store l.known.remembered) (take l.head-index l.heads);

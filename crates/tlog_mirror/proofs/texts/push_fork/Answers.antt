@@ -3,7 +3,7 @@ use Rattle.std.proofs.Common.{append_assoc, string_bytes}
 use Rattle.mirror_model.specs.Texts.{point_text}
 use Rattle.tlog_mirror.proofs.texts.push_fork.Goals as goal
 
--- five texts were added, one after another
+-- five texts were added, in order
 five_added : {T E : Type 0} (r : Result T E) (old f s g t l : List ℕ) (one two three four new : List ℕ) →
     one ≡ old ++ f → two ≡ one ++ s → three ≡ two ++ g → four ≡ three ++ t →
     new ≡ (if is_ok r then four ++ l else four) → OnOk r (new ≡ old ++ (f ++ ((s ++ (g ++ t)) ++ l)))

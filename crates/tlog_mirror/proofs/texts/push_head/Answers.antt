@@ -4,7 +4,7 @@ use Rattle.mirror_model.specs.Texts.{flag_text, point_text}
 use Rattle.tlog_mirror.proofs.texts.push_head.Goals as goal
 use Rattle.tlog_mirror.proofs.texts.push_head.Goals.{then-head, else-head}
 
--- three texts were added, one after another, of which the last is two
+-- three texts were added, in order; the last one has two parts
 three_added : {T E : Type 0} (r : Result T E) (old f s g l both one two new : List ℕ) → both ≡ g ++ l →
     one ≡ old ++ f → two ≡ one ++ s → new ≡ (if is_ok r then two ++ both else two) →
     OnOk r (new ≡ old ++ (f ++ ((s ++ g) ++ l)))
