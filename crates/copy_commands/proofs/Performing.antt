@@ -110,7 +110,7 @@ module _ (digest : List ℕ → List ℕ) (keys : List Key) (key_bytes : List �
     (files : new.files ≡ old.files) (folders : new.puts ≡ old.puts) where
   quiet_audit : (fault : AuditRunFault) → AuditsSource digest keys key_bytes old new c (Err fault) →
       (¬ IsWriteFault (Audit fault)) → Keeps old.output new.output
-  quiet_audit (audit.Audit fault) h other = h.1
+  quiet_audit (audit.Audit fault) h other = h.2
   quiet_audit audit.WriteFault h other = absurd (other tt)
 
   -- a source was audited
