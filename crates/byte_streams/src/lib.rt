@@ -14,9 +14,11 @@
 mod fault;
 mod reading;
 mod timed;
+mod watched;
 mod writing;
 
 pub use fault::StreamFault;
 pub use reading::{CHUNK, read_all};
 pub use timed::{BoundsWaits, TimedStream};
+pub use watched::WatchedStream;
 pub use writing::write_whole;

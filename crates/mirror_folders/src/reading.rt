@@ -4,7 +4,7 @@ ghost use Rattle.byte_streams.specs.Streams.{TakesAtMost};
 ghost use Rattle.mirror_folders.specs.Places.{longest_file};
 
 use crate::place::{file_path, is_missing};
-use byte_streams::{StreamFault, read_all};
+use byte_streams::{WatchedStream, read_all};
 use std::alloc::Global;
 use std::fs::Files;
 use std::io::ErrorKind;
@@ -32,8 +32,8 @@ fn read_opened<F: io::Read + Drop>(
     ensures { IfOk result (λ found. IfSome found (λ bytes. vec_len bytes ≤ longest_file)) }
 {
     match opened {
-        Ok(mut file) => {
-            let bytes = read_whole(alloc, &mut file)?;
+        Ok(file) => {
+            let bytes = read_whole(alloc, &mut WatchedStream::new(file))?;
             Ok(Some(bytes))
         }
         Err(e) => { if is_missing(&e) { Ok(None) } else { Err(e) } }
@@ -50,7 +50,7 @@ fn open_plain<R: Files>(files: &R, place: &str) -> io::Result<R::File> {
 }
 
 // All the bytes of a file. It reads at most one byte more than the longest file has.
-fn read_whole<F: io::Read>(alloc: Global, file: &mut F) -> io::Result<Vec<u8>>
+fn read_whole<F: io::Read + Drop>(alloc: Global, file: &mut WatchedStream<F>) -> io::Result<Vec<u8>>
     ensures short { IfOk result (λ bytes. vec_len bytes ≤ longest_file) }
     ensures limit { TakesAtMost (longest_file + 1) (F.remaining file.old) (F.remaining file.new) }
 {
@@ -61,7 +61,6 @@ fn read_whole<F: io::Read>(alloc: Global, file: &mut F) -> io::Result<Vec<u8>>
             }
             Ok(bytes)
         }
-        Err(StreamFault::OutOfMemory) => Err(io::Error::from(ErrorKind::OutOfMemory)),
-        Err(_) => Err(io::Error::other("a read failed")),
+        Err(fault) => Err(file.read_error(fault)),
     }
 }

@@ -1,8 +1,9 @@
 //! What of a run's files, folders, sources and streams failed, and why. Contracts see nothing of it.
+use byte_streams::WatchedStream;
 use mirror_client::{Dial, FailedGet, HttpSource};
 use mirror_folders::{DirShelf, DirSource, FailedFile, MemShelf};
 use mirror_progress::{CountedFolders, CountingShelf};
-use program_files::{FailedName, MemoryFiles, NamedFiles, SystemFiles, WatchedStream};
+use program_files::{FailedName, MemoryFiles, NamedFiles, SystemFiles};
 use std::fs::Files;
 use std::io;
 use std::io::Write;

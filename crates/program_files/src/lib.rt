@@ -13,7 +13,6 @@ mod laws;
 mod memory;
 mod named;
 mod system;
-mod watched;
 mod why;
 
 pub use fault::NamedFault;
@@ -21,5 +20,4 @@ pub use laws::limits_law;
 pub use memory::MemoryFiles;
 pub use named::{MAX_FILE_LEN, NamedFiles};
 pub use system::{Cause, FailedName, SystemFiles};
-pub use watched::WatchedStream;
 pub use why::{MAX_WHY_LEN, system_reason, why_line};

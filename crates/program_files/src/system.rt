@@ -6,8 +6,7 @@ ghost use Rattle.program_files.specs.declared.named.TheConstants.{MAX_FILE_LEN};
 
 use crate::fault::NamedFault;
 use crate::named::{MAX_FILE_LEN, NamedFiles};
-use crate::watched::WatchedStream;
-use byte_streams::{StreamFault, read_all};
+use byte_streams::{WatchedStream, read_all};
 use mirror_folders::{FolderFiles, replace_file};
 use std::alloc::Global;
 use std::cell::Cell;
@@ -209,7 +208,7 @@ fn read_short<R: Files>(files: &R, alloc: Global, name: &str) -> io::Result<Vec<
     let mut file = WatchedStream::new(fs::open(files, name)?);
     match read_all(alloc, &mut file, MAX_FILE_LEN + 1, u64::MAX) {
         Ok(bytes) => not_long(bytes),
-        Err(fault) => Err(read_error(fault, file.last_failed())),
+        Err(fault) => Err(file.read_error(fault)),
     }
 }
 
@@ -250,19 +249,7 @@ fn read_long<R: Files>(files: &R, alloc: Global, name: &str) -> io::Result<Vec<u
     let mut file = WatchedStream::new(fs::open(files, name)?);
     match read_all(alloc, &mut file, usize::MAX, MOST_READS) {
         Ok(bytes) => Ok(bytes),
-        Err(fault) => Err(read_error(fault, file.last_failed())),
-    }
-}
-
-// The reason why an open file was not read: the error of the system. If the system lacked memory for a read, that is
-// no refused allocation.
-fn read_error(fault: StreamFault, said: Option<io::Error>) -> io::Error {
-    if fault == StreamFault::OutOfMemory {
-        return io::Error::from(ErrorKind::OutOfMemory);
-    }
-    match said {
-        Some(error) if error.kind() != ErrorKind::OutOfMemory => error,
-        _ => io::Error::other("a read failed"),
+        Err(fault) => Err(file.read_error(fault)),
     }
 }
 

@@ -5,7 +5,7 @@
 //! that cannot be carried out, and 3 the answer no.
 #![tactic(auto)]
 
-use program_files::WatchedStream;
+use byte_streams::WatchedStream;
 use program_library::{RunFault, ending_of, print_ending, run};
 use program_words::CommandFault;
 use std::fs::File;
