@@ -7,11 +7,12 @@ ghost use Rattle.program_env.specs.Envs.{IsSameEnv, moment};
 ghost use Rattle.program_env.specs.Performing.{Performs};
 ghost use Rattle.program_env.specs.Works.{PrintsPort};
 
+use crate::asking::of_file;
 use byte_streams::TimedStream;
 use copy_server::{CopyAnswerFault, answer_from_copy};
 use mirror_server::HttpFault;
 use program_commands::check_origin;
-use program_env::why::of_origin;
+use program_env::why::{FailedStreams, of_folder, of_origin, print_why};
 use program_env::{
     Env, Error, RunFault, RunFiles, RunFolders, port_fault, print_fault, print_port, write_front,
 };
@@ -33,6 +34,7 @@ const ALL_SECONDS: u64 = 70;
 
 /// Answers the requested number of connections, one after another, from the copy in the folder. It reads the checkpoint for
 /// each, so the copy may grow meanwhile. A fault of one connection is written to standard error, and then the next is answered.
+/// With `--why`, a line before it names the file that is damaged or cannot be read.
 ///
 /// # Errors
 ///
@@ -128,7 +130,10 @@ fn answer_all<D: RunFolders, C: Clock, E: Write>(
         let (stream, _) = listener.accept()?;
         match answer_one(clock, alloc, folders, serve.copy.log.origin, &stream) {
             Ok(()) => {}
-            Err(fault) => print_answer_fault(errors, fault),
+            Err(fault) => {
+                print_file(alloc, folders, serve, fault, errors);
+                print_answer_fault(errors, fault);
+            }
         }
     }
     Ok(())
@@ -152,6 +157,22 @@ fn answer_one<D: RunFolders, C: Clock>(
         return Err(CopyAnswerFault::Http(HttpFault::ReadFault));
     };
     answer_from_copy::<Sha256Tree, D, _, _>(alloc, folders, origin, &mut reader, &mut writer)
+}
+
+// Writes the line of `--why` if the words ask for it and a file of the folder is known, or a prefix of it if the stream fails.
+fn print_file<D: RunFolders, E: Write>(
+    alloc: Global,
+    folders: &D,
+    serve: &CopyServe<'_>,
+    fault: CopyAnswerFault,
+    errors: &mut E,
+) {
+    let why = match fault {
+        CopyAnswerFault::Http(_) => None,
+        CopyAnswerFault::CopyDamaged(path) => of_file(alloc, serve.copy.folder, &path),
+        CopyAnswerFault::ShelfFault => of_folder(alloc, folders, serve.copy.folder),
+    };
+    print_why(alloc, serve.why, why, FailedStreams::none(), errors);
 }
 
 // Writes the line of the fault of an answer, or a prefix of it if the stream fails.

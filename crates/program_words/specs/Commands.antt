@@ -448,6 +448,7 @@ pub record IsCopyServe (options : List Row) (serve : CopyServe) : Type 0 where
   pub copy : IsCopyAlone options serve.copy
   pub port : HasNumber options (codes "port") 1 65535 serve.port
   pub requests : HasNumber options (codes "requests") 0 MAX_SIZE serve.requests
+  pub why : IsTrue serve.why ↔ HasFlag options (codes "why")
 
 -- ---- the list of the commands
 

@@ -7,7 +7,7 @@ ghost use Rattle.program_words.specs.Readings.{IsSaid, JudgesPart};
 use crate::bad::BadWord;
 use crate::commands::Command;
 use crate::parser::{Argument, Base, CommandLine};
-use crate::parts::{CopyArgs, Source, StateArgs, number_of, size_of, source_of};
+use crate::parts::{CopyArgs, Source, StateArgs, has_flag, number_of, size_of, source_of};
 use crate::refusals::Refusals;
 use clap::ArgMatches;
 
@@ -31,6 +31,8 @@ pub struct CopyServe<'a> {
     pub port: u16,
     /// The number of connections to answer.
     pub requests: u64,
+    /// Whether a line names the file that a connection's fault is about.
+    pub why: bool,
 }
 
 // The text of the long help: input, output, statuses, faults and an example.
@@ -44,7 +46,7 @@ The targets:
   /mirror/inclusion/SIZE/INDEX, /mirror/consistency/FIRST/SECOND
                                      what 'prove' prints
 With --dir the checkpoint of D is read at each request, so D may be followed meanwhile. Where a file
-that is asked for is damaged, or cannot be read, the reply has status 500.
+that is asked for is damaged, or cannot be read, the reply has status 500; --why names the file.
 
 Exit status: 0 done, 1 a fault, 2 a usage error, or a bad value (BadArgument).
 Faults of O, K, S and D: see 'tlogmirror --help'. Those of D are printed at the request that meets
@@ -87,6 +89,7 @@ pub(crate) fn read<'a>(found: &ArgMatches<'a>, refusals: &mut Refusals) -> Comma
     let source = source_of(found, refusals);
     let port = port_of(found, refusals);
     let requests = size_of(found, "requests", "--requests", refusals);
+    let why = has_flag(found, "why");
     match source {
         Source::State(mirror) => Command::Serve(Serve {
             mirror,
@@ -97,6 +100,7 @@ pub(crate) fn read<'a>(found: &ArgMatches<'a>, refusals: &mut Refusals) -> Comma
             copy,
             port,
             requests,
+            why,
         }),
     }
 }

@@ -41,7 +41,7 @@ returns-in-Copy c = record {
       let s1 = c.port_of-port.ensures.good s2.0 in
       let s0 = c.source_of-source.ensures.good s1.0 in
       let args = subst (λ s. IsSource (rows_of (found_of c.args.found.now)) s) c.in-Copy.is s0.1 in
-      (s0.0, (refl, record { copy = args; port = s1.1; requests = s2.1 }));
+      (s0.0, (refl, record { copy = args; port = s1.1; requests = s2.1; why = c.has_flag-why.ensures }));
   bad = λ command said.
       let m = named (rows_of (found_of c.args.found.now)) command said in
       c.size_of-requests.ensures.bad m.4 m.5
