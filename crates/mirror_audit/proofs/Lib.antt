@@ -5,10 +5,13 @@ pub mod Bundles
 pub mod TileRows
 pub mod Levels
 pub mod Trees
+pub mod EdgeFiles
 pub mod RowsGiven
 pub mod WholeLogs
 pub mod OpenNotes
 pub mod Orders
+pub mod FilePaths
 pub mod Stops
 pub mod ShortLogs
 pub mod LogStops
+pub mod TrueFiles
