@@ -1,4 +1,5 @@
 pub mod Given
+pub mod RowTexts
 pub mod Ranges
 pub mod Covered
 pub mod Bundles
