@@ -1,5 +1,6 @@
 -- The rows of the edge that were given, read one after another.
-use Rattle.std.proofs.Common.{◌≡◌, ℕ, ◌+◌, ◌*◌, ◌≤◌, List, [], ◌∷◌, ◌++◌, length, get_or, Vec, Global, Option, ap, sym, ◌∙◌, arith}
+use Rattle.std.proofs.Common.{◌≡◌, ℕ, ◌+◌, ◌*◌, ◌≤◌, ◌<◌, All, List, [], ◌∷◌, ◌++◌, length, get_or, Vec, Global, Option, ap, sym, ◌∙◌, arith}
+use Rattle.std.proofs.lemmas.List.Elements.{All-nil}
 use Rattle.tlog_shape.specs.Edge.{edge_index_of, width_of}
 use Rattle.tlog_tiles.specs.declared.paths.Path.{Path}
 use Rattle.tlog_tiles.specs.declared.paths.Path.TheVariants.{Tile}
@@ -12,9 +13,10 @@ use Rattle.mirror_model.specs.Strings.{IsDigest}
 use Rattle.mirror_model.specs.TrueLaws.{AreShort}
 use Rattle.log_reader.specs.EdgeRows.{Edge, RowIsTrue, row_at}
 use Rattle.log_reader.specs.Holding.{IsEdgeRowOf}
-use Rattle.mirror_audit.specs.Found.{AreTrue}
+use Rattle.mirror_audit.specs.Found.{AreTrue, FileRead}
 use Rattle.mirror_audit.specs.Order.{edge_file, edge_order}
-use Rattle.mirror_audit.specs.Stops.{AreRead, AreRowsRead, IsRowRead}
+use Rattle.mirror_audit.specs.Stops.{AreRead, AreRowsRead, IsRowFile, IsRowRead}
+use Rattle.mirror_audit.proofs.EdgeFiles.{have_next}
 use Rattle.mirror_audit.proofs.Orders.{each_none, next_file}
 use Rattle.mirror_audit.proofs.Stops.{given_more, paths_more, true_append, verified_append}
 use Rattle.mirror_audit.proofs.Given.{given_none, given_then, had_left, had_right}
@@ -58,6 +60,8 @@ no_rows_read size vs may x = record {
   reads = [];
   given = given_none may x;
   paths_are = sym (each_none (edge_file size) 0);
+  hashes = λ level lt. absurd (omega arith);
+  have_rows = All-nil (λ (r : FileRead). IsRowFile (λ l. l < 0) (λ k. get_or (items_of vs) k []) r.path r.found);
   verified = λ digest entries. tt;
   is_true = λ digest entries hash short same t level lt. absurd (omega arith);
 }
@@ -70,6 +74,8 @@ one_more_read size vs more v n a b c x y z is count f g = record {
   given = given_more a b c x y z f.reads g.reads f.given g.given;
   paths_are = paths_more a b c x y z f.reads g.reads (edge_order size n) (edge_file size n) f.paths_are g.paths_are
       ∙ sym (next_file size n);
+  hashes = rows_more (λ level row. All (λ (h : List ℕ). length h ≡ 32) row) vs more v n is count f.hashes g.hashes;
+  have_rows = have_next vs more v n is count f.reads g.reads f.have_rows g.has_row;
   verified = λ digest entries. verified_append digest entries f.reads g.reads (f.verified digest entries)
       (λ t. g.verified digest entries);
   is_true = λ digest entries hash short same t.

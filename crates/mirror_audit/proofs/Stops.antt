@@ -19,13 +19,13 @@ use Rattle.mirror_audit.proofs.Given.{given_none, given_then}
 
 -- ---- lists of files
 
-replies_append : (xs ys : List FileRead) → all_replies (xs ++ ys) ≡ all_replies xs ++ all_replies ys
+pub replies_append : (xs ys : List FileRead) → all_replies (xs ++ ys) ≡ all_replies xs ++ all_replies ys
 replies_append [] ys = refl
 replies_append (x ∷ xs) ys =
     ap (λ (l : List Reply). replies_of x.path x.found ++ l) (replies_append xs ys)
     ∙ sym (append_assoc (replies_of x.path x.found) (all_replies xs) (all_replies ys))
 
-paths_append : (xs ys : List FileRead) → paths_read (xs ++ ys) ≡ paths_read xs ++ paths_read ys
+pub paths_append : (xs ys : List FileRead) → paths_read (xs ++ ys) ≡ paths_read xs ++ paths_read ys
 paths_append xs ys = map-append (λ (r : FileRead). r.path) xs ys
 
 pub true_append : (digest : List ℕ → List ℕ) (entries : List (List ℕ)) (xs ys : List FileRead) →
@@ -157,7 +157,7 @@ module _ (digest : List ℕ → List ℕ) (ps qs rest paths : List Path) (about 
     (a b c : Path → Option (List ℕ) → Type 0) (x y z : Option (List Path)) (p : AreRead digest about ps a b x y)
     (then : (entries : List (List ℕ)) → about entries → AreTrue digest entries p.reads → inner entries)
     (split : paths ≡ ps ++ (qs ++ rest)) where
-  pub stops_later : (kind : Path → Found → Type 0) (path : Path) → StopsAt digest qs inner kind path b c y z →
+  abbrev pub stops_later : (kind : Path → Found → Type 0) (path : Path) → StopsAt digest qs inner kind path b c y z →
       StopsAt digest paths about kind path a c x z
   stops_later kind path s =
       let before = paths_read s.before in

@@ -1,10 +1,12 @@
 -- The files that an audit found at the paths of a log, and the file at which it stopped (C2SP tlog-tiles, "Partial Tiles").
-use Rattle.std.specs.Prelude.{◌≡◌, ◌⊎◌, ℕ, ◌*◌, ◌<◌, List, [], ◌∷◌, ◌++◌, map, length, Option, Some, None, Err, ⊤}
+use Rattle.std.specs.Prelude.{◌≡◌, ◌⊎◌, ℕ, ◌*◌, ◌<◌, All, List, [], ◌∷◌, ◌++◌, map, length, Option, Some, None, Err, ⊤}
 use Rattle.signed_note.specs.Keys.{Key}
 use Rattle.tlog_hash.specs.Rows.{level_row}
 use Rattle.tlog_hash.specs.Tree.{fold_of, mth}
-use Rattle.tlog_tiles.specs.Row.{IsRow}
+use Rattle.tlog_tiles.specs.Row.{IsRow, row_text}
+use Rattle.log_reader.specs.EdgeRows.{Edge, hash_of_edge, row_at}
 use Rattle.log_reader.specs.Verified.{HasLeaves}
+use Rattle.log_reader.specs.Ways.{HasEdgeHashes}
 use Rattle.tlog_tiles.specs.declared.paths.Path.{Path}
 use Rattle.tlog_tiles.specs.declared.paths.Path.TheVariants.{Checkpoint, Tile, Entries}
 use Rattle.mirror_model.specs.Heads.{IsOpenHead}
@@ -85,26 +87,39 @@ pub record IsReadInOrder (size : ℕ) (may later : Path → Option (List ℕ) �
     pub given : AreGiven may later old new (reply Checkpoint (Some note) ∷ all_replies reads)
     pub order : paths_read reads ≡ file_order size
 
--- the found bytes begin with these
-pub record StartsWith (first bytes : List ℕ) : Type 0 where
-  pub rest : List ℕ
-  pub bytes_are : bytes ≡ first ++ rest
+-- the bytes found for the path are these, or they are a full file that begins with them
+abbrev pub Begins : Path → List ℕ → Found → Type 0
+Begins path first (Here bytes) = bytes ≡ first
+Begins path first (InFull bytes) = GoesOn path first bytes
+Begins path first Nowhere = ⊥
+Begins path first NotInFull = ⊥
 
--- the found bytes are these, or they are a full file that begins with them
-abbrev pub Begins : List ℕ → Found → Type 0
-Begins first (Here bytes) = bytes ≡ first
-Begins first (InFull bytes) = StartsWith first bytes
-Begins first Nowhere = ⊥
-Begins first NotInFull = ⊥
+-- a full tile or a bundle
+abbrev pub IsBelowEdge : Path → Type 0
+IsBelowEdge Checkpoint = ⊥
+IsBelowEdge (Tile level index width) = width ≡ 256
+IsBelowEdge (Entries index width) = ⊤
+
+-- if the file is a partial tile, it has the row of its level
+abbrev pub IsOfEdge : Edge → Path → Found → Type 0
+IsOfEdge edge Checkpoint found = ⊤
+IsOfEdge edge (Tile level index width) found =
+    width < 256 → Begins (Tile level index width) (row_text (row_at edge level)) found
+IsOfEdge edge (Entries index width) found = ⊤
 
 module _ (digest : List ℕ → List ℕ) where
+  -- the partial tiles among these files have the rows of an edge of that size, which lead to the root
+  pub record IsEdgeRead (size : ℕ) (root : List ℕ) (reads : List FileRead) : Type 0 where
+    pub edge : Edge
+    pub size_is : edge.size ≡ size
+    pub hashes : HasEdgeHashes edge
+    pub root_is : hash_of_edge digest edge ≡ root
+    pub rows : All (λ r. IsOfEdge edge r.path r.found) reads
+
   module _ (entries : List (List ℕ)) where
     -- the file of these entries was found: its true bytes, or a full file that begins with them
     abbrev pub IsTrueFound : Path → Found → Type 0
-    IsTrueFound path (Here bytes) = bytes ≡ true_bytes digest entries path
-    IsTrueFound path (InFull bytes) = GoesOn path (true_bytes digest entries path) bytes
-    IsTrueFound path Nowhere = ⊥
-    IsTrueFound path NotInFull = ⊥
+    IsTrueFound path found = Begins path (true_bytes digest entries path) found
 
     abbrev pub AreTrue : List FileRead → Type 0
     AreTrue [] = ⊤
@@ -120,10 +135,10 @@ module _ (digest : List ℕ → List ℕ) where
       FullBundle : (index : ℕ) (bytes : List ℕ) (row : List (List ℕ)) → HasLeaves digest 256 bytes row →
           fold_of digest row ≡ fold_of digest (level_row digest entries 0 (256 * index) 256) →
           IsVerified (Entries index 256) (Here bytes)
-      EndBundle : (index width : ℕ) (found : Found) (bytes : List ℕ) → Begins bytes found →
+      EndBundle : (index width : ℕ) (found : Found) (bytes : List ℕ) → Begins (Entries index width) bytes found →
           HasLeaves digest width bytes (level_row digest entries 0 (256 * index) width) → IsVerified (Entries index width) found
-      EdgeRow : (level index width : ℕ) (found : Found) (bytes : List ℕ) (row : List (List ℕ)) → Begins bytes found →
-          IsRow width bytes row → IsVerified (Tile level index width) found
+      EdgeRow : (level index width : ℕ) (found : Found) (bytes : List ℕ) (row : List (List ℕ)) → width < 256 →
+          Begins (Tile level index width) bytes found → IsRow width bytes row → IsVerified (Tile level index width) found
 
     -- each file verifies, if those before it are true
     abbrev pub AreVerified : List FileRead → Type 0
@@ -138,7 +153,8 @@ module _ (digest : List ℕ → List ℕ) where
 
   module _ (origin : List ℕ) (keys : List Key) where
     -- the source gave a note that opens, of that size and root. Then the files before the named path were read in order, and then
-    -- that file. If a list of entries of that size and root has the files before it, the one found is not its true file
+    -- that file. If a list of entries of that size and root has the files before it, the one found is not its true file. If the file
+    -- is below the edge, the rows of the edge were read and lead to the root
     pub record IsFileWrong (kind : Path → Found → Type 0) (path : Path) (may later : Path → Option (List ℕ) → Type 0)
         (old new : Option (List Path)) : Type 0 where
       pub note : List ℕ
@@ -154,6 +170,7 @@ module _ (digest : List ℕ → List ℕ) where
       pub verified : (entries : List (List ℕ)) → IsLogOf size root entries → AreVerified entries before
       pub wrong : (entries : List (List ℕ)) → IsLogOf size root entries → AreTrue entries before →
           IsTrueFound entries path found → ⊥
+      pub edge : IsBelowEdge path → IsEdgeRead size root before
 
     -- the source gave a note that opens, of that size and root, and then all rows of the edge. The path is that of the lowest row.
     -- No list of entries of that size and root has these rows

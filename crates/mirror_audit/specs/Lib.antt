@@ -6,4 +6,5 @@ pub mod Edges
 pub mod WholeLogs
 pub mod Order
 pub mod Found
+pub mod First
 pub mod Stops

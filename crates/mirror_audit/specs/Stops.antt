@@ -1,10 +1,11 @@
 -- The ends of the parts of an audit: the files that were read, and the file at which they stop. Only the contracts of private
 -- functions cite these.
-use Rattle.std.specs.Prelude.{◌≡◌, ◌⊎◌, ℕ, ◌*◌, ◌<◌, ◌≤◌, List, [], ◌∷◌, ◌++◌, length, Option, Some, None, ⊤}
+use Rattle.std.specs.Prelude.{◌≡◌, ◌⊎◌, ℕ, ◌*◌, ◌<◌, ◌≤◌, All, List, [], ◌∷◌, ◌++◌, length, Option, Some, None, ⊤}
 use Rattle.tlog_hash.specs.Rows.{level_row}
 use Rattle.signed_note.specs.Keys.{Key}
 use Rattle.tlog_tiles.specs.declared.paths.Path.{Path}
-use Rattle.tlog_tiles.specs.declared.paths.Path.TheVariants.{Checkpoint}
+use Rattle.tlog_tiles.specs.declared.paths.Path.TheVariants.{Checkpoint, Tile, Entries}
+use Rattle.tlog_tiles.specs.Row.{row_text}
 use Rattle.mirror_model.specs.Strings.{IsDigest}
 use Rattle.mirror_model.specs.TrueLaws.{AreShort}
 use Rattle.mirror_sources.specs.Files.{full_of, width_named}
@@ -15,8 +16,8 @@ use Rattle.log_reader.specs.Holding.{GoesOn, IsEdgeRowOf, IsTileHash, IsTreeFile
 use Rattle.mirror_audit.specs.declared.fault.AuditFault.{AuditFault}
 use Rattle.mirror_audit.specs.declared.fault.AuditFault.TheVariants.{NoCheckpoint, Head, NoEdge, NoFile, FalseFile, Source, OutOfMemory}
 use Rattle.mirror_audit.specs.Answering.{AreGiven}
-use Rattle.mirror_audit.specs.Found.{AreTrue, AreVerified, Begins, FileRead, Found, InFull, IsAbsent, IsAbsentEdge, IsLogOf, IsNoHead, IsPresent, IsTrueFound}
-use Rattle.mirror_audit.specs.Found.{NotInFull, StartsWith, all_replies, paths_read, replies_of}
+use Rattle.mirror_audit.specs.Found.{AreTrue, AreVerified, Begins, FileRead, Found, InFull, IsAbsent, IsAbsentEdge, IsBelowEdge, IsEdgeRead, IsLogOf, IsNoHead, IsPresent, IsTrueFound}
+use Rattle.mirror_audit.specs.Found.{NotInFull, all_replies, paths_read, replies_of}
 use Rattle.mirror_audit.specs.Order.{edge_file, edge_order, file_order, first_path}
 use Rattle.mirror_audit.specs.WholeLogs.{IsTrueRow}
 
@@ -44,7 +45,7 @@ pub record IsFullRead (path : Path) (bytes : List ℕ) (may later : Path → Opt
     (old new : Option (List Path)) : Type 0 where
   pub whole : List ℕ
   pub given : AreGiven may later old new (reply (full_of path) (Some whole) ∷ [])
-  pub begins : StartsWith bytes whole
+  pub begins : GoesOn path bytes whole
   pub is_true : (digest : List ℕ → List ℕ) (entries : List (List ℕ)) → IsDigest digest → AreShort entries →
       IsTreeFile (length entries) path → width_named path < 256 → GoesOn path (true_bytes digest entries path) whole →
       bytes ≡ true_bytes digest entries path
@@ -55,7 +56,7 @@ pub record IsPartRead (path : Path) (bytes : List ℕ) (may later : Path → Opt
   pub found : Found
   pub given : AreGiven may later old new (replies_of path found)
   pub present : IsPresent path found
-  pub begins : Begins bytes found
+  pub begins : Begins path bytes found
   pub is_true : (digest : List ℕ → List ℕ) (entries : List (List ℕ)) → IsDigest digest → AreShort entries →
       IsTreeFile (length entries) path → IsTrueFound digest entries path found → bytes ≡ true_bytes digest entries path
 
@@ -78,12 +79,21 @@ FindsFalse path first may later old new (FalseFile p) = (p ≡ path) × IsFullFa
 FindsFalse path first may later old new Source = ⊤
 FindsFalse path first may later old new OutOfMemory = ⊤
 
+-- the file is a partial tile of one of these levels, and has the row of its level
+abbrev pub IsRowFile : (ℕ → Type 0) → (ℕ → List (List ℕ)) → Path → Found → Type 0
+IsRowFile levels rows Checkpoint found = ⊥
+IsRowFile levels rows (Tile level index width) found =
+    levels level × Begins (Tile level index width) (row_text (rows level)) found
+IsRowFile levels rows (Entries index width) found = ⊥
+
 -- the row of a level was read, if the level has one. If its file is true, so is the row
 pub record IsRowRead (size level : ℕ) (row : List (List ℕ)) (may later : Path → Option (List ℕ) → Type 0)
     (old new : Option (List Path)) : Type 0 where
   pub reads : List FileRead
   pub given : AreGiven may later old new (all_replies reads)
   pub paths_are : paths_read reads ≡ edge_file size level
+  pub hashes : All (λ hash. length hash ≡ 32) row
+  pub has_row : All (λ r. IsRowFile (λ l. l ≡ level) (λ l. row) r.path r.found) reads
   pub verified : (digest : List ℕ → List ℕ) (entries : List (List ℕ)) → AreVerified digest entries reads
   pub is_true : (digest : List ℕ → List ℕ) (entries : List (List ℕ)) → IsDigest digest → AreShort entries →
       length entries ≡ size → AreTrue digest entries reads → IsEdgeRowOf digest size level entries row
@@ -94,6 +104,8 @@ pub record AreRowsRead (size : ℕ) (rows : ℕ → List (List ℕ)) (below : �
   pub reads : List FileRead
   pub given : AreGiven may later old new (all_replies reads)
   pub paths_are : paths_read reads ≡ edge_order size below
+  pub hashes : (level : ℕ) → level < below → All (λ hash. length hash ≡ 32) (rows level)
+  pub have_rows : All (λ r. IsRowFile (λ l. l < below) rows r.path r.found) reads
   pub verified : (digest : List ℕ → List ℕ) (entries : List (List ℕ)) → AreVerified digest entries reads
   pub is_true : (digest : List ℕ → List ℕ) (entries : List (List ℕ)) → IsDigest digest → AreShort entries →
       length entries ≡ size → AreTrue digest entries reads → (level : ℕ) → level < below →
@@ -158,17 +170,23 @@ module _ (digest : List ℕ → List ℕ) where
     pub lowest : path ≡ first_path (edge_order size 8)
     pub wrong : (entries : List (List ℕ)) → IsLogOf digest size root entries → AreTrue digest entries reads → ⊥
 
-  -- the reading of the edge rows stops at the first row that is not true, or since they do not lead to the root
+  -- the reading of a log stops at that path. If the path is below the edge, the rows of the edge were read and lead to the root
+  pub record StopsLog (paths : List Path) (size : ℕ) (root : List ℕ) (kind : Path → Found → Type 0) (path : Path)
+      (may later : Path → Option (List ℕ) → Type 0) (old new : Option (List Path)) : Type 0 where
+    pub stops : StopsAt paths (IsLogOf digest size root) kind path may later old new
+    pub edge : IsBelowEdge path → IsEdgeRead digest size root stops.before
+
+  -- the reading of a log stops at the first file that is not true, or since the rows of the edge do not lead to the root
   abbrev pub StopsEdge : List Path → ℕ → List ℕ → (may later : Path → Option (List ℕ) → Type 0) → Option (List Path) →
       Option (List Path) → AuditFault → Type 0
   StopsEdge paths size root may later old new NoCheckpoint = ⊥
   StopsEdge paths size root may later old new (Head fault) = ⊥
   StopsEdge paths size root may later old new NoEdge =
-      (path : Path) × StopsAt paths (IsLogOf digest size root) IsAbsentEdge path may later old new
+      (path : Path) × StopsLog paths size root IsAbsentEdge path may later old new
   StopsEdge paths size root may later old new (NoFile path) =
-      StopsAt paths (IsLogOf digest size root) IsAbsent path may later old new
+      StopsLog paths size root IsAbsent path may later old new
   StopsEdge paths size root may later old new (FalseFile path) =
-      StopsAt paths (IsLogOf digest size root) IsPresent path may later old new ⊎ Misleads size root path may later old new
+      StopsLog paths size root IsPresent path may later old new ⊎ Misleads size root path may later old new
   StopsEdge paths size root may later old new Source = ⊤
   StopsEdge paths size root may later old new OutOfMemory = ⊤
 

@@ -13,9 +13,11 @@ mod edge;
 mod edge_bundle;
 mod edge_rows;
 mod fault;
+mod laws;
 mod log;
 mod part;
 mod tiles;
 
 pub use fault::AuditFault;
+pub use laws::verified_files_law;
 pub use log::{Audited, audit};

@@ -135,7 +135,8 @@ fn audit_tree<H: TreeHash, S: Source>(
 /// - `NoCheckpoint`: the source lacks a checkpoint. `Head`: it does not open under the keys, or is not one of the origin (`TakeFault`).
 /// - `NoEdge`: the source lacks a partial tile of the right edge, and its full tile.
 /// - `NoFile`: the source lacks another file. `FalseFile`: a file differs from that of the log of the checkpoint. If the edge rows do not
-///   lead to the root, it names the lowest of them, or the checkpoint if that has no entries.
+///   lead to the root, it names the lowest of them, or the checkpoint if that has no entries. A full tile or a bundle that is named is the
+///   first false or missing file, if nothing collides (`verified_files_law`).
 /// - `Source`: the source failed. `OutOfMemory`: memory was refused.
 pub fn audit<H: TreeHash, S: Source>(
     alloc: Global,

@@ -5,7 +5,7 @@ ghost use Rattle.mirror_model.specs.Strings.{IsDigest};
 ghost use Rattle.mirror_model.specs.TrueLaws.{AreShort};
 ghost use Rattle.mirror_sources.specs.Files.{full_of, width_named};
 ghost use Rattle.mirror_sources.specs.Honest.{true_bytes};
-ghost use Rattle.log_reader.specs.Holding.{GivesWay, GoesOn, IsSourceOf, IsTreeFile};
+ghost use Rattle.log_reader.specs.Holding.{GivesWay, GoesOn, HasFullLength, IsSourceOf, IsTreeFile};
 ghost use Rattle.mirror_audit.specs.Edges.{IsFullGiven, IsGivenAt};
 ghost use Rattle.mirror_audit.specs.Answering.{AreGiven};
 ghost use Rattle.mirror_audit.specs.Faults.{BlamesPlace, GivesTrue, IsForAbsence, MayLack};
@@ -52,6 +52,7 @@ fn len_of_entries(bundle: &[u8], count: u32) -> Option<usize>
 // The length of the partial file at the start of its full file. None: the bytes are not a full file.
 fn len_of_part(path: Path, full: &[u8]) -> Option<usize>
     ensures within { IfSome result (λ n. n ≤ length full.now) }
+    ensures long { IfSome result (λ _. HasFullLength path full.now) }
     ensures honest { (digest : List ℕ → List ℕ) (entries : List (List ℕ)) → IsDigest digest
         → AreShort entries → IsTreeFile (length entries) path → width_named path < 256
         → GoesOn path (true_bytes digest entries path) full.now

@@ -18,8 +18,8 @@ pub returns-clause-honest : goal.returns-clause-honest
 returns-clause-honest g c = λ digest entries s fits row.
     let is = c.in_ok-bytes.ensures.honest digest entries s
     (full_tile (length entries) 0 c.args.index (omega arith) fits) (omega arith) in
-    let due = c.deref-2.ensures.value ∙ (c.in_ok-due.ensures.text ∙ ap row_text row) in
-    absurd (false≢true (sym c.if-is_same.false ∙ c.is_same.ensures.1 (c.deref.ensures.value ∙ (is ∙ sym due))))
+    absurd (false≢true (sym c.if-is_text_of.false
+    ∙ c.is_text_of.ensures.1 (c.deref.ensures.value ∙ (is ∙ sym (ap row_text row)))))
 
 pub returns-in_err-bytes-clause-first : goal.returns-in_err-bytes-clause-first
 returns-in_err-bytes-clause-first g c = λ digest.
@@ -38,6 +38,5 @@ returns-clause-first g c = λ digest.
     (g.S.Source.may_answer c.args.source.now) (g.S.Source.may_answer c.get_file.new.source)
     (g.S.Source.asked c.args.source.now) (g.S.Source.asked c.get_file.new.source) IsPresent path (Here bytes) [] refl
     c.in_ok-bytes.ensures.given tt
-    (λ entries row is.
-    let due = c.deref-2.ensures.value ∙ (c.in_ok-due.ensures.text ∙ ap row_text row) in
-    absurd (false≢true (sym c.if-is_same.false ∙ c.is_same.ensures.1 (c.deref.ensures.value ∙ (is ∙ sym due)))))
+    (λ entries row is. absurd (false≢true (sym c.if-is_text_of.false
+    ∙ c.is_text_of.ensures.1 (c.deref.ensures.value ∙ (is ∙ sym (ap row_text row))))))

@@ -1,9 +1,7 @@
 use Rattle.std.proofs.Common.{inr, ◌<◌, ◌^◌, length, rules, sym, ◌∙◌, arith}
 use Rattle.std.proofs.lemmas.Bool.{false≢true}
 use Rattle.log_reader.proofs.Prefixes.{true_rows_lead}
-use Rattle.mirror_audit.specs.Order.{edge_order}
-use Rattle.mirror_audit.specs.Stops.{HasSize}
-use Rattle.mirror_audit.proofs.LogStops.{stops_as_edge}
+use Rattle.mirror_audit.proofs.LogStops.{stops_at_edge}
 use Rattle.mirror_audit.proofs.RowsGiven.{edge_is_true}
 use Rattle.mirror_audit.proofs.edge_rows.read_edge.Goals as goal
 
@@ -28,8 +26,7 @@ pub returns-in_err-edge-clause-first : goal.returns-in_err-edge-clause-first
 returns-in_err-edge-clause-first g c =
     let digest = g.H.TreeHash.digest in
     let size = c.args.size in
-    let stop = stops_as_edge digest (edge_order size 8) size c.args.root.now (HasSize digest size)
-    (λ entries log. record { short = log.short; size_is = log.size_is })
+    let stop = stops_at_edge digest size c.args.root.now
     (g.S.Source.may_answer c.args.source.now) (g.S.Source.may_answer c.rows_of.new.source)
     (g.S.Source.asked c.args.source.now) (g.S.Source.asked c.rows_of.new.source) _
     (c.in_err-edge.ensures.first digest g.met.H.TreeHash.digest_length) in

@@ -1,4 +1,5 @@
-use Rattle.std.proofs.Common.{◌≡◌, ◌<◌, ℕ, [], ◌∷◌, Global, IfSome, Vec, length, sym, subst, ap, ◌∙◌, rules, arith}
+use Rattle.std.proofs.Common.{◌≡◌, ◌<◌, ℕ, List, [], ◌∷◌, Global, IfSome, Vec, length, refl, sym, subst, ap, ◌∙◌, rules, arith}
+use Rattle.std.proofs.lemmas.List.Elements.{All-nil, All-same}
 use Rattle.tlog_shape.specs.Edge.{edge_index_of, width_of}
 use Rattle.tlog_tiles.specs.declared.paths.Path.TheVariants.{Tile}
 use Rattle.mirror_sources.specs.Honest.{true_bytes}
@@ -9,11 +10,12 @@ use Rattle.log_reader.proofs.TrueReads.{edge_row, edge_tile_file, one_row}
 use Rattle.mirror_sources.specs.Files.{width_named}
 use Rattle.tlog_tiles.specs.declared.paths.Path.{Path}
 use Rattle.mirror_audit.specs.Answering.{AreGiven}
-use Rattle.mirror_audit.specs.Found.{EdgeRow, IsAbsentEdge, IsPresent, IsVerified, NotInFull, file_read, replies_of}
+use Rattle.mirror_audit.specs.Found.{Begins, EdgeRow, FileRead, IsAbsentEdge, IsPresent, IsVerified, NotInFull, file_read, replies_of}
 use Rattle.tlog_tiles.specs.Row.{IsRow}
 use Rattle.mirror_audit.specs.Order.{edge_file}
-use Rattle.mirror_audit.specs.Stops.{HasSize, IsPartRead}
+use Rattle.mirror_audit.specs.Stops.{HasSize, IsPartRead, IsRowFile}
 use Rattle.mirror_audit.proofs.Given.{given_none}
+use Rattle.mirror_audit.proofs.EdgeFiles.{one_row_file}
 use Rattle.mirror_audit.proofs.Orders.{no_tile, some_tile}
 use Rattle.mirror_audit.proofs.Stops.{given_one_file, part_stops, stops_here}
 use Rattle.mirror_audit.proofs.edge_rows.row_at_level.Goals as goal
@@ -82,6 +84,8 @@ returns-then-width-eq0-clause-read g c =
       reads = [];
       given = given_none (g.S.Source.may_answer c.args.source.now) (g.S.Source.asked c.args.source.now);
       paths_are = sym (no_tile level (edge_index_of size level) (width_of size level) none);
+      hashes = All-same (λ (h : List ℕ). length h ≡ 32) c.new.result.items [] c.new.ensures.items (All-nil (λ (h : List ℕ). length h ≡ 32));
+      has_row = All-nil (λ (r : FileRead). IsRowFile (λ l. l ≡ level) (λ l. c.new.result.items) r.path r.found);
       verified = λ digest entries. tt;
       is_true = λ digest entries hash short same t.
           no_row_is_true digest entries size level entries c.new.result.items none c.new.ensures.items;
@@ -149,15 +153,22 @@ returns-in-Ok-clause-read g c =
     some_tile level index width some ∙ ap (λ (p : Path). p ∷ []) (sym c.edge_path-path.ensures) in
     let r = subst (λ o. IfSome o (λ (v : Vec ℕ Global). IsPartRead path v.items a b x y)) c.in-Some.is
     c.in_ok-bytes.ensures.read in
+    let bytes = c.in-Some.bytes.items in
+    let row = c.in-Ok.row.items in
+    let low : width < 256 = omega arith in
+    let begins = subst (λ p. Begins p bytes r.found) c.edge_path-path.ensures r.begins in
+    let is_row = subst (λ w. IsRow w bytes row) c.edge_width-width.ensures
+    (subst (λ t. IsRow c.edge_width-width.result t row) c.deref.ensures.value c.in-Ok.ensures) in
     record {
       reads = file_read path r.found ∷ [];
       given = given_one_file a b x y path r.found r.given;
       paths_are = sym is;
+      hashes = is_row.sizes;
+      has_row = one_row_file (λ l. l ≡ level) (λ l. row) path r.found (subst (λ p. IsRowFile (λ l. l ≡ level) (λ l. row) p r.found)
+          (sym c.edge_path-path.ensures) (refl, subst (λ t. Begins (Tile level index width) t r.found) is_row.text begins));
       verified = λ digest entries. (
         subst (λ p. IsVerified digest entries p r.found) (sym c.edge_path-path.ensures)
-            (EdgeRow level index width r.found c.in-Some.bytes.items c.in-Ok.row.items r.begins
-            (subst (λ w. IsRow w c.in-Some.bytes.items c.in-Ok.row.items) c.edge_width-width.ensures
-            (subst (λ t. IsRow c.edge_width-width.result t c.in-Ok.row.items) c.deref.ensures.value c.in-Ok.ensures))),
+            (EdgeRow level index width r.found bytes row low begins is_row),
         λ t. tt,
       );
       is_true = λ digest entries hash short same t.

@@ -3,14 +3,15 @@ use Rattle.std.proofs.lemmas.List.{append-nil}
 use Rattle.tlog_tiles.specs.declared.paths.Path.{Path}
 use Rattle.log_reader.specs.EdgeRows.{row_at}
 use Rattle.log_reader.proofs.TrueReads.{source_later}
+use Rattle.mirror_audit.proofs.EdgeFiles.{are_of_edge}
 use Rattle.mirror_audit.proofs.Given.{on_ok}
 use Rattle.mirror_audit.proofs.Trees.{tree_given}
-use Rattle.mirror_audit.specs.Found.{IsLogOf}
+use Rattle.mirror_audit.specs.Found.{IsEdgeRead, IsLogOf}
 use Rattle.mirror_audit.specs.Order.{below_edge, edge_order, file_order}
 use Rattle.mirror_audit.specs.Stops.{AreRead, HasEdge, StopsEdge, StopsIn}
-use Rattle.mirror_audit.proofs.LogStops.{stops_as_edge, stops_longer}
+use Rattle.mirror_audit.proofs.LogStops.{stops_below, stops_longer}
 use Rattle.mirror_audit.proofs.RowsGiven.{edge_is_true, rows_paths}
-use Rattle.mirror_audit.proofs.Stops.{on_err, read_then, stops_in}
+use Rattle.mirror_audit.proofs.Stops.{on_err, read_then}
 use Rattle.mirror_audit.proofs.log.audit_tree.Goals as goal
 
 pub returns-clause-given : goal.returns-clause-given
@@ -69,7 +70,7 @@ returns-clause-read g c =
 pub returns-in_err-edge-clause-first : goal.returns-in_err-edge-clause-first
 returns-in_err-edge-clause-first g c =
     let size = c.args.size in
-    let stop = stops_longer g.H.TreeHash.digest (edge_order size 8) size c.args.root.now (below_edge size) (file_order size) refl
+    let stop = stops_longer g.H.TreeHash.digest size c.args.root.now
     (g.S.Source.may_answer c.args.source.now) (g.S.Source.may_answer c.read_edge.new.source)
     (g.S.Source.asked c.args.source.now) (g.S.Source.asked c.read_edge.new.source) _ c.in_err-edge.ensures.first in
     search (rules, stop)
@@ -92,16 +93,22 @@ returns-clause-first g c =
     let size_is : edge.size ≡ size = c.in_ok-edge.ensures.leads.is_edge.size_is in
     let has = HasEdge digest edge in
     let log = IsLogOf digest size root in
+    let leads = c.in_ok-edge.ensures.leads in
+    let read = rows_paths digest log size (row_at edge) 8 a b x y r in
+    let edge_read : IsEdgeRead digest size root read.reads = record {
+      edge = edge;
+      size_is = size_is;
+      hashes = λ level low. record { count = leads.is_edge.widths level low; sizes = r.hashes level (omega (arith, low)) };
+      root_is = leads.root_is;
+      rows = are_of_edge edge (λ l. l < 8) r.reads r.have_rows;
+    } in
     on_err (StopsIn digest (below_edge edge.size) has b d y z) (StopsEdge digest (file_order size) size root a d x z)
     c.audit_edge-done.result
-    (λ fault stop. stops_as_edge digest (file_order size) size root log (λ entries l. l) a d x z fault
-    (stops_in digest (edge_order size 8) (below_edge edge.size) [] (file_order size) log has a b d x y z
-    (rows_paths digest log size (row_at edge) 8 a b x y r)
+    (λ fault stop. stops_below digest size root has a b d x y z read
     (λ entries l t. record {
       short = l.short;
       size_is = size_is ∙ sym l.size_is;
       rows = edge_is_true digest g.met.H.TreeHash.digest_length edge size size_is a b x y r entries l.short l.size_is t;
     })
-    ((λ j. edge_order size 8 ++ below_edge (sym size_is j))
-    ∙ ap (λ (l : List Path). edge_order size 8 ++ l) (sym (append-nil (below_edge edge.size)))) fault stop))
+    edge_read fault (subst (λ n. StopsIn digest (below_edge n) has b d y z fault) size_is stop))
     c.audit_edge-done.ensures.first

@@ -1,7 +1,7 @@
 use Rattle.std.proofs.Common.{List, ℕ, ◌++◌, drop, [], ◌∷◌, None, Some, take, refl, sym, subst, ◌≡◌, ◌∙◌, ap}
 use Rattle.std.proofs.lemmas.List.{take-append-drop}
 use Rattle.mirror_sources.specs.Honest.{true_bytes}
-use Rattle.log_reader.specs.Holding.{GoesOn}
+use Rattle.log_reader.specs.Holding.{GoesOn, HasFullLength}
 use Rattle.mirror_audit.proofs.Given.{cut_full, given_one, may_none, may_some}
 use Rattle.mirror_sources.specs.Replies.{reply}
 use Rattle.mirror_audit.specs.Answering.{AreGiven}
@@ -99,6 +99,8 @@ returns-clause-read g c =
         rest = drop c.in-Some-len_of_part.len whole;
         bytes_are = sym (take-append-drop c.in-Some-len_of_part.len whole)
             ∙ ap (λ (l : List ℕ). l ++ drop c.in-Some-len_of_part.len whole) (sym c.truncate.ensures.items);
+        long = subst (HasFullLength c.args.path) c.deref.ensures.value
+            (rw c.in-Some-len_of_part.is at c.len_of_part.ensures.long);
       };
       is_true = λ digest entries hash short file partial goes.
           let there = c.len_of_part.ensures.honest digest entries hash short file partial
