@@ -5,3 +5,4 @@ pub mod CopyFaults
 pub mod CopySteps
 pub mod WholeSteps
 pub mod ServedSteps
+pub mod TrueEntries

@@ -3,3 +3,4 @@ pub mod Audits
 pub mod Served
 pub mod Shown
 pub mod Copied
+pub mod Laws
