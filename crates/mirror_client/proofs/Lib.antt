@@ -1,3 +1,5 @@
+pub mod Bodies
+pub mod Filling
 pub mod Lengths
 pub mod OneReply
 pub mod Replies

@@ -72,6 +72,18 @@ fn find_sent<S: Drop>(sent: &[Sent<S>], path: &Path) -> Option<usize>
     None
 }
 
+// The number of requests at the front that are for the first of the paths, in their order.
+fn count_in_order<S: Drop>(sent: &[Sent<S>], paths: &[Path]) -> usize
+    ensures { result ≤ length paths.now }
+{
+    for (i, path) in paths.iter().enumerate() {
+        if i >= sent.len() || sent[i].path != *path {
+            return i;
+        }
+    }
+    paths.len()
+}
+
 impl<S: Read + Write + Drop> Ahead<S> {
     /// No request is out, and at most `most` will be. It takes no memory.
     pub(crate) fn new(alloc: Global, most: usize) -> Ahead<S>
@@ -100,8 +112,7 @@ impl<S: Read + Write + Drop> Ahead<S> {
     )
         ensures { self.new.most ≡ self.old.most }
     {
-        self.sent.retain(|one| paths.contains(&one.path));
-        for path in paths {
+        for path in self.left(paths) {
             if self.sent.len() >= self.room {
                 return;
             }
@@ -112,6 +123,19 @@ impl<S: Read + Write + Drop> Ahead<S> {
                 return;
             }
         }
+    }
+
+    // The paths that may have no request yet. It closes each request that is out for another path. If those that are out
+    // are for the first paths, in their order, no other compares are made: so it is while each path is got in its turn.
+    fn left<'a>(&mut self, paths: &'a [Path]) -> &'a [Path]
+        ensures { self.new.most ≡ self.old.most }
+    {
+        let count = count_in_order(&self.sent, paths);
+        if count == self.sent.len() {
+            return &paths[count..];
+        }
+        self.sent.retain(|one| paths.contains(&one.path));
+        paths
     }
 
     // Keeps the request, if it was sent and there is memory for it. Returns whether it did.

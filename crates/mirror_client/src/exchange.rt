@@ -1,19 +1,23 @@
 //! One request and its reply, over a connection.
-ghost use Rattle.std.specs.Prelude.{◌≡◌, ◌≢◌, Err, IfErr, IfOk, IfSome, Ok, OnErr, OnOk, option_map};
+ghost use Rattle.std.specs.Prelude.{◌≡◌, ◌≢◌, ◌+◌, ℕ, List, take, Err, IfErr, IfOk, IfSome, Ok, OnErr, OnOk, option_map};
 ghost use Rattle.std.specs.Io.KnownBytes.{Appends, Keeps};
 ghost use Rattle.byte_streams.specs.Streams.{AppendsPrefix, TakesAtMost};
 ghost use Rattle.tlog_text.specs.Answers.{seen};
 ghost use Rattle.mirror_client.specs.Request.{request_text};
+ghost use Rattle.mirror_client.specs.Received.{IsPlainReply, IsReceived, IsShort};
 ghost use Rattle.mirror_client.specs.Source.{Receives, source_fault};
+ghost use Rattle.mirror_client.specs.declared.limits.TheConstants.{MAX_REPLY_LEN, MOST_TAKEN};
 ghost use Rattle.mirror_sources.specs.Source.{IsShortAnswer};
 
 use crate::failed::Reason;
-use crate::limits::{MAX_REPLY_LEN, MOST_TAKEN};
+use crate::fault::ReplyFault;
+use crate::limits::MAX_REPLY_LEN;
+use crate::received::{Received, receive};
 use crate::reply::read_reply;
 use crate::request::get_request;
 use crate::site::Site;
 use crate::watched::WatchedStream;
-use byte_streams::{StreamFault, read_all, write_whole};
+use byte_streams::{StreamFault, write_whole};
 use mirror_sources::SourceFault;
 use std::alloc::{AllocError, Global};
 use std::io;
@@ -78,25 +82,53 @@ pub(crate) fn receive_reply<R: Read>(
     ensures limit { TakesAtMost MOST_TAKEN (R.remaining reader.old) (R.remaining reader.new) }
 {
     match sent {
-        Ok(()) => reply_body(alloc, read_all(alloc, reader, MOST_TAKEN, u64::MAX), reason),
+        Ok(()) => reply_body(alloc, receive(alloc, reader), reason),
         Err(fault) => Err(fault),
     }
 }
 
-// The body of the reply whose bytes were read, if they were.
+// The body of the reply whose bytes were received, if they were.
 fn reply_body(
     alloc: Global,
-    bytes: Result<Vec<u8>, StreamFault>,
+    received: Result<Received, StreamFault>,
     reason: &mut Option<Reason>,
 ) -> Result<Option<Vec<u8>>, SourceFault>
-    ensures reply { IfOk bytes (λ v. Receives v.items (seen (option_map (λ w. w.items)) result)) }
-    ensures fault { IfErr bytes (λ e. result ≡ Err (source_fault e)) }
+    requires { IfOk received IsShort }
+    ensures reply { IfOk received (λ r. (bytes : List ℕ) → IsReceived bytes r
+        → Receives bytes (seen (option_map (λ v. v.items)) result)) }
+    ensures bound { IfOk result (λ answer. IsShortAnswer MAX_REPLY_LEN
+        (option_map (λ v. v.items) answer)) }
+    ensures fault { IfErr received (λ e. result ≡ Err (source_fault e)) }
 {
-    match bytes {
-        Ok(bytes) => body_of(alloc, &bytes, reason),
+    match received {
+        Ok(Received::All(bytes)) => body_of(alloc, &bytes, reason),
+        Ok(Received::Body(body, n)) => known_body(body, n, reason),
         Err(StreamFault::OutOfMemory) => Err(SourceFault::OutOfMemory),
         Err(_) => Err(SourceFault::Failed),
     }
+}
+
+// The body, if it has n bytes, as its head says.
+fn known_body(
+    body: Vec<u8>,
+    n: usize,
+    reason: &mut Option<Reason>,
+) -> Result<Option<Vec<u8>>, SourceFault>
+    ensures reply { (bytes rest : List ℕ) → IsPlainReply bytes rest n → body.items ≡ take (n + 1) rest
+        → Receives bytes (seen (option_map (λ v. v.items)) result) }
+    ensures bound { IfOk result (λ answer. IsShortAnswer n (option_map (λ v. v.items) answer)) }
+{
+    let count = body.len();
+    if count == n {
+        return Ok(Some(body));
+    }
+    let fault = if count < n {
+        ReplyFault::BodyShort
+    } else {
+        ReplyFault::BodyLong
+    };
+    *reason = Some(Reason::Reply(fault));
+    Err(SourceFault::Failed)
 }
 
 // The body of the reply that has these bytes.

@@ -20,6 +20,8 @@ mod fault;
 mod framing;
 mod laws;
 mod limits;
+mod reading;
+mod received;
 mod reply;
 mod request;
 mod site;
