@@ -1,5 +1,8 @@
+pub mod GivenProofs
 pub mod HeadNotes
 pub mod MadeProofs
+pub mod OneLogs
 pub mod ShelfSources
+pub mod ShownRoots
 pub mod WholeCopies
 pub mod WholeLaws

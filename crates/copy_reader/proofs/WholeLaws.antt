@@ -29,7 +29,7 @@ full_index n level index fits =
 not_zero : (w v : ℕ) → 0 < w → w ≡ v → v ≢ 0
 not_zero w v some is none = omega (arith, some, is, none)
 
-tile_widest : (n level index width : ℕ) → level ≤ 7 → IsTile n level index width → IsWidestIn n level index width
+pub tile_widest : (n level index width : ℕ) → level ≤ 7 → IsTile n level index width → IsWidestIn n level index width
 tile_widest n level index width low (inl full) =
     subst (λ w. IsWidestIn n level index w) (sym full.width_is)
     (full_widest n level index low (full_index n level index full.fits))
@@ -43,7 +43,7 @@ module _ (digest : List ℕ → List ℕ) (note : List ℕ) (entries : List (Lis
   abbrev n : ℕ
   n = length entries
 
-  log_stands : (path : Path) → IsTreeFile n path → Stands puts path (true_bytes digest entries path)
+  pub log_stands : (path : Path) → IsTreeFile n path → Stands puts path (true_bytes digest entries path)
   log_stands Checkpoint file = absurd file
   log_stands (Tile level index width) file =
       holds (Tile level index width)

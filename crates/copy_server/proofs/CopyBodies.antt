@@ -1,10 +1,11 @@
--- The bytes of a copy for each resource except proofs are those of a mirror with its view.
+-- The bytes of a copy for each resource are those of a mirror with its view.
 use Rattle.std.proofs.Common.{◌≡◌, ℕ, ◌≤◌, ◌^◌, List, [], length, Option, Some, None, refl, sym, subst, inl, inr, arith}
 use Rattle.std.specs.FinSet as set
 use Rattle.tlog_hash.specs.Tree.{mth, strings}
 use Rattle.tlog_tiles.specs.declared.paths.Path.{Path}
 use Rattle.tlog_tiles.specs.declared.paths.Path.TheVariants.{Checkpoint, Tile, Entries}
 use Rattle.tlog_tiles.specs.Tiles.{bundle_bytes, IsTileWithin, tile_bytes}
+use Rattle.tlog_proof.specs.declared.proof.Ask.{Ask}
 use Rattle.node_store.specs.Strings.{NoClash}
 use Rattle.mirror_model.specs.Heads.{IsHead}
 use Rattle.mirror_model.specs.Served.{IsServedBundle, IsServedTile, Served}
@@ -18,15 +19,21 @@ use Rattle.mirror_export.specs.Files.{served_bytes}
 use Rattle.mirror_export.specs.Since.{width_at}
 use Rattle.mirror_export.specs.SinceLaws.{HoldsLog}
 use Rattle.mirror_export.proofs.AllFiles.{files_are_all}
-use Rattle.mirror_server.specs.Response.{IsBody}
+use Rattle.mirror_server.specs.Response.{IsBody, IsServedProofText}
 use Rattle.mirror_server.specs.declared.resource.Resource.{Resource}
 use Rattle.mirror_server.specs.declared.resource.Resource.TheVariants.{File, Status, Forks, Missing, Proof}
+use Rattle.copy_reader.specs.Proofs.{IsMadeOf}
 use Rattle.copy_reader.specs.Statuses.{copy_status}
-use Rattle.copy_server.specs.Bodies.{head_point, IsBodyAt, IsCopyBody, IsNoProof}
+use Rattle.copy_reader.proofs.GivenProofs.{made_is_proof, made_within}
+use Rattle.copy_reader.proofs.OneLogs.{one_log}
+use Rattle.copy_reader.proofs.WholeLaws.{copies_are_whole, log_stands}
+use Rattle.copy_server.specs.Bodies.{head_point, IsBodyAt, IsCopyBody}
 use Rattle.copy_server.specs.CopyHeads.{copy_head, CopyHead, IsCopyHead}
 use Rattle.copy_server.specs.CopyLaws.{copy_view}
 use Rattle.copy_server.specs.GivenFiles.{IsFileGiven, IsFileRead, IsTaken, of_width}
+use Rattle.copy_server.specs.GivenProofs.{HasLogOf, IsProofGiven}
 use Rattle.copy_server.proofs.OneViews.{no_file, no_head, none_forks, none_status, one_forks, one_head, one_list, one_missing}
+use Rattle.copy_server.proofs.OneViews.{no_list, only_list}
 use Rattle.copy_server.proofs.OneViews.{one_served, one_size, one_status}
 use Rattle.copy_server.proofs.ShelfFiles.{stands_has, stands_one}
 use Rattle.copy_server.proofs.TrueFiles.{bundle_taken, first_bundle, first_tile, tile_taken}
@@ -141,84 +148,128 @@ module _ (digest : List ℕ → List ℕ) (hash : IsDigest digest) (origin note 
         taken = inr (first_bundle digest hash entries short index width wide within le);
       }
 
+  -- ---- proofs
+
+  has_log : HasLogOf digest (Some puts) n (mth digest entries) entries
+  has_log = record {
+    size_is = refl;
+    root_is = refl;
+    small = is_head.is_checkpoint.in_range;
+    files = ((copies_are_whole digest origin note entries puts short is_head).all holds).files;
+  }
+
+  given_proof : (ask : Ask) (text : List ℕ) → IsProofGiven digest (Some puts) n (mth digest entries) ask text →
+      IsServedProofText digest v ask text
+  given_proof ask text is =
+      let true_text = is.whole entries has_log in
+      record {
+        entries = entries;
+        served = one_list digest origin note entries is_head;
+        proof = true_text.proof;
+        made = true_text.made;
+        text_is = true_text.text_is;
+      }
+
+  -- each list whose files the shelf has is the copy's
+  same_log : (others : List (List ℕ)) → HasLogOf digest (Some puts) n (mth digest entries) others → entries ≡ others
+  same_log others log =
+      one_log digest hash entries others puts log.size_is short
+      (λ path file. inl (log_stands digest note entries puts holds path file)) log.files
+
+  proof_is_given : NoClash digest (set.from_list (strings digest entries)) → (ask : Ask) (text : List ℕ) →
+      IsServedProofText digest v ask text → IsProofGiven digest (Some puts) n (mth digest entries) ask text
+  proof_is_given clear ask text is =
+      let same = only_list digest origin note entries is_head hash clear is.entries is.served in
+      let made : IsMadeOf digest ask entries is.proof =
+      subst (λ es. IsMadeOf digest ask es is.proof) same is.made in
+      record {
+        within = made_within digest entries ask is.proof made;
+        is = made_is_proof digest entries hash is_head.is_checkpoint.in_range ask is.proof text made is.text_is;
+        whole = λ others log. record {
+          proof = is.proof;
+          made = subst (λ es. IsMadeOf digest ask es is.proof) (same_log others log) made;
+          text_is = is.text_is;
+        };
+      }
+
   -- the mirror has the bytes that the copy has
   copy_has : (clear : NoClash digest (set.from_list (strings digest entries))) (r : Resource) (body : List ℕ) →
-      IsNoProof r → IsBodyAt digest origin (Some puts) (Some head) r body → IsBody digest v r body
-  copy_has clear (File Checkpoint) body fine is = record {
+      IsBodyAt digest origin (Some puts) (Some head) r body → IsBody digest v r body
+  copy_has clear (File Checkpoint) body is = record {
     size = n;
     root = mth digest entries;
     entries = entries;
     served = subst (λ x. Served digest v x n (mth digest entries) entries) (sym is)
         (one_served digest origin note entries is_head);
   }
-  copy_has clear (File (Tile level index width)) body fine is = given_tile level index width body is
-  copy_has clear (File (Entries index width)) body fine is = given_bundle index width body is
-  copy_has clear Status body fine is = one_status digest origin note entries is_head body is
-  copy_has clear Forks body fine is = one_forks digest origin note entries is_head body is
-  copy_has clear (Missing size root) body fine is =
+  copy_has clear (File (Tile level index width)) body is = given_tile level index width body is
+  copy_has clear (File (Entries index width)) body is = given_bundle index width body is
+  copy_has clear Status body is = one_status digest origin note entries is_head body is
+  copy_has clear Forks body is = one_forks digest origin note entries is_head body is
+  copy_has clear (Missing size root) body is =
       let small : n ≤ 256 ^ 8 = omega (arith, is_head.is_checkpoint.in_range) in
       one_missing digest origin note entries is_head hash clear small size root body is.0 is.1 is.2
-  copy_has clear (Proof ask) body fine is = absurd fine
+  copy_has clear (Proof ask) body is = given_proof ask body is
 
   -- the copy has the bytes that the mirror has
-  mirror_has : (r : Resource) (body : List ℕ) → IsNoProof r → IsBody digest v r body →
+  mirror_has : (clear : NoClash digest (set.from_list (strings digest entries))) (r : Resource) (body : List ℕ) → IsBody digest v r body →
       (b : List ℕ) × IsBodyAt digest origin (Some puts) (Some head) r b
-  mirror_has (File Checkpoint) body fine is = (note, refl)
-  mirror_has (File (Tile level index width)) body fine is =
+  mirror_has clear (File Checkpoint) body is = (note, refl)
+  mirror_has clear (File (Tile level index width)) body is =
       let size = one_size digest origin note entries is_head is.entries is.served in (
         tile_bytes digest entries level index width,
         tile_is_given level index width (subst (λ k. IsTileWithin k level index width) size is.within),
       )
-  mirror_has (File (Entries index width)) body fine is =
+  mirror_has clear (File (Entries index width)) body is =
       let size = one_size digest origin note entries is_head is.entries is.served in (
         bundle_bytes entries index width,
         bundle_is_given index width (subst (λ k. IsTileWithin k 0 index width) size is.within),
       )
-  mirror_has Status body fine is = (copy_status origin (Some (head_point head)), refl)
-  mirror_has Forks body fine is = ([], refl)
-  mirror_has (Missing size root) body fine is =
+  mirror_has clear Status body is = (copy_status origin (Some (head_point head)), refl)
+  mirror_has clear Forks body is = ([], refl)
+  mirror_has clear (Missing size root) body is =
       let s = one_head digest origin note entries is_head size root is.head in ([], (s.0, s.1, refl))
-  mirror_has (Proof ask) body fine is = absurd fine
+  mirror_has clear (Proof ask) body is = (body, proof_is_given clear ask body is)
 
-  pub from_copy : NoClash digest (set.from_list (strings digest entries)) → (r : Resource) (body : List ℕ) → IsNoProof r →
+  pub from_copy : NoClash digest (set.from_list (strings digest entries)) → (r : Resource) (body : List ℕ) →
       IsCopyBody digest origin (Some puts) r body → IsBody digest v r body
-  from_copy clear r body fine is =
-      copy_has clear r body fine
+  from_copy clear r body is =
+      copy_has clear r body
       (subst (λ h. IsBodyAt digest origin (Some puts) h r body)
       (one_copy_head origin puts is.head (Some head) is.is_head copy_has_head) is.is_body)
 
-  pub to_copy : (r : Resource) (body : List ℕ) → IsNoProof r → IsBody digest v r body →
-      (b : List ℕ) × IsCopyBody digest origin (Some puts) r b
-  to_copy r body fine is =
-      let there = mirror_has r body fine is in
+  pub to_copy : NoClash digest (set.from_list (strings digest entries)) → (r : Resource) (body : List ℕ) →
+      IsBody digest v r body → (b : List ℕ) × IsCopyBody digest origin (Some puts) r b
+  to_copy clear r body is =
+      let there = mirror_has clear r body is in
       (there.0, record { head = Some head; is_head = copy_has_head; is_body = there.1 })
 
 -- ---- an empty copy
 
 module _ (digest : List ℕ → List ℕ) (origin : List ℕ) (puts : List Put) (none : HasPut puts Checkpoint → ⊥) where
-  empty_has : (r : Resource) (body : List ℕ) → IsNoProof r → IsBodyAt digest origin (Some puts) None r body →
+  empty_has : (r : Resource) (body : List ℕ) → IsBodyAt digest origin (Some puts) None r body →
       IsBody digest (nothing origin) r body
-  empty_has (File path) body fine is = absurd is
-  empty_has Status body fine is = none_status digest origin body is
-  empty_has Forks body fine is = none_forks digest origin body is
-  empty_has (Missing size root) body fine is = absurd is
-  empty_has (Proof ask) body fine is = absurd fine
+  empty_has (File path) body is = absurd is
+  empty_has Status body is = none_status digest origin body is
+  empty_has Forks body is = none_forks digest origin body is
+  empty_has (Missing size root) body is = absurd is
+  empty_has (Proof ask) body is = absurd is
 
-  nothing_has : (r : Resource) (body : List ℕ) → IsNoProof r → IsBody digest (nothing origin) r body →
+  nothing_has : (r : Resource) (body : List ℕ) → IsBody digest (nothing origin) r body →
       (b : List ℕ) × IsBodyAt digest origin (Some puts) None r b
-  nothing_has (File path) body fine is = absurd (no_file digest origin path body is)
-  nothing_has Status body fine is = (copy_status origin None, refl)
-  nothing_has Forks body fine is = ([], refl)
-  nothing_has (Missing size root) body fine is = absurd (no_head digest origin size root is.head)
-  nothing_has (Proof ask) body fine is = absurd fine
+  nothing_has (File path) body is = absurd (no_file digest origin path body is)
+  nothing_has Status body is = (copy_status origin None, refl)
+  nothing_has Forks body is = ([], refl)
+  nothing_has (Missing size root) body is = absurd (no_head digest origin size root is.head)
+  nothing_has (Proof ask) body is = absurd (no_list digest origin is.entries is.served)
 
-  pub from_empty : (r : Resource) (body : List ℕ) → IsNoProof r → IsCopyBody digest origin (Some puts) r body →
+  pub from_empty : (r : Resource) (body : List ℕ) → IsCopyBody digest origin (Some puts) r body →
       IsBody digest (nothing origin) r body
-  from_empty r body fine is =
-      empty_has r body fine
+  from_empty r body is =
+      empty_has r body
       (subst (λ h. IsBodyAt digest origin (Some puts) h r body) (one_copy_head origin puts is.head None is.is_head none) is.is_body)
 
-  pub to_empty : (r : Resource) (body : List ℕ) → IsNoProof r → IsBody digest (nothing origin) r body →
+  pub to_empty : (r : Resource) (body : List ℕ) → IsBody digest (nothing origin) r body →
       (b : List ℕ) × IsCopyBody digest origin (Some puts) r b
-  to_empty r body fine is =
-      let there = nothing_has r body fine is in (there.0, record { head = None; is_head = none; is_body = there.1 })
+  to_empty r body is =
+      let there = nothing_has r body is in (there.0, record { head = None; is_head = none; is_body = there.1 })

@@ -26,6 +26,7 @@ use Rattle.mirror_model.specs.Texts.{IsForksText, IsMissingText, IsStatusText}
 use Rattle.mirror_model.specs.View.{nothing, View}
 use Rattle.mirror_model.proofs.HeadNotes.{head_once}
 use Rattle.mirror_model.proofs.Missing.{built_none}
+use Rattle.mirror_model.proofs.OneLists.{only}
 use Rattle.mirror_model.proofs.StringSets.{has_empty, has_from_listed, held_from_all, only_listed}
 use Rattle.copy_reader.specs.Statuses.{copy_heads, copy_status}
 use Rattle.copy_server.specs.CopyLaws.{copy_view}
@@ -151,6 +152,18 @@ module _ (digest : List ℕ → List ℕ) (origin note : List ℕ) (entries : Li
 
   pub one_forks : (text : List ℕ) → text ≡ [] → IsForksText digest v text
   one_forks text e = record { forks = []; are_forks = lists_forks; is = e }
+
+  -- no other list is served
+  pub only_list : IsDigest digest → NoClash digest (set.from_list (strings digest entries)) → (others : List (List ℕ)) →
+      IsServedList digest v others → others ≡ entries
+  only_list hash clear others is =
+      let s = once_held is.note is.size is.root is.served.holds in
+      only digest v.strings hash clear n root others entries
+      (record {
+        size_is = one_size others is;
+        root_is = is.served.tree.root_is ∙ sym s.root_is;
+        are_held = is.served.tree.are_held;
+      }) tree
 
   module _ (hash : IsDigest digest) (clear : NoClash digest (set.from_list (strings digest entries)))
       (small : n ≤ 256 ^ 8) where

@@ -1,5 +1,5 @@
 -- The bytes of a copy for each resource. They are those of a mirror with only the checkpoint's tree head, which is complete.
-use Rattle.std.specs.Prelude.{◌≡◌, ℕ, List, [], Option, Some, None, ⊤}
+use Rattle.std.specs.Prelude.{◌≡◌, ℕ, List, [], Option, Some, None}
 use Rattle.tlog_tiles.specs.declared.paths.Path.TheVariants.{Checkpoint, Tile, Entries}
 use Rattle.mirror_folders.specs.Shelf.{Put}
 use Rattle.mirror_model.specs.Forks.{Point}
@@ -9,14 +9,6 @@ use Rattle.copy_reader.specs.Statuses.{copy_status}
 use Rattle.copy_server.specs.CopyHeads.{CopyHead, IsCopyHead}
 use Rattle.copy_server.specs.GivenFiles.{IsFileGiven}
 use Rattle.copy_server.specs.GivenProofs.{IsProofGiven}
-
--- the resource is no proof
-abbrev pub IsNoProof : Resource → Type 0
-IsNoProof (File path) = ⊤
-IsNoProof Status = ⊤
-IsNoProof Forks = ⊤
-IsNoProof (Missing size root) = ⊤
-IsNoProof (Proof ask) = ⊥
 
 -- the size and root of a checkpoint
 abbrev pub head_point : CopyHead → Point

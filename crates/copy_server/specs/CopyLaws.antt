@@ -11,7 +11,6 @@ use Rattle.mirror_model.specs.Strings.{IsDigest}
 use Rattle.mirror_model.specs.TrueLaws.{AreShort}
 use Rattle.mirror_model.specs.View.{nothing, View}
 use Rattle.mirror_server.specs.Response.{Response, ResponseBy}
-use Rattle.copy_server.specs.Asking.{AsksNoProof}
 use Rattle.copy_server.specs.Bodies.{IsCopyBody}
 
 -- the view of a mirror that has one note, and the strings of the tree of those entries
@@ -32,9 +31,9 @@ pub data IsViewOf (digest : List ℕ → List ℕ) (origin : List ℕ) (puts : L
       NoClash digest (set.from_list (strings digest entries)) →
       IsViewOf digest origin puts (copy_view digest origin note entries)
 
--- the reply from a copy to bytes that request no proof is the reply of a mirror with its view
+-- the reply from a copy is the reply of a mirror with its view
 abbrev pub CopiesAnswerAsMirrors : Type 0
 CopiesAnswerAsMirrors =
     (digest : List ℕ → List ℕ) → IsDigest digest → (origin : List ℕ) (puts : List Put) (v : View) →
-    IsViewOf digest origin puts v → (bytes reply : List ℕ) → AsksNoProof bytes →
+    IsViewOf digest origin puts v → (bytes reply : List ℕ) →
     ResponseBy (IsCopyBody digest origin (Some puts)) bytes reply → Response digest v bytes reply

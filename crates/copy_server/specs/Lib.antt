@@ -1,4 +1,3 @@
-pub mod Asking
 pub mod Faults
 pub mod CopyHeads
 pub mod GivenFiles

@@ -1,8 +1,8 @@
 //! Laws of the definitions that the contracts cite.
 ghost use Rattle.copy_server.specs.CopyLaws.{CopiesAnswerAsMirrors};
 
-/// The reply from a copy to a request without a proof is that of a mirror. The mirror has only the copy's checkpoint and the strings of its
-/// tree. If the shelf has no checkpoint, it is an empty mirror.
+/// The reply from a copy is that of a mirror, also for a proof. The mirror has only the copy's checkpoint and the strings of its tree. If the
+/// shelf has no checkpoint, it is an empty mirror.
 #[tactic(auto, using(crate::proofs::MirrorAnswers::copies_answer_as_mirrors))]
 pub fn copies_answer_as_mirrors_law()
     ensures { CopiesAnswerAsMirrors }

@@ -1,4 +1,3 @@
-use Rattle.std.proofs.Common.{◌<◌}
 use Rattle.log_reader.proofs.NodeHashes.{if_ok}
 use Rattle.log_reader.proofs.TrueReads.{reads_more}
 use Rattle.log_reader.specs.Proving.{IsConsistencyTo, IsInclusionIn}
