@@ -124,27 +124,29 @@ module _ (digest : List ℕ → List ℕ) (origin : List ℕ) where
 
     no_copies : ((held : List Put) → x ≡ Some held → (note : List ℕ) (entries : List (List ℕ)) →
         IsPrunedCopy digest origin note entries held → ⊥) → HoldsNoCopy digest origin x
-    no_copies no = record {
+    no_copies none = record {
       no_copy = λ held is note entries copy.
-          no held is note entries (copies_are_pruned digest origin note entries held copy);
-      no_pruned = no;
+          none held is note entries (copies_are_pruned digest origin note entries held copy);
+      no_pruned = none;
       not_none = λ r. r.none (stands_has r.held Checkpoint found (read_at r.held r.is));
     }
 
     -- the checkpoint of a copy on the shelf is one of the origin
     pub no_head : ((size : ℕ) (root : List ℕ) → IsHead found origin size root → ⊥) → HoldsNoCopy digest origin x
-    no_head none = no_copies (λ held is note entries copy.
-    let one : found ≡ note = stands_one held Checkpoint found note (read_at held is) copy.note_stands in
-    none (length entries) (mth digest entries)
-    (subst (λ b. IsHead b origin (length entries) (mth digest entries)) (sym one) copy.is_head))
+    no_head none =
+        no_copies (λ held is note entries copy.
+        let one : found ≡ note = stands_one held Checkpoint found note (read_at held is) copy.note_stands in
+        none (length entries) (mth digest entries)
+        (subst (λ b. IsHead b origin (length entries) (mth digest entries)) (sym one) copy.is_head))
 
     -- the edge of a copy on the shelf is read
     pub no_edge : (T : Type 0) (size : ℕ) (root : List ℕ) → IsHead found origin size root → KeepsRecord x y →
         (e : CopyFault) → ReadsCopyLog {T = T} digest size root y (Err e) (λ _ _. ⊤) → (IsShelfFailure e → ⊥) →
         HoldsNoCopy digest origin x
-    no_edge T size root head kept e reads other = no_copies (λ held is note entries copy.
-    other (whole_read digest origin x y kept found size root stands head {T = T} (Err e) (λ _ _. ⊤) reads note entries
-    (subst (λ p. IsWholeCopy digest origin note entries p) (sym is) (whole note entries held copy))))
+    no_edge T size root head kept e reads other =
+        no_copies (λ held is note entries copy.
+        other (whole_read digest origin x y kept found size root stands head {T = T} (Err e) (λ _ _. ⊤) reads note entries
+        (subst (λ p. IsWholeCopy digest origin note entries p) (sym is) (whole note entries held copy))))
 
 -- a checkpoint that was read was put
 pub read_some : (x : Option (List Put)) (note : List ℕ) → RecordsRead x Checkpoint (Some note) → RecordsSome x Checkpoint

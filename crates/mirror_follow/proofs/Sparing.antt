@@ -219,3 +219,9 @@ pub lacks_spares : {S : Type 0} (may : S → Path → Option (List ℕ) → Type
     e ≡ fault.NoFile → Q
 lacks_spares may origin keys x y Q None e h is = absurd (subst (GivesNoneBy may origin keys x y) is h)
 lacks_spares may origin keys x y Q (Some note) e h is = absurd (subst (RefusesGiven origin keys note) is h)
+
+-- an outcome that is kept
+pub same_spares : {E : Type 0} (r : Result Outcome E) (t : Outcome) (P : Type 0) → IfOk r (λ now. now ≡ t) →
+    (t ≡ turn.NotHad fault.NoFile → P) → IfOk r (λ now. now ≡ turn.NotHad fault.NoFile → P)
+same_spares (Ok u) t P same h = λ e. h (sym same ∙ e)
+same_spares (Err e) t P same h = tt

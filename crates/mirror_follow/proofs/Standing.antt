@@ -83,7 +83,7 @@ module _ (digest : List ℕ → List ℕ) (origin : List ℕ) where
   each_same y w kept = record {
     whole = stays_same digest origin y w kept;
     pruned = λ held is note entries copy.
-        (leaves_same digest origin note {T = ℕ} y w kept 0 held is note entries copy).stays;
+        (leaves_same digest origin note {T = ℕ} {E = ℕ} y w kept 0 held is note entries copy).stays;
   }
 
   -- ---- a call that brings the copy to a candidate
@@ -428,3 +428,12 @@ pub followed_by : (digest : List ℕ → List ℕ) (origin : List ℕ) (x w : Op
 followed_by digest origin x w copy had (Err e) is old h k = tt
 followed_by digest origin x w copy had (Ok f) is old h k =
     followed digest origin x w copy is.0 f is.1 is.2 is.3 (subst (λ n. HadSize digest origin x n) (sym old) h) k
+
+-- a call of bring_copy that ended by a fault
+pub turned_after : (digest : List ℕ → List ℕ) (origin : List ℕ) (c : Candidate) (x y : Option (List Put)) {E : Type 0}
+    (r : Result Outcome E) → EachStays digest origin x y →
+    IfOk r (λ t. (digest : List ℕ → List ℕ) (origin : List ℕ) (candidate : Candidate) (old new : Option (List Put)) →
+    EachStays digest origin old new → StandsAfter digest origin candidate old new t) →
+    IfOk r (λ t. StandsAfter digest origin c x y t)
+turned_after digest origin c x y (Ok t) stays h = h digest origin c x y stays
+turned_after digest origin c x y (Err e) stays h = tt

@@ -7,6 +7,7 @@ use Rattle.std.proofs.Common.{None, sym, true≢false, ◌∙◌}
 use Rattle.mirror_follow.specs.Standing.{HasStanding, HoldsNoCopy, HoldsNoSmaller}
 use Rattle.mirror_follow.proofs.Ending.{ends_so, first_ends}
 use Rattle.mirror_follow.proofs.Standing.{each_same}
+use Rattle.mirror_follow.proofs.Sparing.{same_spares}
 use Rattle.mirror_follow.proofs.turns.take_first.Goals as goal
 
 pub returns-then-has_false_root-clause-keeps : goal.returns-then-has_false_root-clause-keeps
@@ -53,3 +54,7 @@ returns-in_err-turn-clause-suffices g c = λ h.
 
 pub returns-clause-suffices : goal.returns-clause-suffices
 returns-clause-suffices g c = λ h. c.over_none.ensures.suffices (c.in_ok-turn.ensures.suffices h)
+
+pub returns-clause-spares : goal.returns-clause-spares
+returns-clause-spares g c =
+    same_spares c.over_none.result c.in_ok-turn.turn _ c.over_none.ensures.same c.in_ok-turn.ensures.spares
