@@ -8,7 +8,7 @@ use Rattle.mirror_copy.specs.AskedForCopy.{BlamesFailed, RefusesNote}
 use Rattle.mirror_copy.specs.Faults.{BlamesFrom, BlamesPlaces, IsOfNoPlace}
 use Rattle.mirror_copy.specs.Found.{IsTipRead}
 use Rattle.mirror_copy.specs.Growing.{Tip}
-use Rattle.mirror_copy.specs.Moments.{HadSize}
+use Rattle.mirror_copy.specs.Pruned.{HadSize}
 use Rattle.mirror_copy.specs.PlaceGets.{APlaceFailed, AsksEach, AsksPlaces, IsAskedFor}
 use Rattle.mirror_copy.specs.declared.place.Place.{Place}
 use Rattle.mirror_copy.specs.declared.places.Places.{Places}

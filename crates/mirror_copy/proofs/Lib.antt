@@ -22,6 +22,7 @@ pub mod Suffices
 pub mod Others
 pub mod TrueRows
 pub mod TipTruth
+pub mod EmptyTips
 pub mod OnePlace
 pub mod Spared
 pub mod Cutting

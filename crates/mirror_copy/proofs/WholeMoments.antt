@@ -28,8 +28,8 @@ use Rattle.log_reader.specs.EdgeRows.{Edge, hash_of_edge, row_at}
 use Rattle.mirror_copy.specs.Edges.{BringsToEdge, IsCopyBrought, PutsNote}
 use Rattle.mirror_copy.specs.Found.{IsBundleRead, IsEdgeRead, IsRowRead, IsTipRead, RecordsPartial}
 use Rattle.mirror_copy.specs.Growing.{Obtains, IsCutShort, IsKnown, IsNewFile, Tip, empty_tip}
-use Rattle.mirror_copy.specs.Moments.{AtEachMoment, HadSize, InTheEnd, IsBroughtTo, IsGrownCopy, KeepsCopy, PutsBeyond}
-use Rattle.mirror_copy.specs.Pruned.{IsPrunedCopy}
+use Rattle.mirror_copy.specs.Moments.{AtEachMoment, InTheEnd, IsBroughtTo, IsGrownCopy, KeepsCopy, PutsBeyond}
+use Rattle.mirror_copy.specs.Pruned.{HadSize, IsPrunedCopy}
 use Rattle.mirror_folders.specs.Shelf.{RecordsRead}
 use Rattle.mirror_copy.proofs.CopyMoments.{bringing_makes_copy, bringing_stays_copy, copy_files, new_files_keep_copies, not_file}
 use Rattle.mirror_copy.proofs.Growth.{adds_then, gathers_none, kept_adds, kept_same, left_none}
@@ -406,6 +406,8 @@ pub had_size : (digest : List ℕ → List ℕ) (origin : List ℕ) (tip : Tip) 
 had_size digest origin tip x t = record {
   copy = λ held is note entries copy.
       let k = t.copy held is note entries copy in let size = k.size_is in omega arith;
+  pruned = λ held is note entries copy.
+      let k = t.pruned held is note entries copy in let size = k.size_is in omega arith;
   none = λ held is none.
       let k = t.known (none_found held tip.checkpoint (subst (λ o. RecordsRead o Checkpoint tip.checkpoint) is t.checkpoint) none) in
       let size = k.size_is in omega arith;
@@ -413,7 +415,7 @@ had_size digest origin tip x t = record {
 
 -- ---- the checkpoint of an empty log
 
-no_width : (level : ℕ) → width_of 0 level ≡ 0
+pub no_width : (level : ℕ) → width_of 0 level ≡ 0
 no_width level = ap (λ q. q % 256) (div-eq_of_lt (level_positive level))
 
 abbrev pub empty_edge : Edge

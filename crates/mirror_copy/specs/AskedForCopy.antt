@@ -7,8 +7,7 @@ use Rattle.mirror_model.specs.Heads.{IsHead}
 use Rattle.mirror_copy.specs.Asked.{MayBeAsked}
 use Rattle.mirror_copy.specs.Copies.{IsCopy}
 use Rattle.mirror_copy.specs.Faults.{IsOtherFound}
-use Rattle.mirror_copy.specs.Moments.{HadSize}
-use Rattle.mirror_copy.specs.Pruned.{IsPrunedCopy}
+use Rattle.mirror_copy.specs.Pruned.{HadSize, IsPrunedCopy}
 use Rattle.mirror_copy.specs.PlaceGets.{APlaceFailed, AsksEach}
 use Rattle.mirror_copy.specs.declared.place.Place.{Place}
 use Rattle.mirror_copy.specs.declared.places.Places.{Places}

@@ -1,7 +1,9 @@
--- A call that ends by a contradiction or a collision puts nothing.
-use Rattle.std.specs.Prelude.{ℕ, ◌≤◌, List, Option, Result, Ok, Err, ⊤}
+-- A call that ends by a contradiction or a collision puts nothing. It does not end so for an empty copy.
+use Rattle.std.specs.Prelude.{◌≡◌, ◌≢◌, ℕ, ◌≤◌, List, [], Option, Some, Result, Ok, Err, ⊤}
+use Rattle.tlog_tiles.specs.declared.paths.Path.TheVariants.{Checkpoint}
+use Rattle.mirror_model.specs.Heads.{IsHead}
 use Rattle.mirror_sources.specs.Recorded.{KeepsRecord}
-use Rattle.mirror_folders.specs.Shelf.{Put}
+use Rattle.mirror_folders.specs.Shelf.{Put, RecordsRead}
 use Rattle.mirror_copy.specs.declared.fault.BringFault.{BringFault}
 use Rattle.mirror_copy.specs.declared.fault.BringFault.TheVariants.{BadCheckpoint, CopyDamaged, NotLarger}
 use Rattle.mirror_copy.specs.declared.fault.BringFault.TheVariants.{Contradiction, Collision, NoFile, Source, CopyInUse}
@@ -47,3 +49,15 @@ ConflictPutsNothing start m old new (Err Source) = ⊤
 ConflictPutsNothing start m old new (Err CopyInUse) = ⊤
 ConflictPutsNothing start m old new (Err ShelfFault) = ⊤
 ConflictPutsNothing start m old new (Err OutOfMemory) = ⊤
+
+-- the size is 0, but the root is not the hash of the empty list
+abbrev pub IsFalseEmpty : (List ℕ → List ℕ) → ℕ → List ℕ → Type 0
+IsFalseEmpty digest size root = (size ≡ 0) × (root ≢ digest [])
+
+-- the cause of a contradiction or a collision: the shelf had a checkpoint, or the note is that of a log without entries whose root is
+-- not the hash of the empty list
+pub data HasConflict (digest : List ℕ → List ℕ) (origin note : List ℕ) (puts : Option (List Put)) : Type 0 where
+  WithCopy : (found : List ℕ) → RecordsRead puts Checkpoint (Some found) → HasConflict digest origin note puts
+  WithEmpty :
+      (size : ℕ) (root : List ℕ) → IsHead note origin size root → IsFalseEmpty digest size root →
+      HasConflict digest origin note puts

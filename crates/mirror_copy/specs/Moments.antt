@@ -57,9 +57,3 @@ pub record CopyStays (digest : List ℕ → List ℕ) (origin : List ℕ) (old n
       IsCopy digest origin note entries held → InTheEnd new (IsCopy digest origin note entries)
   pub none : (held : List Put) → old ≡ Some held → ¬ HasPut held Checkpoint →
       InTheEnd new (λ now. ¬ HasPut now Checkpoint)
-
--- the number of entries of the old copy: 0 if there was no checkpoint
-pub record HadSize (digest : List ℕ → List ℕ) (origin : List ℕ) (old : Option (List Put)) (size : ℕ) : Type 0 where
-  pub copy : (held : List Put) → old ≡ Some held → (note : List ℕ) (entries : List (List ℕ)) →
-      IsCopy digest origin note entries held → size ≡ length entries
-  pub none : (held : List Put) → old ≡ Some held → ¬ HasPut held Checkpoint → size ≡ 0

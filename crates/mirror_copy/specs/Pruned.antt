@@ -68,6 +68,14 @@ module _ (digest : List ℕ → List ℕ) (origin : List ℕ) where
   abbrev pub HadPruned : Option (List Put) → ℕ → Type 0
   HadPruned old size = OfPrunedCopies old (λ held note entries. size ≡ length entries)
 
+-- the number of entries of the old copy: 0 if there was no checkpoint
+pub record HadSize (digest : List ℕ → List ℕ) (origin : List ℕ) (old : Option (List Put)) (size : ℕ) : Type 0 where
+  pub copy : (held : List Put) → old ≡ Some held → (note : List ℕ) (entries : List (List ℕ)) →
+      IsCopy digest origin note entries held → size ≡ length entries
+  pub pruned : (held : List Put) → old ≡ Some held → (note : List ℕ) (entries : List (List ℕ)) →
+      IsPrunedCopy digest origin note entries held → size ≡ length entries
+  pub none : (held : List Put) → old ≡ Some held → ¬ HasPut held Checkpoint → size ≡ 0
+
 -- a copy with all its files is such a copy
 abbrev pub CopiesArePruned : Type 0
 CopiesArePruned =

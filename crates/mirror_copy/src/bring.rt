@@ -1,10 +1,10 @@
 //! Tiles brought from places, with all files below them.
-ghost use Rattle.std.specs.Prelude.{◌≡◌, ◌+◌, ◌*◌, ◌^◌, ◌<◌, ◌≤◌, ℕ, List, IfErr, OnOk, length, take};
+ghost use Rattle.std.specs.Prelude.{◌≡◌, ◌+◌, ◌*◌, ◌^◌, ◌<◌, ◌≤◌, [], ℕ, List, IfErr, OnOk, length, take};
 ghost use Rattle.mirror_sources.specs.Recorded.{KeepsRecord};
 ghost use Rattle.mirror_copy.specs.Asked.{IsNewFull};
 ghost use Rattle.mirror_copy.specs.Faults.{BlamesPlaces, CountsShelf};
 ghost use Rattle.mirror_copy.specs.PlaceGets.{AsksPlaces};
-ghost use Rattle.mirror_copy.specs.Conflicts.{ConflictPutsNothing};
+ghost use Rattle.mirror_copy.specs.Conflicts.{ConflictPutsNothing, IsNoConflict};
 ghost use Rattle.mirror_copy.specs.Suffices.{IsSpared, IsTileHash, IsTileRow, IsTipOf, OneIsHonest};
 ghost use Rattle.mirror_copy.specs.Taken.{PutsTaken};
 ghost use Rattle.mirror_copy.specs.Growing.{IsKnown, BringsRow, BringsTile};
@@ -45,6 +45,7 @@ fn bring_bundle<H: TreeHash, D: ReadableShelf, S: Source + Drop>(
         → IsTileHash H.digest (take size entries) 0 index hash.now → IsSpared e) }
     ensures early { ConflictPutsNothing (index * 256) tip.now.size (D.puts shelf.old)
         (D.puts shelf.new) result }
+    ensures empty { IfErr result (λ e. IsKnown H.digest tip.now 0 [] → IsNoConflict e) }
     ensures brings { (known : List (List ℕ)) → IsKnown H.digest tip.now (index * 256) known
         → BringsTile H.digest tip.now 0 index hash.now known (D.puts shelf.old)
         (D.puts shelf.new) result }
@@ -97,6 +98,7 @@ fn bring_tile<H: TreeHash, D: ReadableShelf, S: Source + Drop>(
         → IsTileHash H.digest (take size entries) level index hash.now → IsSpared e) }
     ensures early { ConflictPutsNothing (index * 256 ^ (level + 1)) tip.now.size (D.puts shelf.old)
         (D.puts shelf.new) result }
+    ensures empty { IfErr result (λ e. IsKnown H.digest tip.now 0 [] → IsNoConflict e) }
     ensures brings { (known : List (List ℕ))
         → IsKnown H.digest tip.now (index * 256 ^ (level + 1)) known
         → BringsTile H.digest tip.now level index hash.now known (D.puts shelf.old)
@@ -144,6 +146,7 @@ pub(crate) fn bring_row<H: TreeHash, D: ReadableShelf, S: Source + Drop>(
         → IsTileRow H.digest (take size entries) level index row.now → IsSpared e) }
     ensures early { ConflictPutsNothing (index * 256 ^ (level + 1)) tip.now.size (D.puts shelf.old)
         (D.puts shelf.new) result }
+    ensures empty { IfErr result (λ e. IsKnown H.digest tip.now 0 [] → IsNoConflict e) }
     ensures brings { (known : List (List ℕ))
         → IsKnown H.digest tip.now (index * 256 ^ (level + 1)) known
         → BringsRow H.digest tip.now level index row.now known (D.puts shelf.old)

@@ -5,20 +5,21 @@ ghost use Rattle.mirror_model.specs.Heads.{IsHead};
 ghost use Rattle.mirror_sources.specs.Recorded.{KeepsRecord};
 ghost use Rattle.mirror_export.specs.Since.{since_paths};
 ghost use Rattle.log_reader.specs.EdgeRows.{LeadsTo};
-ghost use Rattle.mirror_copy.specs.Conflicts.{IsConflict, IsNoConflict};
+ghost use Rattle.mirror_copy.specs.Conflicts.{HasConflict, IsConflict, IsFalseEmpty, IsNoConflict};
 ghost use Rattle.mirror_copy.specs.Asked.{IsEdgeTile, MayBeAsked};
 ghost use Rattle.mirror_copy.specs.AskedForCopy.{AsksForCopy, BlamesFailed, IsInUse, RefusesNote};
 ghost use Rattle.mirror_copy.specs.Faults.{BlamesFrom, BlamesPlaces, BlamesRun, CountsShelf, IsOfNoPlace, IsOtherThen};
 ghost use Rattle.mirror_copy.specs.PlaceGets.{AsksPlaces};
 ghost use Rattle.mirror_copy.specs.Damaged.{IsDamaged};
 ghost use Rattle.mirror_copy.specs.Found.{BringsFromTip};
-ghost use Rattle.mirror_copy.specs.Pruned.{HadPruned, LeavesPruned};
+ghost use Rattle.mirror_copy.specs.Pruned.{HadPruned, HadSize, LeavesPruned};
 ghost use Rattle.mirror_copy.specs.OneHonest.{IsHonestFor, IsHonestNote, IsShelfOrMemory};
 ghost use Rattle.mirror_copy.specs.Suffices.{HasTruePlace, IsNoLack, IsSpared, IsTipOf};
 ghost use Rattle.mirror_copy.specs.Taken.{IsEdgeFrom, MayTake};
 ghost use Rattle.mirror_copy.specs.TrueAnswers.{IsRootOf};
 ghost use Rattle.mirror_copy.specs.declared.fault.BringFault.TheVariants.{CopyDamaged, CopyInUse};
-ghost use Rattle.mirror_copy.specs.Moments.{CopyStays, HadSize, IsBroughtTo, KeepsCopy};
+ghost use Rattle.mirror_copy.specs.Growing.{IsKnown};
+ghost use Rattle.mirror_copy.specs.Moments.{CopyStays, IsBroughtTo, KeepsCopy};
 
 use crate::fault::BringFault;
 use crate::find_edge::find_edge;
@@ -135,6 +136,7 @@ fn bring_larger<H: TreeHash, D: ReadableShelf, S: Source + Drop>(
         → IsHonestFor H.digest S.may_answer (D.puts shelf.old) places.old places.new entries
         candidate.now.size candidate.now.root
         → IsTipOf H.digest tip.now (take candidate.now.size entries) → IsSpared e) }
+    ensures empty { IfErr result (λ e. IsKnown H.digest tip.now 0 [] → IsNoConflict e) }
     ensures brings { BringsFromTip H.digest origin.now candidate.now.note.now tip.now
         (D.puts shelf.old) (D.puts shelf.new) result }
 {
@@ -165,6 +167,8 @@ fn bring_from<H: TreeHash, D: ReadableShelf, S: Source + Drop>(
         → IsHonestFor H.digest S.may_answer (D.puts shelf.old) places.old places.new entries
         candidate.now.size candidate.now.root
         → IsTipOf H.digest tip.now (take candidate.now.size entries) → IsSpared e) }
+    ensures empty { IfErr result (λ e. IsKnown H.digest tip.now 0 [] → IsConflict e
+        → IsFalseEmpty H.digest candidate.now.size candidate.now.root) }
     ensures brings { BringsFromTip H.digest origin.now candidate.now.note.now tip.now
         (D.puts shelf.old) (D.puts shelf.new) result }
 {
@@ -230,6 +234,8 @@ pub fn bring_copy<H: TreeHash, D: ReadableShelf, S: Source + Drop>(
     ensures had { IfOk result (λ size. HadSize H.digest origin.now (D.puts shelf.old) size) }
     ensures conflict { IfErr result (λ e. IsConflict e → KeepsRecord (D.puts shelf.old)
         (D.puts shelf.new)) }
+    ensures conflicts { IfErr result (λ e. IsConflict e
+        → HasConflict H.digest origin.now note.now (D.puts shelf.old)) }
     ensures whole { KeepsCopy H.digest origin.now note.now (D.puts shelf.old) (D.puts shelf.new) }
     ensures stays { IfErr result
         (λ _. CopyStays H.digest origin.now (D.puts shelf.old) (D.puts shelf.new)) }

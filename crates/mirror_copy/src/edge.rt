@@ -1,11 +1,11 @@
 //! A copy brought to the right edge of a larger tree.
-ghost use Rattle.std.specs.Prelude.{◌≡◌, ◌*◌, ◌^◌, ◌<◌, ◌≤◌, ℕ, List, IfErr, OnOk, take};
+ghost use Rattle.std.specs.Prelude.{◌≡◌, ◌*◌, ◌^◌, ◌<◌, ◌≤◌, [], ℕ, List, IfErr, OnOk, take};
 ghost use Rattle.tlog_shape.specs.Edge.{edge_index_of};
 ghost use Rattle.mirror_sources.specs.Recorded.{KeepsRecord};
 ghost use Rattle.mirror_copy.specs.Asked.{IsNewFull};
 ghost use Rattle.mirror_copy.specs.Faults.{BlamesPlaces, CountsShelf};
 ghost use Rattle.mirror_copy.specs.PlaceGets.{AsksPlaces};
-ghost use Rattle.mirror_copy.specs.Conflicts.{ConflictPutsNothing};
+ghost use Rattle.mirror_copy.specs.Conflicts.{ConflictPutsNothing, IsNoConflict};
 ghost use Rattle.mirror_copy.specs.Suffices.{IsEdgeTrue, IsSpared, IsTipOf, OneIsHonest};
 ghost use Rattle.mirror_copy.specs.Taken.{PutsTaken};
 ghost use Rattle.mirror_copy.specs.Growing.{IsKnown};
@@ -47,6 +47,7 @@ pub(crate) fn bring_levels<H: TreeHash, D: ReadableShelf, S: Source + Drop>(
         (D.puts shelf.new) result }
     ensures none { edge_index_of edge.now.size 0 * 256 ≤ tip.now.size
         → OnOk result (KeepsRecord (D.puts shelf.old) (D.puts shelf.new)) }
+    ensures empty { IfErr result (λ e. IsKnown H.digest tip.now 0 [] → IsNoConflict e) }
     ensures brings { (known : List (List ℕ)) → IsKnown H.digest tip.now 0 known
         → BringsEdge H.digest tip.now edge.now known (D.puts shelf.old) (D.puts shelf.new) result }
 {

@@ -1,5 +1,5 @@
 //! The partial bundle at the right edge.
-ghost use Rattle.std.specs.Prelude.{◌≡◌, ◌*◌, ◌^◌, ◌<◌, ◌≤◌, ℕ, List, IfErr, IfNone, IfOk, IfSome, IsTrue, Some, length, option_map, take};
+ghost use Rattle.std.specs.Prelude.{◌≡◌, ◌*◌, ◌^◌, ◌<◌, ◌≤◌, [], ℕ, List, IfErr, IfNone, IfOk, IfSome, IsTrue, Some, length, option_map, take};
 ghost use Rattle.tlog_shape.specs.Edge.{edge_index_of};
 ghost use Rattle.mirror_sources.specs.Recorded.{KeepsRecord};
 ghost use Rattle.mirror_copy.specs.Asked.{IsEdgeBundle, IsPathOrFull};
@@ -174,6 +174,7 @@ pub(crate) fn bring_edge_bundle<H: TreeHash, D: ReadableShelf, S: Source + Drop>
     ensures early { ConflictPutsNothing (edge_index_of edge.now.size 0 * 256) tip.now.size
         (D.puts shelf.old)
         (D.puts shelf.new) result }
+    ensures empty { IfErr result (λ e. IsKnown H.digest tip.now 0 [] → IsNoConflict e) }
     ensures brings { (known : List (List ℕ)) → IsKnown H.digest tip.now
         (edge_index_of edge.now.size 0 * 256) known
         → BringsEdgeBundle H.digest tip.now.size edge.now known (D.puts shelf.old)

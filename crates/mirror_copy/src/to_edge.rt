@@ -1,5 +1,5 @@
 //! A copy brought to a larger checkpoint.
-ghost use Rattle.std.specs.Prelude.{◌≡◌, ◌↔◌, ◌^◌, ◌<◌, ◌≤◌, ℕ, IfErr, IsTrue, List, length, take};
+ghost use Rattle.std.specs.Prelude.{◌≡◌, ◌↔◌, ◌^◌, ◌<◌, ◌≤◌, [], ℕ, IfErr, IsTrue, List, length, take};
 ghost use Rattle.tlog_shape.specs.Edge.{edge_index_of, width_of};
 ghost use Rattle.mirror_copy.specs.Conflicts.{ConflictPutsNothing, IsNoConflict};
 ghost use Rattle.mirror_copy.specs.Asked.{IsEdgeBundleOrNew};
@@ -115,6 +115,7 @@ pub(crate) fn bring_to_edge<H: TreeHash, D: ReadableShelf, S: Source + Drop>(
         → IsEdgeTrue H.digest (take size entries) edge.now → IsSpared e) }
     ensures early { ConflictPutsNothing 0 tip.now.size (D.puts shelf.old)
         (D.puts shelf.new) result }
+    ensures empty { IfErr result (λ e. IsKnown H.digest tip.now 0 [] → IsNoConflict e) }
     ensures brings { (known : List (List ℕ)) → IsKnown H.digest tip.now 0 known
         → BringsToEdge H.digest tip.now edge.now note.now known (D.puts shelf.old)
         (D.puts shelf.new) result }

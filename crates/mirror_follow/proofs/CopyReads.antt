@@ -1,5 +1,5 @@
 -- Reads of a copy: if the shelf has a whole copy, no read ends by CopyDamaged.
-use Rattle.std.proofs.Common.{◌≡◌, ℕ, ◌++◌, List, length, Option, None, Some, Result, Ok, Err, IsErr, IsErrAnd, IfErr, sym, subst}
+use Rattle.std.proofs.Common.{◌≡◌, ℕ, ◌++◌, List, length, Option, None, Some, Result, Ok, Err, IsErr, IsErrAnd, IfErr, sym, subst, inl, inr}
 use Rattle.std.specs.Prelude.{⊤}
 use Rattle.std.proofs.lemmas.Bool.{false≢true}
 use Rattle.tlog_hash.specs.Tree.{mth}
@@ -7,7 +7,7 @@ use Rattle.tlog_tiles.specs.declared.paths.Path.{Path}
 use Rattle.tlog_tiles.specs.declared.paths.Path.TheVariants.{Checkpoint}
 use Rattle.mirror_sources.specs.Source.{StaysWithin}
 use Rattle.mirror_sources.specs.Recorded.{KeepsRecord}
-use Rattle.mirror_folders.specs.Shelf.{Put, RecordsRead, RecordsSome}
+use Rattle.mirror_folders.specs.Shelf.{Put, RecordsRead, RecordsSome, Stands}
 use Rattle.mirror_model.specs.Heads.{IsHead}
 use Rattle.log_reader.specs.Holding.{IsReaderOf, ReadsLog, ReadsTilesOf}
 use Rattle.log_reader.specs.Ways.{Reader}
@@ -20,15 +20,15 @@ use Rattle.copy_reader.specs.declared.fault.CopyFault.{CopyFault}
 use Rattle.copy_reader.specs.declared.fault.CopyFault.TheVariants as reading
 use Rattle.copy_reader.proofs.WholeCopies.{files_later, whole_read}
 use Rattle.copy_reader.proofs.WholeLaws.{copies_are_whole}
-use Rattle.mirror_copy.specs.Copies.{IsCopy}
-use Rattle.mirror_copy.proofs.TipReads.{stands_has}
+use Rattle.mirror_copy.specs.Pruned.{IsPrunedCopy}
+use Rattle.mirror_copy.proofs.PrunedFiles.{copies_are_pruned}
+use Rattle.mirror_copy.proofs.TipReads.{stands_has, stands_one}
 use Rattle.mirror_follow.specs.Blame.{CountsFollow, CountsFollowFault, by_copy}
 use Rattle.mirror_follow.specs.Ending.{EndsRun}
 use Rattle.mirror_follow.specs.Gathering.{note_of}
 use Rattle.mirror_follow.specs.Standing.{HasStanding, HoldsNoCopy, LacksLog}
 use Rattle.mirror_follow.specs.declared.candidate.Candidate.{Candidate}
 use Rattle.mirror_follow.specs.declared.fault.FollowFault.{FollowFault}
-use Rattle.mirror_follow.proofs.Standing.{checkpoint_one}
 
 -- ---- faults of a read
 
@@ -94,9 +94,20 @@ module _ (T U : Type 0) (digest : List ℕ → List ℕ) (size : ℕ) (root : Li
 -- ---- copies
 
 module _ (digest : List ℕ → List ℕ) (origin : List ℕ) where
-  whole : (note : List ℕ) (entries : List (List ℕ)) (held : List Put) → IsCopy digest origin note entries held →
+  whole : (note : List ℕ) (entries : List (List ℕ)) (held : List Put) → IsPrunedCopy digest origin note entries held →
       IsWholeCopy digest origin note entries (Some held)
-  whole note entries held copy = (copies_are_whole digest origin note entries held copy.short copy.is_head).all copy.holds
+  whole note entries held copy =
+      (copies_are_whole digest origin note entries held copy.short copy.is_head).each copy.note_stands
+      (λ path file. elim (copy.files path file) [
+        | inl there ↦ inl there
+        | inr g ↦ inr (record {
+          partial = g.partial;
+          gone = g.gone;
+          full = g.full;
+          stands = g.stands;
+          begins = g.begins;
+        })
+      ])
 
   -- the shelf does not have the copy of a run if it lacks the copy's files
   pub none_lacks : (copy : Candidate) (x : Option (List Put)) → LacksLog digest copy x →
@@ -108,21 +119,34 @@ module _ (digest : List ℕ → List ℕ) (origin : List ℕ) where
       (subst (λ p. HasFilesOf digest entries p) (sym s.puts_are) w.files)
 
   module _ (x y : Option (List Put)) (found : List ℕ) (stands : RecordsRead x Checkpoint (Some found)) where
+    read_at : (held : List Put) → x ≡ Some held → Stands held Checkpoint found
+    read_at held is = subst (λ p. RecordsRead p Checkpoint (Some found)) is stands
+
+    no_copies : ((held : List Put) → x ≡ Some held → (note : List ℕ) (entries : List (List ℕ)) →
+        IsPrunedCopy digest origin note entries held → ⊥) → HoldsNoCopy digest origin x
+    no_copies none = record {
+      no_copy = λ held is note entries copy.
+          none held is note entries (copies_are_pruned digest origin note entries held copy);
+      no_pruned = none;
+      not_none = λ r. r.none (stands_has r.held Checkpoint found (read_at r.held r.is));
+    }
+
     -- the checkpoint of a copy on the shelf is one of the origin
     pub no_head : ((size : ℕ) (root : List ℕ) → IsHead found origin size root → ⊥) → HoldsNoCopy digest origin x
-    no_head none held is note entries copy =
-        let one : found ≡ note =
-        checkpoint_one digest origin note entries held copy found (subst (λ p. RecordsRead p Checkpoint (Some found)) is stands) in
+    no_head none =
+        no_copies (λ held is note entries copy.
+        let one : found ≡ note = stands_one held Checkpoint found note (read_at held is) copy.note_stands in
         none (length entries) (mth digest entries)
-        (subst (λ b. IsHead b origin (length entries) (mth digest entries)) (sym one) copy.is_head)
+        (subst (λ b. IsHead b origin (length entries) (mth digest entries)) (sym one) copy.is_head))
 
     -- the edge of a copy on the shelf is read
     pub no_edge : (T : Type 0) (size : ℕ) (root : List ℕ) → IsHead found origin size root → KeepsRecord x y →
         (e : CopyFault) → ReadsCopyLog {T = T} digest size root y (Err e) (λ _ _. ⊤) → (IsShelfFailure e → ⊥) →
         HoldsNoCopy digest origin x
-    no_edge T size root head kept e reads other held is note entries copy =
+    no_edge T size root head kept e reads other =
+        no_copies (λ held is note entries copy.
         other (whole_read digest origin x y kept found size root stands head {T = T} (Err e) (λ _ _. ⊤) reads note entries
-        (subst (λ p. IsWholeCopy digest origin note entries p) (sym is) (whole note entries held copy)))
+        (subst (λ p. IsWholeCopy digest origin note entries p) (sym is) (whole note entries held copy))))
 
 -- a checkpoint that was read was put
 pub read_some : (x : Option (List Put)) (note : List ℕ) → RecordsRead x Checkpoint (Some note) → RecordsSome x Checkpoint

@@ -11,7 +11,10 @@ use Rattle.mirror_model.proofs.HeadNotes.{head_once}
 use Rattle.mirror_folders.specs.Shelf.{Put, RecordsRead}
 use Rattle.mirror_folders.specs.declared.shelf.ShelfError.{ShelfError}
 use Rattle.mirror_folders.specs.declared.shelf.ShelfError.TheVariants as shelf
-use Rattle.mirror_copy.proofs.WholeMoments.{copy_found}
+use Rattle.mirror_copy.proofs.PrunedFiles.{copies_are_pruned}
+use Rattle.mirror_copy.proofs.TipReads.{stands_has, stands_one}
+use Rattle.mirror_copy.specs.Conflicts.{HasConflict, IsConflict, WithCopy, WithEmpty}
+use Rattle.mirror_copy.specs.Pruned.{IsPrunedCopy}
 use Rattle.mirror_copy.specs.AskedForCopy.{BlamesFailed, IsInUse, RefusesNote}
 use Rattle.mirror_copy.specs.Damaged.{IsDamaged}
 use Rattle.mirror_copy.specs.Faults.{IsOtherFound}
@@ -21,11 +24,11 @@ use Rattle.mirror_copy.specs.declared.fault.BringFault.TheVariants as bring
 use Rattle.mirror_follow.specs.Asking.{option_or}
 use Rattle.mirror_follow.specs.Blame.{AsksAny, CountsFollow, CountsFollowFault, PlaceFails, by_shelf, of_candidates}
 use Rattle.mirror_follow.specs.Candidates.{turn_cmp}
-use Rattle.mirror_follow.specs.Ending.{BlamesPlace, EndsAt, EndsFor, EndsRun, GivesNoneBy, HadNone, HasFalseRoot, IsFaultOf, IsFirstFault, IsOfEmpty, IsOfOtherRun, KeepsFault, LacksCandidates, RefusesGiven, fault_after, or_fault}
+use Rattle.mirror_follow.specs.Ending.{BlamesPlace, EndsAt, EndsFor, EndsRun, GivesNoneBy, HadNone, HasFalseRoot, IsFaultOf, IsFirstFault, IsOfConflict, IsOfEmpty, IsOfOtherRun, KeepsFault, LacksCandidates, RefusesGiven, fault_after, or_fault}
 use Rattle.mirror_follow.specs.GatheredFrom.{AreCandidates, GiveNoneFor}
 use Rattle.mirror_follow.specs.Gathering.{note_of}
 use Rattle.mirror_follow.specs.Shown.{ShowsTurn}
-use Rattle.mirror_follow.specs.Standing.{HasStanding, HoldsNoCopy, HoldsNoSmaller, IsCopyNow, IsCopyOfRun, IsFoundCopy, KnowsAfter, StandsAs}
+use Rattle.mirror_follow.specs.Standing.{HasStanding, HoldsNoCopy, HoldsNoSmaller, IsCopyNow, IsCopyOfRun, IsFoundCopy, IsHeadOf, KnowsAfter, RecordsNone}
 use Rattle.mirror_follow.specs.Taken.{HasTakenRun, IsGrown, SaysTurn}
 use Rattle.mirror_follow.specs.declared.candidate.Candidate.{Candidate}
 use Rattle.mirror_follow.specs.declared.fault.CandidateFault.{CandidateFault}
@@ -36,7 +39,7 @@ use Rattle.mirror_follow.specs.declared.report.Run.{Run}
 use Rattle.mirror_follow.specs.declared.report.Outcome.{Outcome}
 use Rattle.mirror_follow.specs.declared.report.Outcome.TheVariants as turn
 use Rattle.mirror_follow.proofs.Blame.{fails_brought, fails_later, fails_then}
-use Rattle.mirror_follow.proofs.Standing.{checkpoint_one}
+use Rattle.mirror_follow.proofs.Standing.{standing_as, standing_none}
 use Rattle.mirror_follow.proofs.TurnOrder.{element}
 
 -- ---- the first fault of a run
@@ -182,7 +185,9 @@ ends_shelf A B shelf.OutOfMemory = tt
 -- a call that ends by CopyDamaged states that its shelf has no copy
 pub brought_damaged : (digest : List ℕ → List ℕ) (origin : List ℕ) (x : Option (List Put)) (e : BringFault) →
     (e ≡ bring.CopyDamaged → IsDamaged digest origin x) → e ≡ bring.CopyDamaged → HoldsNoCopy digest origin x
-brought_damaged digest origin x e damaged is = (damaged is).no_copy
+brought_damaged digest origin x e damaged is =
+    let d = damaged is in
+    record { no_copy = d.no_copy; no_pruned = d.no_pruned; not_none = λ r. d.not_none r.held r.is r.none }
 
 -- the facts at such a fault, replaced by their consequences
 pub ends_so : (A B C D : Type 0) (e : FollowFault) → (A → C) → (B → D) → EndsRun A B e → EndsRun C D e
@@ -208,12 +213,17 @@ module _ (digest : List ℕ → List ℕ) (origin : List ℕ) where
       IsHead note origin n root → RefusesNote digest origin note x e →
       (e ≡ bring.CopyInUse → IsInUse digest origin x) → IsOfOtherRun e → HoldsNoSmaller digest origin n x
   no_smaller note n root x bring.BadCheckpoint head refuses in_use other = absurd (refuses n root head)
-  no_smaller note n root x bring.NotLarger head r in_use other = λ held is old_note entries copy.
-      let size : n ≡ r.size = (head_once note origin origin n r.size root r.root head r.is_head).size_is in
-      let had : r.had ≡ length entries = r.had_is.copy held is old_note entries copy in
-      let upto : r.size ≤ r.had = r.upto in omega (arith, size, had, upto)
-  no_smaller note n root x bring.CopyInUse head refuses in_use other = λ held is old_note entries copy.
-      absurd ((in_use refl).no_copy held is old_note entries copy)
+  no_smaller note n root x bring.NotLarger head r in_use other = record {
+    no_smaller = λ held is old_note entries copy.
+        let size : n ≡ r.size = (head_once note origin origin n r.size root r.root head r.is_head).size_is in
+        let had : r.had ≡ length entries = r.had_is.pruned held is old_note entries copy in
+        let upto : r.size ≤ r.had = r.upto in omega (arith, size, had, upto);
+    not_none = λ o. r.not_none o.held o.is o.none;
+  }
+  no_smaller note n root x bring.CopyInUse head refuses in_use other = record {
+    no_smaller = λ held is old_note entries copy. absurd ((in_use refl).no_pruned held is old_note entries copy);
+    not_none = λ o. (in_use refl).not_none o.held o.is o.none;
+  }
   no_smaller note n root x bring.CopyDamaged head refuses in_use other = absurd other
   no_smaller note n root x bring.Contradiction head refuses in_use other = absurd other
   no_smaller note n root x bring.Collision head refuses in_use other = absurd other
@@ -225,15 +235,15 @@ module _ (digest : List ℕ → List ℕ) (origin : List ℕ) where
   -- so the shelf does not have the copy of the run, if that is smaller
   pub none_stands : (copy : Candidate) (n : ℕ) (x : Option (List Put)) → copy.size.0 < n →
       HoldsNoSmaller digest origin n x → HasStanding digest origin (Some copy) x → ⊥
-  none_stands copy n x lt none s =
+  none_stands copy n x lt h s =
       let le : n ≤ length (s.entries ++ s.under.more) =
-      none s.held s.puts_are (note_of copy) (s.entries ++ s.under.more) s.under.copy in
+      h.no_smaller s.held s.puts_are (note_of copy) (s.entries ++ s.under.more) s.under.copy in
       let size : copy.size.0 ≡ length (s.entries ++ s.under.more) = s.under.size_is in omega (arith, le, size, lt)
 
   -- nor if the shelf has no copy
   pub none_at_all : (copy : Candidate) (x : Option (List Put)) → HoldsNoCopy digest origin x →
       HasStanding digest origin (Some copy) x → ⊥
-  none_at_all copy x none s = none s.held s.puts_are (note_of copy) (s.entries ++ s.under.more) s.under.copy
+  none_at_all copy x h s = h.no_pruned s.held s.puts_are (note_of copy) (s.entries ++ s.under.more) s.under.copy
 
   -- nor if another checkpoint was read
   pub none_found : (copy : Candidate) (x : Option (List Put)) → IsOtherFound (Some (note_of copy)) x →
@@ -242,23 +252,48 @@ module _ (digest : List ℕ → List ℕ) (origin : List ℕ) where
       found o.now (subst (λ p. RecordsRead p Checkpoint o.now) s.puts_are o.now_is) o.other
     where
       found : (now : Option (List ℕ)) → RecordsRead (Some s.held) Checkpoint now → now ≢ Some (note_of copy) → ⊥
-      found None none other =
-          copy_found digest origin (note_of copy) (s.entries ++ s.under.more) s.held None s.under.copy none refl
+      found None none other = none (stands_has s.held Checkpoint (note_of copy) s.under.copy.note_stands)
       found (Some bytes) there other =
-          other (ap Some
-          (checkpoint_one digest origin (note_of copy) (s.entries ++ s.under.more) s.held s.under.copy bytes there))
+          other (ap Some (stands_one s.held Checkpoint bytes (note_of copy) there s.under.copy.note_stands))
 
   -- if the shelf does not have the copy of a run, it had no copy at first
   pub none_first : (first x : Option (List Put)) (copy : Option Candidate) → (HasStanding digest origin copy x → ⊥) →
       IsCopyOfRun digest origin first x copy → HoldsNoCopy digest origin first
-  none_first first x copy none known held is note entries stood =
-      stands copy x none (known.some held is note entries stood)
+  none_first first x copy lost known = record {
+    no_copy = λ held is note entries whole.
+        replaced held is note entries (copies_are_pruned digest origin note entries held whole);
+    no_pruned = replaced;
+    not_none = λ r. lost (standing_none digest origin copy x (known.none r.held r.is r.none));
+  }
     where
-      stands : (copy : Option Candidate) (x : Option (List Put)) → (HasStanding digest origin copy x → ⊥) →
-          StandsAs digest origin copy entries x → ⊥
-      stands None x none s = s
-      stands (Some c) None none s = s
-      stands (Some c) (Some now) none s = none (record { held = now; puts_are = refl; entries = entries; under = s })
+      replaced : (held : List Put) → first ≡ Some held → (note : List ℕ) (entries : List (List ℕ)) →
+          IsPrunedCopy digest origin note entries held → ⊥
+      replaced held is note entries stood =
+          lost (standing_as digest origin copy entries x (known.pruned held is note entries stood))
+
+  -- ---- the first turn over an empty copy
+
+  conflict_none : (c : Candidate) (x : Option (List Put)) → IsHeadOf origin c → (HasFalseRoot digest c → ⊥) →
+      HasConflict digest origin (note_of c) x → RecordsNone x → ⊥
+  conflict_none c x head true (WithCopy found read) r =
+      r.none (stands_has r.held Checkpoint found (subst (λ o. RecordsRead o Checkpoint (Some found)) r.is read))
+  conflict_none c x head true (WithEmpty size root head' empty) r =
+      let once = head_once (note_of c) origin origin c.size.0 size c.root root head head' in
+      true (once.size_is ∙ empty.0, λ e. empty.1 (sym once.root_is ∙ e))
+
+  -- no conflict comes with an empty copy
+  pub first_ends : (c : Candidate) (x : Option (List Put)) (r : Result Outcome FollowFault) (t : Outcome) →
+      IsHeadOf origin c → (HasFalseRoot digest c → ⊥) → (IsOfConflict t → HasConflict digest origin (note_of c) x) →
+      IfErr r (λ e. (e ≡ fault.CopyInUse) × IsOfConflict t) → IfErr r (EndsAt (HasStanding digest origin None x → ⊥))
+  first_ends c x (Ok u) t head true cause h = tt
+  first_ends c x (Err e) t head true cause h =
+      subst (EndsAt (HasStanding digest origin None x → ⊥)) (sym h.0) (conflict_none c x head true (cause h.1))
+
+  pub turned_conflict : {E : Type 0} (note : List ℕ) (x : Option (List Put)) (e : BringFault) (r : Result Outcome E) →
+      (IsConflict e → HasConflict digest origin note x) → IfOk r (λ t. IsOfConflict t → IsConflict e) →
+      IfOk r (λ t. IsOfConflict t → HasConflict digest origin note x)
+  turned_conflict note x e (Ok t) cause h = λ is. cause (h is)
+  turned_conflict note x e (Err f) cause h = tt
 
 -- ---- faults of a report
 

@@ -17,9 +17,9 @@ use Rattle.mirror_follow.specs.Blame.{AsksAny}
 use Rattle.mirror_follow.specs.Candidates.{turn_cmp}
 use Rattle.mirror_follow.specs.Ending.{EndsAt, GivesNoneBy, LacksCandidates, RefusesGiven}
 use Rattle.mirror_follow.specs.GatheredFrom.{AreCandidates, GiveCandidates, GiveNone}
-use Rattle.mirror_follow.specs.OneHonest.{HasNone, HasPart, HasReached, HasSize, HoldsPart, HoldsPartOrNone, IsFirstPoint, IsHonestAmong, IsHonestFirst, IsHonestListed, IsHonestRun, IsOfShelfOrMemory, KeepsPoint, ReachesLog, ReachesSize}
+use Rattle.mirror_follow.specs.OneHonest.{HasNone, HasPart, HasReached, HasSize, HoldsPartOrNone, IsFirstPoint, IsHonestAmong, IsHonestFirst, IsHonestListed, IsHonestRun, IsOfShelfOrMemory, KeepsPoint, ReachesLog, ReachesSize}
 use Rattle.mirror_follow.specs.Says.{IsOnePoint}
-use Rattle.mirror_follow.specs.Standing.{HadCopy, HoldsNoCopy, IsCopyOfRun, IsCopyRead, StandsAs, StandsUnder, size_of_copy}
+use Rattle.mirror_follow.specs.Standing.{HadCopy, HoldsNoCopy, IsCopyOfRun, IsCopyRead, PrunedAs, PrunedUnder, size_of_copy}
 use Rattle.mirror_follow.specs.Taken.{IsLargerThan}
 use Rattle.mirror_follow.specs.declared.candidate.Candidate.{Candidate}
 use Rattle.mirror_follow.specs.declared.fault.CandidateFault.{CandidateFault}
@@ -143,7 +143,7 @@ module _ (digest : List ℕ → List ℕ) {S : Type 0} (may : S → Path → Opt
       HadCopy digest origin x copy → IsCopyOfRun digest origin x y copy → c.root ≡ mth digest (take c.size.0 h.entries)
   root_kept y copy c is had known = root h.holds
     where
-      by_stand : (first : List (List ℕ)) (w : Option (List Put)) → InTheEnd w (StandsUnder digest origin c first) →
+      by_stand : (first : List (List ℕ)) (w : Option (List Put)) → InTheEnd w (PrunedUnder digest origin c first) →
           c.size.0 ≡ length first → c.root ≡ mth digest first
       by_stand first None u size = absurd u
       by_stand first (Some now) u size =
@@ -156,9 +156,9 @@ module _ (digest : List ℕ → List ℕ) {S : Type 0} (may : S → Path → Opt
       root (HasNone held e none) = absurd (cc (is, had.none held e none))
       root (HasPart s) =
           let size : c.size.0 ≡ length s.first =
-          (subst (IsCopyRead s.note (length s.first)) is (had.some s.held s.is s.note s.first s.copy)).1 in
+          (subst (IsCopyRead s.note (length s.first)) is (had.pruned s.held s.is s.note s.first s.copy)).1 in
           by_stand s.first y
-          (subst (λ o. StandsAs digest origin o s.first y) is (known.some s.held s.is s.note s.first s.copy)) size
+          (subst (λ o. PrunedAs digest origin o s.first y) is (known.pruned s.held s.is s.note s.first s.copy)) size
           ∙ ap (mth digest) (sym (ap (λ n. take n h.entries) size ∙ ap (take (length s.first)) s.entries_are
           ∙ take-append_seam s.first s.more))
 
@@ -212,7 +212,7 @@ module _ (digest : List ℕ → List ℕ) {S : Type 0} (may : S → Path → Opt
       (k : IsHonestListed digest may last mid new origin y copy list) × (k.candidate.size.0 ≡ h.size)
   honest_listed failed asked mid p q y kept copy known had list are =
       let o = h.among candidates gathered in
-      let same = known_same x y h.holds.held h.holds.is kept in
+      let same = holds_same digest origin h.entries x y h.holds kept in
       let k : IsHonestListed digest may last mid new origin y copy list = record {
         entries = h.entries;
         candidate = o.candidate;
@@ -221,7 +221,7 @@ module _ (digest : List ℕ → List ℕ) {S : Type 0} (may : S → Path → Opt
             (subst (λ n. IsHonestFor digest may last mid new h.entries n h.root) (sym o.size_is)
             (honest_part may failed asked start mid new new p q (any_same may failed asked new) last last
             (λ path bytes put. put) digest h.entries h.size h.root h.honest));
-        holds = subst (λ o. HoldsPart digest origin h.entries o) (sym same) h.holds;
+        holds = subst (λ o. HoldsPartOrNone digest origin h.entries o) (sym same) h.holds;
         had = subst (λ o. HadCopy digest origin o copy) (sym same) had;
         known = subst (λ o. IsCopyOfRun digest origin o y copy) (sym same) known;
       } in
@@ -238,11 +238,16 @@ module _ (digest : List ℕ → List ℕ) {S : Type 0} (may : S → Path → Opt
   report_passes run n (Err e) n_is s is (inl memory) = inr memory
   report_passes run n (Err e) n_is s is (inr none) = absurd (cc (none.0, s.is))
 
--- the shelf has the copy, and the turns ended with a fault
+-- the shelf has the copy or no checkpoint, and the turns ended with a fault
 pub part_stands : (digest : List ℕ → List ℕ) (origin : List ℕ) (entries : List (List ℕ)) (x : Option (List Put))
-    (e : FollowFault) → HoldsPart digest origin entries x → EndsAt (HoldsNoCopy digest origin x) e → IsOfShelfOrMemory e
+    (e : FollowFault) → HoldsPartOrNone digest origin entries x → EndsAt (HoldsNoCopy digest origin x) e →
+    IsOfShelfOrMemory e
 part_stands digest origin entries x e h ends =
     let Stood = HoldsNoCopy digest origin x → ⊥ in
-    never_ends Stood e (λ none. none h.held h.is h.note h.first h.copy)
+    never_ends Stood e (stood h)
     (ends_so (HoldsNoCopy digest origin x) (HoldsNoCopy digest origin x) (Stood → ⊥) (Stood → ⊥) e
-    (λ none stood. stood none) (λ none stood. stood none) ends)
+    (λ lost stood. stood lost) (λ lost stood. stood lost) ends)
+  where
+    stood : HoldsPartOrNone digest origin entries x → HoldsNoCopy digest origin x → ⊥
+    stood (HasPart h) lost = lost.no_pruned h.held h.is h.note h.first h.copy
+    stood (HasNone held is none) lost = lost.not_none (record { held = held; is = is; none = none })

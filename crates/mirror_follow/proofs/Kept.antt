@@ -14,9 +14,9 @@ use Rattle.mirror_follow.specs.Gathering.{Gathers, IsGiven, note_of}
 use Rattle.mirror_follow.specs.declared.answer.PlaceAnswer.{PlaceAnswer}
 use Rattle.mirror_follow.specs.declared.candidate.Candidate.{Candidate}
 use Rattle.mirror_follow.specs.declared.fault.CandidateFault.{CandidateFault}
-use Rattle.mirror_follow.specs.Runs.{FollowsCandidates, KeepsCopies}
+use Rattle.mirror_follow.specs.Runs.{FollowsCandidates, KeepsEach}
 use Rattle.mirror_follow.specs.Standing.{IsHeadOf}
-use Rattle.mirror_follow.proofs.Runs.{no_run, two_runs}
+use Rattle.mirror_follow.proofs.Runs.{each_none, each_then}
 
 -- the candidates that were gathered open
 pub all_open : (origin : List ℕ) (keys : List Key) (answers : List PlaceAnswer) (gathered candidates : List Candidate)
@@ -92,17 +92,21 @@ module _ (digest : List ℕ → List ℕ) (origin : List ℕ) (keys : List Key) 
     candidates = [];
     opened = All-nil (IsCandidate origin keys);
     had = All-nil (λ c. so (note_of c));
-    keeps = no_run digest origin [] x y kept;
+    keeps = (each_none digest origin [] x y kept).whole;
+    pruned = (each_none digest origin [] x y kept).pruned;
   }
 
   -- a call that puts nothing, and then a run under the notes of candidates
   pub follows_candidates : (given candidates : List Candidate) (x y z : Option (List Put)) → candidates ≡ given →
       All (IsCandidate origin keys) given → All (λ c. so (note_of c)) given → KeepsRecord x y →
-      KeepsCopies digest origin (map note_of candidates) y z → FollowsCandidates digest origin keys so x z
-  follows_candidates given candidates x y z is opens gave kept run = record {
-    candidates = candidates;
-    opened = subst (All (IsCandidate origin keys)) (sym is) opens;
-    had = subst (All (λ c. so (note_of c))) (sym is) gave;
-    keeps = two_runs digest origin (map note_of candidates) x z y
-        (no_run digest origin (map note_of candidates) x y kept) run;
-  }
+      KeepsEach digest origin (map note_of candidates) y z → FollowsCandidates digest origin keys so x z
+  follows_candidates given candidates x y z is opens gave kept run =
+      let notes = map note_of candidates in
+      let each = each_then digest origin notes x z y (each_none digest origin notes x y kept) run in
+      record {
+        candidates = candidates;
+        opened = subst (All (IsCandidate origin keys)) (sym is) opens;
+        had = subst (All (λ c. so (note_of c))) (sym is) gave;
+        keeps = each.whole;
+        pruned = each.pruned;
+      }

@@ -19,9 +19,8 @@ use Rattle.mirror_model.specs.declared.fault.TakeFault.TheVariants as taking
 use Rattle.mirror_model.proofs.RefusedHeads.{head_notes_are_read_once, open_heads_are_read}
 use Rattle.mirror_sources.specs.Recorded.{AddsToRecord}
 use Rattle.mirror_folders.specs.Shelf.{Put, RecordsSome}
-use Rattle.mirror_copy.specs.Copies.{IsCopy}
-use Rattle.mirror_copy.specs.Moments.{InTheEnd}
-use Rattle.mirror_copy.specs.OneHonest.{HoldsCopy, HoldsFirst, HoldsNone, IsHonestFor, IsHonestNote}
+use Rattle.mirror_copy.specs.OneHonest.{HoldsFirst, HoldsNone, HoldsPruned, IsHonestFor, IsHonestNote}
+use Rattle.mirror_copy.specs.Pruned.{IsPrunedCopy}
 use Rattle.mirror_copy.specs.Suffices.{IsTruePlace}
 use Rattle.mirror_copy.specs.Taken.{FilesAreClear, MayGive, MayTake, WasPut}
 use Rattle.mirror_copy.specs.declared.places.Places.{Places}
@@ -32,9 +31,9 @@ use Rattle.mirror_follow.specs.Ending.{EndsAt, EndsRun, HasFalseRoot}
 use Rattle.mirror_follow.specs.Gathering.{note_of}
 use Rattle.mirror_follow.specs.OneHonest.{HasNone, HasPart, HasReached, HasSize, HoldsPart, HoldsPartOrNone, IsHonestFirst, IsHonestListed, IsHonestTurn, IsOfShelfOrMemory, KeepsPoint, StepsUp}
 use Rattle.mirror_follow.specs.Candidates.{turn_cmp}
-use Rattle.mirror_follow.specs.Runs.{KeepsCopies}
+use Rattle.mirror_follow.specs.Runs.{KeepsEach}
 use Rattle.mirror_follow.specs.Says.{IsOnePoint}
-use Rattle.mirror_follow.specs.Standing.{HadCopy, HasStanding, HoldsNoCopy, IsCopyNow, IsCopyRead, IsCopyOfRun, IsHeadOf, IsStanding, KnowsAfter, StandsAs, StandsUnder}
+use Rattle.mirror_follow.specs.Standing.{HadCopy, HasStanding, HoldsNoCopy, IsCopyNow, IsCopyRead, IsCopyOfRun, IsHeadOf, KnowsAfter, PrunedAs, StandsOrNone}
 use Rattle.mirror_follow.specs.Taken.{IsAbove, IsLargerThan, IsRepeat, SaysTurn}
 use Rattle.mirror_follow.specs.declared.candidate.Candidate.{Candidate}
 use Rattle.mirror_follow.specs.declared.fault.FollowFault.{FollowFault}
@@ -42,7 +41,8 @@ use Rattle.mirror_follow.specs.declared.fault.FollowFault.TheVariants as fault
 use Rattle.mirror_follow.specs.declared.report.Outcome.{Outcome}
 use Rattle.mirror_follow.specs.declared.report.Outcome.TheVariants as turn
 use Rattle.mirror_follow.proofs.Blame.{any_same, any_then}
-use Rattle.mirror_follow.proofs.Runs.{no_run, two_runs}
+use Rattle.mirror_follow.proofs.Runs.{each_none, each_then}
+use Rattle.mirror_follow.proofs.Standing.{standing_as, standing_none}
 use Rattle.mirror_follow.proofs.TurnOrder.{again, falls, none_above}
 use Rattle.log_reader.proofs.Kept.{kept_once}
 
@@ -131,7 +131,7 @@ pub never_damaged : (digest : List ℕ → List ℕ) (origin : List ℕ) (entrie
 never_damaged digest origin entries puts fault.NoCheckpoint h ends some = absurd ends
 never_damaged digest origin entries puts (fault.Head f) h ends some = absurd ends
 never_damaged digest origin entries puts fault.CopyDamaged (HasPart h) ends some =
-    absurd (ends h.held h.is h.note h.first h.copy)
+    absurd (ends.no_pruned h.held h.is h.note h.first h.copy)
 never_damaged digest origin entries puts fault.CopyDamaged (HasNone held is none) ends some =
     absurd (none (subst (λ o. RecordsSome o path.Checkpoint) is (some refl)))
 never_damaged digest origin entries puts fault.CopyInUse h ends some = absurd ends
@@ -192,18 +192,18 @@ honest_before digest may failed asked puts x y z origin c p q h = record {
 module _ (digest : List ℕ → List ℕ) (origin : List ℕ) (entries : List (List ℕ)) where
   -- a copy of fewer than n entries
   part_first : (n : ℕ) (first more : List (List ℕ)) → entries ≡ first ++ more → length first < n → n ≤ length entries →
-      (puts : Option (List Put)) (now : List Put) → puts ≡ Some now → (note : List ℕ) → IsCopy digest origin note first now →
-      HoldsFirst digest origin (take n entries) puts
+      (puts : Option (List Put)) (now : List Put) → puts ≡ Some now → (note : List ℕ) →
+      IsPrunedCopy digest origin note first now → HoldsFirst digest origin (take n entries) puts
   part_first n first more are less upto puts now is note copy =
       let k = n - length first in
       let sum : n ≡ length first + k = omega (arith, less) in
       let all : length entries ≡ length first + length more = ap length are ∙ length-append first more in
-      HoldsCopy now is note first (take k more) copy
+      HoldsPruned now is note first (take k more) copy
       (ap (take n) are ∙ ap (λ m. take m (first ++ more)) sum ∙ take-append-add first more k)
       (omega (arith, length-take k more, less, sum, all, upto))
 
   smaller : (c : Candidate) (copy : Option Candidate) (first : List (List ℕ)) (puts : Option (List Put)) →
-      StandsAs digest origin copy first puts → IsLargerThan copy c → length first < c.size.0
+      PrunedAs digest origin copy first puts → IsLargerThan copy c → length first < c.size.0
   smaller c None first puts s lt = absurd s
   smaller c (Some d) first None s lt = absurd s
   smaller c (Some d) first (Some now) s lt =
@@ -217,17 +217,17 @@ module _ (digest : List ℕ → List ℕ) (origin : List ℕ) (entries : List (L
   first_of_log c copy puts upto (HasNone held is none) known larger = HoldsNone held is none
   first_of_log c copy puts upto (HasPart h) known larger =
       part_first c.size.0 h.first h.more h.entries_are
-      (smaller c copy h.first puts (known.some h.held h.is h.note h.first h.copy) larger) upto puts h.held h.is h.note h.copy
+      (smaller c copy h.first puts (known.pruned h.held h.is h.note h.first h.copy) larger) upto puts h.held h.is h.note h.copy
 
   -- the same after turns that did not change it
-  pub first_later : (c : Candidate) (copy : Option Candidate) (puts now : Option (List Put)) → c.size.0 ≤ length entries →
+  part_later : (c : Candidate) (copy : Option Candidate) (puts now : Option (List Put)) → c.size.0 ≤ length entries →
       HoldsPart digest origin entries puts → HadCopy digest origin puts copy → IsCopyOfRun digest origin puts now copy →
       IsLargerThan copy c → HoldsFirst digest origin (take c.size.0 entries) now
-  first_later c copy puts now upto h had known larger =
-      later copy now (had.some h.held h.is h.note h.first h.copy) (known.some h.held h.is h.note h.first h.copy) larger
+  part_later c copy puts now upto h had known larger =
+      later copy now (had.pruned h.held h.is h.note h.first h.copy) (known.pruned h.held h.is h.note h.first h.copy) larger
     where
       later : (copy : Option Candidate) (now : Option (List Put)) → IsCopyRead h.note (length h.first) copy →
-          StandsAs digest origin copy h.first now → IsLargerThan copy c → HoldsFirst digest origin (take c.size.0 entries) now
+          PrunedAs digest origin copy h.first now → IsLargerThan copy c → HoldsFirst digest origin (take c.size.0 entries) now
       later None now read s lt = absurd s
       later (Some d) None read s lt = absurd s
       later (Some d) (Some w) read s lt =
@@ -236,31 +236,33 @@ module _ (digest : List ℕ → List ℕ) (origin : List ℕ) (entries : List (L
           let none : s.more ≡ [] =
           nil_from_length s.more (omega (arith, size, all, length-append h.first s.more)) in
           part_first c.size.0 h.first h.more h.entries_are (omega (arith, size, lt)) upto (Some w) w refl (note_of d)
-          (subst (λ l. IsCopy digest origin (note_of d) l w) (ap (λ m. h.first ++ m) none ∙ append-nil h.first) s.copy)
+          (subst (λ l. IsPrunedCopy digest origin (note_of d) l w) (ap (λ m. h.first ++ m) none ∙ append-nil h.first) s.copy)
 
-  under : (c : Candidate) (first : List (List ℕ)) (puts : Option (List Put)) →
-      InTheEnd puts (StandsUnder digest origin c first) → IsStanding digest origin c puts
-  under c first None h = absurd h
-  under c first (Some now) h = record { held = now; puts_are = refl; entries = first; under = h }
+  none_later : (c : Candidate) (now : Option (List Put)) → StandsOrNone digest origin None now →
+      HoldsFirst digest origin (take c.size.0 entries) now
+  none_later c None h = absurd h
+  none_later c (Some w) h = HoldsNone w refl h
+
+  pub first_later : (c : Candidate) (copy : Option Candidate) (puts now : Option (List Put)) → c.size.0 ≤ length entries →
+      HoldsPartOrNone digest origin entries puts → HadCopy digest origin puts copy → IsCopyOfRun digest origin puts now copy →
+      IsLargerThan copy c → HoldsFirst digest origin (take c.size.0 entries) now
+  first_later c copy puts now upto (HasPart h) had known larger = part_later c copy puts now upto h had known larger
+  first_later c copy puts now upto (HasNone held is none) had known larger =
+      none_later c now (subst (λ o. StandsOrNone digest origin o now) (had.none held is none) (known.none held is none))
 
   -- the shelf has the copy of a run
-  pub stands_now : (c : Candidate) (copy : Option Candidate) (puts now : Option (List Put)) → copy ≡ Some c →
-      HoldsPartOrNone digest origin entries puts → IsCopyOfRun digest origin puts now copy → HasStanding digest origin copy now
-  stands_now c copy puts now is h known =
-      subst (λ o. HasStanding digest origin o now) (sym is)
-      (stands h (subst (λ o. IsCopyOfRun digest origin puts now o) is known))
-    where
-      stands : HoldsPartOrNone digest origin entries puts → IsCopyOfRun digest origin puts now (Some c) →
-          IsStanding digest origin c now
-      stands (HasPart h) known = under c h.first now (known.some h.held h.is h.note h.first h.copy)
-      stands (HasNone held is none) known = under c [] now (known.none held is none)
+  pub stands_now : (copy : Option Candidate) (puts now : Option (List Put)) → HoldsPartOrNone digest origin entries puts →
+      IsCopyOfRun digest origin puts now copy → HasStanding digest origin copy now
+  stands_now copy puts now (HasPart h) known =
+      standing_as digest origin copy h.first now (known.pruned h.held h.is h.note h.first h.copy)
+  stands_now copy puts now (HasNone held is none) known = standing_none digest origin copy now (known.none held is none)
 
   -- the puts before the last turns are in the list of puts after them
   pub put_later : (notes : List (List ℕ)) (copy : Option Candidate) (puts now last : Option (List Put)) →
-      HoldsPart digest origin entries puts → IsCopyOfRun digest origin puts now copy →
-      KeepsCopies digest origin notes now last → (path : Path) (bytes : List ℕ) → WasPut now path bytes → WasPut last path bytes
+      HoldsPartOrNone digest origin entries puts → IsCopyOfRun digest origin puts now copy →
+      KeepsEach digest origin notes now last → (path : Path) (bytes : List ℕ) → WasPut now path bytes → WasPut last path bytes
   put_later notes copy puts now last h known keeps path bytes put =
-      later copy now last (known.some h.held h.is h.note h.first h.copy) keeps put
+      later copy now (stands_now copy puts now h known) keeps put
     where
       added : (held : List Put) (last : Option (List Put)) (puts : List Put) → AddsToRecord (Some held) last puts →
           Contains held (path, bytes) → WasPut last path bytes
@@ -268,12 +270,14 @@ module _ (digest : List ℕ → List ℕ) (origin : List ℕ) (entries : List (L
       added held (Some all) puts adds put =
           subst (λ (l : List Put). Contains l (path, bytes)) (sym adds) (Contains-append_left held puts (path, bytes) put)
 
-      later : (copy : Option Candidate) (now last : Option (List Put)) → StandsAs digest origin copy h.first now →
-          KeepsCopies digest origin notes now last → WasPut now path bytes → WasPut last path bytes
-      later None now last s keeps put = absurd s
-      later (Some d) None last s keeps put = absurd s
-      later (Some d) (Some w) last s keeps put =
-          let b = keeps.beyond w refl (note_of d) (h.first ++ s.more) s.copy in added w last b.puts b.recorded put
+      later : (copy : Option Candidate) (now : Option (List Put)) → HasStanding digest origin copy now →
+          KeepsEach digest origin notes now last → WasPut now path bytes → WasPut last path bytes
+      later None now s keeps put =
+          let b = keeps.whole.beyond_none s.held s.is s.none in
+          added s.held last b.puts b.recorded (subst (λ o. WasPut o path bytes) s.is put)
+      later (Some d) now s keeps put =
+          let b = (keeps.pruned s.held s.puts_are (note_of d) (s.entries ++ s.under.more) s.under.copy).beyond in
+          added s.held last b.puts b.recorded (subst (λ o. WasPut o path bytes) s.puts_are put)
 
 -- ---- the copy of a run
 
@@ -389,7 +393,7 @@ module _ (digest : List ℕ → List ℕ) {S : Type 0} (may : S → Path → Opt
     pub reached : 1 ≤ i → IsSorted turn_cmp cs → (new : Places S) → AsksAny may failed asked now new →
         (h : IsHonestFirst digest may x start new origin read cs) → HasReached read h.first copy
     pub passed : IsSorted turn_cmp cs → (new : Places S) (last : Option (List Put)) → AsksAny may failed asked now new →
-        KeepsCopies digest origin (map note_of cs) y last →
+        KeepsEach digest origin (map note_of cs) y last →
         (h : IsHonestListed digest may last start new origin x read cs) → Passes i h.candidate copy
 
   pub reach_begin : (copy : Option Candidate) → copy ≡ read → Reaching 0 x start copy
@@ -450,7 +454,7 @@ module _ (digest : List ℕ → List ℕ) {S : Type 0} (may : S → Path → Opt
         stood : HasReached read h.first copy → IsOfShelfOrMemory e
         stood r =
             never_ends (HasStanding digest origin copy y) e
-            (stands_now digest origin h.entries r.now copy x y r.is h.holds (known x h.known)) ends
+            (stands_now digest origin h.entries copy x y h.holds (known x h.known)) ends
 
     module _ (lt : i < length cs) (c : Candidate) (is : c ≡ get_or cs i c) (z : Option (List Put)) (next : Option Candidate)
         (suffices : Suffices (λ c. IsCopyNow c next)) (steps : StepsUp c copy next) where
@@ -474,7 +478,7 @@ module _ (digest : List ℕ → List ℕ) {S : Type 0} (may : S → Path → Opt
           ]
 
       module _ (rises : IsSorted turn_cmp cs) (new : Places S) (last : Option (List Put)) (r : Any b new)
-          (keeps : KeepsCopies digest origin (map note_of cs) y last) (h : Listed new last) (known : Known y copy)
+          (keeps : KeepsEach digest origin (map note_of cs) y last) (h : Listed new last) (known : Known y copy)
           (done : Passes i h.candidate copy) where
         abbrev Sized : Option Candidate → Type 0
         Sized o = HasSize h.candidate.size.0 o
@@ -552,12 +556,12 @@ module _ (digest : List ℕ → List ℕ) {S : Type 0} (may : S → Path → Opt
               ];
         }
 
-      pub reach_turn : Known y copy → KeepsCopies digest origin (map note_of cs) y z → Reaching (i + 1) z b next
+      pub reach_turn : Known y copy → KeepsEach digest origin (map note_of cs) y z → Reaching (i + 1) z b next
       reach_turn known kept = record {
         begun = λ e. absurd (omega (arith, e));
         reached = λ some rises new r h. reach_first rises new r h;
         passed = λ rises new last r keeps h.
-            let all = two_runs digest origin (map note_of cs) y last z kept keeps in
+            let all = each_then digest origin (map note_of cs) y last z kept keeps in
             passes_next rises new last r all h known
             (before.passed rises new last (any_then may failed asked a b new q r) all h);
       }
@@ -573,7 +577,7 @@ module _ (digest : List ℕ → List ℕ) {S : Type 0} (may : S → Path → Opt
       Reaching i y now copy → IsSorted turn_cmp cs → (h : Listed now y) → HasSize h.candidate.size.0 copy
   pass_all i y now copy le before rises h =
       (before.passed rises now y (any_same may failed asked now)
-      (no_run digest origin (map note_of cs) y y (kept_once y)) h).had h.candidate
+      (each_none digest origin (map note_of cs) y y (kept_once y)) h).had h.candidate
       (subst (λ (l : List Candidate). Contains l h.candidate) (sym (take_all i cs le)) h.listed) (refl, refl)
 
 -- ---- one turn

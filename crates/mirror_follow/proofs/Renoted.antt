@@ -19,12 +19,21 @@ use Rattle.mirror_export.proofs.AllFiles.{files_are_all}
 use Rattle.mirror_export.proofs.Standing.{stands_more}
 use Rattle.mirror_copy.specs.Copies.{IsCopy}
 use Rattle.mirror_copy.specs.Moments.{AtEachMoment, InTheEnd, IsBroughtTo, IsGrownCopy, KeepsCopy, PutsBeyond}
+use Rattle.mirror_copy.specs.Pruned.{HasGivenWay, IsGrownPruned, IsPrunedCopy, LeavesPruned}
+use Rattle.mirror_export.proofs.Moments.{has_after}
+use Rattle.mirror_sources.specs.Files.{full_of}
+use Rattle.mirror_sources.specs.Honest.{true_bytes}
+use Rattle.log_reader.specs.Holding.{IsTreeFile}
+use Rattle.tlog_tiles.proofs.EdgeLemmas.{contains_one}
+use Rattle.std.specs.Prelude.{Result, Ok}
 use Rattle.mirror_copy.proofs.CopyMoments.{copy_files}
 use Rattle.mirror_copy.proofs.TipReads.{stands_one}
 use Rattle.mirror_copy.proofs.WholeMoments.{none_found}
 use Rattle.mirror_follow.specs.Gathering.{note_of}
 use Rattle.mirror_follow.specs.Renoting.{IsNotePut}
-use Rattle.mirror_follow.specs.Standing.{IsHeadOf}
+use Rattle.mirror_follow.specs.Runs.{KeepsUnder}
+use Rattle.mirror_follow.specs.Standing.{EachIsBrought, IsHeadOf}
+use Rattle.mirror_follow.proofs.Runs.{each_one}
 use Rattle.mirror_follow.specs.declared.candidate.Candidate.{Candidate}
 
 -- at each moment of one put, nothing was put yet, or the put was made
@@ -113,6 +122,70 @@ module _ (digest : List ℕ → List ℕ) (origin note : List ℕ) where
       | inr last ↦ inr (subst (IsGrownCopy digest origin note entries) last renoted_grown)
     ]
 
+  -- the same for a copy whose partial files may be replaced by full ones
+  module _ (held : List Put) (there : List ℕ) (stood : Stands held Checkpoint there) (size : ℕ) (root : List ℕ)
+      (first : IsHead there origin size root) (second : IsHead note origin size root) (old_note : List ℕ)
+      (entries : List (List ℕ)) (copy : IsPrunedCopy digest origin old_note entries held) where
+    abbrev next : List Put
+    next = held ++ put ∷ []
+
+    still : (path : Path) → path ≢ Checkpoint → (bytes : List ℕ) → Stands held path bytes → Stands next path bytes
+    still path other bytes s = stands_more held (put ∷ []) path bytes s (λ b has. absurd (other (only path b has)))
+
+    not_checkpoint : (path : Path) → IsTreeFile (length entries) path → (path ≢ Checkpoint) × (full_of path ≢ Checkpoint)
+    not_checkpoint Checkpoint file = absurd file
+    not_checkpoint (Tile level index width) file = (λ e. cc, λ e. cc)
+    not_checkpoint (Entries index width) file = (λ e. cc, λ e. cc)
+
+    way : (path : Path) → IsTreeFile (length entries) path → HasGivenWay digest entries held path →
+        HasGivenWay digest entries next path
+    way path file g = record {
+      partial = g.partial;
+      gone = λ has. (not_checkpoint path file).0
+          (sym (contains_one Checkpoint path (has_after held (put ∷ []) path g.gone has)));
+      full = g.full;
+      stands = still (full_of path) (not_checkpoint path file).1 g.full g.stands;
+      begins = g.begins;
+    }
+
+    replaced_head : IsHead note origin (length entries) (mth digest entries)
+    replaced_head =
+        let was : there ≡ old_note = stands_one held Checkpoint there old_note stood copy.note_stands in
+        let once = head_once old_note origin origin size (length entries) root (mth digest entries)
+        (subst (λ n. IsHead n origin size root) was first) copy.is_head in
+        subst (λ n. IsHead note origin n (mth digest entries)) once.size_is
+        (subst (λ r. IsHead note origin size r) once.root_is second)
+
+    replaced : IsPrunedCopy digest origin note entries next
+    replaced = record {
+      short = copy.short;
+      is_head = replaced_head;
+      note_stands = record {
+        before = held;
+        after = [];
+        puts_are = refl;
+        kept = λ other has. absurd (let lt : has.0 < 0 = has.1 in omega (arith, lt));
+      };
+      files = λ path file. elim (copy.files path file) [
+        | inl s ↦ inl (still path (not_checkpoint path file).0 (true_bytes digest entries path) s)
+        | inr g ↦ inr (way path file g)
+      ];
+    }
+
+    pub replaced_grown : IsGrownPruned digest origin note entries next
+    replaced_grown = record {
+      more = [];
+      copy = subst (λ (l : List (List ℕ)). IsPrunedCopy digest origin note l next) (sym (append-nil entries)) replaced;
+      kept = replaced.files;
+    }
+
+    pub replaced_moment : (new now : List Put) → new ≡ next → IsMoment held new now →
+        IsPrunedCopy digest origin old_note entries now ⊎ IsGrownPruned digest origin note entries now
+    replaced_moment new now is at = elim (moments_are held put now (subst (λ l. IsMoment held l now) is at)) [
+      | inl before ↦ inl (subst (IsPrunedCopy digest origin old_note entries) (sym before) copy)
+      | inr last ↦ inr (subst (IsGrownPruned digest origin note entries) last replaced_grown)
+    ]
+
   module _ (x z : Option (List Put)) (there : List ℕ) (size : ℕ) (root : List ℕ) (first : IsHead there origin size root)
       (second : IsHead note origin size root) (p : IsNotePut x z there note) where
     stood_at : (held : List Put) → x ≡ Some held → Stands held Checkpoint there
@@ -143,7 +216,7 @@ module _ (digest : List ℕ → List ℕ) (origin note : List ℕ) where
           let P : Put → Type 0 = λ put. ¬ IsWithin n put.0 in All-cons P put [] (λ within. within) (All-nil P);
     }
 
-    pub note_keeps : KeepsCopy digest origin note x z
+    note_keeps : KeepsCopy digest origin note x z
     note_keeps = record {
       copy = λ held is old_note entries copy.
           each held z (recorded_at held is)
@@ -154,13 +227,35 @@ module _ (digest : List ℕ → List ℕ) (origin note : List ℕ) where
       beyond_none = λ held is none. absurd (no_none held is none);
     }
 
-    pub note_brought : IsBroughtTo digest origin note x z
+    pub note_leaves : {T E : Type 0} (a : T) → LeavesPruned digest origin {E = E} note x z (Ok a)
+    note_leaves a held is old_note entries copy = record {
+      moments = each held z (recorded_at held is)
+          (λ now. IsPrunedCopy digest origin old_note entries now ⊎ IsGrownPruned digest origin note entries now)
+          (λ new e now at. replaced_moment held there (stood_at held is) size root first second old_note entries copy new now e at);
+      beyond = beyond (length entries) held is;
+      brought = last held z (recorded_at held is) (IsGrownPruned digest origin note entries)
+          (replaced_grown held there (stood_at held is) size root first second old_note entries copy);
+      stays = tt;
+    }
+
+    note_brought : IsBroughtTo digest origin note x z
     note_brought = record {
       copy = λ held is old_note entries copy.
           last held z (recorded_at held is) (IsGrownCopy digest origin note entries)
           (renoted_grown held there (stood_at held is) size root first second old_note entries copy);
       none = λ held is none. absurd (no_none held is none);
     }
+
+    pub note_follows : EachIsBrought digest origin note x z
+    note_follows = record {
+      whole = note_brought;
+      pruned = λ held is old_note entries copy.
+          (note_leaves {T = ℕ} {E = ℕ} 0 held is old_note entries copy).brought;
+    }
+
+    pub note_kept : KeepsUnder digest origin note x z
+    note_kept = λ notes listed.
+        each_one digest origin notes {T = ℕ} {E = ℕ} note x z (Ok 0) listed note_keeps (note_leaves {T = ℕ} {E = ℕ} 0)
 
 -- a checkpoint of the size and root of another
 pub head_as : (origin : List ℕ) (a b : Candidate) → IsHeadOf origin a → a.size.0 ≡ b.size.0 → a.root ≡ b.root →

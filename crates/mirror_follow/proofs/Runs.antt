@@ -20,12 +20,14 @@ use Rattle.mirror_export.proofs.AllFiles.{files_are_all}
 use Rattle.mirror_export.proofs.Standing.{stands_more}
 use Rattle.mirror_copy.specs.Copies.{IsCopy}
 use Rattle.mirror_copy.specs.Moments.{AtEachMoment, IsGrownCopy, KeepsCopy, PutsBeyond}
+use Rattle.mirror_copy.specs.Pruned.{IsGrownPruned, IsPrunedCopy, LeavesPruned}
+use Rattle.std.specs.Prelude.{Result}
 use Rattle.mirror_copy.proofs.Growth.{adds_then}
 use Rattle.mirror_copy.proofs.Prefixes.{within_more}
-use Rattle.mirror_copy.proofs.WholeMoments.{at_kept, whole_same}
+use Rattle.mirror_copy.proofs.WholeMoments.{at_kept, beyond_same, whole_same}
 use Rattle.mirror_follow.specs.Gathering.{note_of}
 use Rattle.mirror_follow.specs.declared.candidate.Candidate.{Candidate}
-use Rattle.mirror_follow.specs.Runs.{IsGrownUnder, KeepsCopies, RunsKeepCopies}
+use Rattle.mirror_follow.specs.Runs.{IsGrownUnder, IsPrunedUnder, KeepsCopies, KeepsEach, KeepsPrunedCopies, KeepsPrunedCopy, RunsKeepCopies}
 
 -- ---- moments of two calls
 
@@ -295,6 +297,101 @@ module _ (digest : List ℕ → List ℕ) (origin : List ℕ) (notes : List (Lis
         beyond = k.beyond;
         beyond_none = k.beyond_none;
       }
+
+-- ---- runs over a copy whose partial files may be replaced by full ones
+
+module _ (digest : List ℕ → List ℕ) (origin : List ℕ) (notes : List (List ℕ)) where
+  abbrev Replaced : List (List ℕ) → List Put → Type 0
+  Replaced entries puts = IsPrunedUnder digest origin notes entries puts
+
+  abbrev Either : List ℕ → List (List ℕ) → List Put → Type 0
+  Either note entries now = IsPrunedCopy digest origin note entries now ⊎ Replaced entries now
+
+  -- a copy that has grown twice has grown
+  replaced_more : (entries more : List (List ℕ)) (now : List Put) → Replaced (entries ++ more) now → Replaced entries now
+  replaced_more entries more now g = record {
+    note = g.note;
+    listed = g.listed;
+    more = more ++ g.more;
+    copy = subst (λ (l : List (List ℕ)). IsPrunedCopy digest origin g.note l now) (append_assoc entries more g.more) g.copy;
+  }
+
+  module _ (held mid : List Put) (w : Option (List Put)) (second : KeepsPrunedCopies digest origin notes (Some mid) w)
+      (note : List ℕ) (entries : List (List ℕ)) (b : PutsBeyond (length entries) held (Some mid))
+      (f : (now : List Put) → IsMoment held mid now → Either note entries now) where
+    replaced_then : Either note entries mid → KeepsPrunedCopy digest origin notes note entries held w
+    replaced_then (inl still) =
+        let k = second mid refl note entries still in
+        record {
+          moments = splice held mid b.puts k.beyond.puts w (Either note entries) b.recorded k.beyond.recorded f k.moments;
+          beyond = beyond_then (length entries) held mid w b k.beyond;
+        }
+    replaced_then (inr g) =
+        let all = entries ++ g.more in
+        let k = second mid refl g.note all g.copy in
+        let b' = beyond_fewer (length entries) (length all) mid w (omega (arith, length-append entries g.more)) k.beyond in
+        record {
+          moments = splice held mid b.puts b'.puts w (Either note entries) b.recorded b'.recorded f
+              (at_each_weaker mid w (Either g.note all) (Either note entries)
+              (λ new now is at so. elim so [
+                | inl still ↦ inr (record { note = g.note; listed = g.listed; more = g.more; copy = still })
+                | inr more ↦ inr (replaced_more entries g.more now more)
+              ])
+              k.moments);
+          beyond = beyond_then (length entries) held mid w b b';
+        }
+
+  replaced_runs : (old mid w : Option (List Put)) → KeepsPrunedCopies digest origin notes old mid →
+      KeepsPrunedCopies digest origin notes mid w → KeepsPrunedCopies digest origin notes old w
+  replaced_runs old None w first second held is note entries copy = absurd (first held is note entries copy).moments
+  replaced_runs old (Some mid) w first second held is note entries copy =
+      let k = first held is note entries copy in
+      replaced_then held mid w second note entries k.beyond k.moments
+      (k.moments mid (end_is held mid k.beyond.puts k.beyond.recorded))
+
+  replaced_one : {T E : Type 0} (note : List ℕ) (old w : Option (List Put)) (r : Result T E) → Contains notes note →
+      LeavesPruned digest origin note old w r → KeepsPrunedCopies digest origin notes old w
+  replaced_one note old w r listed leaves held is old_note entries copy =
+      let k = leaves held is old_note entries copy in
+      record {
+        moments = at_each_weaker held w
+            (λ now. IsPrunedCopy digest origin old_note entries now ⊎ IsGrownPruned digest origin note entries now)
+            (Either old_note entries)
+            (λ new now e at so. elim so [
+              | inl still ↦ inl still
+              | inr grown ↦ inr (record { note = note; listed = listed; more = grown.more; copy = grown.copy })
+            ])
+            k.moments;
+        beyond = k.beyond;
+      }
+
+  -- ---- runs over each copy
+
+  -- a call that puts nothing
+  pub each_none : (old w : Option (List Put)) → KeepsRecord old w → KeepsEach digest origin notes old w
+  each_none old w kept = record {
+    whole = no_run digest origin notes old w kept;
+    pruned = λ held is note entries copy. record {
+      moments = at_kept old w held is kept (Either note entries) (inl copy);
+      beyond = beyond_same (length entries) held old w is kept;
+    };
+  }
+
+  -- a call that brings a copy to one of the notes
+  pub each_one : {T E : Type 0} (note : List ℕ) (old w : Option (List Put)) (r : Result T E) → Contains notes note →
+      KeepsCopy digest origin note old w → LeavesPruned digest origin note old w r → KeepsEach digest origin notes old w
+  each_one note old w r listed keeps leaves = record {
+    whole = one_run digest origin notes note old w listed keeps;
+    pruned = replaced_one note old w r listed leaves;
+  }
+
+  -- two runs in sequence
+  pub each_then : (old w mid : Option (List Put)) → KeepsEach digest origin notes old mid →
+      KeepsEach digest origin notes mid w → KeepsEach digest origin notes old w
+  each_then old w mid first second = record {
+    whole = two_runs digest origin notes old w mid first.whole second.whole;
+    pruned = replaced_runs old mid w first.pruned second.pruned;
+  }
 
 pub runs_keep_copies : RunsKeepCopies
 runs_keep_copies = record {

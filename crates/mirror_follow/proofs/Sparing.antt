@@ -7,7 +7,7 @@ use Rattle.tlog_tiles.specs.declared.paths.Path.{Path}
 use Rattle.mirror_sources.specs.Recorded.{KeepsRecord}
 use Rattle.mirror_folders.specs.Shelf.{Put}
 use Rattle.mirror_copy.specs.AskedForCopy.{AsksFiles, AsksForCopy, AsksNothing, BlamesFailed}
-use Rattle.mirror_copy.specs.Moments.{HadSize}
+use Rattle.mirror_copy.specs.Pruned.{HadSize}
 use Rattle.mirror_copy.specs.declared.fault.BringFault.{BringFault}
 use Rattle.mirror_copy.specs.declared.fault.BringFault.TheVariants as bring
 use Rattle.mirror_copy.specs.declared.places.Places.{Places}
@@ -160,6 +160,7 @@ module _ (digest : List ℕ → List ℕ) {S : Type 0} (may : S → Path → Opt
   had_before : (x y : Option (List Put)) → KeepsRecord x y → (n : ℕ) → HadSize digest origin y n → HadSize digest origin x n
   had_before None y kept n h = record {
     copy = λ held is. absurd (cc is);
+    pruned = λ held is. absurd (cc is);
     none = λ held is. absurd (cc is);
   }
   had_before (Some us) None kept n h = absurd kept
@@ -218,3 +219,9 @@ pub lacks_spares : {S : Type 0} (may : S → Path → Option (List ℕ) → Type
     e ≡ fault.NoFile → Q
 lacks_spares may origin keys x y Q None e h is = absurd (subst (GivesNoneBy may origin keys x y) is h)
 lacks_spares may origin keys x y Q (Some note) e h is = absurd (subst (RefusesGiven origin keys note) is h)
+
+-- an outcome that is kept
+pub same_spares : {E : Type 0} (r : Result Outcome E) (t : Outcome) (P : Type 0) → IfOk r (λ now. now ≡ t) →
+    (t ≡ turn.NotHad fault.NoFile → P) → IfOk r (λ now. now ≡ turn.NotHad fault.NoFile → P)
+same_spares (Ok u) t P same h = λ e. h (sym same ∙ e)
+same_spares (Err e) t P same h = tt

@@ -8,13 +8,16 @@ use Rattle.mirror_model.proofs.HeadNotes.{head_once}
 use Rattle.mirror_sources.specs.Recorded.{KeepsRecord}
 use Rattle.mirror_folders.specs.Shelf.{Put, HasPut, Stands, RecordsRead}
 use Rattle.mirror_copy.specs.Copies.{IsCopy}
-use Rattle.mirror_copy.specs.Moments.{CopyStays, HadSize, InTheEnd, IsBroughtTo, IsGrownCopy}
+use Rattle.mirror_copy.specs.Moments.{CopyStays, InTheEnd, IsBroughtTo, IsGrownCopy}
+use Rattle.mirror_copy.specs.Pruned.{HadSize, IsGrownPruned, IsPrunedCopy, LeavesPruned}
+use Rattle.mirror_copy.proofs.PrunedFiles.{copies_are_pruned}
+use Rattle.mirror_copy.proofs.PrunedMoments.{leaves_same}
 use Rattle.mirror_copy.proofs.Stays.{stays_same}
 use Rattle.mirror_export.proofs.AllFiles.{files_are_all}
-use Rattle.mirror_copy.proofs.TipReads.{stands_one}
+use Rattle.mirror_copy.proofs.TipReads.{stands_has, stands_one}
 use Rattle.mirror_copy.proofs.WholeMoments.{copy_found, none_found}
 use Rattle.mirror_follow.specs.Gathering.{note_of}
-use Rattle.mirror_follow.specs.Standing.{HadCopy, HasCopy, IsCopyNow, IsCopyOfRun, IsFollowed, IsFoundCopy, IsHeadOf, IsSame, KnowsAfter, StandsAfter, StandsAs, StandsOrNone, StandsUnder, size_of_copy}
+use Rattle.mirror_follow.specs.Standing.{EachIsBrought, EachStays, HadCopy, HasCopy, HasPruned, HasStanding, IsCopyNow, IsCopyOfRun, IsFollowed, IsFoundCopy, IsHeadOf, IsSame, KnowsAfter, PrunedAs, PrunedUnder, StandsAfter, StandsAs, StandsOrNone, StandsUnder, size_of_copy}
 use Rattle.mirror_follow.specs.declared.candidate.Candidate.{Candidate}
 use Rattle.mirror_follow.specs.declared.report.Followed.{Followed}
 use Rattle.mirror_follow.specs.declared.report.Outcome.{Outcome}
@@ -58,11 +61,29 @@ module _ (digest : List ℕ → List ℕ) (origin : List ℕ) where
   none_stays None y w h s = none_end y w h s
   none_stays (Some c) y w h s = under_stays c [] y w h s
 
+  replaced_stays : (copy : Option Candidate) (entries : List (List ℕ)) (y w : Option (List Put)) →
+      PrunedAs digest origin copy entries y → EachStays digest origin y w → PrunedAs digest origin copy entries w
+  replaced_stays None entries y w h s = absurd h
+  replaced_stays (Some c) entries None w h s = absurd h
+  replaced_stays (Some c) entries (Some ys) w h s =
+      end_weaker w (IsPrunedCopy digest origin (note_of c) (entries ++ h.more)) (PrunedUnder digest origin c entries)
+      (λ now copy. record { more = h.more; copy = copy; size_is = h.size_is; root_is = h.root_is })
+      (s.pruned ys refl (note_of c) (entries ++ h.more) h.copy)
+
   pub known_stays : (x y w : Option (List Put)) (copy : Option Candidate) → Known x y copy →
-      CopyStays digest origin y w → Known x w copy
+      EachStays digest origin y w → Known x w copy
   known_stays x y w copy k s = record {
-    some = λ held is note entries c. as_stays copy entries y w (k.some held is note entries c) s;
-    none = λ held is none. none_stays copy y w (k.none held is none) s;
+    some = λ held is note entries c. as_stays copy entries y w (k.some held is note entries c) s.whole;
+    pruned = λ held is note entries c. replaced_stays copy entries y w (k.pruned held is note entries c) s;
+    none = λ held is none. none_stays copy y w (k.none held is none) s.whole;
+  }
+
+  -- a call that puts nothing
+  pub each_same : (y w : Option (List Put)) → KeepsRecord y w → EachStays digest origin y w
+  each_same y w kept = record {
+    whole = stays_same digest origin y w kept;
+    pruned = λ held is note entries copy.
+        (leaves_same digest origin note {T = ℕ} {E = ℕ} y w kept 0 held is note entries copy).stays;
   }
 
   -- ---- a call that brings the copy to a candidate
@@ -106,12 +127,72 @@ module _ (digest : List ℕ → List ℕ) (origin : List ℕ) where
     none_brought None y w h b = first_brought y w h b
     none_brought (Some old) y w h b = under_brought old [] y w h b
 
+    replaced_under : (entries more : List (List ℕ)) (now : List Put) →
+        IsGrownPruned digest origin (note_of c) (entries ++ more) now → PrunedUnder digest origin c entries now
+    replaced_under entries more now g =
+        let all = entries ++ (more ++ g.more) in
+        let copy : IsPrunedCopy digest origin (note_of c) all now =
+        subst (λ (l : List (List ℕ)). IsPrunedCopy digest origin (note_of c) l now) (append_assoc entries more g.more) g.copy in
+        let once = head_once (note_of c) origin origin c.size.0 (length all) c.root (mth digest all) head copy.is_head in
+        record { more = more ++ g.more; copy = copy; size_is = once.size_is; root_is = once.root_is }
+
+    replaced_brought : (copy : Option Candidate) (entries : List (List ℕ)) (y w : Option (List Put)) →
+        PrunedAs digest origin copy entries y → EachIsBrought digest origin (note_of c) y w →
+        InTheEnd w (PrunedUnder digest origin c entries)
+    replaced_brought None entries y w h b = absurd h
+    replaced_brought (Some old) entries None w h b = absurd h
+    replaced_brought (Some old) entries (Some ys) w h b =
+        end_weaker w (IsGrownPruned digest origin (note_of c) (entries ++ h.more)) (PrunedUnder digest origin c entries)
+        (λ now g. replaced_under entries h.more now g) (b.pruned ys refl (note_of old) (entries ++ h.more) h.copy)
+
     pub known_brought : (x y w : Option (List Put)) (copy : Option Candidate) → Known x y copy →
-        IsBroughtTo digest origin (note_of c) y w → Known x w (Some c)
+        EachIsBrought digest origin (note_of c) y w → Known x w (Some c)
     known_brought x y w copy k b = record {
-      some = λ held is note entries h. as_brought copy entries y w (k.some held is note entries h) b;
-      none = λ held is none. none_brought copy y w (k.none held is none) b;
+      some = λ held is note entries h. as_brought copy entries y w (k.some held is note entries h) b.whole;
+      pruned = λ held is note entries h. replaced_brought copy entries y w (k.pruned held is note entries h) b;
+      none = λ held is none. none_brought copy y w (k.none held is none) b.whole;
     }
+
+  -- ---- the shelf has the copy of a run
+
+  all_under : (c : Candidate) (entries : List (List ℕ)) (now : List Put) → Under c entries now →
+      PrunedUnder digest origin c entries now
+  all_under c entries now u = record {
+    more = u.more;
+    copy = copies_are_pruned digest origin (note_of c) (entries ++ u.more) now u.copy;
+    size_is = u.size_is;
+    root_is = u.root_is;
+  }
+
+  pub standing_as : (copy : Option Candidate) (entries : List (List ℕ)) (w : Option (List Put)) →
+      PrunedAs digest origin copy entries w → HasStanding digest origin copy w
+  standing_as None entries w h = absurd h
+  standing_as (Some c) entries None h = absurd h
+  standing_as (Some c) entries (Some now) h = record { held = now; puts_are = refl; entries = entries; under = h }
+
+  pub standing_none : (copy : Option Candidate) (w : Option (List Put)) → StandsOrNone digest origin copy w →
+      HasStanding digest origin copy w
+  standing_none None None h = absurd h
+  standing_none None (Some now) h = record { held = now; is = refl; none = h }
+  standing_none (Some c) None h = absurd h
+  standing_none (Some c) (Some now) h =
+      record { held = now; puts_are = refl; entries = []; under = all_under c [] now h }
+
+  -- ---- a call of bring_copy
+
+  pub brought_after : {T E : Type 0} (note : List ℕ) (y w : Option (List Put)) (a : T) → IsBroughtTo digest origin note y w →
+      LeavesPruned digest origin {E = E} note y w (Ok a) → EachIsBrought digest origin note y w
+  brought_after note y w a brought leaves = record {
+    whole = brought;
+    pruned = λ held is old_note entries copy. (leaves held is old_note entries copy).brought;
+  }
+
+  pub stayed_after : {T E : Type 0} (note : List ℕ) (y w : Option (List Put)) (e : E) → CopyStays digest origin y w →
+      LeavesPruned digest origin {T = T} note y w (Err e) → EachStays digest origin y w
+  stayed_after note y w e stays leaves = record {
+    whole = stays;
+    pruned = λ held is old_note entries copy. (leaves held is old_note entries copy).stays;
+  }
 
   -- ---- a turn
 
@@ -128,7 +209,7 @@ module _ (digest : List ℕ → List ℕ) (origin : List ℕ) where
       subst (λ o. Known x w o) (sym n.is) (f n.now (same_head c n.now n.same head) n.same.note_is)
 
   kept_known : (x y w : Option (List Put)) (old new : Option Candidate) → new ≡ old → Known x y old →
-      CopyStays digest origin y w → Known x w new
+      EachStays digest origin y w → Known x w new
   kept_known x y w old new e k s = subst (λ o. Known x w o) (sym e) (known_stays x y w old k s)
 
   pub known_after : (c : Candidate) (x y w : Option (List Put)) (old new : Option Candidate) (t : Outcome) →
@@ -136,7 +217,7 @@ module _ (digest : List ℕ → List ℕ) (origin : List ℕ) where
   known_after c x y w old new turn.Agrees head k s n = kept_known x y w old new n k s
   known_after c x y w old new turn.Brought head k s n =
       known_now c x w new head n (λ d is e. known_brought d is x y w old k
-      (subst (λ note. IsBroughtTo digest origin note y w) (sym e) s))
+      (subst (λ note. EachIsBrought digest origin note y w) (sym e) s))
   known_after c x y w old new (turn.Forks proof) head k s n = kept_known x y w old new n k s
   known_after c x y w old new turn.Contradicts head k s n = kept_known x y w old new n k s
   known_after c x y w old new (turn.NotHad fault) head k s n = kept_known x y w old new n k s
@@ -156,10 +237,26 @@ module _ (digest : List ℕ → List ℕ) (origin : List ℕ) where
     some = λ held is note entries copy.
         under_stays c entries (Some held) y (read_under held note entries copy (subst (λ o. RecordsRead o Checkpoint (Some (note_of c))) is there))
         (subst (λ o. CopyStays digest origin o y) is (stays_same digest origin x y kept));
+    pruned = λ held is note entries copy.
+        replaced_stays (Some c) entries (Some held) y
+        (read_replaced held note entries copy (subst (λ o. RecordsRead o Checkpoint (Some (note_of c))) is there))
+        (subst (λ o. EachStays digest origin o y) is (each_same x y kept));
     none = λ held is none.
         absurd (cc (none_found held (Some (note_of c)) (subst (λ o. RecordsRead o Checkpoint (Some (note_of c))) is there) none));
   }
     where
+      read_replaced : (held : List Put) (note : List ℕ) (entries : List (List ℕ)) → IsPrunedCopy digest origin note entries held →
+          Stands held Checkpoint (note_of c) → PrunedUnder digest origin c entries held
+      read_replaced held note entries copy there =
+          let e : note_of c ≡ note = stands_one held Checkpoint (note_of c) note there copy.note_stands in
+          let all : entries ++ [] ≡ entries = append-nil entries in
+          let copy' : IsPrunedCopy digest origin (note_of c) (entries ++ []) held =
+          subst (λ (l : List (List ℕ)). IsPrunedCopy digest origin (note_of c) l held) (sym all)
+          (subst (λ n. IsPrunedCopy digest origin n entries held) (sym e) copy) in
+          let once = head_once (note_of c) origin origin c.size.0 (length (entries ++ [])) c.root (mth digest (entries ++ []))
+          head copy'.is_head in
+          record { more = []; copy = copy'; size_is = once.size_is; root_is = once.root_is }
+
       read_under : (held : List Put) (note : List ℕ) (entries : List (List ℕ)) → IsCopy digest origin note entries held →
           Stands held Checkpoint (note_of c) → Under c entries held
       read_under held note entries copy there =
@@ -172,13 +269,31 @@ module _ (digest : List ℕ → List ℕ) (origin : List ℕ) where
           head copy'.is_head in
           record { more = []; copy = copy'; size_is = once.size_is; root_is = once.root_is }
 
+  not_replaced : (x : Option (List Put)) → RecordsRead x Checkpoint None → (held : List Put) → x ≡ Some held →
+      (note : List ℕ) (entries : List (List ℕ)) → IsPrunedCopy digest origin note entries held → ⊥
+  not_replaced x there held is note entries copy =
+      (subst (λ o. RecordsRead o Checkpoint None) is there) (stands_has held Checkpoint note copy.note_stands)
+
   known_none : (x y : Option (List Put)) → RecordsRead x Checkpoint None → KeepsRecord x y → Known x y None
   known_none x y there kept = record {
     some = λ held is note entries copy.
         absurd (copy_found digest origin note entries held None copy (subst (λ o. RecordsRead o Checkpoint None) is there) refl);
+    pruned = λ held is note entries copy. absurd (not_replaced x there held is note entries copy);
     none = λ held is none.
         none_end (Some held) y none (subst (λ o. CopyStays digest origin o y) is (stays_same digest origin x y kept));
   }
+
+  -- the note and the size that were read are those of a copy whose partial files may be replaced
+  replaced_once : (x : Option (List Put)) (c : Candidate) → IsHeadOf origin c → RecordsRead x Checkpoint (Some (note_of c)) →
+      (held : List Put) → x ≡ Some held → (note : List ℕ) (entries : List (List ℕ)) →
+      IsPrunedCopy digest origin note entries held → (note_of c ≡ note) × (c.size.0 ≡ length entries)
+  replaced_once x c head there held is note entries copy =
+      let e : note_of c ≡ note = stands_one held Checkpoint (note_of c) note
+      (subst (λ o. RecordsRead o Checkpoint (Some (note_of c))) is there) copy.note_stands in (
+        e,
+        (head_once note origin origin c.size.0 (length entries) c.root (mth digest entries)
+            (subst (λ b. IsHead b origin c.size.0 c.root) e head) copy.is_head).size_is,
+      )
 
   had_first : (x : Option (List Put)) (c : Candidate) → IsHeadOf origin c → RecordsRead x Checkpoint (Some (note_of c)) →
       HadSize digest origin x c.size.0
@@ -188,6 +303,7 @@ module _ (digest : List ℕ → List ℕ) (origin : List ℕ) where
         (subst (λ b. IsHead b origin c.size.0 c.root)
         (checkpoint_one note entries held copy (note_of c) (subst (λ o. RecordsRead o Checkpoint (Some (note_of c))) is there)) head)
         copy.is_head).size_is;
+    pruned = λ held is note entries copy. (replaced_once x c head there held is note entries copy).1;
     none = λ held is none.
         absurd (cc (none_found held (Some (note_of c)) (subst (λ o. RecordsRead o Checkpoint (Some (note_of c))) is there) none));
   }
@@ -203,6 +319,7 @@ module _ (digest : List ℕ → List ℕ) (origin : List ℕ) where
           (head_once note origin origin c.size.0 (length entries) c.root (mth digest entries)
               (subst (λ b. IsHead b origin c.size.0 c.root) e head) copy.is_head).size_is,
         );
+    pruned = λ held is note entries copy. replaced_once x c head there held is note entries copy;
     none = λ held is none.
         absurd (cc (none_found held (Some (note_of c)) (subst (λ o. RecordsRead o Checkpoint (Some (note_of c))) is there) none));
   }
@@ -211,6 +328,7 @@ module _ (digest : List ℕ → List ℕ) (origin : List ℕ) where
   read_none x there = record {
     some = λ held is note entries copy.
         absurd (copy_found digest origin note entries held None copy (subst (λ o. RecordsRead o Checkpoint None) is there) refl);
+    pruned = λ held is note entries copy. absurd (not_replaced x there held is note entries copy);
     none = λ held is none. refl;
   }
 
@@ -218,6 +336,7 @@ module _ (digest : List ℕ → List ℕ) (origin : List ℕ) where
   had_none x there = record {
     copy = λ held is note entries copy.
         absurd (copy_found digest origin note entries held None copy (subst (λ o. RecordsRead o Checkpoint None) is there) refl);
+    pruned = λ held is note entries copy. absurd (not_replaced x there held is note entries copy);
     none = λ held is none. refl;
   }
 
@@ -256,6 +375,16 @@ module _ (digest : List ℕ → List ℕ) (origin : List ℕ) where
         some = λ held e note entries h.
             end_weaker w (Under c entries) (HasCopy digest origin f.size f.root entries)
             (λ now u. has_copy c f.size f.root entries now size_is root_is u) (k'.some held e note entries h);
+        pruned = λ held e note entries h.
+            end_weaker w (PrunedUnder digest origin c entries) (HasPruned digest origin f.size f.root entries)
+            (λ now u. record {
+              note = note_of c;
+              more = u.more;
+              copy = u.copy;
+              size_is = size_is ∙ u.size_is;
+              root_is = root_is ∙ u.root_is;
+            })
+            (k'.pruned held e note entries h);
         none = λ held e none.
             end_weaker w (Under c []) (HasCopy digest origin f.size f.root [])
             (λ now u. has_copy c f.size f.root [] now size_is root_is u) (k'.none held e none);
@@ -285,9 +414,9 @@ head_after origin c old new (turn.NotHad fault) head e h = subst (λ o. IfSome o
 pub after_same : (digest : List ℕ → List ℕ) (origin : List ℕ) (c : Candidate) (x y : Option (List Put)) {E : Type 0}
     (r : Result Outcome E) → KeepsRecord x y →
     IfOk r (λ t. (digest : List ℕ → List ℕ) (origin : List ℕ) (old new : Option (List Put)) →
-    CopyStays digest origin old new → StandsAfter digest origin c old new t) →
+    EachStays digest origin old new → StandsAfter digest origin c old new t) →
     IfOk r (λ t. StandsAfter digest origin c x y t)
-after_same digest origin c x y (Ok t) kept h = h digest origin x y (stays_same digest origin x y kept)
+after_same digest origin c x y (Ok t) kept h = h digest origin x y (each_same digest origin x y kept)
 after_same digest origin c x y (Err e) kept h = tt
 
 -- the answer of a report
@@ -299,3 +428,12 @@ pub followed_by : (digest : List ℕ → List ℕ) (origin : List ℕ) (x w : Op
 followed_by digest origin x w copy had (Err e) is old h k = tt
 followed_by digest origin x w copy had (Ok f) is old h k =
     followed digest origin x w copy is.0 f is.1 is.2 is.3 (subst (λ n. HadSize digest origin x n) (sym old) h) k
+
+-- a call of bring_copy that ended by a fault
+pub turned_after : (digest : List ℕ → List ℕ) (origin : List ℕ) (c : Candidate) (x y : Option (List Put)) {E : Type 0}
+    (r : Result Outcome E) → EachStays digest origin x y →
+    IfOk r (λ t. (digest : List ℕ → List ℕ) (origin : List ℕ) (candidate : Candidate) (old new : Option (List Put)) →
+    EachStays digest origin old new → StandsAfter digest origin candidate old new t) →
+    IfOk r (λ t. StandsAfter digest origin c x y t)
+turned_after digest origin c x y (Ok t) stays h = h digest origin c x y stays
+turned_after digest origin c x y (Err e) stays h = tt

@@ -44,6 +44,27 @@ EndsRun damaged in_use OutOfMemory = ⊤
 abbrev pub EndsAt : Type 0 → FollowFault → Type 0
 EndsAt so fault = EndsRun so so fault
 
+-- the fault is not that of a missing file
+abbrev pub IsNoLack : FollowFault → Type 0
+IsNoLack NoCheckpoint = ⊤
+IsNoLack (Head fault) = ⊤
+IsNoLack CopyDamaged = ⊤
+IsNoLack CopyInUse = ⊤
+IsNoLack ShelfFault = ⊤
+IsNoLack Contradiction = ⊤
+IsNoLack Collision = ⊤
+IsNoLack NoFile = ⊥
+IsNoLack Source = ⊥
+IsNoLack OutOfMemory = ⊤
+
+-- the copy was not brought to the candidate, and not for a missing file
+abbrev pub IsOfConflict : Outcome → Type 0
+IsOfConflict turn.Agrees = ⊤
+IsOfConflict turn.Brought = ⊥
+IsOfConflict (turn.Forks proof) = ⊤
+IsOfConflict turn.Contradicts = ⊤
+IsOfConflict (turn.NotHad fault) = IsNoLack fault
+
 -- a call of bring_copy ended since the copy is not the one that was found
 abbrev pub IsOfOtherRun : BringFault → Type 0
 IsOfOtherRun bring.BadCheckpoint = ⊤

@@ -6,8 +6,8 @@ use Rattle.tlog_hash.specs.Tree.{mth}
 use Rattle.tlog_tiles.specs.declared.paths.Path.{Path}
 use Rattle.tlog_tiles.specs.declared.paths.Path.TheVariants.{Checkpoint}
 use Rattle.mirror_folders.specs.Shelf.{HasPut, Put}
-use Rattle.mirror_copy.specs.Copies.{IsCopy}
 use Rattle.mirror_copy.specs.OneHonest.{HoldsFirst, IsHonestFor}
+use Rattle.mirror_copy.specs.Pruned.{IsPrunedCopy}
 use Rattle.mirror_copy.specs.declared.places.Places.{Places}
 use Rattle.mirror_follow.specs.Candidates.{turn_cmp}
 use Rattle.mirror_follow.specs.Says.{IsOnePoint}
@@ -27,7 +27,8 @@ IsOfShelfOrMemory e = (e ≡ ShelfFault) ⊎ (e ≡ OutOfMemory)
 
 -- ---- the content of the shelf
 
--- the shelf records its puts, and has a copy of the first of these entries, or of all
+-- the shelf records its puts, and has a copy of the first of these entries, or of all. Partial files of the copy may be replaced by
+-- full ones
 pub record HoldsPart (digest : List ℕ → List ℕ) (origin : List ℕ) (entries : List (List ℕ)) (puts : Option (List Put))
     : Type 0 where
   pub held : List Put
@@ -35,7 +36,7 @@ pub record HoldsPart (digest : List ℕ → List ℕ) (origin : List ℕ) (entri
   pub note : List ℕ
   pub first : List (List ℕ)
   pub more : List (List ℕ)
-  pub copy : IsCopy digest origin note first held
+  pub copy : IsPrunedCopy digest origin note first held
   pub entries_are : entries ≡ first ++ more
 
 -- the same, or the shelf has no checkpoint
@@ -88,7 +89,7 @@ module _ (digest : List ℕ → List ℕ) {S : Type 0} (may : S → Path → Opt
     pub holds : HoldsPartOrNone digest origin entries puts
 
   -- one of the places is honest for these entries, and each possible list of candidates has a checkpoint of the first of them. At
-  -- the start the shelf has the puts "held", a copy of the first of the entries. At the end it has "puts"
+  -- the start the shelf has the puts "held": a copy of the first of the entries, or no checkpoint. At the end it has "puts"
   pub record IsHonestAmong (held : Option (List Put)) (so : List Candidate → Type 0) : Type 0 where
     pub entries : List (List ℕ)
     pub size : ℕ
@@ -96,7 +97,7 @@ module _ (digest : List ℕ → List ℕ) {S : Type 0} (may : S → Path → Opt
     pub some : (candidates : List Candidate) × so candidates
     pub among : (candidates : List Candidate) → so candidates → HasPointOf candidates size root
     pub honest : IsHonestFor digest may puts old new entries size root
-    pub holds : HoldsPart digest origin entries held
+    pub holds : HoldsPartOrNone digest origin entries held
 
   -- ---- turns
 
@@ -123,7 +124,7 @@ module _ (digest : List ℕ → List ℕ) {S : Type 0} (may : S → Path → Opt
     pub candidate : Candidate
     pub listed : Contains candidates candidate
     pub honest : IsHonestFor digest may puts old new entries candidate.size.0 candidate.root
-    pub holds : HoldsPart digest origin entries held
+    pub holds : HoldsPartOrNone digest origin entries held
     pub had : HadCopy digest origin held copy
     pub known : IsCopyOfRun digest origin held held copy
 

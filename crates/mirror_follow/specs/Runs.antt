@@ -1,11 +1,12 @@
 -- A copy that is brought to one note after the other: the content of the shelf at each moment.
-use Rattle.std.specs.Prelude.{◌≡◌, ◌⊎◌, ℕ, All, List, [], length, map, Contains, Option, Some}
+use Rattle.std.specs.Prelude.{◌≡◌, ◌⊎◌, ℕ, All, List, [], ◌++◌, length, map, Contains, Option, Some}
 use Rattle.signed_note.specs.Keys.{Key}
 use Rattle.tlog_tiles.specs.declared.paths.Path.TheVariants.{Checkpoint}
 use Rattle.mirror_sources.specs.Recorded.{KeepsRecord}
 use Rattle.mirror_folders.specs.Shelf.{Put, HasPut}
 use Rattle.mirror_copy.specs.Copies.{IsCopy}
 use Rattle.mirror_copy.specs.Moments.{AtEachMoment, IsGrownCopy, KeepsCopy, PutsBeyond}
+use Rattle.mirror_copy.specs.Pruned.{IsPrunedCopy, OfPrunedCopies}
 use Rattle.mirror_follow.specs.Candidates.{IsCandidate}
 use Rattle.mirror_follow.specs.Gathering.{note_of}
 use Rattle.mirror_follow.specs.declared.candidate.Candidate.{Candidate}
@@ -31,6 +32,36 @@ module _ (digest : List ℕ → List ℕ) (origin : List ℕ) (notes : List (Lis
         IsCopy digest origin note entries held → PutsBeyond (length entries) held new
     pub beyond_none : (held : List Put) → old ≡ Some held → ¬ HasPut held Checkpoint → PutsBeyond 0 held new
 
+  -- under one of the notes, the shelf has a copy of entries that begin with these. Its partial files may be replaced by full ones
+  pub record IsPrunedUnder (entries : List (List ℕ)) (puts : List Put) : Type 0 where
+    pub note : List ℕ
+    pub listed : Contains notes note
+    pub more : List (List ℕ)
+    pub copy : IsPrunedCopy digest origin note (entries ++ more) puts
+
+  -- such a run over a copy whose partial files may be replaced: at each moment it is still there, or one grown from it under one of
+  -- the notes. No file of the old copy is put again
+  pub record KeepsPrunedCopy (old_note : List ℕ) (entries : List (List ℕ)) (held : List Put) (new : Option (List Put))
+      : Type 0 where
+    pub moments : AtEachMoment held new
+        (λ now. IsPrunedCopy digest origin old_note entries now ⊎ IsPrunedUnder entries now)
+    pub beyond : PutsBeyond (length entries) held new
+
+  -- this holds for each such copy on the shelf
+  abbrev pub KeepsPrunedCopies : Option (List Put) → Option (List Put) → Type 0
+  KeepsPrunedCopies old new =
+      OfPrunedCopies digest origin old (λ held note entries. KeepsPrunedCopy note entries held new)
+
+  -- a run keeps each copy, with all its files or without replaced ones
+  pub record KeepsEach (old new : Option (List Put)) : Type 0 where
+    pub whole : KeepsCopies old new
+    pub pruned : KeepsPrunedCopies old new
+
+-- a call that brings a copy to the note is such a run for all notes with this one
+abbrev pub KeepsUnder : (List ℕ → List ℕ) → List ℕ → List ℕ → Option (List Put) → Option (List Put) → Type 0
+KeepsUnder digest origin note old new =
+    (notes : List (List ℕ)) → Contains notes note → KeepsEach digest origin notes old new
+
 -- a call that brings a copy to one of the notes is such a run. So is a call that puts nothing, and so are two runs in sequence
 pub record RunsKeepCopies : Type 0 where
   pub one : (digest : List ℕ → List ℕ) (origin : List ℕ) (notes : List (List ℕ)) (note : List ℕ)
@@ -42,11 +73,12 @@ pub record RunsKeepCopies : Type 0 where
       KeepsCopies digest origin notes old mid → KeepsCopies digest origin notes mid new →
       KeepsCopies digest origin notes old new
 
--- at each moment of a run the shelf has the old copy, or one grown from it under the note of a candidate. Each candidate opens, and
--- "so" holds for its note
+-- at each moment of a run the shelf has the old copy, or one grown from it under the note of a candidate. Partial files of the copy
+-- may be replaced by full ones. Each candidate opens, and "so" holds for its note
 pub record FollowsCandidates (digest : List ℕ → List ℕ) (origin : List ℕ) (keys : List Key) (so : List ℕ → Type 0)
     (old new : Option (List Put)) : Type 0 where
   pub candidates : List Candidate
   pub opened : All (IsCandidate origin keys) candidates
   pub had : All (λ candidate. so (note_of candidate)) candidates
   pub keeps : KeepsCopies digest origin (map note_of candidates) old new
+  pub pruned : KeepsPrunedCopies digest origin (map note_of candidates) old new

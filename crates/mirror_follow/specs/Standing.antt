@@ -6,7 +6,8 @@ use Rattle.mirror_folders.specs.Shelf.{Put, HasPut, RecordsRead}
 use Rattle.mirror_model.specs.Heads.{IsHead}
 use Rattle.copy_reader.specs.WholeCopies.{HasFilesOf}
 use Rattle.mirror_copy.specs.Copies.{IsCopy}
-use Rattle.mirror_copy.specs.Moments.{CopyStays, HadSize, InTheEnd, IsBroughtTo}
+use Rattle.mirror_copy.specs.Moments.{CopyStays, InTheEnd, IsBroughtTo}
+use Rattle.mirror_copy.specs.Pruned.{HadSize, IsGrownPruned, IsPrunedCopy, OfPrunedCopies}
 use Rattle.mirror_follow.specs.Gathering.{note_of}
 use Rattle.mirror_follow.specs.declared.candidate.Candidate.{Candidate}
 use Rattle.mirror_follow.specs.declared.report.Followed.{Followed}
@@ -32,6 +33,12 @@ abbrev pub IsCopyRead : List ℕ → ℕ → Option Candidate → Type 0
 IsCopyRead note size None = ⊥
 IsCopyRead note size (Some copy) = (note_of copy ≡ note) × (copy.size.0 ≡ size)
 
+-- the shelf records its puts, and has no checkpoint
+pub record RecordsNone (puts : Option (List Put)) : Type 0 where
+  pub held : List Put
+  pub is : puts ≡ Some held
+  pub none : ¬ HasPut held Checkpoint
+
 -- the shelf lacks the files of each log with the size and root of the copy
 abbrev pub LacksLog : (List ℕ → List ℕ) → Candidate → Option (List Put) → Type 0
 LacksLog digest copy puts =
@@ -46,33 +53,48 @@ module _ (digest : List ℕ → List ℕ) (origin : List ℕ) where
     pub size_is : candidate.size.0 ≡ length (entries ++ more)
     pub root_is : candidate.root ≡ mth digest (entries ++ more)
 
-  -- the shelf has the copy of the run
+  -- the same for a copy whose partial files may be replaced by full ones
+  pub record PrunedUnder (candidate : Candidate) (entries : List (List ℕ)) (puts : List Put) : Type 0 where
+    pub more : List (List ℕ)
+    pub copy : IsPrunedCopy digest origin (note_of candidate) (entries ++ more) puts
+    pub size_is : candidate.size.0 ≡ length (entries ++ more)
+    pub root_is : candidate.root ≡ mth digest (entries ++ more)
+
+  -- the shelf has the copy of the run, whose partial files may be replaced by full ones
   pub record IsStanding (copy : Candidate) (puts : Option (List Put)) : Type 0 where
     pub held : List Put
     pub puts_are : puts ≡ Some held
     pub entries : List (List ℕ)
-    pub under : StandsUnder copy entries held
+    pub under : PrunedUnder copy entries held
 
+  -- the same, or no checkpoint if there is no copy
   abbrev pub HasStanding : Option Candidate → Option (List Put) → Type 0
-  HasStanding None puts = ⊥
+  HasStanding None puts = RecordsNone puts
   HasStanding (Some copy) puts = IsStanding copy puts
 
-  -- the shelf recorded no copy
-  abbrev pub HoldsNoCopy : Option (List Put) → Type 0
-  HoldsNoCopy puts =
-      (held : List Put) → puts ≡ Some held → (note : List ℕ) (entries : List (List ℕ)) →
-      ¬ IsCopy digest origin note entries held
+  -- the shelf recorded neither a copy, not even one whose partial files were replaced, nor that it had no checkpoint
+  pub record HoldsNoCopy (puts : Option (List Put)) : Type 0 where
+    pub no_copy : (held : List Put) → puts ≡ Some held → (note : List ℕ) (entries : List (List ℕ)) →
+        ¬ IsCopy digest origin note entries held
+    pub no_pruned : (held : List Put) → puts ≡ Some held → (note : List ℕ) (entries : List (List ℕ)) →
+        ¬ IsPrunedCopy digest origin note entries held
+    pub not_none : ¬ RecordsNone puts
 
-  -- the shelf recorded no copy of fewer than n entries
-  abbrev pub HoldsNoSmaller : ℕ → Option (List Put) → Type 0
-  HoldsNoSmaller n puts =
-      (held : List Put) → puts ≡ Some held → (note : List ℕ) (entries : List (List ℕ)) →
-      IsCopy digest origin note entries held → n ≤ length entries
+  -- the shelf recorded no copy of fewer than n entries, nor that it had no checkpoint
+  pub record HoldsNoSmaller (n : ℕ) (puts : Option (List Put)) : Type 0 where
+    pub no_smaller : (held : List Put) → puts ≡ Some held → (note : List ℕ) (entries : List (List ℕ)) →
+        IsPrunedCopy digest origin note entries held → n ≤ length entries
+    pub not_none : ¬ RecordsNone puts
 
   -- at the end the shelf has the copy of the run
   abbrev pub StandsAs : Option Candidate → List (List ℕ) → Option (List Put) → Type 0
   StandsAs None entries new = ⊥
   StandsAs (Some copy) entries new = InTheEnd new (StandsUnder copy entries)
+
+  -- the same for a copy whose partial files may be replaced
+  abbrev pub PrunedAs : Option Candidate → List (List ℕ) → Option (List Put) → Type 0
+  PrunedAs None entries new = ⊥
+  PrunedAs (Some copy) entries new = InTheEnd new (PrunedUnder copy entries)
 
   -- at the end the shelf has no checkpoint, or the copy of the run
   abbrev pub StandsOrNone : Option Candidate → Option (List Put) → Type 0
@@ -83,21 +105,39 @@ module _ (digest : List ℕ → List ℕ) (origin : List ℕ) where
   pub record IsCopyOfRun (old new : Option (List Put)) (copy : Option Candidate) : Type 0 where
     pub some : (held : List Put) → old ≡ Some held → (note : List ℕ) (entries : List (List ℕ)) →
         IsCopy digest origin note entries held → StandsAs copy entries new
+    pub pruned : (held : List Put) → old ≡ Some held → (note : List ℕ) (entries : List (List ℕ)) →
+        IsPrunedCopy digest origin note entries held → PrunedAs copy entries new
     pub none : (held : List Put) → old ≡ Some held → ¬ HasPut held Checkpoint → StandsOrNone copy new
 
   -- the copy that was read is the shelf's. It is None if there was no checkpoint
   pub record HadCopy (old : Option (List Put)) (copy : Option Candidate) : Type 0 where
     pub some : (held : List Put) → old ≡ Some held → (note : List ℕ) (entries : List (List ℕ)) →
         IsCopy digest origin note entries held → IsCopyRead note (length entries) copy
+    pub pruned : (held : List Put) → old ≡ Some held → (note : List ℕ) (entries : List (List ℕ)) →
+        IsPrunedCopy digest origin note entries held → IsCopyRead note (length entries) copy
     pub none : (held : List Put) → old ≡ Some held → ¬ HasPut held Checkpoint → copy ≡ None
+
+  -- at the end the shelf has the old copy, under its note, also if partial files were replaced. If there was no checkpoint, there is
+  -- none
+  pub record EachStays (old new : Option (List Put)) : Type 0 where
+    pub whole : CopyStays digest origin old new
+    pub pruned : OfPrunedCopies digest origin old
+        (λ held note entries. InTheEnd new (IsPrunedCopy digest origin note entries))
+
+  -- at the end the shelf has a copy under the note: grown from the old one, also if partial files were replaced. If there was no
+  -- checkpoint, it is a new one
+  pub record EachIsBrought (note : List ℕ) (old new : Option (List Put)) : Type 0 where
+    pub whole : IsBroughtTo digest origin note old new
+    pub pruned : OfPrunedCopies digest origin old
+        (λ held old_note entries. InTheEnd new (IsGrownPruned digest origin note entries))
 
   -- the shelf after the turn of a candidate: if the copy was brought, one under its note, else the old one
   abbrev pub StandsAfter : Candidate → Option (List Put) → Option (List Put) → Outcome → Type 0
-  StandsAfter candidate old new turn.Agrees = CopyStays digest origin old new
-  StandsAfter candidate old new turn.Brought = IsBroughtTo digest origin (note_of candidate) old new
-  StandsAfter candidate old new (turn.Forks proof) = CopyStays digest origin old new
-  StandsAfter candidate old new turn.Contradicts = CopyStays digest origin old new
-  StandsAfter candidate old new (turn.NotHad fault) = CopyStays digest origin old new
+  StandsAfter candidate old new turn.Agrees = EachStays old new
+  StandsAfter candidate old new turn.Brought = EachIsBrought (note_of candidate) old new
+  StandsAfter candidate old new (turn.Forks proof) = EachStays old new
+  StandsAfter candidate old new turn.Contradicts = EachStays old new
+  StandsAfter candidate old new (turn.NotHad fault) = EachStays old new
 
   -- the shelf has a copy of that size and root, of entries that begin with these
   pub record HasCopy (size : ℕ) (root : List ℕ) (entries : List (List ℕ)) (puts : List Put) : Type 0 where
@@ -107,12 +147,22 @@ module _ (digest : List ℕ → List ℕ) (origin : List ℕ) where
     pub size_is : size ≡ length (entries ++ more)
     pub root_is : root ≡ mth digest (entries ++ more)
 
+  -- the same for a copy whose partial files may be replaced by full ones
+  pub record HasPruned (size : ℕ) (root : List ℕ) (entries : List (List ℕ)) (puts : List Put) : Type 0 where
+    pub note : List ℕ
+    pub more : List (List ℕ)
+    pub copy : IsPrunedCopy digest origin note (entries ++ more) puts
+    pub size_is : size ≡ length (entries ++ more)
+    pub root_is : root ≡ mth digest (entries ++ more)
+
   -- at the end the shelf has a copy with the size and root of the answer: the old copy, or one grown from it. The answer has the
-  -- old number of entries
+  -- old number of entries. Partial files of the old copy may be replaced by full ones
   pub record IsFollowed (old new : Option (List Put)) (followed : Followed) : Type 0 where
     pub had : HadSize digest origin old followed.old
     pub some : (held : List Put) → old ≡ Some held → (note : List ℕ) (entries : List (List ℕ)) →
         IsCopy digest origin note entries held → InTheEnd new (HasCopy followed.size followed.root entries)
+    pub pruned : OfPrunedCopies digest origin old
+        (λ held note entries. InTheEnd new (HasPruned followed.size followed.root entries))
     pub none : (held : List Put) → old ≡ Some held → ¬ HasPut held Checkpoint →
         InTheEnd new (HasCopy followed.size followed.root [])
 

@@ -3,21 +3,21 @@ ghost use Rattle.std.specs.Prelude.{◌≡◌, ◌≢◌, ◌⊎◌, ◌↔◌, 
 ghost use Rattle.std.specs.List.Sorted.{IsSorted};
 ghost use Rattle.mirror_sources.specs.Recorded.{KeepsRecord};
 ghost use Rattle.mirror_folders.specs.Shelf.{Put};
+ghost use Rattle.mirror_copy.specs.Conflicts.{HasConflict, IsConflict};
 ghost use Rattle.mirror_copy.specs.Faults.{CountsFault, IsOtherFound};
-ghost use Rattle.mirror_copy.specs.Moments.{CopyStays, KeepsCopy};
 ghost use Rattle.mirror_copy.specs.OneHonest.{IsShelfOrMemory};
 ghost use Rattle.mirror_follow.specs.Blame.{AsksAny, CountsFollow, IsGivenOrMayGive, PlaceFails};
 ghost use Rattle.mirror_follow.specs.Candidates.{IsCandidate, turn_cmp};
-ghost use Rattle.mirror_follow.specs.Ending.{BlamesPlace, EndsAt, EndsFor, EndsRun, HasFalseRoot, IsOfEmpty, IsOfOtherRun, KeepsFault, LacksCandidates, RefusesGiven};
+ghost use Rattle.mirror_follow.specs.Ending.{BlamesPlace, EndsAt, EndsFor, EndsRun, HasFalseRoot, IsOfConflict, IsOfEmpty, IsOfOtherRun, KeepsFault, LacksCandidates, RefusesGiven};
 ghost use Rattle.mirror_follow.specs.Gathering.{note_of};
 ghost use Rattle.mirror_follow.specs.GatheredFrom.{AreCandidates, IsOnly};
 ghost use Rattle.mirror_follow.specs.OneHonest.{BringsTo, HasSize, IsBroughtOr, IsHonestAmong, IsHonestFirst, IsHonestListed, IsHonestRun, IsHonestTurn, ReachesLog, ReachesSize, StepsUp, TurnsReach};
-ghost use Rattle.mirror_follow.specs.Runs.{FollowsCandidates, KeepsCopies};
+ghost use Rattle.mirror_follow.specs.Runs.{FollowsCandidates, KeepsEach, KeepsUnder};
 ghost use Rattle.mirror_follow.specs.Says.{IsNoteUpTo, IsOnePoint, Says};
 ghost use Rattle.mirror_follow.specs.Shown.{ShowsLine, ShowsTurn};
 ghost use Rattle.mirror_follow.specs.Renoting.{PutsNoteOver};
 ghost use Rattle.mirror_follow.specs.Sparing.{SparesAt, SparesBringing, SparesGreatest};
-ghost use Rattle.mirror_follow.specs.Standing.{HasStanding, HoldsNoCopy, HoldsNoSmaller, IsCopyOfRun, IsFollowed, IsHeadOf, LacksLog, StandsAfter};
+ghost use Rattle.mirror_follow.specs.Standing.{EachStays, HasStanding, HoldsNoCopy, HoldsNoSmaller, IsCopyOfRun, IsFollowed, IsHeadOf, LacksLog, StandsAfter};
 ghost use Rattle.mirror_follow.specs.Taken.{HasTakenRun, IsLargerThan, IsNextOf, IsNoted, IsRepeat, SaysTurn};
 ghost use Rattle.mirror_follow.specs.Turning.{ContinuesRun, IsRunFrom};
 ghost use Rattle.mirror_follow.specs.declared.candidate.Candidate.{Candidate};
@@ -39,7 +39,7 @@ use tlog_tiles::Path;
 // The meaning of a fault of `bring_copy`: the outcome for the candidate, or the fault that ends the run.
 fn turn_of(fault: BringFault) -> Result<Outcome, FollowFault>
     ensures after { IfOk result (λ turn. (digest : List ℕ → List ℕ) (origin : List ℕ)
-        (candidate : Candidate) (old new : Option (List Put)) → CopyStays digest origin old new
+        (candidate : Candidate) (old new : Option (List Put)) → EachStays digest origin old new
         → StandsAfter digest origin candidate old new turn) }
     ensures counted { (old new : ℕ) → CountsFault old new fault → CountsFollow old new result }
     ensures source { IfOk result (λ turn. turn ≡ Outcome.NotHad FollowFault.Source
@@ -54,6 +54,7 @@ fn turn_of(fault: BringFault) -> Result<Outcome, FollowFault>
     ensures suffices { IsShelfOrMemory fault → IsBroughtOr result }
     ensures no_file { IfOk result (λ turn. turn ≡ Outcome.NotHad FollowFault.NoFile
         → fault ≡ BringFault.NoFile) }
+    ensures conflicts { IfOk result (λ turn. IsOfConflict turn → IsConflict fault) }
 {
     match fault {
         BringFault::Contradiction => Ok(Outcome::Contradicts),
@@ -79,7 +80,7 @@ fn bring<H: TreeHash, D: ReadableShelf, S: Source + Drop>(
     candidate: &Candidate,
 ) -> Result<Outcome, FollowFault>
     requires { IsHeadOf origin.now candidate.now }
-    ensures keeps { KeepsCopy H.digest origin.now (note_of candidate.now) (D.puts shelf.old)
+    ensures keeps { KeepsUnder H.digest origin.now (note_of candidate.now) (D.puts shelf.old)
         (D.puts shelf.new) }
     ensures counted { CountsFollow (D.failed shelf.old) (D.failed shelf.new) result }
     ensures after { IfOk result (λ turn. StandsAfter H.digest origin.now candidate.now
@@ -99,6 +100,8 @@ fn bring<H: TreeHash, D: ReadableShelf, S: Source + Drop>(
     ensures spares { IfOk result (λ turn. turn ≡ Outcome.NotHad FollowFault.NoFile
         → SparesBringing H.digest S.may_answer S.failed S.asked origin.now (D.puts shelf.old)
         places.old places.new (note_of candidate.now)) }
+    ensures conflicts { IfOk result (λ turn. IsOfConflict turn
+        → HasConflict H.digest origin.now (note_of candidate.now) (D.puts shelf.old)) }
 {
     match bring_copy::<H, D, S>(alloc, origin, shelf, places, &candidate.note) {
         Ok(_) => Ok(Outcome::Brought),
@@ -115,7 +118,7 @@ fn contradict<H: TreeHash, S: Source + Drop>(
 ) -> Result<Outcome, AllocError>
     requires { copy.now.size.0 < candidate.now.size.0 }
     ensures after { IfOk result (λ turn. (digest : List ℕ → List ℕ) (origin : List ℕ)
-        (old new : Option (List Put)) → CopyStays digest origin old new
+        (old new : Option (List Put)) → EachStays digest origin old new
         → StandsAfter digest origin candidate.now old new turn) }
     ensures asks { AsksAny S.may_answer S.failed S.asked places.old places.new }
     ensures source { IfOk result (λ turn. turn ≢ Outcome.NotHad FollowFault.Source) }
@@ -139,7 +142,7 @@ fn take_larger<H: TreeHash, D: ReadableShelf, S: Source + Drop>(
 ) -> Result<Outcome, FollowFault>
     requires head { IsHeadOf origin.now candidate.now }
     requires larger { copy.now.size.0 < candidate.now.size.0 }
-    ensures keeps { KeepsCopy H.digest origin.now (note_of candidate.now) (D.puts shelf.old)
+    ensures keeps { KeepsUnder H.digest origin.now (note_of candidate.now) (D.puts shelf.old)
         (D.puts shelf.new) }
     ensures counted { CountsFollow (D.failed shelf.old) (D.failed shelf.new) result }
     ensures after { IfOk result (λ turn. StandsAfter H.digest origin.now candidate.now
@@ -174,7 +177,7 @@ fn over_none(turn: Outcome) -> Result<Outcome, FollowFault>
     ensures same { IfOk result (λ now. now ≡ turn) }
     ensures empty { IfOk result (λ now. (digest : List ℕ → List ℕ) (candidate : Candidate)
         → IsOfEmpty digest candidate now) }
-    ensures ends { IfErr result (λ e. e ≡ FollowFault.CopyInUse) }
+    ensures ends { IfErr result (λ e. (e ≡ FollowFault.CopyInUse) × IsOfConflict turn) }
     ensures suffices { turn ≡ Outcome.Brought → IsBroughtOr result }
 {
     match turn {
@@ -194,7 +197,7 @@ fn take_first<H: TreeHash, D: ReadableShelf, S: Source + Drop>(
     candidate: &Candidate,
 ) -> Result<Outcome, FollowFault>
     requires { IsHeadOf origin.now candidate.now }
-    ensures keeps { KeepsCopy H.digest origin.now (note_of candidate.now) (D.puts shelf.old)
+    ensures keeps { KeepsUnder H.digest origin.now (note_of candidate.now) (D.puts shelf.old)
         (D.puts shelf.new) }
     ensures counted { CountsFollow (D.failed shelf.old) (D.failed shelf.new) result }
     ensures after { IfOk result (λ turn. StandsAfter H.digest origin.now candidate.now
@@ -245,7 +248,7 @@ fn compare_root<H: TreeHash>(copy: &Candidate, candidate: &Candidate) -> Outcome
     requires upto { candidate.now.size.0 ≤ copy.now.size.0 }
     requires due { (candidate.now.size.0 ≡ 0) ⊎ (candidate.now.size.0 ≡ copy.now.size.0) }
     ensures after { (digest : List ℕ → List ℕ) (origin : List ℕ)
-        (old new : Option (List Put)) → CopyStays digest origin old new
+        (old new : Option (List Put)) → EachStays digest origin old new
         → StandsAfter digest origin candidate.now old new result }
     ensures shows { ShowsTurn H.digest (Some copy.now) candidate.now result }
     ensures source { result ≢ Outcome.NotHad FollowFault.Source }
@@ -269,7 +272,7 @@ fn take_smaller<H: TreeHash, D: ReadableShelf>(
     ensures same { KeepsRecord (D.puts shelf.old) (D.puts shelf.new) }
     ensures counted { CountsFollow (D.failed shelf.old) (D.failed shelf.new) result }
     ensures after { IfOk result (λ turn. (digest : List ℕ → List ℕ) (origin : List ℕ)
-        (old new : Option (List Put)) → CopyStays digest origin old new
+        (old new : Option (List Put)) → EachStays digest origin old new
         → StandsAfter digest origin candidate.now old new turn) }
     ensures shows { IfOk result (ShowsTurn H.digest (Some copy.now) candidate.now) }
     ensures source { IfOk result (λ turn. turn ≢ Outcome.NotHad FollowFault.Source) }
@@ -344,7 +347,7 @@ fn renote<H: TreeHash, D: ReadableShelf>(
     requires size { copy.now.size.0 ≡ candidate.now.size.0 }
     requires root { copy.now.root ≡ candidate.now.root }
     requires less { IsNoteUpTo (note_of candidate.now) (note_of copy.now) }
-    ensures keeps { KeepsCopy H.digest origin.now (note_of candidate.now) (D.puts shelf.old)
+    ensures keeps { KeepsUnder H.digest origin.now (note_of candidate.now) (D.puts shelf.old)
         (D.puts shelf.new) }
     ensures counted { CountsFollow (D.failed shelf.old) (D.failed shelf.new) result }
     ensures after { IfOk result (λ turn. StandsAfter H.digest origin.now candidate.now
@@ -368,7 +371,7 @@ fn compare<H: TreeHash, D: ReadableShelf>(
     candidate: &Candidate,
 ) -> Result<Outcome, FollowFault>
     requires { candidate.now.size.0 ≤ copy.now.size.0 }
-    ensures keeps { KeepsCopy H.digest origin.now (note_of candidate.now) (D.puts shelf.old)
+    ensures keeps { KeepsUnder H.digest origin.now (note_of candidate.now) (D.puts shelf.old)
         (D.puts shelf.new) }
     ensures counted { CountsFollow (D.failed shelf.old) (D.failed shelf.new) result }
     ensures after { IfOk result (λ turn. StandsAfter H.digest origin.now candidate.now
@@ -394,7 +397,7 @@ fn turn_for<H: TreeHash, D: ReadableShelf, S: Source + Drop>(
 ) -> Result<Outcome, FollowFault>
     requires head { IsHeadOf origin.now candidate.now }
     requires copy { IfSome run.now.copy (IsHeadOf origin.now) }
-    ensures keeps { KeepsCopy H.digest origin.now (note_of candidate.now) (D.puts shelf.old)
+    ensures keeps { KeepsUnder H.digest origin.now (note_of candidate.now) (D.puts shelf.old)
         (D.puts shelf.new) }
     ensures counted { CountsFollow (D.failed shelf.old) (D.failed shelf.new) result }
     ensures after { IfOk result (λ turn. StandsAfter H.digest origin.now candidate.now
@@ -438,7 +441,7 @@ fn take_turn<H: TreeHash, D: ReadableShelf, S: Source + Drop>(
 ) -> Result<(), FollowFault>
     requires head { IsHeadOf origin.now candidate.now }
     requires copy { IfSome run.old.copy (IsHeadOf origin.now) }
-    ensures keeps { KeepsCopy H.digest origin.now (note_of candidate.now) (D.puts shelf.old)
+    ensures keeps { KeepsUnder H.digest origin.now (note_of candidate.now) (D.puts shelf.old)
         (D.puts shelf.new) }
     ensures counted { CountsFollow (D.failed shelf.old) (D.failed shelf.new) result }
     ensures run { OnOk result (ContinuesRun H.digest origin.now (D.puts shelf.old)
@@ -492,7 +495,7 @@ fn take_turn_at<H: TreeHash, D: ReadableShelf, S: Source + Drop>(
     requires within { i < length candidates.now }
     requires heads { All (IsHeadOf origin.now) candidates.now }
     requires copy { IfSome run.old.copy (IsHeadOf origin.now) }
-    ensures keeps { KeepsCopies H.digest origin.now (map note_of candidates.now)
+    ensures keeps { KeepsEach H.digest origin.now (map note_of candidates.now)
         (D.puts shelf.old) (D.puts shelf.new) }
     ensures counted { CountsFollow (D.failed shelf.old) (D.failed shelf.new) result }
     ensures run { OnOk result (ContinuesRun H.digest origin.now (D.puts shelf.old)
@@ -536,7 +539,7 @@ fn take_turns<H: TreeHash, D: ReadableShelf, S: Source + Drop>(
 ) -> Result<Run, FollowFault>
     requires heads { All (IsHeadOf origin.now) candidates.now }
     requires copy { IfSome copy (IsHeadOf origin.now) }
-    ensures keeps { KeepsCopies H.digest origin.now (map note_of candidates.now)
+    ensures keeps { KeepsEach H.digest origin.now (map note_of candidates.now)
         (D.puts shelf.old) (D.puts shelf.new) }
     ensures counted { CountsFollow (D.failed shelf.old) (D.failed shelf.new) result }
     ensures run { IfOk result (IsRunFrom H.digest origin.now (D.puts shelf.old)

@@ -46,6 +46,7 @@ module _ (digest : List ℕ → List ℕ) (origin : List ℕ) (keys : List Key) 
     had = All-weaker (λ candidate. so (note_of candidate)) (λ candidate. other (note_of candidate))
         (λ candidate. weaker (note_of candidate)) follows.candidates follows.had;
     keeps = follows.keeps;
+    pruned = follows.pruned;
   }
 
   copy_had : (done : Followed) → CopyFollowed digest origin keys so held put done →

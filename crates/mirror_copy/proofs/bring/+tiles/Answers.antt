@@ -9,15 +9,16 @@ use Rattle.mirror_copy.proofs.Growth.{left_none, left_then, brings_ok, kept_same
 use Rattle.mirror_sources.specs.Recorded.{KeepsRecord}
 use Rattle.mirror_copy.proofs.Earlier.{early_later}
 use Rattle.mirror_copy.proofs.Asking.{asks_same, asks_then, asks_weaker}
-use Rattle.mirror_copy.specs.Suffices.{IsTileRow}
+use Rattle.mirror_copy.specs.Suffices.{IsTileHash, IsTileRow}
 use Rattle.mirror_copy.specs.Taken.{MayTake}
 use Rattle.mirror_copy.proofs.OnePlace.{honest_between, puts_also, puts_none, puts_then}
-use Rattle.mirror_copy.proofs.Spared.{child_true, spared, spared_answer, tile_true, tile_under}
+use Rattle.mirror_copy.proofs.Spared.{child_true, err_weaker, spared, spared_answer, tile_true, tile_under}
 use Rattle.mirror_copy.proofs.TipTruth.{row_begins}
 use Rattle.mirror_copy.proofs.NewFulls.{tile_asked}
 use Rattle.mirror_copy.specs.Asked.{IsNewFull}
 use Rattle.mirror_copy.proofs.TileRows.{first_child, so_far_first, so_far_known, so_far_more, so_far_left}
 use Rattle.mirror_copy.proofs.TileRows.{child_beyond, child_fits, child_small, row_fits, row_then, tile_brought, tile_left}
+use Rattle.mirror_copy.proofs.EmptyTips.{row_after}
 use Rattle.mirror_copy.proofs.bring.+tiles.Goals as goal
 
 pub bring_row-returns-in_default-clause-brings : goal.bring_row-returns-in_default-clause-brings
@@ -349,3 +350,18 @@ bring_tile-returns-in_err-bring_row-clause-honest g t c =
 pub bring_tile-returns-clause-honest : goal.bring_tile-returns-clause-honest
 bring_tile-returns-clause-honest g t c =
     spared_answer c.keep.result _ (λ e so entries size h tip is. so) c.keep.ensures.places c.keep.ensures.fault
+
+-- ---- no conflict with an empty copy
+
+pub bring_row-returns-in_default-clause-empty : goal.bring_row-returns-in_default-clause-empty
+bring_row-returns-in_default-clause-empty g t c = λ k.
+    row_after g.H.TreeHash.digest c.args.tip.now k c.args.level c.requires.level c.args.row.now ⊥
+    (rw c.in_default.is at c.first_new.ensures.differs)
+
+pub bring_tile-returns-then-level-eq0-clause-honest : goal.bring_tile-returns-then-level-eq0-clause-honest
+bring_tile-returns-then-level-eq0-clause-honest g t c =
+    let zero : c.args.level ≡ 0 = omega arith in
+    err_weaker c.bring_bundle.result _ _ (λ e so entries size h tip is.
+    so entries size h tip
+    (subst (λ l. IsTileHash g.H.TreeHash.digest (take size entries) l c.args.index c.args.hash.now) zero is))
+    c.bring_bundle.ensures.honest

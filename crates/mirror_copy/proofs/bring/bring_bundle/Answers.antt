@@ -15,6 +15,7 @@ use Rattle.mirror_copy.proofs.TipTruth.{bundle_begins, row_begins}
 use Rattle.mirror_copy.proofs.NewFulls.{bundle_asked}
 use Rattle.mirror_copy.proofs.Growth.{left_none, brings_ok}
 use Rattle.mirror_copy.proofs.Bundles.{bundle_left, bundle_brought, tile_left}
+use Rattle.mirror_copy.proofs.EmptyTips.{bundle_after, row_after}
 use Rattle.mirror_copy.proofs.bring.bring_bundle.Goals as goal
 
 pub returns-in_err-found-clause-brings : goal.returns-in_err-found-clause-brings
@@ -213,3 +214,13 @@ returns-in_err-keep-clause-honest g c =
 pub returns-clause-honest : goal.returns-clause-honest
 returns-clause-honest g c =
     spared_answer c.keep-2.result _ (λ e so entries size h t is. so) c.keep-2.ensures.places c.keep-2.ensures.fault
+
+pub returns-in_default-clause-empty : goal.returns-in_default-clause-empty
+returns-in_default-clause-empty g c = λ k.
+    row_after g.H.TreeHash.digest c.args.tip.now k 0 (omega arith) c.deref.result.now ⊥
+    (rw c.in_default.is at c.first_new.ensures.differs)
+
+pub returns-then-not-goes_on-clause-empty : goal.returns-then-not-goes_on-clause-empty
+returns-then-not-goes_on-clause-empty g c = λ k.
+    let no : IsFalse c.goes_on.result = search rules in
+    bundle_after g.H.TreeHash.digest c.args.tip.now k c.deref-2.result.now ⊥ (c.goes_on.ensures.differs no)

@@ -11,6 +11,8 @@ use Rattle.mirror_copy.proofs.Stays.{stays_same}
 use Rattle.mirror_copy.specs.declared.fault.BringFault.TheVariants.{BadCheckpoint}
 use Rattle.mirror_copy.proofs.PrunedMoments.{had_pruned, leaves_err, leaves_ok, leaves_same}
 use Rattle.mirror_copy.proofs.WholeMoments.{had_size, whole_same}
+use Rattle.mirror_copy.proofs.Earlier.{no_conflict}
+use Rattle.mirror_copy.proofs.EmptyTips.{has_conflict}
 use Rattle.mirror_copy.proofs.copy.bring_copy.Goals as goal
 
 pub returns-in_err-head-clause-whole : goal.returns-in_err-head-clause-whole
@@ -200,3 +202,16 @@ pub returns-clause-had_pruned : goal.returns-clause-had_pruned
 returns-clause-had_pruned g c =
     rw c.size-had.ensures (had_pruned g.H.TreeHash.digest c.args.origin.now c.in_ok-tip.tip
     (g.D.Shelf.puts c.args.shelf.now) c.in_ok-tip.ensures.tip)
+
+pub returns-in_err-tip-clause-conflicts : goal.returns-in_err-tip-clause-conflicts
+returns-in_err-tip-clause-conflicts g c =
+    let p = err_from_is_err_and c.from_residual-in_err-tip.result c.from_residual-in_err-tip.ensures.1 in
+    rw (p.1, p.2) (λ conflict. no_conflict c.in_err-tip.field-0.0 _ c.in_err-tip.ensures.fault conflict)
+
+pub returns-in_err-done-clause-conflicts : goal.returns-in_err-done-clause-conflicts
+returns-in_err-done-clause-conflicts g c =
+    let p = err_from_is_err_and c.from_residual-in_err-done.result c.from_residual-in_err-done.ensures.1 in
+    let head = c.in-Some.head in
+    rw (p.1, p.2) (λ conflict. has_conflict g.H.TreeHash.digest c.args.origin.now c.args.note.now
+    (g.D.Shelf.puts c.args.shelf.now) c.in_ok-tip.tip head.0 head.1 c.in_err-done.field-0.0 c.in_ok-tip.ensures.tip
+    (rw c.in-Some.is at c.in_ok-head.ensures.found) c.in_err-done.ensures.empty conflict)

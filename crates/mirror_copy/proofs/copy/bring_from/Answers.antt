@@ -7,6 +7,8 @@ use Rattle.mirror_copy.proofs.Stays.{stays_same}
 use Rattle.mirror_copy.specs.declared.fault.BringFault.TheVariants.{NotLarger}
 use Rattle.mirror_copy.proofs.PrunedMoments.{leaves_same}
 use Rattle.mirror_copy.proofs.WholeMoments.{whole_same}
+use Rattle.mirror_copy.proofs.Earlier.{no_conflict}
+use Rattle.mirror_copy.proofs.EmptyTips.{false_empty}
 use Rattle.mirror_copy.proofs.copy.bring_from.Goals as goal
 
 pub returns-clause-brings : goal.returns-clause-brings
@@ -29,3 +31,13 @@ returns-then-is_none-clause-honest g c =
     let none : c.args.candidate.now.size ≡ 0 = omega arith in
     err_weaker c.put_empty.result _ _ (λ e so entries h t.
     so (h.root_is ∙ ap (λ n. mth digest (take n entries)) none)) c.put_empty.ensures.honest
+
+pub returns-then-size-candidate-clause-empty : goal.returns-then-size-candidate-clause-empty
+returns-then-size-candidate-clause-empty g c =
+    err_weaker c.bring_larger.result _ _ (λ e so k conflict. no_conflict e _ (so k) conflict) c.bring_larger.ensures.empty
+
+pub returns-then-is_none-clause-empty : goal.returns-then-is_none-clause-empty
+returns-then-is_none-clause-empty g c =
+    err_weaker c.put_empty.result _ _ (λ e so k conflict.
+    false_empty g.H.TreeHash.digest c.args.candidate.now.size c.args.candidate.now.root e (omega arith) so conflict)
+    c.put_empty.ensures.honest

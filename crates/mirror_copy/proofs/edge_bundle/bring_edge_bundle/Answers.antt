@@ -18,6 +18,7 @@ use Rattle.mirror_copy.proofs.Asking.{asks_same, asks_weaker}
 use Rattle.mirror_copy.proofs.NewFulls.{edge_bundle_asked}
 use Rattle.mirror_copy.proofs.Growth.{kept_same, left_none}
 use Rattle.mirror_copy.proofs.Finishing.{brings_last, last_left, last_none, last_some}
+use Rattle.mirror_copy.proofs.EmptyTips.{bundle_after, row_after}
 use Rattle.mirror_copy.proofs.edge_bundle.bring_edge_bundle.Goals as goal
 
 pub returns-then-is_empty-clause-brings : goal.returns-then-is_empty-clause-brings
@@ -171,3 +172,14 @@ returns-then-not-goes_on-clause-honest g c = λ entries size h t is.
 pub returns-clause-honest : goal.returns-clause-honest
 returns-clause-honest g c =
     spared_answer c.keep.result _ (λ e so entries size h t is. so) c.keep.ensures.places c.keep.ensures.fault
+
+pub returns-then-is_none-clause-empty : goal.returns-then-is_none-clause-empty
+returns-then-is_none-clause-empty g c = λ k.
+    let none : IsNone c.first_new.result = search rules in
+    row_after g.H.TreeHash.digest c.args.tip.now k 0 (omega arith) c.row-row.result.now ⊥
+    (of_none c.first_new.result none c.first_new.ensures.differs)
+
+pub returns-then-not-goes_on-clause-empty : goal.returns-then-not-goes_on-clause-empty
+returns-then-not-goes_on-clause-empty g c = λ k.
+    let no : IsFalse c.goes_on.result = search rules in
+    bundle_after g.H.TreeHash.digest c.args.tip.now k c.deref.result.now ⊥ (c.goes_on.ensures.differs no)

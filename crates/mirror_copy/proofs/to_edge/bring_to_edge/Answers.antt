@@ -1,11 +1,11 @@
-use Rattle.std.proofs.Common.{refl}
+use Rattle.std.proofs.Common.{inr, refl}
 use Rattle.std.proofs.lemmas.Result.{err_from_is_err_and}
-use Rattle.mirror_copy.specs.Asked.{IsEdgeBundle, IsNewFull}
+use Rattle.mirror_copy.specs.Asked.{IsEdgeBundle, IsEdgeBundleOrNew, IsNewFull}
 use Rattle.mirror_copy.proofs.OnePlace.{honest_between}
 use Rattle.mirror_copy.proofs.Spared.{spared_last, spared_shelf}
 use Rattle.mirror_copy.proofs.EdgeRows.{edge_known, edge_left}
 use Rattle.mirror_copy.proofs.Growth.{kept_same}
-use Rattle.mirror_copy.proofs.Asking.{asks_same, to_edge_asks}
+use Rattle.mirror_copy.proofs.Asking.{asks_same, asks_weaker, to_edge_asks}
 use Rattle.mirror_copy.proofs.Others.{last_blames}
 use Rattle.mirror_copy.proofs.Finishing.{copy_brought, ends_brought, left_put, true_rows}
 use Rattle.mirror_copy.proofs.to_edge.bring_to_edge.Goals as goal
@@ -117,3 +117,10 @@ pub returns-clause-honest : goal.returns-clause-honest
 returns-clause-honest g c =
     spared_last c.put_last.result _ (λ e so entries size h t is. so) c.args.tip.now.checkpoint
     (g.D.Shelf.puts c.put_edge_tiles.new.shelf) c.put_last.ensures.blames c.put_last.ensures.fault
+
+pub returns-in_err-bring_levels-clause-asks : goal.returns-in_err-bring_levels-clause-asks
+returns-in_err-bring_levels-clause-asks g c =
+    let n = c.args.edge.now.size in
+    let m = c.args.tip.now.size in
+    asks_weaker g.S.Source.may_answer g.S.Source.failed g.S.Source.asked (IsNewFull m) (IsEdgeBundleOrNew n m)
+    (λ path h. inr h) c.args.places.now c.bring_levels.new.places c.bring_levels.ensures.asks

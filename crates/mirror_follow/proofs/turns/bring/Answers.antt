@@ -11,7 +11,37 @@ use Rattle.mirror_copy.specs.OneHonest.{IsHonestNote}
 use Rattle.mirror_follow.proofs.OneHonest.{honest_note}
 use Rattle.mirror_copy.specs.AskedForCopy.{AsksForCopy}
 use Rattle.mirror_follow.proofs.Sparing.{turned_spares}
+use Rattle.mirror_copy.specs.Conflicts.{HasConflict}
+use Rattle.mirror_copy.specs.Moments.{IsBroughtTo, KeepsCopy}
+use Rattle.mirror_copy.specs.declared.fault.BringFault.{BringFault}
+use Rattle.std.proofs.Common.{ℕ, Ok, Err}
+use Rattle.mirror_copy.specs.Pruned.{LeavesPruned}
+use Rattle.mirror_follow.proofs.Runs.{each_one}
+use Rattle.mirror_follow.proofs.Standing.{brought_after, stayed_after, turned_after}
+use Rattle.mirror_follow.proofs.Ending.{turned_conflict}
 use Rattle.mirror_follow.proofs.turns.bring.Goals as goal
+
+pub returns-in-Ok-clause-keeps : goal.returns-in-Ok-clause-keeps
+returns-in-Ok-clause-keeps g c = λ notes listed.
+    let digest = g.H.TreeHash.digest in
+    let origin = c.args.origin.now in
+    let x = g.D.Shelf.puts c.args.shelf.now in
+    let w = g.D.Shelf.puts c.bring_copy.new.shelf in
+    let note = c.args.candidate.now.note.items in
+    each_one digest origin notes note x w c.bring_copy.result listed
+    (subst (λ n. KeepsCopy digest origin n x w) c.deref.ensures.value c.bring_copy.ensures.whole)
+    (subst (λ n. LeavesPruned digest origin n x w c.bring_copy.result) c.deref.ensures.value c.bring_copy.ensures.pruned)
+
+pub returns-in-Err-clause-keeps : goal.returns-in-Err-clause-keeps
+returns-in-Err-clause-keeps g c = λ notes listed.
+    let digest = g.H.TreeHash.digest in
+    let origin = c.args.origin.now in
+    let x = g.D.Shelf.puts c.args.shelf.now in
+    let w = g.D.Shelf.puts c.bring_copy.new.shelf in
+    let note = c.args.candidate.now.note.items in
+    each_one digest origin notes note x w c.bring_copy.result listed
+    (subst (λ n. KeepsCopy digest origin n x w) c.deref.ensures.value c.bring_copy.ensures.whole)
+    (subst (λ n. LeavesPruned digest origin n x w c.bring_copy.result) c.deref.ensures.value c.bring_copy.ensures.pruned)
 
 pub returns-in-Err-clause-counted : goal.returns-in-Err-clause-counted
 returns-in-Err-clause-counted g c =
@@ -73,3 +103,37 @@ returns-in-Err-clause-spares g c =
     (subst (λ note. AsksForCopy digest may failed asked origin note x c.args.places.now c.bring_copy.new.places)
     c.deref.ensures.value c.bring_copy.ensures.asks)
     c.in-Err.ensures.blames c.turn_of.ensures.no_file
+
+pub returns-in-Err-clause-conflicts : goal.returns-in-Err-clause-conflicts
+returns-in-Err-clause-conflicts g c =
+    let digest = g.H.TreeHash.digest in
+    let origin = c.args.origin.now in
+    let x = g.D.Shelf.puts c.args.shelf.now in
+    turned_conflict digest origin c.args.candidate.now.note.items x c.in-Err.fault c.turn_of.result
+    (λ conflict. subst (λ n. HasConflict digest origin n x) c.deref.ensures.value (c.in-Err.ensures.conflicts conflict))
+    c.turn_of.ensures.conflicts
+
+pub returns-in-Ok-clause-after : goal.returns-in-Ok-clause-after
+returns-in-Ok-clause-after g c =
+    let digest = g.H.TreeHash.digest in
+    let origin = c.args.origin.now in
+    let x = g.D.Shelf.puts c.args.shelf.now in
+    let w = g.D.Shelf.puts c.bring_copy.new.shelf in
+    let note = c.args.candidate.now.note.items in
+    brought_after digest origin {T = ℕ} {E = BringFault} note x w c.in-Ok.field-0
+    (subst (λ n. IsBroughtTo digest origin n x w) c.deref.ensures.value c.in-Ok.ensures.brought)
+    (subst (λ n. LeavesPruned digest origin {T = ℕ} {E = BringFault} n x w (Ok c.in-Ok.field-0)) c.deref.ensures.value
+    c.in-Ok.ensures.pruned)
+
+pub returns-in-Err-clause-after : goal.returns-in-Err-clause-after
+returns-in-Err-clause-after g c =
+    let digest = g.H.TreeHash.digest in
+    let origin = c.args.origin.now in
+    let x = g.D.Shelf.puts c.args.shelf.now in
+    let w = g.D.Shelf.puts c.bring_copy.new.shelf in
+    let note = c.args.candidate.now.note.items in
+    turned_after digest origin c.args.candidate.now x w c.turn_of.result
+    (stayed_after digest origin {T = ℕ} {E = BringFault} note x w c.in-Err.fault c.in-Err.ensures.stays
+    (subst (λ n. LeavesPruned digest origin {T = ℕ} {E = BringFault} n x w (Err c.in-Err.fault)) c.deref.ensures.value
+    c.in-Err.ensures.pruned))
+    c.turn_of.ensures.after

@@ -1,5 +1,5 @@
 use Rattle.std.proofs.Common.{Some}
-use Rattle.mirror_copy.proofs.WholeMoments.{whole_same}
+use Rattle.mirror_follow.proofs.Runs.{each_none}
 use Rattle.mirror_follow.specs.Standing.{HasStanding, LacksLog}
 use Rattle.mirror_follow.proofs.CopyReads.{none_lacks}
 use Rattle.mirror_follow.proofs.Ending.{ends_if}
@@ -7,8 +7,8 @@ use Rattle.mirror_follow.proofs.Standing.{after_same}
 use Rattle.mirror_follow.proofs.turns.compare.Goals as goal
 
 pub returns-clause-keeps : goal.returns-clause-keeps
-returns-clause-keeps g c =
-    whole_same g.H.TreeHash.digest c.args.origin.now c.args.candidate.now.note.items (g.D.Shelf.puts c.args.shelf.now)
+returns-clause-keeps g c = λ notes listed.
+    each_none g.H.TreeHash.digest c.args.origin.now notes (g.D.Shelf.puts c.args.shelf.now)
     (g.D.Shelf.puts c.take_smaller.new.shelf) c.take_smaller.ensures.same
 
 pub returns-clause-after : goal.returns-clause-after

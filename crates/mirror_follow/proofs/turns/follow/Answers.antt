@@ -2,7 +2,7 @@ use Rattle.mirror_follow.proofs.Kept.{follows_candidates, follows_none}
 use Rattle.std.proofs.Common.{◌∙◌, ℕ, List, Option, IfOk, option_map, subst, sym}
 use Rattle.std.specs.List.Sorted.{IsSorted}
 use Rattle.std.proofs.lemmas.Result.{err_from_is_err_and}
-use Rattle.mirror_copy.specs.Moments.{HadSize}
+use Rattle.mirror_copy.specs.Pruned.{HadSize}
 use Rattle.mirror_follow.specs.Candidates.{turn_cmp}
 use Rattle.mirror_folders.specs.Shelf.{Put}
 use Rattle.mirror_follow.specs.Ending.{KeepsFault}
@@ -18,7 +18,6 @@ use Rattle.mirror_follow.proofs.GatheredFrom.{candidates_later}
 use Rattle.mirror_follow.proofs.Shown.{reported_forks}
 use Rattle.mirror_follow.proofs.Standing.{followed_by, had_found, known_found, read_found}
 use Rattle.mirror_follow.proofs.Turning.{counts_same}
-use Rattle.mirror_follow.specs.OneHonest.{HasPart}
 use Rattle.mirror_follow.proofs.HonestRuns.{honest_first, honest_listed, one_given, part_stands, report_passes, report_reaches, some_given}
 use Rattle.mirror_follow.proofs.OneHonest.{never_damaged}
 use Rattle.mirror_follow.proofs.Sparing.{ends_spares, lacks_spares, report_spares}
@@ -226,7 +225,7 @@ pub returns-in_err-copy-clause-reaches : goal.returns-in_err-copy-clause-reaches
 returns-in_err-copy-clause-reaches g c = λ h.
     let p = err_from_is_err_and c.from_residual.result c.from_residual.ensures.1 in
     rw (p.1, p.2) (never_damaged g.H.TreeHash.digest c.args.origin.now h.entries (g.D.Shelf.puts c.args.shelf.now)
-    c.in_err-copy.field-0.0 (HasPart h.holds) c.in_err-copy.ensures.ends c.in_err-copy.ensures.some)
+    c.in_err-copy.field-0.0 h.holds c.in_err-copy.ensures.ends c.in_err-copy.ensures.some)
 
 pub returns-in_err-candidates-clause-reaches : goal.returns-in_err-candidates-clause-reaches
 returns-in_err-candidates-clause-reaches g c = λ h.

@@ -3,25 +3,25 @@ use Rattle.std.proofs.lemmas.Result.{err_from_is_err_and}
 use Rattle.mirror_copy.specs.Faults.{IsOtherFound}
 use Rattle.mirror_follow.specs.Standing.{HasStanding}
 use Rattle.mirror_follow.proofs.Ending.{ends_so, none_found}
-use Rattle.mirror_copy.proofs.WholeMoments.{whole_same}
-use Rattle.mirror_follow.proofs.Renoted.{head_as, note_brought, note_keeps}
+use Rattle.mirror_follow.proofs.Renoted.{head_as, note_follows, note_kept}
+use Rattle.mirror_follow.proofs.Runs.{each_none}
 use Rattle.mirror_follow.proofs.turns.renote.Goals as goal
 
 pub returns-in_err-put_note-clause-keeps : goal.returns-in_err-put_note-clause-keeps
-returns-in_err-put_note-clause-keeps g c =
-    whole_same g.H.TreeHash.digest c.args.origin.now c.args.candidate.now.note.items (g.D.Shelf.puts c.args.shelf.now)
+returns-in_err-put_note-clause-keeps g c = λ notes listed.
+    each_none g.H.TreeHash.digest c.args.origin.now notes (g.D.Shelf.puts c.args.shelf.now)
     (g.D.Shelf.puts c.put_note.new.shelf) c.in_err-put_note.ensures.puts
 
 pub returns-clause-keeps : goal.returns-clause-keeps
 returns-clause-keeps g c =
-    note_keeps g.H.TreeHash.digest c.args.origin.now c.args.candidate.now.note.items (g.D.Shelf.puts c.args.shelf.now)
+    note_kept g.H.TreeHash.digest c.args.origin.now c.args.candidate.now.note.items (g.D.Shelf.puts c.args.shelf.now)
     (g.D.Shelf.puts c.put_note.new.shelf) c.args.copy.now.note.items c.args.candidate.now.size.0 c.args.candidate.now.root
     (head_as c.args.origin.now c.args.copy.now c.args.candidate.now c.requires.copy c.requires.size c.requires.root)
     c.requires.candidate c.in_ok-put_note.ensures.puts
 
 pub returns-clause-after : goal.returns-clause-after
 returns-clause-after g c =
-    note_brought g.H.TreeHash.digest c.args.origin.now c.args.candidate.now.note.items (g.D.Shelf.puts c.args.shelf.now)
+    note_follows g.H.TreeHash.digest c.args.origin.now c.args.candidate.now.note.items (g.D.Shelf.puts c.args.shelf.now)
     (g.D.Shelf.puts c.put_note.new.shelf) c.args.copy.now.note.items c.args.candidate.now.size.0 c.args.candidate.now.root
     (head_as c.args.origin.now c.args.copy.now c.args.candidate.now c.requires.copy c.requires.size c.requires.root)
     c.requires.candidate c.in_ok-put_note.ensures.puts

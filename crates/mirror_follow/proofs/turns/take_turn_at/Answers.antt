@@ -3,7 +3,7 @@ use Rattle.std.proofs.Common.{map, sym, true≢false, ◌∙◌}
 use Rattle.log_reader.proofs.Kept.{kept_once}
 use Rattle.mirror_follow.specs.Gathering.{note_of}
 use Rattle.mirror_follow.proofs.Ending.{keeps_again, keeps_at}
-use Rattle.mirror_follow.proofs.Runs.{listed_note, no_run, one_run}
+use Rattle.mirror_follow.proofs.Runs.{each_none, listed_note}
 use Rattle.mirror_follow.proofs.Taken.{taken_repeat, turn_ok}
 use Rattle.mirror_follow.proofs.Turning.{run_same}
 use Rattle.std.proofs.Common.{inl, inr, refl, subst}
@@ -16,17 +16,15 @@ use Rattle.mirror_follow.proofs.turns.take_turn_at.Goals as goal
 pub returns-then-is_repeated-clause-keeps : goal.returns-then-is_repeated-clause-keeps
 returns-then-is_repeated-clause-keeps g c =
     let x = g.D.Shelf.puts c.args.shelf.now in
-    no_run g.H.TreeHash.digest c.args.origin.now (map note_of c.args.candidates.now) x x (kept_once x)
+    each_none g.H.TreeHash.digest c.args.origin.now (map note_of c.args.candidates.now) x x (kept_once x)
 
 pub returns-then-is_repeated-clause-run : goal.returns-then-is_repeated-clause-run
 returns-then-is_repeated-clause-run g c = run_same _ _ (g.D.Shelf.puts c.args.shelf.now) c.args.run.now
 
 pub returns-clause-keeps : goal.returns-clause-keeps
 returns-clause-keeps g c =
-    one_run g.H.TreeHash.digest c.args.origin.now (map note_of c.args.candidates.now) _
-    (g.D.Shelf.puts c.args.shelf.now) (g.D.Shelf.puts c.take_turn.new.shelf)
+    c.take_turn.ensures.keeps (map note_of c.args.candidates.now)
     (listed_note c.args.candidates.now c.args.i c.index-candidates-i.result c.requires.within c.index-candidates-i.is)
-    c.take_turn.ensures.keeps
 
 pub returns-then-is_repeated-clause-asks : goal.returns-then-is_repeated-clause-asks
 returns-then-is_repeated-clause-asks g c = any_same g.S.Source.may_answer g.S.Source.failed g.S.Source.asked c.args.places.now

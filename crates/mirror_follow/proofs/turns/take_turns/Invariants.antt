@@ -4,7 +4,7 @@ use Rattle.mirror_follow.specs.Blame.{AsksAny, PlaceFails}
 use Rattle.mirror_follow.specs.Candidates.{turn_cmp}
 use Rattle.mirror_follow.specs.Ending.{KeepsFault}
 use Rattle.mirror_follow.specs.Gathering.{note_of}
-use Rattle.mirror_follow.specs.Runs.{KeepsCopies}
+use Rattle.mirror_follow.specs.Runs.{KeepsEach}
 use Rattle.mirror_follow.specs.Taken.{HasTakenRun}
 use Rattle.mirror_follow.specs.Turning.{IsRunFrom}
 use Rattle.mirror_follow.specs.declared.fault.FollowFault.TheVariants.{Source}
@@ -14,7 +14,7 @@ use Rattle.mirror_follow.proofs.turns.take_turns.Given as goal
 
 abbrev pub invariant-loop-i : goal.invariant-loop-i
 invariant-loop-i g l = record {
-  keeps : KeepsCopies g.H.TreeHash.digest l.origin (map note_of l.candidates) (g.D.Shelf.puts l.initial.shelf)
+  keeps : KeepsEach g.H.TreeHash.digest l.origin (map note_of l.candidates) (g.D.Shelf.puts l.initial.shelf)
       (g.D.Shelf.puts l.shelf);
   counted : g.D.Shelf.failed l.shelf ≡ g.D.Shelf.failed l.initial.shelf;
   run : IsRunFrom g.H.TreeHash.digest l.origin (g.D.Shelf.puts l.initial.shelf) (g.D.Shelf.puts l.shelf) l.fn.copy l.run;
