@@ -11,6 +11,8 @@ use Rattle.mirror_copy.proofs.Stays.{stays_same}
 use Rattle.mirror_copy.specs.declared.fault.BringFault.TheVariants.{BadCheckpoint}
 use Rattle.mirror_copy.proofs.PrunedMoments.{had_pruned, leaves_err, leaves_ok, leaves_same}
 use Rattle.mirror_copy.proofs.WholeMoments.{had_size, whole_same}
+use Rattle.mirror_copy.proofs.AskingOnce.{begun_once, once_begun}
+use Rattle.std.specs.Prelude.{⊤}
 use Rattle.mirror_copy.proofs.copy.bring_copy.Goals as goal
 
 pub returns-in_err-head-clause-whole : goal.returns-in_err-head-clause-whole
@@ -200,3 +202,25 @@ pub returns-clause-had_pruned : goal.returns-clause-had_pruned
 returns-clause-had_pruned g c =
     rw c.size-had.ensures (had_pruned g.H.TreeHash.digest c.args.origin.now c.in_ok-tip.tip
     (g.D.Shelf.puts c.args.shelf.now) c.in_ok-tip.ensures.tip)
+
+pub returns-in_err-head-clause-once : goal.returns-in_err-head-clause-once
+returns-in_err-head-clause-once g c =
+    once_begun g.S.Source.asked (λ k path. ⊤) c.args.places.now c.begin.new.self c.begin.ensures.list
+
+pub returns-in_default-clause-once : goal.returns-in_default-clause-once
+returns-in_default-clause-once g c =
+    once_begun g.S.Source.asked (λ k path. ⊤) c.args.places.now c.begin.new.self c.begin.ensures.list
+
+pub returns-in_err-tip-clause-once : goal.returns-in_err-tip-clause-once
+returns-in_err-tip-clause-once g c =
+    once_begun g.S.Source.asked (λ k path. ⊤) c.args.places.now c.begin.new.self c.begin.ensures.list
+
+pub returns-in_err-done-clause-once : goal.returns-in_err-done-clause-once
+returns-in_err-done-clause-once g c =
+    begun_once g.S.Source.asked (λ k path. ⊤) c.args.places.now c.begin.new.self c.bring_from-done.new.places
+    c.begin.ensures.list c.bring_from-done.ensures.once
+
+pub returns-clause-once : goal.returns-clause-once
+returns-clause-once g c =
+    begun_once g.S.Source.asked (λ k path. ⊤) c.args.places.now c.begin.new.self c.bring_from-done.new.places
+    c.begin.ensures.list c.bring_from-done.ensures.once

@@ -7,6 +7,8 @@ use Rattle.mirror_copy.proofs.Stays.{stays_same}
 use Rattle.mirror_copy.specs.declared.fault.BringFault.TheVariants.{NotLarger}
 use Rattle.mirror_copy.proofs.PrunedMoments.{leaves_same}
 use Rattle.mirror_copy.proofs.WholeMoments.{whole_same}
+use Rattle.mirror_copy.proofs.AskingOnce.{once_same}
+use Rattle.std.specs.Prelude.{⊤}
 use Rattle.mirror_copy.proofs.copy.bring_from.Goals as goal
 
 pub returns-clause-brings : goal.returns-clause-brings
@@ -29,3 +31,11 @@ returns-then-is_none-clause-honest g c =
     let none : c.args.candidate.now.size ≡ 0 = omega arith in
     err_weaker c.put_empty.result _ _ (λ e so entries h t.
     so (h.root_is ∙ ap (λ n. mth digest (take n entries)) none)) c.put_empty.ensures.honest
+
+pub returns-then-is_none-clause-once : goal.returns-then-is_none-clause-once
+returns-then-is_none-clause-once g c =
+    once_same g.S.Source.asked (λ k path. ⊤) c.args.places.now
+
+pub returns-clause-once : goal.returns-clause-once
+returns-clause-once g c =
+    once_same g.S.Source.asked (λ k path. ⊤) c.args.places.now
