@@ -112,9 +112,9 @@ tile_apart level index a b path is h =
 pub row_to : (level index width : ℕ) → width ≡ 256 → (256 * index + width) * 256 ^ level ≡ (index + 1) * 256 ^ (level + 1)
 row_to level index width wide = ap (λ w. (256 * index + w) * 256 ^ level) wide ∙ end_is level index
 
-pub child_to : (level index width i : ℕ) → i < width → (256 * index + i + 1) * 256 ^ level ≤ (256 * index + width) * 256 ^ level
-child_to level index width i lt =
-    mul-le (256 * index + i + 1) (256 ^ level) (256 * index + width) (256 ^ level) (omega arith) (omega arith)
+pub child_to : (level index width i : ℕ) → i ≤ width → (256 * index + i) * 256 ^ level ≤ (256 * index + width) * 256 ^ level
+child_to level index width i le =
+    mul-le (256 * index + i) (256 ^ level) (256 * index + width) (256 ^ level) (omega arith) (omega arith)
 
 pub child_from : (level index i : ℕ) → index * 256 ^ (level + 1) ≤ (256 * index + i) * 256 ^ level
 child_from level index i =

@@ -368,7 +368,7 @@ bring_row-returns-in_err-bring_tile-clause-once g t c =
     once_longer g.S.Source.asked c.args.level (c.args.index * 256 ^ (c.args.level + 1)) ((256 * c.args.index + (c.loop-i.i + 1)) * 256 ^ c.args.level)
     ((256 * c.args.index + length c.args.row.now) * 256 ^ c.args.level) (child_to c.args.level c.args.index (length c.args.row.now) (c.loop-i.i + 1) lt)
     c.args.places.now c.bring_tile.new.places (once_child g.S.Source.asked c.args.level c.args.index c.loop-i.i c.requires.above c.args.places.now c.loop-i.places
-      c.bring_tile.new.places c.loop-i.invariant.once c.bring_tile.ensures.once)
+    c.bring_tile.new.places c.loop-i.invariant.once c.bring_tile.ensures.once)
 
 pub bring_row-returns-clause-once : goal.bring_row-returns-clause-once
 bring_row-returns-clause-once g t c =

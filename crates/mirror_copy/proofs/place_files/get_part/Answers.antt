@@ -74,3 +74,15 @@ pub returns-in-NotFound-clause-once : goal.returns-in-NotFound-clause-once
 returns-in-NotFound-clause-once g c =
     once_noted g.S.Source.asked g.S.Source.may_answer g.S.Source.failed (IsAtPlace c.args.index (λ p. p ≡ full_of c.args.path.now)) c.args.places.now c.get.new.self
     c.note_wrong-in-NotFound.new.self (rw c.full_of-full_path.ensures at c.get.ensures.once) c.note_wrong-in-NotFound.ensures
+
+pub returns-in_err-full-clause-once : goal.returns-in_err-full-clause-once
+returns-in_err-full-clause-once g c = rw c.full_of-full_path.ensures at c.get.ensures.once
+
+pub returns-in_err-from_slice-in-Some-clause-once : goal.returns-in_err-from_slice-in-Some-clause-once
+returns-in_err-from_slice-in-Some-clause-once g c = rw c.full_of-full_path.ensures at c.get.ensures.once
+
+pub returns-in-Some-clause-once : goal.returns-in-Some-clause-once
+returns-in-Some-clause-once g c = rw c.full_of-full_path.ensures at c.get.ensures.once
+
+pub returns-clause-once : goal.returns-clause-once
+returns-clause-once g c = rw c.full_of-full_path.ensures at c.get.ensures.once
