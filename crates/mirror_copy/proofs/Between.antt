@@ -177,7 +177,7 @@ is_bundle (Entries index width) = Unit {0}
 
 pub bundle_no_tile : (n : ℕ) (path : Path) → IsEdgeBundle n path → IsEdgeTile n path → ⊥
 bundle_no_tile n path bundle tile =
-    let is = elim bundle.is [
+    let is : is_bundle path = elim bundle.is [
       | inl e ↦ subst (λ p. is_bundle p) (sym e) tt
       | inr e ↦ subst (λ p. is_bundle p) (sym e) tt
     ] in

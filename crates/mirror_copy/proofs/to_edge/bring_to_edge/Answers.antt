@@ -1,11 +1,11 @@
-use Rattle.std.proofs.Common.{refl}
+use Rattle.std.proofs.Common.{inr, refl}
 use Rattle.std.proofs.lemmas.Result.{err_from_is_err_and}
-use Rattle.mirror_copy.specs.Asked.{IsEdgeBundle, IsNewFull}
+use Rattle.mirror_copy.specs.Asked.{IsEdgeBundle, IsEdgeBundleOrNew, IsNewFull}
 use Rattle.mirror_copy.proofs.OnePlace.{honest_between}
 use Rattle.mirror_copy.proofs.Spared.{spared_last, spared_shelf}
 use Rattle.mirror_copy.proofs.EdgeRows.{edge_known, edge_left}
 use Rattle.mirror_copy.proofs.Growth.{kept_same}
-use Rattle.mirror_copy.proofs.Asking.{asks_same, to_edge_asks}
+use Rattle.mirror_copy.proofs.Asking.{asks_same, asks_weaker, to_edge_asks}
 use Rattle.mirror_copy.proofs.Others.{last_blames}
 use Rattle.mirror_copy.proofs.Finishing.{copy_brought, ends_brought, left_put, true_rows}
 use Rattle.mirror_copy.proofs.Between.{once_below, once_to_edge}
@@ -137,3 +137,9 @@ returns-clause-once g c =
 pub returns-in_err-bring_levels-clause-once : goal.returns-in_err-bring_levels-clause-once
 returns-in_err-bring_levels-clause-once g c =
     once_below g.S.Source.asked c.args.edge.now.size c.args.places.now c.bring_levels.new.places c.bring_levels.ensures.once
+
+pub returns-in_err-bring_levels-clause-asks : goal.returns-in_err-bring_levels-clause-asks
+returns-in_err-bring_levels-clause-asks g c =
+    asks_weaker g.S.Source.may_answer g.S.Source.failed g.S.Source.asked (IsNewFull c.args.tip.now.size)
+    (IsEdgeBundleOrNew c.args.edge.now.size c.args.tip.now.size) (λ path h. inr h) c.args.places.now c.bring_levels.new.places
+    c.bring_levels.ensures.asks
