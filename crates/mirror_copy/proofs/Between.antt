@@ -1,7 +1,7 @@
 -- The paths that the parts of a call request differ.
 use Rattle.std.proofs.Common.{◌≡◌, ◌≢◌, ℕ, ◌+◌, ◌-◌, ◌*◌, ◌/◌, ◌^◌, ◌<◌, ◌≤◌, List, Option, inl, inr, refl, sym, subst, ap, ◌∙◌, arith}
 use Rattle.std.specs.Prelude.{⊤}
-use Rattle.std.proofs.Math.Nat.{div-mul-le_self, lt-div-mul-add}
+use Rattle.std.proofs.Math.Nat.{lt-div-mul-add}
 use Rattle.std.proofs.lemmas.Nat.{mul-le}
 use Rattle.tlog_shape.proofs.Levels.{level_positive}
 use Rattle.tlog_shape.specs.Edge.{edge_index_of, width_of}
