@@ -13,11 +13,11 @@ use Rattle.mirror_copy.specs.declared.places.Places.{Places}
 use Rattle.mirror_copy.specs.Asked.{IsAskedInVain, IsAskedInTurn, IsEdgeBundle, IsEdgeBundleOrNew, IsEdgeTile, IsNewFull, MayBeAsked}
 use Rattle.mirror_copy.specs.PlaceGets.{RoseTimes, IsAskedFor, APlaceFailed, AsksPlaces}
 
-recorded_same : {X : Type 0} (a : Option (List X)) → AddsToRecord a a []
+pub recorded_same : {X : Type 0} (a : Option (List X)) → AddsToRecord a a []
 recorded_same None = tt
 recorded_same (Some xs) = sym (append-nil xs)
 
-recorded_then : {X : Type 0} (a b c : Option (List X)) (xs ys : List X) → AddsToRecord a b xs → AddsToRecord b c ys →
+pub recorded_then : {X : Type 0} (a b c : Option (List X)) (xs ys : List X) → AddsToRecord a b xs → AddsToRecord b c ys →
     AddsToRecord a c (xs ++ ys)
 recorded_then None b c xs ys p q = tt
 recorded_then (Some us) None c xs ys p q = absurd p

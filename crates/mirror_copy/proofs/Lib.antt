@@ -1,4 +1,6 @@
 pub mod Asking
+pub mod AskingOnce
+pub mod Between
 pub mod Begun
 pub mod NewFulls
 pub mod Prefixes

@@ -6,7 +6,7 @@ use Rattle.tlog_tiles.specs.declared.paths.Path.{Path}
 use Rattle.tlog_tiles.specs.declared.paths.Path.TheVariants.{Tile, Entries}
 use Rattle.mirror_copy.specs.Asked.{IsNewFull, IsEdgeTile, IsEdgeBundle, IsPathOrFull}
 
-end_is : (level index : ℕ) → (256 * index + 256) * 256 ^ level ≡ (index + 1) * 256 ^ (level + 1)
+pub end_is : (level index : ℕ) → (256 * index + 256) * 256 ^ level ≡ (index + 1) * 256 ^ (level + 1)
 end_is level index =
     let first : (256 * index + 256) * 256 ^ level ≡ (index + 1) * (256 * 256 ^ level) = omega arith in
     first ∙ ap (λ p. (index + 1) * p) (sym (level_next level))

@@ -32,7 +32,7 @@ IsFirst tip level index row first =
     ⊎ ((index ≢ edge_index_of tip.size level) × (first ≡ 0))
 
 -- a tile of that level and index begins where its first hash begins
-place_of : (level index : ℕ) → index * 256 ^ (level + 1) ≡ 256 * index * 256 ^ level
+pub place_of : (level index : ℕ) → index * 256 ^ (level + 1) ≡ 256 * index * 256 ^ level
 place_of level index = ap (λ n. index * n) (level_next level) ∙ omega arith
 
 -- the indices of a tile and of its children are small

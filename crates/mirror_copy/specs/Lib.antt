@@ -10,6 +10,7 @@ pub mod Pruned
 pub mod Edges
 pub mod Found
 pub mod AskedForCopy
+pub mod AskedOnce
 pub mod Suffices
 pub mod Taken
 pub mod TrueAnswers

@@ -5,6 +5,7 @@ ghost use Rattle.mirror_sources.specs.Recorded.{KeepsRecord};
 ghost use Rattle.log_reader.specs.Verified.{Verifies};
 ghost use Rattle.mirror_copy.specs.Conflicts.{IsNoConflict};
 ghost use Rattle.mirror_copy.specs.Faults.{BlamesPlaces, CountsShelf};
+ghost use Rattle.mirror_copy.specs.AskedOnce.{AsksOnce};
 ghost use Rattle.mirror_copy.specs.PlaceGets.{AsksPlaces};
 ghost use Rattle.mirror_copy.specs.Suffices.{HasTruePlace, IsFileUnder, IsNoLack};
 ghost use Rattle.mirror_copy.specs.Taken.{MayTake};
@@ -76,6 +77,7 @@ pub(crate) fn find_bundle<H: TreeHash, D: ReadableShelf, S: Source + Drop>(
     ensures counted { CountsShelf (D.failed shelf.old) (D.failed shelf.new) result }
     ensures asks { AsksPlaces S.may_answer S.failed S.asked (λ p. p ≡ Entries index 256)
         places.old places.new }
+    ensures once { AsksOnce S.asked (λ k p. p ≡ Entries index 256) places.old places.new }
     ensures blames { IfErr result (BlamesPlaces places.new) }
     ensures taken { IfOk result (λ f. MayTake S.may_answer places.old (D.puts shelf.old)
         (Entries index 256) f.bytes.items) }

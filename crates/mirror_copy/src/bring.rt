@@ -1,8 +1,10 @@
 //! Tiles brought from places, with all files below them.
 ghost use Rattle.std.specs.Prelude.{◌≡◌, ◌+◌, ◌*◌, ◌^◌, ◌<◌, ◌≤◌, [], ℕ, List, IfErr, OnOk, length, take};
+ghost use Rattle.tlog_tiles.specs.declared.paths.Path.TheVariants.{Entries};
 ghost use Rattle.mirror_sources.specs.Recorded.{KeepsRecord};
 ghost use Rattle.mirror_copy.specs.Asked.{IsNewFull};
 ghost use Rattle.mirror_copy.specs.Faults.{BlamesPlaces, CountsShelf};
+ghost use Rattle.mirror_copy.specs.AskedOnce.{AsksOnce, IsFullBetween};
 ghost use Rattle.mirror_copy.specs.PlaceGets.{AsksPlaces};
 ghost use Rattle.mirror_copy.specs.Conflicts.{ConflictPutsNothing, IsNoConflict};
 ghost use Rattle.mirror_copy.specs.Suffices.{IsSpared, IsTileHash, IsTileRow, IsTipOf, OneIsHonest};
@@ -37,6 +39,7 @@ fn bring_bundle<H: TreeHash, D: ReadableShelf, S: Source + Drop>(
     ensures counted { CountsShelf (D.failed shelf.old) (D.failed shelf.new) result }
     ensures asks { AsksPlaces S.may_answer S.failed S.asked (IsNewFull tip.now.size)
         places.old places.new }
+    ensures once { AsksOnce S.asked (λ k p. p ≡ Entries index 256) places.old places.new }
     ensures blames { IfErr result (BlamesPlaces places.new) }
     ensures taken { PutsTaken S.may_answer places.old (D.puts shelf.old) (D.puts shelf.new) }
     ensures honest { IfErr result (λ e. (entries : List (List ℕ)) (size : ℕ)
@@ -90,6 +93,8 @@ fn bring_tile<H: TreeHash, D: ReadableShelf, S: Source + Drop>(
     ensures counted { CountsShelf (D.failed shelf.old) (D.failed shelf.new) result }
     ensures asks { AsksPlaces S.may_answer S.failed S.asked (IsNewFull tip.now.size)
         places.old places.new }
+    ensures once { AsksOnce S.asked (λ k. IsFullBetween (level + 1) (index * 256 ^ (level + 1))
+        ((index + 1) * 256 ^ (level + 1))) places.old places.new }
     ensures blames { IfErr result (BlamesPlaces places.new) }
     ensures taken { PutsTaken S.may_answer places.old (D.puts shelf.old) (D.puts shelf.new) }
     ensures honest { IfErr result (λ e. (entries : List (List ℕ)) (size : ℕ)
@@ -138,6 +143,8 @@ pub(crate) fn bring_row<H: TreeHash, D: ReadableShelf, S: Source + Drop>(
     ensures counted { CountsShelf (D.failed shelf.old) (D.failed shelf.new) result }
     ensures asks { AsksPlaces S.may_answer S.failed S.asked (IsNewFull tip.now.size)
         places.old places.new }
+    ensures once { AsksOnce S.asked (λ k. IsFullBetween level (index * 256 ^ (level + 1))
+        ((256 * index + length row.now) * 256 ^ level)) places.old places.new }
     ensures blames { IfErr result (BlamesPlaces places.new) }
     ensures taken { PutsTaken S.may_answer places.old (D.puts shelf.old) (D.puts shelf.new) }
     ensures honest { IfErr result (λ e. (entries : List (List ℕ)) (size : ℕ)

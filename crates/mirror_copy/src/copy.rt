@@ -1,5 +1,5 @@
 //! A copy on a shelf, brought to a checkpoint.
-ghost use Rattle.std.specs.Prelude.{◌≡◌, ◌↔◌, ◌⊎◌, ◌<◌, ◌^◌, ℕ, None, Some, [], IfErr, IfOk, IfSome, IsTrue, List, OnOk, length, take};
+ghost use Rattle.std.specs.Prelude.{◌≡◌, ◌↔◌, ◌⊎◌, ◌<◌, ◌^◌, ℕ, None, Some, [], IfErr, IfOk, IfSome, IsTrue, List, OnOk, length, take, ⊤};
 ghost use Rattle.tlog_hash.specs.Tree.{mth};
 ghost use Rattle.mirror_model.specs.Heads.{IsHead};
 ghost use Rattle.mirror_sources.specs.Recorded.{KeepsRecord};
@@ -9,6 +9,7 @@ ghost use Rattle.mirror_copy.specs.Conflicts.{HasConflict, IsConflict, IsFalseEm
 ghost use Rattle.mirror_copy.specs.Asked.{IsEdgeTile, MayBeAsked};
 ghost use Rattle.mirror_copy.specs.AskedForCopy.{AsksForCopy, BlamesFailed, IsInUse, RefusesNote};
 ghost use Rattle.mirror_copy.specs.Faults.{BlamesFrom, BlamesPlaces, BlamesRun, CountsShelf, IsOfNoPlace, IsOtherThen};
+ghost use Rattle.mirror_copy.specs.AskedOnce.{AsksOnce};
 ghost use Rattle.mirror_copy.specs.PlaceGets.{AsksPlaces};
 ghost use Rattle.mirror_copy.specs.Damaged.{IsDamaged};
 ghost use Rattle.mirror_copy.specs.Found.{BringsFromTip};
@@ -73,6 +74,7 @@ fn find_new_edge<H: TreeHash, D: ReadableShelf, S: Source + Drop>(
     ensures counted { CountsShelf (D.failed shelf.old) (D.failed shelf.new) result }
     ensures asks { AsksPlaces S.may_answer S.failed S.asked (IsEdgeTile candidate.now.size)
         places.old places.new }
+    ensures once { AsksOnce S.asked (λ k. IsEdgeTile candidate.now.size) places.old places.new }
     ensures blames { IfErr result (BlamesPlaces places.new) }
     ensures leads { IfOk result
         (λ edge. LeadsTo H.digest candidate.now.size candidate.now.root edge) }
@@ -129,6 +131,7 @@ fn bring_larger<H: TreeHash, D: ReadableShelf, S: Source + Drop>(
     ensures counted { CountsShelf (D.failed shelf.old) (D.failed shelf.new) result }
     ensures asks { AsksPlaces S.may_answer S.failed S.asked
         (MayBeAsked tip.now.size candidate.now.size) places.old places.new }
+    ensures once { AsksOnce S.asked (λ k path. ⊤) places.old places.new }
     ensures blames { IfErr result (BlamesRun H.digest places.new tip.now (D.puts shelf.old)) }
     ensures conflict { IfErr result (λ e. IsConflict e → KeepsRecord (D.puts shelf.old)
         (D.puts shelf.new)) }
@@ -159,6 +162,7 @@ fn bring_from<H: TreeHash, D: ReadableShelf, S: Source + Drop>(
     ensures counted { CountsShelf (D.failed shelf.old) (D.failed shelf.new) result }
     ensures asks { AsksPlaces S.may_answer S.failed S.asked
         (MayBeAsked tip.now.size candidate.now.size) places.old places.new }
+    ensures once { AsksOnce S.asked (λ k path. ⊤) places.old places.new }
     ensures blames { IfErr result (BlamesFrom H.digest places.new candidate.now.size tip.now
         (D.puts shelf.old)) }
     ensures conflict { IfErr result (λ e. IsConflict e → KeepsRecord (D.puts shelf.old)
@@ -222,6 +226,7 @@ pub fn bring_copy<H: TreeHash, D: ReadableShelf, S: Source + Drop>(
     ensures counted { CountsShelf (D.failed shelf.old) (D.failed shelf.new) result }
     ensures asks { AsksForCopy H.digest S.may_answer S.failed S.asked origin.now note.now
         (D.puts shelf.old) places.old places.new }
+    ensures once { AsksOnce S.asked (λ k path. ⊤) places.old places.new }
     ensures blames { IfErr result (BlamesFailed S.may_answer S.failed S.asked
         places.old places.new) }
     ensures refuses { IfErr result (RefusesNote H.digest origin.now note.now (D.puts shelf.old)) }

@@ -4,6 +4,7 @@ ghost use Rattle.tlog_shape.specs.Edge.{edge_index_of};
 ghost use Rattle.mirror_sources.specs.Recorded.{KeepsRecord};
 ghost use Rattle.mirror_copy.specs.Asked.{IsNewFull};
 ghost use Rattle.mirror_copy.specs.Faults.{BlamesPlaces, CountsShelf};
+ghost use Rattle.mirror_copy.specs.AskedOnce.{AsksOnce, IsFullBetween};
 ghost use Rattle.mirror_copy.specs.PlaceGets.{AsksPlaces};
 ghost use Rattle.mirror_copy.specs.Conflicts.{ConflictPutsNothing, IsNoConflict};
 ghost use Rattle.mirror_copy.specs.Suffices.{IsEdgeTrue, IsSpared, IsTipOf, OneIsHonest};
@@ -37,6 +38,7 @@ pub(crate) fn bring_levels<H: TreeHash, D: ReadableShelf, S: Source + Drop>(
     ensures counted { CountsShelf (D.failed shelf.old) (D.failed shelf.new) result }
     ensures asks { AsksPlaces S.may_answer S.failed S.asked (IsNewFull tip.now.size)
         places.old places.new }
+    ensures once { AsksOnce S.asked (λ k. IsFullBetween 7 0 edge.now.size) places.old places.new }
     ensures blames { IfErr result (BlamesPlaces places.new) }
     ensures taken { PutsTaken S.may_answer places.old (D.puts shelf.old) (D.puts shelf.new) }
     ensures honest { IfErr result (λ e. (entries : List (List ℕ)) (size : ℕ)

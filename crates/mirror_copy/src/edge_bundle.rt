@@ -1,9 +1,11 @@
 //! The partial bundle at the right edge.
-ghost use Rattle.std.specs.Prelude.{◌≡◌, ◌*◌, ◌^◌, ◌<◌, ◌≤◌, [], ℕ, List, IfErr, IfNone, IfOk, IfSome, IsTrue, Some, length, option_map, take};
+ghost use Rattle.std.specs.Prelude.{◌≡◌, ◌≢◌, ◌*◌, ◌^◌, ◌<◌, ◌≤◌, [], ℕ, List, IfErr, IfNone, IfOk, IfSome, IsTrue, Some, length, option_map, take};
 ghost use Rattle.tlog_shape.specs.Edge.{edge_index_of};
+ghost use Rattle.mirror_sources.specs.Files.{full_of};
 ghost use Rattle.mirror_sources.specs.Recorded.{KeepsRecord};
 ghost use Rattle.mirror_copy.specs.Asked.{IsEdgeBundle, IsPathOrFull};
 ghost use Rattle.mirror_copy.specs.Faults.{BlamesPlaces, CountsShelf};
+ghost use Rattle.mirror_copy.specs.AskedOnce.{AsksOnce, IsAtPlace};
 ghost use Rattle.mirror_copy.specs.PlaceGets.{AsksPlaces};
 ghost use Rattle.mirror_copy.specs.Conflicts.{ConflictPutsNothing, IsNoConflict};
 ghost use Rattle.log_reader.specs.Verified.{HasLeaves};
@@ -71,6 +73,8 @@ fn edge_bundle_at_place<H: TreeHash, S: Source + Drop>(
     requires width { length row.now ≤ 256 }
     ensures asks { AsksPlaces S.may_answer S.failed S.asked (IsPathOrFull path.now)
         places.old places.new }
+    ensures once { path.now ≢ full_of path.now
+        → AsksOnce S.asked (IsAtPlace index (IsPathOrFull path.now)) places.old places.new }
     ensures found { IfOk result (λ found. IfSome found
         (λ bytes. HasLeaves H.digest (length row.now) bytes.items row.now)) }
     ensures taken { IfOk result (λ found. IfSome found
@@ -101,6 +105,8 @@ fn edge_bundle_at_places<H: TreeHash, S: Source + Drop>(
     requires { length row.now ≤ 256 }
     ensures asks { AsksPlaces S.may_answer S.failed S.asked (IsPathOrFull path.now)
         places.old places.new }
+    ensures once { path.now ≢ full_of path.now
+        → AsksOnce S.asked (λ k. IsPathOrFull path.now) places.old places.new }
     ensures found { IfOk result (λ found. IfSome found
         (λ bytes. HasLeaves H.digest (length row.now) bytes.items row.now)) }
     ensures taken { IfOk result (λ found. IfSome found
@@ -135,6 +141,8 @@ fn find_edge_bundle<H: TreeHash, D: ReadableShelf, S: Source + Drop>(
     ensures counted { CountsShelf (D.failed shelf.old) (D.failed shelf.new) result }
     ensures asks { AsksPlaces S.may_answer S.failed S.asked (IsPathOrFull path.now)
         places.old places.new }
+    ensures once { path.now ≢ full_of path.now
+        → AsksOnce S.asked (λ k. IsPathOrFull path.now) places.old places.new }
     ensures blames { IfErr result (BlamesPlaces places.new) }
     ensures taken { IfOk result (λ bytes. PartOf
         (MayTake S.may_answer places.old (D.puts shelf.old)) path.now bytes.items) }
@@ -166,6 +174,7 @@ pub(crate) fn bring_edge_bundle<H: TreeHash, D: ReadableShelf, S: Source + Drop>
     ensures counted { CountsShelf (D.failed shelf.old) (D.failed shelf.new) result }
     ensures asks { AsksPlaces S.may_answer S.failed S.asked (IsEdgeBundle edge.now.size)
         places.old places.new }
+    ensures once { AsksOnce S.asked (λ k. IsEdgeBundle edge.now.size) places.old places.new }
     ensures blames { IfErr result (BlamesPlaces places.new) }
     ensures honest { IfErr result (λ e. (entries : List (List ℕ)) (size : ℕ)
         → OneIsHonest H.digest entries size S.may_answer (D.puts shelf.old) places.old places.new

@@ -6,6 +6,7 @@ ghost use Rattle.log_reader.specs.Verified.{Verifies};
 ghost use Rattle.mirror_copy.specs.Asked.{IsAskedInVain};
 ghost use Rattle.mirror_copy.specs.Conflicts.{IsNoConflict};
 ghost use Rattle.mirror_copy.specs.Faults.{BlamesPlaces, CountsShelf};
+ghost use Rattle.mirror_copy.specs.AskedOnce.{AsksOnce, IsAtPlace};
 ghost use Rattle.mirror_copy.specs.PlaceGets.{AsksPlaces};
 ghost use Rattle.mirror_copy.specs.Suffices.{HasTruePlace, IsFileUnder, IsNoLack};
 ghost use Rattle.mirror_copy.specs.Taken.{MayGive, MayTake};
@@ -66,6 +67,7 @@ fn find_at_place<H: TreeHash, S: Source + Drop>(
         (λ f. Verifies H.digest kind hash.now f.bytes.items f.row.items)) }
     ensures asks { AsksPlaces S.may_answer S.failed S.asked (λ p. p ≡ path.now)
         places.old places.new }
+    ensures once { AsksOnce S.asked (IsAtPlace index (λ p. p ≡ path.now)) places.old places.new }
     ensures none { IfOk result (λ found. IfNone found ((d : Place S) → IsAskedInVain
         (S.may_answer (get_or places.old.list.items index d).source)
         (get_or places.old.list.items index d).failures (get_or places.new.list.items index d).failures
@@ -105,6 +107,7 @@ fn find_at_places<H: TreeHash, S: Source + Drop>(
         (λ f. Verifies H.digest kind hash.now f.bytes.items f.row.items)) }
     ensures asks { AsksPlaces S.may_answer S.failed S.asked (λ p. p ≡ path.now)
         places.old places.new }
+    ensures once { AsksOnce S.asked (λ k p. p ≡ path.now) places.old places.new }
     ensures none { IfOk result (λ found. IfNone found ((k : ℕ) (d : Place S)
         → k < length places.old.list.items
         → IsAskedInVain (S.may_answer (get_or places.old.list.items k d).source)
@@ -139,6 +142,7 @@ pub(crate) fn find<H: TreeHash, D: ReadableShelf, S: Source + Drop>(
     ensures counted { CountsShelf (D.failed shelf.old) (D.failed shelf.new) result }
     ensures asks { AsksPlaces S.may_answer S.failed S.asked (λ p. p ≡ path.now)
         places.old places.new }
+    ensures once { AsksOnce S.asked (λ k p. p ≡ path.now) places.old places.new }
     ensures blames { IfErr result (BlamesPlaces places.new) }
     ensures taken { IfOk result
         (λ f. MayTake S.may_answer places.old (D.puts shelf.old) path.now f.bytes.items) }

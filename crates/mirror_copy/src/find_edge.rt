@@ -3,6 +3,7 @@ ghost use Rattle.std.specs.Prelude.{◌≡◌, ◌<◌, ◌≤◌, ℕ, List, If
 ghost use Rattle.mirror_sources.specs.Recorded.{KeepsRecord};
 ghost use Rattle.mirror_copy.specs.Asked.{IsEdgeTile};
 ghost use Rattle.mirror_copy.specs.Faults.{BlamesPlaces, CountsShelf, IsOfNoPlace};
+ghost use Rattle.mirror_copy.specs.AskedOnce.{AsksOnce, IsAtPlace, IsEdgeTileAt};
 ghost use Rattle.mirror_copy.specs.PlaceGets.{AsksPlaces};
 ghost use Rattle.mirror_copy.specs.Conflicts.{IsNoConflict};
 ghost use Rattle.log_reader.specs.EdgeRows.{LeadsTo};
@@ -38,6 +39,8 @@ fn row_at_place<S: Source + Drop>(
     requires level { level ≤ 7 }
     ensures asks { AsksPlaces S.may_answer S.failed S.asked (IsEdgeTile size)
         places.old places.new }
+    ensures once { AsksOnce S.asked (IsAtPlace index (IsEdgeTileAt size level))
+        places.old places.new }
     ensures taken { IfOk result (λ found. IfSome found
         (λ row. IsRowFrom (MayGive S.may_answer places.old) size level row.items)) }
     ensures honest { IfOk result (λ found. FindsTrueRow S.may_answer places.old places.new index
@@ -68,6 +71,7 @@ fn rows_at_place<S: Source + Drop>(
     requires { index < length places.old.list.items }
     ensures asks { AsksPlaces S.may_answer S.failed S.asked (IsEdgeTile size)
         places.old places.new }
+    ensures once { AsksOnce S.asked (IsAtPlace index (IsEdgeTile size)) places.old places.new }
     ensures taken { IfOk result (λ found. IfSome found
         (λ edge. IsEdgeFrom (MayGive S.may_answer places.old) size edge)) }
     ensures honest { IfOk result (λ found. FindsTrueEdge S.may_answer places.old places.new index
@@ -184,6 +188,7 @@ fn edge_at_place<H: TreeHash, S: Source + Drop>(
     requires { index < length places.old.list.items }
     ensures asks { AsksPlaces S.may_answer S.failed S.asked (IsEdgeTile size)
         places.old places.new }
+    ensures once { AsksOnce S.asked (IsAtPlace index (IsEdgeTile size)) places.old places.new }
     ensures leads { IfOk result (λ found. IfSome found
         (λ edge. LeadsTo H.digest size root.now edge)) }
     ensures taken { IfOk result (λ found. IfSome found
@@ -213,6 +218,7 @@ fn edge_at_places<H: TreeHash, S: Source + Drop>(
 ) -> Result<Option<EdgeRows>, AllocError>
     ensures asks { AsksPlaces S.may_answer S.failed S.asked (IsEdgeTile size)
         places.old places.new }
+    ensures once { AsksOnce S.asked (λ k. IsEdgeTile size) places.old places.new }
     ensures leads { IfOk result (λ found. IfSome found
         (λ edge. LeadsTo H.digest size root.now edge)) }
     ensures taken { IfOk result (λ found. IfSome found
@@ -245,6 +251,7 @@ pub(crate) fn find_edge<H: TreeHash, D: ReadableShelf, S: Source + Drop>(
     ensures counted { CountsShelf (D.failed shelf.old) (D.failed shelf.new) result }
     ensures asks { AsksPlaces S.may_answer S.failed S.asked (IsEdgeTile size)
         places.old places.new }
+    ensures once { AsksOnce S.asked (λ k. IsEdgeTile size) places.old places.new }
     ensures blames { IfErr result (BlamesPlaces places.new) }
     ensures leads { IfOk result (λ edge. LeadsTo H.digest size root.now edge) }
     ensures taken { IfOk result (λ edge. IsEdgeFrom

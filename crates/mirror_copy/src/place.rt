@@ -1,5 +1,6 @@
 //! A place of a run: a source that is not trusted.
 ghost use Rattle.std.specs.Prelude.{◌≡◌, ◌↔◌, ◌≤◌, IfOk, IsTrue, None};
+ghost use Rattle.mirror_copy.specs.AskedOnce.{IsAskedOnce};
 ghost use Rattle.mirror_copy.specs.PlaceGets.{AnswersGet, IsAskedFor, with_first};
 
 use mirror_sources::{Source, SourceFault};
@@ -121,6 +122,7 @@ impl<S: Source + Drop> Place<S> {
     pub fn get(&mut self, path: &Path) -> Result<PlaceAnswer, AllocError>
         ensures asks { IsAskedFor S.may_answer S.failed S.asked (λ p. p ≡ path.now)
             self.old self.new }
+        ensures once { IsAskedOnce S.asked (λ p. p ≡ path.now) self.old self.new }
         ensures answer { IfOk result (λ answer. AnswersGet (S.may_answer self.old.source) path.now
             self.old.failures self.new.failures answer) }
     {

@@ -1,7 +1,8 @@
 //! The edge files at a place.
-ghost use Rattle.std.specs.Prelude.{◌≡◌, ◌<◌, IfOk, IfSome, length, option_map};
+ghost use Rattle.std.specs.Prelude.{◌≡◌, ◌≢◌, ◌<◌, IfOk, IfSome, length, option_map};
 ghost use Rattle.mirror_sources.specs.Files.{full_of};
 ghost use Rattle.mirror_copy.specs.Asked.{IsPathOrFull};
+ghost use Rattle.mirror_copy.specs.AskedOnce.{AsksOnce, IsAtPlace};
 ghost use Rattle.mirror_copy.specs.PlaceGets.{AsksPlaces};
 ghost use Rattle.mirror_copy.specs.Taken.{MayGive, PartOf};
 ghost use Rattle.mirror_copy.specs.TrueAnswers.{FindsPart, FindsTrue};
@@ -22,6 +23,8 @@ fn get_part<S: Source + Drop>(
 ) -> Result<Option<Vec<u8>>, AllocError>
     requires { index < length places.old.list.items }
     ensures asks { AsksPlaces S.may_answer S.failed S.asked (λ p. p ≡ full_of path.now)
+        places.old places.new }
+    ensures once { AsksOnce S.asked (IsAtPlace index (λ p. p ≡ full_of path.now))
         places.old places.new }
     ensures taken { IfOk result (λ found. IfSome found
         (λ bytes. PartOf (MayGive S.may_answer places.old) path.now bytes.items)) }
@@ -56,6 +59,8 @@ pub(crate) fn get_partial<S: Source + Drop>(
     requires { index < length places.old.list.items }
     ensures asks { AsksPlaces S.may_answer S.failed S.asked (IsPathOrFull path.now)
         places.old places.new }
+    ensures once { path.now ≢ full_of path.now
+        → AsksOnce S.asked (IsAtPlace index (IsPathOrFull path.now)) places.old places.new }
     ensures taken { IfOk result (λ found. IfSome found
         (λ bytes. PartOf (MayGive S.may_answer places.old) path.now bytes.items)) }
     ensures honest { IfOk result (λ found. FindsTrue S.may_answer places.old places.new index

@@ -3,6 +3,7 @@ ghost use Rattle.std.specs.Prelude.{◌≡◌, ◌∷◌, ◌++◌, [], ◌<◌,
 ghost use Rattle.mirror_copy.specs.Asked.{IsAskedInTurn};
 ghost use Rattle.mirror_copy.specs.Conflicts.{IsNoConflict};
 ghost use Rattle.mirror_copy.specs.Faults.{BlamesPlaces, CountsFault};
+ghost use Rattle.mirror_copy.specs.AskedOnce.{AsksOnce, IsAtPlace};
 ghost use Rattle.mirror_copy.specs.PlaceGets.{AnswersGet, AsksPlaces};
 ghost use Rattle.mirror_copy.specs.declared.place.Place.{Place};
 
@@ -82,6 +83,7 @@ impl<S: Source + Drop> Places<S> {
         requires { index < length self.old.list.items }
         ensures asks { AsksPlaces S.may_answer S.failed S.asked (λ p. p ≡ path.now)
             self.old self.new }
+        ensures once { AsksOnce S.asked (IsAtPlace index (λ p. p ≡ path.now)) self.old self.new }
         ensures answer { IfOk result (λ answer. (d : Place S) → AnswersGet
             (S.may_answer (get_or self.old.list.items index d).source) path.now
             (get_or self.old.list.items index d).failures (get_or self.new.list.items index d).failures

@@ -2,8 +2,9 @@
 ghost use Rattle.std.specs.Prelude.{◌≡◌, ◌↔◌, ◌^◌, ◌<◌, ◌≤◌, [], ℕ, IfErr, IsTrue, List, length, take};
 ghost use Rattle.tlog_shape.specs.Edge.{edge_index_of, width_of};
 ghost use Rattle.mirror_copy.specs.Conflicts.{ConflictPutsNothing, IsNoConflict};
-ghost use Rattle.mirror_copy.specs.Asked.{IsEdgeBundleOrNew};
+ghost use Rattle.mirror_copy.specs.Asked.{IsEdgeBundleOrNew, IsEdgeTile};
 ghost use Rattle.mirror_copy.specs.Faults.{BlamesRun, CountsShelf, IsOfNoPlace};
+ghost use Rattle.mirror_copy.specs.AskedOnce.{AsksOnce};
 ghost use Rattle.mirror_copy.specs.PlaceGets.{AsksPlaces};
 ghost use Rattle.mirror_copy.specs.Growing.{IsKnown};
 ghost use Rattle.log_reader.specs.EdgeRows.{HasWidths, RowIsTrue};
@@ -108,6 +109,8 @@ pub(crate) fn bring_to_edge<H: TreeHash, D: ReadableShelf, S: Source + Drop>(
     ensures counted { CountsShelf (D.failed shelf.old) (D.failed shelf.new) result }
     ensures asks { AsksPlaces S.may_answer S.failed S.asked
         (IsEdgeBundleOrNew edge.now.size tip.now.size) places.old places.new }
+    ensures once { AsksOnce S.asked (λ k path. ¬ IsEdgeTile edge.now.size path)
+        places.old places.new }
     ensures blames { IfErr result (BlamesRun H.digest places.new tip.now (D.puts shelf.old)) }
     ensures honest { IfErr result (λ e. (entries : List (List ℕ)) (size : ℕ)
         → OneIsHonest H.digest entries size S.may_answer (D.puts shelf.old) places.old places.new

@@ -1,6 +1,7 @@
 use Rattle.std.proofs.Common.{◌≡◌}
 use Rattle.tlog_tiles.specs.declared.paths.Path.TheVariants.{Entries}
 use Rattle.mirror_copy.proofs.Asking.{asks_then, asks_weaker}
+use Rattle.mirror_copy.proofs.AskingOnce.{once_noted}
 use Rattle.mirror_copy.proofs.ahead.find_bundle.Goals as goal
 
 pub returns-clause-asks : goal.returns-clause-asks
@@ -12,3 +13,8 @@ returns-clause-asks g c =
     c.expect_after.new.places c.find.ensures.asks
     (asks_weaker may failed asked (λ p. ⊥) (λ p. p ≡ Entries c.args.index 256) (λ p none. absurd none)
     c.find.new.places c.expect_after.new.places c.expect_after.ensures)
+
+pub returns-clause-once : goal.returns-clause-once
+returns-clause-once g c =
+    once_noted g.S.Source.asked g.S.Source.may_answer g.S.Source.failed (λ k p. p ≡ Entries c.args.index 256) c.args.places.now c.find.new.places
+    c.expect_after.new.places c.find.ensures.once c.expect_after.ensures

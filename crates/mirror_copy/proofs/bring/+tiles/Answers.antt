@@ -2,7 +2,7 @@ use Rattle.std.proofs.Common.{rules, ◌≡◌, ◌+◌, ◌*◌, ◌^◌, ◌<�
 use Rattle.std.proofs.lemmas.List.{get_or_default}
 use Rattle.std.proofs.lemmas.Result.{err_from_is_err_and}
 use Rattle.tlog_tiles.specs.Row.{IsRow}
-use Rattle.tlog_tiles.specs.declared.paths.Path.TheVariants.{Tile}
+use Rattle.tlog_tiles.specs.declared.paths.Path.TheVariants.{Tile, Entries}
 use Rattle.mirror_copy.specs.Standing.{RecordsStands}
 use Rattle.mirror_copy.specs.Growing.{IsRowBrought}
 use Rattle.mirror_copy.proofs.Growth.{left_none, left_then, brings_ok, kept_same}
@@ -19,6 +19,9 @@ use Rattle.mirror_copy.specs.Asked.{IsNewFull}
 use Rattle.mirror_copy.proofs.TileRows.{first_child, so_far_first, so_far_known, so_far_more, so_far_left}
 use Rattle.mirror_copy.proofs.TileRows.{child_beyond, child_fits, child_small, row_fits, row_then, tile_brought, tile_left}
 use Rattle.mirror_copy.proofs.EmptyTips.{row_after}
+use Rattle.mirror_copy.proofs.AskingOnce.{once_same, once_weaker}
+use Rattle.mirror_copy.proofs.Between.{bundle_between, child_to, once_child, once_longer, once_tile, tile_between}
+use Rattle.mirror_copy.specs.AskedOnce.{AsksOnce, IsFullBetween}
 use Rattle.mirror_copy.proofs.bring.+tiles.Goals as goal
 
 pub bring_row-returns-in_default-clause-brings : goal.bring_row-returns-in_default-clause-brings
@@ -78,6 +81,7 @@ pub bring_row-loop-i-init : goal.bring_row-loop-i-init
 bring_row-loop-i-init g t c = record {
   counted = refl;
   asks = asks_same g.S.Source.may_answer g.S.Source.failed g.S.Source.asked (IsNewFull c.args.tip.now.size) c.args.places.now;
+  once = once_same g.S.Source.asked (λ k. IsFullBetween c.args.level (c.args.index * 256 ^ (c.args.level + 1)) ((256 * c.args.index + c.in-Some.first) * 256 ^ c.args.level)) c.args.places.now;
   taken = puts_none g.S.Source.may_answer g.S.Source.failed g.S.Source.asked c.args.places.now (g.D.Shelf.puts c.args.shelf.now)
       (g.D.Shelf.puts c.args.shelf.now) (kept_same (g.D.Shelf.puts c.args.shelf.now));
   early = λ same. kept_same (g.D.Shelf.puts c.args.shelf.now);
@@ -91,6 +95,8 @@ bring_row-loop-i-preserved g t c = record {
   counted = c.in_ok-bring_tile.ensures.counted ∙ c.loop-i.invariant.counted;
   asks = asks_then g.S.Source.may_answer g.S.Source.failed g.S.Source.asked (IsNewFull c.args.tip.now.size) c.args.places.now c.loop-i.places
       c.bring_tile.new.places c.loop-i.invariant.asks c.bring_tile.ensures.asks;
+  once = once_child g.S.Source.asked c.args.level c.args.index c.loop-i.i c.requires.above c.args.places.now c.loop-i.places
+      c.bring_tile.new.places c.loop-i.invariant.once c.bring_tile.ensures.once;
   taken = puts_then g.S.Source.may_answer g.S.Source.failed g.S.Source.asked (IsNewFull c.args.tip.now.size) c.args.places.now
       c.loop-i.places c.loop-i.invariant.asks (g.D.Shelf.puts c.args.shelf.now) (g.D.Shelf.puts c.loop-i.shelf)
       (g.D.Shelf.puts c.bring_tile.new.shelf) c.loop-i.invariant.taken c.bring_tile.ensures.taken;
@@ -365,3 +371,53 @@ bring_tile-returns-then-level-eq0-clause-honest g t c =
     so entries size h tip
     (subst (λ l. IsTileHash g.H.TreeHash.digest (take size entries) l c.args.index c.args.hash.now) zero is))
     c.bring_bundle.ensures.honest
+
+-- ---- no place gets two requests for one path
+
+pub bring_row-returns-in_default-clause-once : goal.bring_row-returns-in_default-clause-once
+bring_row-returns-in_default-clause-once g t c =
+    once_same g.S.Source.asked (λ k. IsFullBetween c.args.level (c.args.index * 256 ^ (c.args.level + 1)) ((256 * c.args.index + length c.args.row.now) * 256 ^ c.args.level)) c.args.places.now
+
+pub bring_row-returns-in_err-bring_tile-clause-once : goal.bring_row-returns-in_err-bring_tile-clause-once
+bring_row-returns-in_err-bring_tile-clause-once g t c =
+    let lt : c.loop-i.i + 1 ≤ length c.args.row.now = omega arith in
+    once_longer g.S.Source.asked c.args.level (c.args.index * 256 ^ (c.args.level + 1)) ((256 * c.args.index + (c.loop-i.i + 1)) * 256 ^ c.args.level)
+    ((256 * c.args.index + length c.args.row.now) * 256 ^ c.args.level) (child_to c.args.level c.args.index (length c.args.row.now) (c.loop-i.i + 1) lt)
+    c.args.places.now c.bring_tile.new.places (once_child g.S.Source.asked c.args.level c.args.index c.loop-i.i c.requires.above c.args.places.now c.loop-i.places
+    c.bring_tile.new.places c.loop-i.invariant.once c.bring_tile.ensures.once)
+
+pub bring_row-returns-clause-once : goal.bring_row-returns-clause-once
+bring_row-returns-clause-once g t c =
+    let end : c.loop-i.i ≡ length c.args.row.now = omega (arith, c.loop-i.auto.i-end c.in-Some.ensures.within) in
+    subst (λ n. AsksOnce g.S.Source.asked (λ k. IsFullBetween c.args.level (c.args.index * 256 ^ (c.args.level + 1)) ((256 * c.args.index + n) * 256 ^ c.args.level)) c.args.places.now c.loop-i.places) end
+    c.loop-i.invariant.once
+
+pub bring_tile-returns-in_err-found-clause-once : goal.bring_tile-returns-in_err-found-clause-once
+bring_tile-returns-in_err-found-clause-once g t c =
+    let some : 1 ≤ c.args.level = omega arith in
+    let upto : c.args.level ≤ 7 = omega arith in
+    once_weaker g.S.Source.asked (λ k p. p ≡ Tile c.args.level c.args.index 256) (λ k. IsFullBetween (c.args.level + 1) (c.args.index * 256 ^ (c.args.level + 1)) ((c.args.index + 1) * 256 ^ (c.args.level + 1)))
+    (λ k path is. tile_between c.args.level c.args.index some upto path is) c.args.places.now c.find.new.places c.find.ensures.once
+
+pub bring_tile-returns-in_err-bring_row-clause-once : goal.bring_tile-returns-in_err-bring_row-clause-once
+bring_tile-returns-in_err-bring_row-clause-once g t c =
+    let some : 1 ≤ c.args.level = omega arith in
+    let upto : c.args.level ≤ 7 = omega arith in
+    let long : length c.deref.result.now ≡ 256 = ap length c.deref.ensures.value ∙ c.in_ok-found.ensures.found.is_row.count in
+    once_tile g.S.Source.asked c.args.level c.args.index (length c.deref.result.now) some upto long c.args.places.now c.find.new.places
+    c.bring_row.new.places c.find.ensures.once c.bring_row.ensures.once
+
+pub bring_tile-returns-clause-once : goal.bring_tile-returns-clause-once
+bring_tile-returns-clause-once g t c =
+    let some : 1 ≤ c.args.level = omega arith in
+    let upto : c.args.level ≤ 7 = omega arith in
+    let long : length c.deref.result.now ≡ 256 = ap length c.deref.ensures.value ∙ c.in_ok-found.ensures.found.is_row.count in
+    once_tile g.S.Source.asked c.args.level c.args.index (length c.deref.result.now) some upto long c.args.places.now c.find.new.places
+    c.bring_row.new.places c.find.ensures.once c.bring_row.ensures.once
+
+pub bring_tile-returns-then-level-eq0-clause-once : goal.bring_tile-returns-then-level-eq0-clause-once
+bring_tile-returns-then-level-eq0-clause-once g t c =
+    let zero : c.args.level ≡ 0 = omega arith in
+    once_weaker g.S.Source.asked (λ k p. p ≡ Entries c.args.index 256) (λ k. IsFullBetween (c.args.level + 1) (c.args.index * 256 ^ (c.args.level + 1)) ((c.args.index + 1) * 256 ^ (c.args.level + 1)))
+    (λ k path is. bundle_between c.args.level c.args.index zero path is) c.args.places.now c.bring_bundle.new.places
+    c.bring_bundle.ensures.once

@@ -13,6 +13,8 @@ use Rattle.mirror_copy.proofs.PrunedMoments.{had_pruned, leaves_err, leaves_ok, 
 use Rattle.mirror_copy.proofs.WholeMoments.{had_size, whole_same}
 use Rattle.mirror_copy.proofs.Earlier.{no_conflict}
 use Rattle.mirror_copy.proofs.EmptyTips.{has_conflict}
+use Rattle.mirror_copy.proofs.AskingOnce.{begun_once, once_begun}
+use Rattle.std.specs.Prelude.{⊤}
 use Rattle.mirror_copy.proofs.copy.bring_copy.Goals as goal
 
 pub returns-in_err-head-clause-whole : goal.returns-in_err-head-clause-whole
@@ -215,3 +217,25 @@ returns-in_err-done-clause-conflicts g c =
     rw (p.1, p.2) (λ conflict. has_conflict g.H.TreeHash.digest c.args.origin.now c.args.note.now
     (g.D.Shelf.puts c.args.shelf.now) c.in_ok-tip.tip head.0 head.1 c.in_err-done.field-0.0 c.in_ok-tip.ensures.tip
     (rw c.in-Some.is at c.in_ok-head.ensures.found) c.in_err-done.ensures.empty conflict)
+
+pub returns-in_err-head-clause-once : goal.returns-in_err-head-clause-once
+returns-in_err-head-clause-once g c =
+    once_begun g.S.Source.asked (λ k path. ⊤) c.args.places.now c.begin.new.self c.begin.ensures.list
+
+pub returns-in_default-clause-once : goal.returns-in_default-clause-once
+returns-in_default-clause-once g c =
+    once_begun g.S.Source.asked (λ k path. ⊤) c.args.places.now c.begin.new.self c.begin.ensures.list
+
+pub returns-in_err-tip-clause-once : goal.returns-in_err-tip-clause-once
+returns-in_err-tip-clause-once g c =
+    once_begun g.S.Source.asked (λ k path. ⊤) c.args.places.now c.begin.new.self c.begin.ensures.list
+
+pub returns-in_err-done-clause-once : goal.returns-in_err-done-clause-once
+returns-in_err-done-clause-once g c =
+    begun_once g.S.Source.asked (λ k path. ⊤) c.args.places.now c.begin.new.self c.bring_from-done.new.places
+    c.begin.ensures.list c.bring_from-done.ensures.once
+
+pub returns-clause-once : goal.returns-clause-once
+returns-clause-once g c =
+    begun_once g.S.Source.asked (λ k path. ⊤) c.args.places.now c.begin.new.self c.bring_from-done.new.places
+    c.begin.ensures.list c.bring_from-done.ensures.once

@@ -9,6 +9,8 @@ use Rattle.mirror_copy.proofs.PrunedMoments.{leaves_same}
 use Rattle.mirror_copy.proofs.WholeMoments.{whole_same}
 use Rattle.mirror_copy.proofs.Earlier.{no_conflict}
 use Rattle.mirror_copy.proofs.EmptyTips.{false_empty}
+use Rattle.mirror_copy.proofs.AskingOnce.{once_same}
+use Rattle.std.specs.Prelude.{⊤}
 use Rattle.mirror_copy.proofs.copy.bring_from.Goals as goal
 
 pub returns-clause-brings : goal.returns-clause-brings
@@ -41,3 +43,11 @@ returns-then-is_none-clause-empty g c =
     err_weaker c.put_empty.result _ _ (λ e so k conflict.
     false_empty g.H.TreeHash.digest c.args.candidate.now.size c.args.candidate.now.root e (omega arith) so conflict)
     c.put_empty.ensures.honest
+
+pub returns-then-is_none-clause-once : goal.returns-then-is_none-clause-once
+returns-then-is_none-clause-once g c =
+    once_same g.S.Source.asked (λ k path. ⊤) c.args.places.now
+
+pub returns-clause-once : goal.returns-clause-once
+returns-clause-once g c =
+    once_same g.S.Source.asked (λ k path. ⊤) c.args.places.now

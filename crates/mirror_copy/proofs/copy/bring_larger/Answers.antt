@@ -12,6 +12,10 @@ use Rattle.mirror_copy.proofs.Others.{later_blames}
 use Rattle.mirror_copy.proofs.Stays.{larger_stays, stays_later, stays_same}
 use Rattle.mirror_copy.proofs.PrunedMoments.{larger_leaves, leaves_later, leaves_same}
 use Rattle.mirror_copy.proofs.WholeMoments.{ends_later, larger_ends, larger_whole, whole_later, whole_same}
+use Rattle.mirror_copy.proofs.AskingOnce.{once_weaker}
+use Rattle.mirror_copy.proofs.Between.{once_larger}
+use Rattle.mirror_copy.specs.AskedOnce.{AsksOnce}
+use Rattle.std.specs.Prelude.{⊤}
 use Rattle.mirror_copy.proofs.copy.bring_larger.Goals as goal
 
 pub returns-in_err-edge-clause-brings : goal.returns-in_err-edge-clause-brings
@@ -117,3 +121,15 @@ returns-clause-honest g c =
     (puts_none may failed asked x a b c.find_new_edge.ensures.same) h.one) t
     (edge_had digest g.met.H.TreeHash.digest_length may a x z entries n c.args.candidate.now.root (omega arith) h edge
     c.in_ok-edge.ensures.leads c.in_ok-edge.ensures.taken)) c.bring_to_edge-done.ensures.honest
+
+pub returns-in_err-edge-clause-once : goal.returns-in_err-edge-clause-once
+returns-in_err-edge-clause-once g c =
+    once_weaker g.S.Source.asked (λ k. IsEdgeTile c.args.candidate.now.size) (λ k path. ⊤) (λ k path h. tt)
+    c.args.places.now c.find_new_edge.new.places c.find_new_edge.ensures.once
+
+pub returns-clause-once : goal.returns-clause-once
+returns-clause-once g c =
+    once_larger g.S.Source.asked c.args.candidate.now.size c.args.places.now c.find_new_edge.new.places
+    c.bring_to_edge-done.new.places c.find_new_edge.ensures.once
+    (subst (λ n. AsksOnce g.S.Source.asked (λ k path. ¬ IsEdgeTile n path) c.find_new_edge.new.places
+    c.bring_to_edge-done.new.places) c.in_ok-edge.ensures.leads.is_edge.size_is c.bring_to_edge-done.ensures.once)

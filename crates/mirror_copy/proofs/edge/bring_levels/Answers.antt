@@ -12,12 +12,17 @@ use Rattle.log_reader.specs.EdgeRows.{row_at}
 use Rattle.mirror_copy.specs.Edges.{IsEdgeBrought}
 use Rattle.mirror_copy.proofs.EdgeRows.{edge_first, edge_known, edge_left, edge_step, floor_mono, row_beyond, row_end, row_fits}
 use Rattle.mirror_copy.proofs.Earlier.{kept_then}
+use Rattle.mirror_copy.proofs.AskingOnce.{once_same}
+use Rattle.mirror_copy.proofs.Between.{once_longer, once_row}
+use Rattle.mirror_copy.specs.AskedOnce.{AsksOnce, IsFullBetween}
+use Rattle.std.proofs.Math.Nat.{div-mul-le_self}
 use Rattle.mirror_copy.proofs.edge.bring_levels.Goals as goal
 
 pub loop-done-init : goal.loop-done-init
 loop-done-init g c = record {
   counted = refl;
   asks = asks_same g.S.Source.may_answer g.S.Source.failed g.S.Source.asked (IsNewFull c.args.tip.now.size) c.args.places.now;
+  once = once_same g.S.Source.asked (λ k. IsFullBetween 7 0 (edge_index_of c.args.edge.now.size 7 * 256 ^ (7 + 1))) c.args.places.now;
   taken = puts_none g.S.Source.may_answer g.S.Source.failed g.S.Source.asked c.args.places.now (g.D.Shelf.puts c.args.shelf.now)
       (g.D.Shelf.puts c.args.shelf.now) (kept_same (g.D.Shelf.puts c.args.shelf.now));
   early = λ within. kept_same (g.D.Shelf.puts c.args.shelf.now);
@@ -68,6 +73,24 @@ loop-done-preserved g c = record {
   counted = c.in_ok-bring_row.ensures.counted ∙ c.loop-done.invariant.counted;
   asks = asks_then g.S.Source.may_answer g.S.Source.failed g.S.Source.asked (IsNewFull c.args.tip.now.size) c.args.places.now c.loop-done.places
       c.bring_row.new.places c.loop-done.invariant.asks c.bring_row.ensures.asks;
+  once =
+      let next : 7 - c.loop-done.done ≡ 7 - (c.loop-done.done + 1) + 1 = omega arith in
+      subst (λ l. AsksOnce g.S.Source.asked (λ k. IsFullBetween 7 0 (c.args.edge.now.size / 256 ^ l * 256 ^ l)) c.args.places.now
+      c.bring_row.new.places) next
+      (let level = 7 - c.loop-done.done in
+      let edge = c.args.edge.now in
+      let n = edge.size in
+      let at : c.edge_index-index.result ≡ edge_index_of n level =
+      c.edge_index-index.ensures ∙ ap (λ k. edge_index_of k level) c.size.ensures in
+      let end = ap (λ k. (256 * k + length c.row.result.now) * 256 ^ level) at
+      ∙ (ap (λ (r : List (List ℕ)). (256 * edge_index_of n level + length r) * 256 ^ level) c.row.ensures
+      ∙ row_end edge c.requires.widths level (omega arith)) in
+      let row = subst (λ t. AsksOnce g.S.Source.asked (λ k. IsFullBetween level (n / 256 ^ (level + 1) * 256 ^ (level + 1)) t)
+      c.loop-done.places c.bring_row.new.places) end
+      (subst (λ i. AsksOnce g.S.Source.asked (λ k. IsFullBetween level (i * 256 ^ (level + 1))
+      ((256 * c.edge_index-index.result + length c.row.result.now) * 256 ^ level)) c.loop-done.places c.bring_row.new.places) at
+      c.bring_row.ensures.once) in
+      once_row g.S.Source.asked n level (omega arith) c.args.places.now c.loop-done.places c.bring_row.new.places c.loop-done.invariant.once row);
   taken = puts_then g.S.Source.may_answer g.S.Source.failed g.S.Source.asked (IsNewFull c.args.tip.now.size) c.args.places.now
       c.loop-done.places c.loop-done.invariant.asks (g.D.Shelf.puts c.args.shelf.now) (g.D.Shelf.puts c.loop-done.shelf)
       (g.D.Shelf.puts c.bring_row.new.shelf) c.loop-done.invariant.taken c.bring_row.ensures.taken;
@@ -156,3 +179,29 @@ returns-in_err-bring_row-clause-honest g c =
     (asks_same may failed asked so z) c.loop-done.invariant.taken h)
     tip (subst (λ i. IsTileRow digest log level i c.row.result.now) (sym at)
     (subst (λ (r : List (List ℕ)). IsTileRow digest log level (edge_index_of edge.size level) r) (sym c.row.ensures) there)))
+
+pub returns-in_err-bring_row-clause-once : goal.returns-in_err-bring_row-clause-once
+returns-in_err-bring_row-clause-once g c =
+    let l = 7 - c.loop-done.done in
+    once_longer g.S.Source.asked 7 0 (c.args.edge.now.size / 256 ^ l * 256 ^ l) c.args.edge.now.size
+    (div-mul-le_self c.args.edge.now.size (256 ^ l)) c.args.places.now c.bring_row.new.places
+    (let level = 7 - c.loop-done.done in
+    let edge = c.args.edge.now in
+    let n = edge.size in
+    let at : c.edge_index-index.result ≡ edge_index_of n level =
+    c.edge_index-index.ensures ∙ ap (λ k. edge_index_of k level) c.size.ensures in
+    let end = ap (λ k. (256 * k + length c.row.result.now) * 256 ^ level) at
+    ∙ (ap (λ (r : List (List ℕ)). (256 * edge_index_of n level + length r) * 256 ^ level) c.row.ensures
+    ∙ row_end edge c.requires.widths level (omega arith)) in
+    let row = subst (λ t. AsksOnce g.S.Source.asked (λ k. IsFullBetween level (n / 256 ^ (level + 1) * 256 ^ (level + 1)) t)
+    c.loop-done.places c.bring_row.new.places) end
+    (subst (λ i. AsksOnce g.S.Source.asked (λ k. IsFullBetween level (i * 256 ^ (level + 1))
+    ((256 * c.edge_index-index.result + length c.row.result.now) * 256 ^ level)) c.loop-done.places c.bring_row.new.places) at
+    c.bring_row.ensures.once) in
+    once_row g.S.Source.asked n level (omega arith) c.args.places.now c.loop-done.places c.bring_row.new.places c.loop-done.invariant.once row)
+
+pub returns-clause-once : goal.returns-clause-once
+returns-clause-once g c =
+    let l = 7 - c.loop-done.done + 1 in
+    once_longer g.S.Source.asked 7 0 (c.args.edge.now.size / 256 ^ l * 256 ^ l) c.args.edge.now.size
+    (div-mul-le_self c.args.edge.now.size (256 ^ l)) c.args.places.now c.loop-done.places c.loop-done.invariant.once

@@ -1,3 +1,4 @@
+use Rattle.mirror_copy.specs.AskedOnce.{AsksOnce, IsFullBetween}
 use Rattle.mirror_copy.specs.PlaceGets.{AsksPlaces}
 use Rattle.mirror_copy.specs.Asked.{IsNewFull}
 use Rattle.mirror_copy.specs.Taken.{PutsTaken}
@@ -12,6 +13,8 @@ abbrev pub invariant-loop-done : goal.invariant-loop-done
 invariant-loop-done g l = record {
   counted : g.D.Shelf.failed l.shelf ≡ g.D.Shelf.failed l.fn.shelf;
   asks : AsksPlaces g.S.Source.may_answer g.S.Source.failed g.S.Source.asked (IsNewFull l.tip.size) l.fn.places l.places;
+  once : AsksOnce g.S.Source.asked (λ k. IsFullBetween 7 0 (edge_index_of l.edge.size (7 - l.done) * 256 ^ (7 - l.done + 1)))
+      l.fn.places l.places;
   taken : PutsTaken g.S.Source.may_answer l.fn.places (g.D.Shelf.puts l.fn.shelf) (g.D.Shelf.puts l.shelf);
   early : edge_index_of l.edge.size (8 - l.done - 1) * 256 ^ (8 - l.done - 1 + 1) ≤ l.tip.size →
       KeepsRecord (g.D.Shelf.puts l.fn.shelf) (g.D.Shelf.puts l.shelf);

@@ -19,6 +19,8 @@ use Rattle.mirror_copy.proofs.NewFulls.{edge_bundle_asked}
 use Rattle.mirror_copy.proofs.Growth.{kept_same, left_none}
 use Rattle.mirror_copy.proofs.Finishing.{brings_last, last_left, last_none, last_some}
 use Rattle.mirror_copy.proofs.EmptyTips.{bundle_after, row_after}
+use Rattle.mirror_copy.proofs.AskingOnce.{once_same, once_weaker}
+use Rattle.mirror_copy.proofs.Between.{bundle_partial}
 use Rattle.mirror_copy.proofs.edge_bundle.bring_edge_bundle.Goals as goal
 
 pub returns-then-is_empty-clause-brings : goal.returns-then-is_empty-clause-brings
@@ -183,3 +185,50 @@ pub returns-then-not-goes_on-clause-empty : goal.returns-then-not-goes_on-clause
 returns-then-not-goes_on-clause-empty g c = λ k.
     let no : IsFalse c.goes_on.result = search rules in
     bundle_after g.H.TreeHash.digest c.args.tip.now k c.deref.result.now ⊥ (c.goes_on.ensures.differs no)
+
+pub returns-then-is_empty-clause-once : goal.returns-then-is_empty-clause-once
+returns-then-is_empty-clause-once g c =
+    once_same g.S.Source.asked (λ k. IsEdgeBundle c.args.edge.now.size) c.args.places.now
+
+pub returns-then-is_none-clause-once : goal.returns-then-is_none-clause-once
+returns-then-is_none-clause-once g c =
+    once_same g.S.Source.asked (λ k. IsEdgeBundle c.args.edge.now.size) c.args.places.now
+
+pub returns-in_err-bytes-clause-once : goal.returns-in_err-bytes-clause-once
+returns-in_err-bytes-clause-once g c =
+    let some : 1 ≤ length c.row-row.result.now = search rules in
+    let at : c.edge_index-index.result ≡ edge_index_of c.args.edge.now.size 0 =
+    c.edge_index-index.ensures ∙ ap (λ n. edge_index_of n 0) c.size.ensures in
+    let wide : length c.row-row.result.now ≡ width_of c.args.edge.now.size 0 =
+    ap length c.row-row.ensures ∙ c.requires.widths 0 (omega arith) in
+    let path = Entries c.edge_index-index.result (length c.row-row.result.now) in
+    once_weaker g.S.Source.asked (λ k. IsPathOrFull path) (λ k. IsEdgeBundle c.args.edge.now.size)
+    (λ k. edge_bundle_asked c.args.edge.now.size c.edge_index-index.result (length c.row-row.result.now) at wide some)
+    c.args.places.now c.find_edge_bundle.new.places (c.find_edge_bundle.ensures.once
+    (bundle_partial c.edge_index-index.result (length c.row-row.result.now) c.args.edge.now.size wide))
+
+pub returns-then-not-goes_on-clause-once : goal.returns-then-not-goes_on-clause-once
+returns-then-not-goes_on-clause-once g c =
+    let some : 1 ≤ length c.row-row.result.now = search rules in
+    let at : c.edge_index-index.result ≡ edge_index_of c.args.edge.now.size 0 =
+    c.edge_index-index.ensures ∙ ap (λ n. edge_index_of n 0) c.size.ensures in
+    let wide : length c.row-row.result.now ≡ width_of c.args.edge.now.size 0 =
+    ap length c.row-row.ensures ∙ c.requires.widths 0 (omega arith) in
+    let path = Entries c.edge_index-index.result (length c.row-row.result.now) in
+    once_weaker g.S.Source.asked (λ k. IsPathOrFull path) (λ k. IsEdgeBundle c.args.edge.now.size)
+    (λ k. edge_bundle_asked c.args.edge.now.size c.edge_index-index.result (length c.row-row.result.now) at wide some)
+    c.args.places.now c.find_edge_bundle.new.places (c.find_edge_bundle.ensures.once
+    (bundle_partial c.edge_index-index.result (length c.row-row.result.now) c.args.edge.now.size wide))
+
+pub returns-clause-once : goal.returns-clause-once
+returns-clause-once g c =
+    let some : 1 ≤ length c.row-row.result.now = search rules in
+    let at : c.edge_index-index.result ≡ edge_index_of c.args.edge.now.size 0 =
+    c.edge_index-index.ensures ∙ ap (λ n. edge_index_of n 0) c.size.ensures in
+    let wide : length c.row-row.result.now ≡ width_of c.args.edge.now.size 0 =
+    ap length c.row-row.ensures ∙ c.requires.widths 0 (omega arith) in
+    let path = Entries c.edge_index-index.result (length c.row-row.result.now) in
+    once_weaker g.S.Source.asked (λ k. IsPathOrFull path) (λ k. IsEdgeBundle c.args.edge.now.size)
+    (λ k. edge_bundle_asked c.args.edge.now.size c.edge_index-index.result (length c.row-row.result.now) at wide some)
+    c.args.places.now c.find_edge_bundle.new.places (c.find_edge_bundle.ensures.once
+    (bundle_partial c.edge_index-index.result (length c.row-row.result.now) c.args.edge.now.size wide))

@@ -2,6 +2,8 @@ use Rattle.mirror_copy.specs.Asked.{IsPathOrFull}
 use Rattle.mirror_copy.proofs.Asking.{asks_noted, asks_same}
 use Rattle.mirror_copy.proofs.OnePlace.{true_between}
 use Rattle.mirror_copy.proofs.TrueAnswers.{leaves_there, leaves_within, none_weaker}
+use Rattle.mirror_copy.proofs.AskingOnce.{once_noted}
+use Rattle.mirror_copy.specs.AskedOnce.{IsAtPlace}
 use Rattle.mirror_copy.proofs.edge_bundle.edge_bundle_at_place.Goals as goal
 use Rattle.mirror_copy.proofs.edge_bundle.edge_bundle_at_place.Goals.{then-is_some, else-is_some}
 
@@ -48,4 +50,13 @@ returns-clause-honest g c =
           (asks_same may failed asked so x) c.get_partial.ensures.asks w.note_wrong.ensures c.args.index t)
           (leaves_within digest entries path row leaves) in
           no (leaves_there digest hash entries short path row bytes leaves (cc is))) c.in_ok-found.ensures.none)
+    ]
+
+pub returns-clause-once : goal.returns-clause-once
+returns-clause-once g c =
+    elim c.if-is_some.branch [
+      | then-is_some w ↦ rw w.places-is (λ differ. once_noted g.S.Source.asked g.S.Source.may_answer g.S.Source.failed (IsAtPlace c.args.index (IsPathOrFull c.args.path.now)) c.args.places.now
+          c.get_partial.new.places w.note_verified.new.self (c.get_partial.ensures.once differ) w.note_verified.ensures)
+      | else-is_some w ↦ rw w.places-is (λ differ. once_noted g.S.Source.asked g.S.Source.may_answer g.S.Source.failed (IsAtPlace c.args.index (IsPathOrFull c.args.path.now)) c.args.places.now
+          c.get_partial.new.places w.note_wrong.new.self (c.get_partial.ensures.once differ) w.note_wrong.ensures)
     ]

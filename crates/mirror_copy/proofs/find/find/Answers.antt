@@ -4,6 +4,7 @@ use Rattle.mirror_copy.specs.Taken.{WasPut}
 use Rattle.mirror_copy.proofs.Asking.{asks_noted}
 use Rattle.mirror_copy.proofs.OnePlace.{put_read}
 use Rattle.mirror_copy.proofs.Suffices.{lacks_none}
+use Rattle.mirror_copy.proofs.AskingOnce.{once_noted}
 use Rattle.mirror_copy.proofs.find.find.Goals as goal
 
 pub returns-in-None-clause-counted : goal.returns-in-None-clause-counted
@@ -29,3 +30,8 @@ returns-in-Some-2-clause-taken g c =
     let read = rw c.in-Some.is at c.in_ok-bytes.ensures.answer in
     inl (subst (λ (b : List ℕ). WasPut puts c.args.path.now b) (sym same)
     (put_read puts c.args.path.now c.in-Some.bytes.items read))
+
+pub returns-in-None-clause-once : goal.returns-in-None-clause-once
+returns-in-None-clause-once g c =
+    once_noted g.S.Source.asked g.S.Source.may_answer g.S.Source.failed (λ k p. p ≡ c.args.path.now) c.args.places.now c.find_at_places.new.places
+    c.lacks.new.self c.find_at_places.ensures.once c.lacks.ensures.asks

@@ -1,5 +1,7 @@
 use Rattle.std.proofs.Common.{◌≡◌, ℕ, List, Some, None, get_or, inl, inr, subst, sym}
 use Rattle.mirror_copy.proofs.Asking.{asks_noted}
+use Rattle.mirror_copy.proofs.AskingOnce.{once_noted}
+use Rattle.mirror_copy.specs.AskedOnce.{IsAtPlace}
 use Rattle.mirror_copy.proofs.find.find_at_place.Goals as goal
 
 pub returns-in-Some-clause-asks : goal.returns-in-Some-clause-asks
@@ -42,3 +44,18 @@ returns-in-Some-clause-given g c =
           subst (λ (b : List ℕ). g.S.Source.may_answer (get_or c.args.places.now.list.items c.args.index d).source c.args.path.now
           (Some b)) (sym same) given;
     }
+
+pub returns-in-Some-clause-once : goal.returns-in-Some-clause-once
+returns-in-Some-clause-once g c =
+    once_noted g.S.Source.asked g.S.Source.may_answer g.S.Source.failed (IsAtPlace c.args.index (λ p. p ≡ c.args.path.now)) c.args.places.now c.get.new.self
+    c.note_verified.new.self c.get.ensures.once c.note_verified.ensures
+
+pub returns-in-None-clause-once : goal.returns-in-None-clause-once
+returns-in-None-clause-once g c =
+    once_noted g.S.Source.asked g.S.Source.may_answer g.S.Source.failed (IsAtPlace c.args.index (λ p. p ≡ c.args.path.now)) c.args.places.now c.get.new.self
+    c.note_wrong.new.self c.get.ensures.once c.note_wrong.ensures
+
+pub returns-in-NotFound-clause-once : goal.returns-in-NotFound-clause-once
+returns-in-NotFound-clause-once g c =
+    once_noted g.S.Source.asked g.S.Source.may_answer g.S.Source.failed (IsAtPlace c.args.index (λ p. p ≡ c.args.path.now)) c.args.places.now c.get.new.self
+    c.note_wrong-in-NotFound.new.self c.get.ensures.once c.note_wrong-in-NotFound.ensures

@@ -4,6 +4,7 @@ use Rattle.log_reader.specs.Verified.{Verifies}
 use Rattle.mirror_copy.specs.Asked.{IsAskedInVain, IsAskedInTurn}
 use Rattle.mirror_copy.proofs.OnePlace.{given_before}
 use Rattle.mirror_copy.proofs.Asking.{asks_then, turn_of, turn_one, vain_between}
+use Rattle.mirror_copy.proofs.AskingOnce.{once_last, once_turn, once_turns}
 use Rattle.mirror_copy.proofs.find.find_at_places.Goals as goal
 
 pub returns-in_err-found-clause-asks : goal.returns-in_err-found-clause-asks
@@ -20,6 +21,8 @@ pub loop-turn-preserved : goal.loop-turn-preserved
 loop-turn-preserved g c = record {
   asks = asks_then g.S.Source.may_answer g.S.Source.failed g.S.Source.asked (λ p. p ≡ c.args.path.now) c.args.places.now c.loop-turn.places
       c.find_at_place.new.places c.loop-turn.invariant.asks c.find_at_place.ensures.asks;
+  once = once_turn g.S.Source.asked (λ p. p ≡ c.args.path.now) c.first-first.result c.loop-turn.turn c.in_turn-index.result c.in_turn-index.ensures.turn
+      c.args.places.now c.loop-turn.places c.find_at_place.new.places c.loop-turn.invariant.once c.find_at_place.ensures.once;
   none = λ turn k d lt is.
       let a = get_or c.args.places.now.list.items k d in
       let b = get_or c.loop-turn.places.list.items k d in
@@ -59,3 +62,17 @@ returns-in-Some-clause-given g c =
     given_before g.S.Source.may_answer g.S.Source.failed g.S.Source.asked (λ p. p ≡ c.args.path.now) c.args.places.now
     c.loop-turn.places c.args.path.now c.in-Some.found.bytes.items c.loop-turn.invariant.asks
     (rw c.in-Some.is at c.in_ok-found.ensures.given)
+
+pub returns-in_err-found-clause-once : goal.returns-in_err-found-clause-once
+returns-in_err-found-clause-once g c =
+    once_last g.S.Source.asked (λ p. p ≡ c.args.path.now) c.first-first.result c.loop-turn.turn c.in_turn-index.result c.in_turn-index.ensures.turn
+    c.args.places.now c.loop-turn.places c.find_at_place.new.places c.loop-turn.invariant.once c.find_at_place.ensures.once
+
+pub returns-in-Some-clause-once : goal.returns-in-Some-clause-once
+returns-in-Some-clause-once g c =
+    once_last g.S.Source.asked (λ p. p ≡ c.args.path.now) c.first-first.result c.loop-turn.turn c.in_turn-index.result c.in_turn-index.ensures.turn
+    c.args.places.now c.loop-turn.places c.find_at_place.new.places c.loop-turn.invariant.once c.find_at_place.ensures.once
+
+pub returns-clause-once : goal.returns-clause-once
+returns-clause-once g c =
+    once_turns g.S.Source.asked (λ p. p ≡ c.args.path.now) c.first-first.result c.loop-turn.turn c.args.places.now c.loop-turn.places c.loop-turn.invariant.once

@@ -4,6 +4,8 @@ use Rattle.mirror_copy.specs.Asked.{IsEdgeTile}
 use Rattle.mirror_copy.proofs.Asking.{asks_noted, asks_same}
 use Rattle.mirror_copy.proofs.OnePlace.{true_between}
 use Rattle.mirror_copy.proofs.TrueAnswers.{edge_leads}
+use Rattle.mirror_copy.proofs.AskingOnce.{once_noted}
+use Rattle.mirror_copy.specs.AskedOnce.{IsAtPlace}
 use Rattle.mirror_copy.proofs.find_edge.edge_at_place.Goals as goal
 
 pub returns-then-branch-clause-asks : goal.returns-then-branch-clause-asks
@@ -37,3 +39,13 @@ returns-else-branch-clause-honest g c = λ entries r t.
     let small : c.args.size < 2 ^ 64 = omega (arith, c.ranges.size.fits) in
     false≢true (sym c.if-branch.false ∙ c.in_ok-leads_to.ensures.1
     (edge_leads digest entries c.args.size c.args.root.now small c.in-Some.edge taken.size_is rows r))
+
+pub returns-then-branch-clause-once : goal.returns-then-branch-clause-once
+returns-then-branch-clause-once g c =
+    once_noted g.S.Source.asked g.S.Source.may_answer g.S.Source.failed (IsAtPlace c.args.index (IsEdgeTile c.args.size)) c.args.places.now
+    c.rows_at_place.new.places c.note_verified.new.self c.rows_at_place.ensures.once c.note_verified.ensures
+
+pub returns-else-branch-clause-once : goal.returns-else-branch-clause-once
+returns-else-branch-clause-once g c =
+    once_noted g.S.Source.asked g.S.Source.may_answer g.S.Source.failed (IsAtPlace c.args.index (IsEdgeTile c.args.size)) c.args.places.now
+    c.rows_at_place.new.places c.note_wrong.new.self c.rows_at_place.ensures.once c.note_wrong.ensures

@@ -6,6 +6,7 @@ use Rattle.mirror_copy.specs.Taken.{MayGive}
 use Rattle.mirror_copy.proofs.Asking.{asks_same, asks_then, turn_of, turn_one}
 use Rattle.mirror_copy.proofs.OnePlace.{given_before, true_between}
 use Rattle.mirror_copy.proofs.TrueEdges.{edge_weaker}
+use Rattle.mirror_copy.proofs.AskingOnce.{once_last, once_turn, once_turns}
 use Rattle.mirror_copy.proofs.find_edge.edge_at_places.Goals as goal
 
 pub returns-in_err-edge-clause-asks : goal.returns-in_err-edge-clause-asks
@@ -41,6 +42,8 @@ loop-turn-preserved g c =
     let now = c.edge_at_place.ensures.asks in
     record {
       asks = asks_then may failed asked so x y z before now;
+      once = once_turn g.S.Source.asked (IsEdgeTile c.args.size) c.first-first.result c.loop-turn.turn c.in_turn-index.result c.in_turn-index.ensures.turn
+          c.args.places.now c.loop-turn.places c.edge_at_place.new.places c.loop-turn.invariant.once c.edge_at_place.ensures.once;
       honest = λ turn k lt is entries root t. elim (cases_lt turn c.loop-turn.turn) [
         | inl less ↦ c.loop-turn.invariant.honest turn k less is entries root
             (true_between may failed asked digest entries so so so x x y z (asks_same may failed asked so x) before now k t)
@@ -64,3 +67,17 @@ returns-clause-honest g c = λ entries root t.
     let turn = turn_of c.first-first.result t.index n lt within in
     let before = turn.1 in
     c.loop-turn.invariant.honest turn.0 t.index (omega arith) turn.2 entries root t.place
+
+pub returns-in_err-edge-clause-once : goal.returns-in_err-edge-clause-once
+returns-in_err-edge-clause-once g c =
+    once_last g.S.Source.asked (IsEdgeTile c.args.size) c.first-first.result c.loop-turn.turn c.in_turn-index.result c.in_turn-index.ensures.turn
+    c.args.places.now c.loop-turn.places c.edge_at_place.new.places c.loop-turn.invariant.once c.edge_at_place.ensures.once
+
+pub returns-in-Some-clause-once : goal.returns-in-Some-clause-once
+returns-in-Some-clause-once g c =
+    once_last g.S.Source.asked (IsEdgeTile c.args.size) c.first-first.result c.loop-turn.turn c.in_turn-index.result c.in_turn-index.ensures.turn
+    c.args.places.now c.loop-turn.places c.edge_at_place.new.places c.loop-turn.invariant.once c.edge_at_place.ensures.once
+
+pub returns-clause-once : goal.returns-clause-once
+returns-clause-once g c =
+    once_turns g.S.Source.asked (IsEdgeTile c.args.size) c.first-first.result c.loop-turn.turn c.args.places.now c.loop-turn.places c.loop-turn.invariant.once

@@ -1,5 +1,6 @@
 use Rattle.std.proofs.Common.{◌<◌, ℕ, List}
 use Rattle.mirror_copy.specs.Asked.{IsAskedInTurn, IsEdgeTile}
+use Rattle.mirror_copy.specs.AskedOnce.{AsksOnce, IsBeforeTurn}
 use Rattle.mirror_copy.specs.PlaceGets.{AsksPlaces}
 use Rattle.mirror_copy.specs.Suffices.{IsTruePlace}
 use Rattle.mirror_copy.specs.TrueAnswers.{IsRootOf}
@@ -8,6 +9,7 @@ use Rattle.mirror_copy.proofs.find_edge.edge_at_places.Given as goal
 abbrev pub invariant-loop-turn : goal.invariant-loop-turn
 invariant-loop-turn g l = record {
   asks : AsksPlaces g.S.Source.may_answer g.S.Source.failed g.S.Source.asked (IsEdgeTile l.size) l.fn.places l.places;
+  once : AsksOnce g.S.Source.asked (IsBeforeTurn l.first l.turn (IsEdgeTile l.size)) l.fn.places l.places;
   honest : (turn k : ℕ) → turn < l.turn → IsAskedInTurn l.first turn k → (entries : List (List ℕ)) →
       IsRootOf g.H.TreeHash.digest entries l.size l.root →
       IsTruePlace g.H.TreeHash.digest entries g.S.Source.may_answer l.fn.places l.places k → ⊥;

@@ -4,6 +4,7 @@ use Rattle.mirror_copy.specs.Faults.{CountsFault}
 use Rattle.mirror_copy.proofs.Asking.{asks_noted}
 use Rattle.mirror_copy.specs.Taken.{MayGive, MayTake}
 use Rattle.mirror_copy.proofs.TrueEdges.{edge_weaker}
+use Rattle.mirror_copy.proofs.AskingOnce.{once_noted}
 use Rattle.mirror_copy.proofs.find_edge.find_edge.Goals as goal
 
 pub returns-in-None-clause-counted : goal.returns-in-None-clause-counted
@@ -22,3 +23,8 @@ returns-in-Some-2-clause-taken g c =
     let x = c.args.places.now in
     edge_weaker (MayGive may x) (MayTake may x (g.D.Shelf.puts c.args.shelf.now)) (λ path bytes given. inr given) c.args.size
     c.in-Some-2.edge (rw c.in-Some-2.is at c.in_ok-edge-2.ensures.taken)
+
+pub returns-in-None-clause-once : goal.returns-in-None-clause-once
+returns-in-None-clause-once g c =
+    once_noted g.S.Source.asked g.S.Source.may_answer g.S.Source.failed (λ k. IsEdgeTile c.args.size) c.args.places.now
+    c.edge_at_places.new.places c.lacks.new.self c.edge_at_places.ensures.once c.lacks.ensures.asks

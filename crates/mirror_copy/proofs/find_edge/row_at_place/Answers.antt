@@ -1,5 +1,5 @@
 use Rattle.std.proofs.Common.{◌≤◌, ℕ, List, Vec, Global, length, sym, subst, arith}
-use Rattle.tlog_shape.specs.Edge.{width_of}
+use Rattle.tlog_shape.specs.Edge.{edge_index_of, width_of}
 use Rattle.tlog_tiles.specs.Row.{IsRow}
 use Rattle.tlog_tiles.specs.Tiles.{IsWithin}
 use Rattle.mirror_copy.specs.Asked.{IsEdgeTile, IsPathOrFull}
@@ -8,6 +8,9 @@ use Rattle.mirror_copy.proofs.Asking.{asks_noted, asks_same, asks_weaker}
 use Rattle.mirror_copy.proofs.NewFulls.{edge_tile_asked}
 use Rattle.mirror_copy.proofs.OnePlace.{true_between}
 use Rattle.mirror_copy.proofs.TrueAnswers.{edge_within, row_there, some_weaker}
+use Rattle.mirror_copy.proofs.AskingOnce.{once_noted, once_weaker}
+use Rattle.mirror_copy.specs.AskedOnce.{IsAtPlace, IsEdgeTileAt}
+use Rattle.mirror_copy.proofs.Between.{tile_partial, tile_at}
 use Rattle.mirror_copy.proofs.find_edge.row_at_place.Goals as goal
 use Rattle.mirror_copy.proofs.find_edge.row_at_place.Goals.{then-is_none, else-is_none}
 
@@ -82,3 +85,60 @@ returns-clause-honest g c =
           (edge_within c.args.size (length entries) c.args.level le c.requires.level some)))
           c.in_ok-row.ensures.row c.in_ok-row.ensures.none)
     ]
+
+pub returns-clause-once : goal.returns-clause-once
+returns-clause-once g c =
+    let is = c.edge_width-width.ensures in
+    let not = c.if-width-eq0.false in
+    let some : 1 ≤ width_of c.args.size c.args.level = omega arith in
+    let path = c.edge_path-path.result in
+    let so = IsAtPlace c.args.index (IsEdgeTileAt c.args.size c.args.level) in
+    let differ = tile_partial c.args.level (edge_index_of c.args.size c.args.level) c.args.size c.args.level path
+    c.edge_path-path.ensures in
+    let once = once_weaker g.S.Source.asked (IsAtPlace c.args.index (IsPathOrFull path)) so
+    (λ k p h. (h.0, tile_at c.args.size c.args.level c.requires.level some path p c.edge_path-path.ensures h.1))
+    c.args.places.now c.get_partial.new.places (c.get_partial.ensures.once differ) in
+    elim c.if-is_none.branch [
+      | then-is_none w ↦ rw w.places-is (once_noted g.S.Source.asked g.S.Source.may_answer g.S.Source.failed so c.args.places.now
+          c.get_partial.new.places w.note_wrong.new.self once w.note_wrong.ensures)
+      | else-is_none w ↦ rw w.places-is once
+    ]
+
+pub returns-in_default-clause-once : goal.returns-in_default-clause-once
+returns-in_default-clause-once g c =
+    let is = c.edge_width-width.ensures in
+    let not = c.if-width-eq0.false in
+    let some : 1 ≤ width_of c.args.size c.args.level = omega arith in
+    let path = c.edge_path-path.result in
+    let so = IsAtPlace c.args.index (IsEdgeTileAt c.args.size c.args.level) in
+    let differ = tile_partial c.args.level (edge_index_of c.args.size c.args.level) c.args.size c.args.level path
+    c.edge_path-path.ensures in
+    let once = once_weaker g.S.Source.asked (IsAtPlace c.args.index (IsPathOrFull path)) so
+    (λ k p h. (h.0, tile_at c.args.size c.args.level c.requires.level some path p c.edge_path-path.ensures h.1))
+    c.args.places.now c.get_partial.new.places (c.get_partial.ensures.once differ) in once
+
+pub returns-in_err-bytes-clause-once : goal.returns-in_err-bytes-clause-once
+returns-in_err-bytes-clause-once g c =
+    let is = c.edge_width-width.ensures in
+    let not = c.if-width-eq0.false in
+    let some : 1 ≤ width_of c.args.size c.args.level = omega arith in
+    let path = c.edge_path-path.result in
+    let so = IsAtPlace c.args.index (IsEdgeTileAt c.args.size c.args.level) in
+    let differ = tile_partial c.args.level (edge_index_of c.args.size c.args.level) c.args.size c.args.level path
+    c.edge_path-path.ensures in
+    let once = once_weaker g.S.Source.asked (IsAtPlace c.args.index (IsPathOrFull path)) so
+    (λ k p h. (h.0, tile_at c.args.size c.args.level c.requires.level some path p c.edge_path-path.ensures h.1))
+    c.args.places.now c.get_partial.new.places (c.get_partial.ensures.once differ) in once
+
+pub returns-in_err-row-clause-once : goal.returns-in_err-row-clause-once
+returns-in_err-row-clause-once g c =
+    let is = c.edge_width-width.ensures in
+    let not = c.if-width-eq0.false in
+    let some : 1 ≤ width_of c.args.size c.args.level = omega arith in
+    let path = c.edge_path-path.result in
+    let so = IsAtPlace c.args.index (IsEdgeTileAt c.args.size c.args.level) in
+    let differ = tile_partial c.args.level (edge_index_of c.args.size c.args.level) c.args.size c.args.level path
+    c.edge_path-path.ensures in
+    let once = once_weaker g.S.Source.asked (IsAtPlace c.args.index (IsPathOrFull path)) so
+    (λ k p h. (h.0, tile_at c.args.size c.args.level c.requires.level some path p c.edge_path-path.ensures h.1))
+    c.args.places.now c.get_partial.new.places (c.get_partial.ensures.once differ) in once

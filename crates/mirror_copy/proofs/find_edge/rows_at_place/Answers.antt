@@ -7,6 +7,7 @@ use Rattle.mirror_copy.proofs.Asking.{asks_same, asks_then}
 use Rattle.mirror_copy.proofs.OnePlace.{given_before, true_between}
 use Rattle.mirror_copy.proofs.TrueEdges.{row_weaker}
 use Rattle.log_reader.proofs.RowLists.{count_more, rows_more}
+use Rattle.mirror_copy.proofs.Between.{once_last_level, once_level, once_levels}
 use Rattle.mirror_copy.proofs.find_edge.rows_at_place.Goals as goal
 
 pub returns-in_err-row-clause-asks : goal.returns-in_err-row-clause-asks
@@ -55,6 +56,7 @@ loop-level-preserved g c =
     let row = rw c.in-Some.is at c.in_ok-row.ensures.honest in
     record {
       asks = asks_then may failed asked so x y z before now;
+      once = once_level g.S.Source.asked c.args.size level c.args.index x y z c.loop-level.invariant.once c.row_at_place.ensures.once;
       count = count_more rows c.push.new.self.items c.in-Some.row level is count;
       taken = rows_more (λ k row. IsRowFrom (MayGive may x) c.args.size k row) rows c.push.new.self.items c.in-Some.row level is
           count c.loop-level.invariant.taken
@@ -79,3 +81,22 @@ returns-clause-taken g c = record {
       subst (λ (rs : List (List (List ℕ))). IsRowFrom (MayGive g.S.Source.may_answer c.args.places.now) c.args.size level
       (get_or rs level [])) (sym c.new.ensures.rows) (c.loop-level.invariant.taken level (omega arith));
 }
+
+pub returns-in_err-row-clause-once : goal.returns-in_err-row-clause-once
+returns-in_err-row-clause-once g c =
+    once_last_level g.S.Source.asked c.args.size c.loop-level.level c.args.index c.args.places.now
+    c.loop-level.places c.row_at_place.new.places c.loop-level.invariant.once c.row_at_place.ensures.once
+
+pub returns-in_err-push-in-Some-clause-once : goal.returns-in_err-push-in-Some-clause-once
+returns-in_err-push-in-Some-clause-once g c =
+    once_last_level g.S.Source.asked c.args.size c.loop-level.level c.args.index c.args.places.now
+    c.loop-level.places c.row_at_place.new.places c.loop-level.invariant.once c.row_at_place.ensures.once
+
+pub returns-in-None-clause-once : goal.returns-in-None-clause-once
+returns-in-None-clause-once g c =
+    once_last_level g.S.Source.asked c.args.size c.loop-level.level c.args.index c.args.places.now
+    c.loop-level.places c.row_at_place.new.places c.loop-level.invariant.once c.row_at_place.ensures.once
+
+pub returns-clause-once : goal.returns-clause-once
+returns-clause-once g c =
+    once_levels g.S.Source.asked c.args.size c.loop-level.level c.args.index c.args.places.now c.loop-level.places c.loop-level.invariant.once

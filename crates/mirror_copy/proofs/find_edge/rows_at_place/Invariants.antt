@@ -3,6 +3,7 @@ use Rattle.tlog_shape.specs.Edge.{edge_index_of, width_of}
 use Rattle.tlog_hash.specs.Rows.{level_row}
 use Rattle.log_reader.proofs.RowLists.{items_of}
 use Rattle.mirror_copy.specs.Asked.{IsEdgeTile}
+use Rattle.mirror_copy.specs.AskedOnce.{AsksOnce, IsAtPlace, IsEdgeTileBelow}
 use Rattle.mirror_copy.specs.PlaceGets.{AsksPlaces}
 use Rattle.mirror_copy.specs.Taken.{IsRowFrom, MayGive}
 use Rattle.mirror_copy.specs.TrueAnswers.{OfTruePlace}
@@ -12,6 +13,7 @@ use Rattle.mirror_copy.proofs.find_edge.rows_at_place.Given as goal
 abbrev pub invariant-loop-level : goal.invariant-loop-level
 invariant-loop-level g l = record {
   asks : AsksPlaces g.S.Source.may_answer g.S.Source.failed g.S.Source.asked (IsEdgeTile l.size) l.fn.places l.places;
+  once : AsksOnce g.S.Source.asked (IsAtPlace l.index (IsEdgeTileBelow l.size l.level)) l.fn.places l.places;
   count : length l.rows.items ≡ l.level;
   taken : (k : ℕ) → k < l.level →
       IsRowFrom (MayGive g.S.Source.may_answer l.fn.places) l.size k (get_or (items_of l.rows.items) k []);

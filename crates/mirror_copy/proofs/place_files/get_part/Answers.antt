@@ -4,6 +4,8 @@ use Rattle.mirror_sources.specs.Honest.{true_bytes}
 use Rattle.mirror_copy.specs.Taken.{IsFirstOf, MayGive}
 use Rattle.mirror_copy.proofs.Asking.{asks_noted}
 use Rattle.mirror_copy.proofs.TrueAnswers.{full_stays, got_file, got_none, not_failed}
+use Rattle.mirror_copy.proofs.AskingOnce.{once_noted}
+use Rattle.mirror_copy.specs.AskedOnce.{IsAtPlace}
 use Rattle.mirror_copy.proofs.place_files.get_part.Goals as goal
 
 pub returns-in-File-clause-asks : goal.returns-in-File-clause-asks
@@ -62,3 +64,25 @@ returns-in-NotFound-clause-honest g c = λ digest hash entries short t within go
     absurd (full_stays (length entries) path gone
     (got_none digest entries g.S.Source.may_answer c.args.places.now c.note_wrong-in-NotFound.new.self c.args.index t (full_of path)
     gone.full (λ d. rw c.full_of-full_path.ensures at (rw c.in-NotFound.is at (c.in_ok-full.ensures.answer d)))))
+
+pub returns-in-File-clause-once : goal.returns-in-File-clause-once
+returns-in-File-clause-once g c =
+    once_noted g.S.Source.asked g.S.Source.may_answer g.S.Source.failed (IsAtPlace c.args.index (λ p. p ≡ full_of c.args.path.now)) c.args.places.now c.get.new.self
+    c.note_wrong.new.self (rw c.full_of-full_path.ensures at c.get.ensures.once) c.note_wrong.ensures
+
+pub returns-in-NotFound-clause-once : goal.returns-in-NotFound-clause-once
+returns-in-NotFound-clause-once g c =
+    once_noted g.S.Source.asked g.S.Source.may_answer g.S.Source.failed (IsAtPlace c.args.index (λ p. p ≡ full_of c.args.path.now)) c.args.places.now c.get.new.self
+    c.note_wrong-in-NotFound.new.self (rw c.full_of-full_path.ensures at c.get.ensures.once) c.note_wrong-in-NotFound.ensures
+
+pub returns-in_err-full-clause-once : goal.returns-in_err-full-clause-once
+returns-in_err-full-clause-once g c = rw c.full_of-full_path.ensures at c.get.ensures.once
+
+pub returns-in_err-from_slice-in-Some-clause-once : goal.returns-in_err-from_slice-in-Some-clause-once
+returns-in_err-from_slice-in-Some-clause-once g c = rw c.full_of-full_path.ensures at c.get.ensures.once
+
+pub returns-in-Some-clause-once : goal.returns-in-Some-clause-once
+returns-in-Some-clause-once g c = rw c.full_of-full_path.ensures at c.get.ensures.once
+
+pub returns-clause-once : goal.returns-clause-once
+returns-clause-once g c = rw c.full_of-full_path.ensures at c.get.ensures.once

@@ -8,6 +8,8 @@ use Rattle.mirror_copy.proofs.Asking.{asks_same, asks_then, asks_weaker}
 use Rattle.mirror_copy.proofs.OnePlace.{given_before, true_between}
 use Rattle.mirror_copy.proofs.ShelfReads.{part_weaker}
 use Rattle.mirror_copy.proofs.TrueAnswers.{got_file, got_none, not_failed, ok_some_weaker, ok_weaker}
+use Rattle.mirror_copy.proofs.AskingOnce.{once_part, once_weaker}
+use Rattle.mirror_copy.specs.AskedOnce.{IsAtPlace}
 use Rattle.mirror_copy.proofs.place_files.get_partial.Goals as goal
 
 pub returns-in-NotFound-clause-asks : goal.returns-in-NotFound-clause-asks
@@ -64,3 +66,26 @@ pub returns-in-Failed-clause-honest : goal.returns-in-Failed-clause-honest
 returns-in-Failed-clause-honest g c = λ digest hash entries short t within.
     absurd (not_failed digest entries g.S.Source.may_answer c.args.places.now c.get.new.self c.args.index t
     (λ d. rw c.in-Failed.is at (c.in_ok-bytes.ensures.answer d)))
+
+pub returns-in-NotFound-clause-once : goal.returns-in-NotFound-clause-once
+returns-in-NotFound-clause-once g c =
+    λ differ. once_part g.S.Source.asked c.args.path.now c.args.index differ c.args.places.now c.get.new.self c.get_part.new.places
+    c.get.ensures.once c.get_part.ensures.once
+
+pub returns-in_err-bytes-clause-once : goal.returns-in_err-bytes-clause-once
+returns-in_err-bytes-clause-once g c =
+    λ differ. once_weaker g.S.Source.asked (IsAtPlace c.args.index (λ p. p ≡ c.args.path.now))
+    (IsAtPlace c.args.index (IsPathOrFull c.args.path.now)) (λ k p h. (h.0, inl h.1)) c.args.places.now c.get.new.self
+    c.get.ensures.once
+
+pub returns-in-File-clause-once : goal.returns-in-File-clause-once
+returns-in-File-clause-once g c =
+    λ differ. once_weaker g.S.Source.asked (IsAtPlace c.args.index (λ p. p ≡ c.args.path.now))
+    (IsAtPlace c.args.index (IsPathOrFull c.args.path.now)) (λ k p h. (h.0, inl h.1)) c.args.places.now c.get.new.self
+    c.get.ensures.once
+
+pub returns-in-Failed-clause-once : goal.returns-in-Failed-clause-once
+returns-in-Failed-clause-once g c =
+    λ differ. once_weaker g.S.Source.asked (IsAtPlace c.args.index (λ p. p ≡ c.args.path.now))
+    (IsAtPlace c.args.index (IsPathOrFull c.args.path.now)) (λ k p h. (h.0, inl h.1)) c.args.places.now c.get.new.self
+    c.get.ensures.once

@@ -8,6 +8,7 @@ use Rattle.mirror_copy.proofs.Growth.{kept_same}
 use Rattle.mirror_copy.proofs.Asking.{asks_same, asks_weaker, to_edge_asks}
 use Rattle.mirror_copy.proofs.Others.{last_blames}
 use Rattle.mirror_copy.proofs.Finishing.{copy_brought, ends_brought, left_put, true_rows}
+use Rattle.mirror_copy.proofs.Between.{once_below, once_to_edge}
 use Rattle.mirror_copy.proofs.to_edge.bring_to_edge.Goals as goal
 
 pub returns-in_err-bring_edge_bundle-clause-brings : goal.returns-in_err-bring_edge_bundle-clause-brings
@@ -118,9 +119,27 @@ returns-clause-honest g c =
     spared_last c.put_last.result _ (λ e so entries size h t is. so) c.args.tip.now.checkpoint
     (g.D.Shelf.puts c.put_edge_tiles.new.shelf) c.put_last.ensures.blames c.put_last.ensures.fault
 
+pub returns-in_err-bring_edge_bundle-clause-once : goal.returns-in_err-bring_edge_bundle-clause-once
+returns-in_err-bring_edge_bundle-clause-once g c =
+    once_to_edge g.S.Source.asked c.args.edge.now.size c.args.places.now
+    c.bring_levels.new.places c.bring_edge_bundle.new.places c.bring_levels.ensures.once c.bring_edge_bundle.ensures.once
+
+pub returns-in_err-put_edge_tiles-clause-once : goal.returns-in_err-put_edge_tiles-clause-once
+returns-in_err-put_edge_tiles-clause-once g c =
+    once_to_edge g.S.Source.asked c.args.edge.now.size c.args.places.now
+    c.bring_levels.new.places c.bring_edge_bundle.new.places c.bring_levels.ensures.once c.bring_edge_bundle.ensures.once
+
+pub returns-clause-once : goal.returns-clause-once
+returns-clause-once g c =
+    once_to_edge g.S.Source.asked c.args.edge.now.size c.args.places.now
+    c.bring_levels.new.places c.bring_edge_bundle.new.places c.bring_levels.ensures.once c.bring_edge_bundle.ensures.once
+
+pub returns-in_err-bring_levels-clause-once : goal.returns-in_err-bring_levels-clause-once
+returns-in_err-bring_levels-clause-once g c =
+    once_below g.S.Source.asked c.args.edge.now.size c.args.places.now c.bring_levels.new.places c.bring_levels.ensures.once
+
 pub returns-in_err-bring_levels-clause-asks : goal.returns-in_err-bring_levels-clause-asks
 returns-in_err-bring_levels-clause-asks g c =
-    let n = c.args.edge.now.size in
-    let m = c.args.tip.now.size in
-    asks_weaker g.S.Source.may_answer g.S.Source.failed g.S.Source.asked (IsNewFull m) (IsEdgeBundleOrNew n m)
-    (λ path h. inr h) c.args.places.now c.bring_levels.new.places c.bring_levels.ensures.asks
+    asks_weaker g.S.Source.may_answer g.S.Source.failed g.S.Source.asked (IsNewFull c.args.tip.now.size)
+    (IsEdgeBundleOrNew c.args.edge.now.size c.args.tip.now.size) (λ path h. inr h) c.args.places.now c.bring_levels.new.places
+    c.bring_levels.ensures.asks

@@ -1,0 +1,51 @@
+-- No place gets two requests for one path in a call.
+use Rattle.std.specs.Prelude.{◌≡◌, ◌≢◌, ℕ, ◌<◌, List, All, AllPairs, get_or, Option, ⊤}
+use Rattle.tlog_tiles.specs.declared.paths.Path.{Path}
+use Rattle.tlog_tiles.specs.declared.paths.Path.TheVariants.{Checkpoint, Tile, Entries}
+use Rattle.tlog_tiles.specs.Tiles.{IsWithin}
+use Rattle.mirror_sources.specs.Recorded.{AddsToRecord}
+use Rattle.mirror_copy.specs.Asked.{IsAskedInTurn, IsEdgeTile, IsNewFull}
+use Rattle.mirror_copy.specs.declared.place.Place.{Place}
+use Rattle.mirror_copy.specs.declared.places.Places.{Places}
+
+module _ {S : Type 0} (asked : S → Option (List Path)) where
+  -- all requests to a place were for such paths, and no two of them for one path
+  pub record IsAskedOnce (so : Path → Type 0) (old new : Place S) : Type 0 where
+    pub paths : List Path
+    pub recorded : AddsToRecord (asked old.source) (asked new.source) paths
+    pub are_so : All so paths
+    pub once : AllPairs (λ earlier later. earlier ≢ later) paths
+
+  -- no place got two requests for one path. "so" has the index of a place and the paths that it may have been asked for
+  pub record AsksOnce (so : ℕ → Path → Type 0) (old new : Places S) : Type 0 where
+    pub each : (k : ℕ) (d : Place S) → IsAskedOnce (so k) (get_or old.list.items k d) (get_or new.list.items k d)
+
+-- ---- only contracts of private functions cite what follows
+
+-- such a path, at the place of that index
+abbrev pub IsAtPlace : ℕ → (Path → Type 0) → ℕ → Path → Type 0
+IsAtPlace index so k path = (k ≡ index) × so path
+
+-- such a path, at a place that had a turn before that one
+abbrev pub IsBeforeTurn : ℕ → ℕ → (Path → Type 0) → ℕ → Path → Type 0
+IsBeforeTurn first turn so k path = ((earlier : ℕ) × (earlier < turn) × IsAskedInTurn first earlier k) × so path
+
+-- the path of the partial tile of that level at the right edge of n entries, or its full path
+abbrev pub IsEdgeTileAt : ℕ → ℕ → Path → Type 0
+IsEdgeTileAt n level path = (tile : IsEdgeTile n path) × (tile.level ≡ level)
+
+-- the same for the levels below that one
+abbrev pub IsEdgeTileBelow : ℕ → ℕ → Path → Type 0
+IsEdgeTileBelow n level path = (tile : IsEdgeTile n path) × (tile.level < level)
+
+-- a bundle, or a tile of a level below that one
+abbrev pub IsLower : ℕ → Path → Type 0
+IsLower level Checkpoint = ⊥
+IsLower level (Tile l index width) = l < level
+IsLower level (Entries index width) = ⊤
+
+-- a full bundle, or a full tile of a level from 1 up to below "level". The first "from" entries do not have it, the first "to" do
+pub record IsFullBetween (level from to : ℕ) (path : Path) : Type 0 where
+  pub new : IsNewFull from path
+  pub within : IsWithin to path
+  pub lower : IsLower level path
