@@ -16,8 +16,7 @@ use crate::received::{Received, receive};
 use crate::reply::read_reply;
 use crate::request::get_request;
 use crate::site::Site;
-use crate::watched::WatchedStream;
-use byte_streams::{StreamFault, write_whole};
+use byte_streams::{StreamFault, WatchedStream, write_whole};
 use mirror_sources::SourceFault;
 use std::alloc::{AllocError, Global};
 use std::io;
@@ -187,7 +186,7 @@ pub(crate) fn exchange<S: Read + Write + Drop>(
     let sent = send_request(alloc, &mut stream, site, path);
     let answer = receive_reply(alloc, &mut stream, sent, reason);
     if matches!(&answer, Err(SourceFault::Failed)) && reason.is_none() {
-        *reason = Some(stream_reason(stream.error()));
+        *reason = Some(stream_reason(stream.last_failed()));
     }
     answer
 }

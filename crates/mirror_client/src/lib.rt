@@ -27,7 +27,6 @@ mod request;
 mod site;
 mod source;
 mod tcp;
-mod watched;
 
 pub use dial::Dial;
 pub use failed::{FailedGet, Reason};
