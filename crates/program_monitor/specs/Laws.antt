@@ -29,7 +29,7 @@ module _ (digest : List ℕ → List ℕ) (edge : Edge) where
     pub clear : (k : ℕ) (lt : k < length found) →
         NoClash digest (set.from_list (strings digest entries ++ shown_strings (shown k lt).shown))
 
--- the copy's entries that were written are those of the list, from FROM on. All up to TO were written, or a prefix of their text
+-- the entries that were written of the copy are those of the list: all from FROM up to TO, or a prefix of their text
 abbrev pub ShownEntriesAreTrue : Type 0
 ShownEntriesAreTrue =
     (digest : List ℕ → List ℕ) → IsDigest digest → (origin : List ℕ) (keys : List Key) (held : Option (List Put))
