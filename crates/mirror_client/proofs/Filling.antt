@@ -81,3 +81,8 @@ pub cut : (f n len : ℕ) (part xs after : List ℕ) → after ≡ take f (take 
     len ≡ length part → f ≤ len → n ≡ 0 → after ≡ take (f + n) part
 cut f n len part xs after is same within none =
     is ∙ (lent f len part xs same within ∙ ap (λ k. take k part) (omega (arith, none)))
+
+-- the front stays as it was, through the growth of a vector and a read
+pub front_kept : (f : ℕ) (part lent_part room old : List ℕ) → take f part ≡ take f lent_part → lent_part ≡ room →
+    take f room ≡ take f old → take f part ≡ take f old
+front_kept f part lent_part room old read same grown = read ∙ (ap (take f) same ∙ grown)

@@ -1,7 +1,7 @@
-use Rattle.std.proofs.Common.{◌≡◌, ◌+◌, ◌≤◌, ◌++◌, rules, length, take, drop, vec_len, sym, ap, subst, ◌∙◌, arith}
+use Rattle.std.proofs.Common.{◌≡◌, ◌+◌, ◌≤◌, ◌++◌, rules, length, take, drop, vec_len, sym, subst, ◌∙◌, arith}
 use Rattle.std.specs.Io.KnownBytes.{Consumes}
 use Rattle.std.proofs.KnownBytes.{Keeps-refl}
-use Rattle.mirror_client.proofs.Filling.{cut, GoesOn, got_of, goes_on, goes_on_kept, lent, took}
+use Rattle.mirror_client.proofs.Filling.{cut, front_kept, GoesOn, got_of, goes_on, goes_on_kept, lent, took}
 use Rattle.mirror_client.proofs.reading.read_on.Goals as goal
 use Rattle.mirror_client.proofs.reading.read_on.Goals.{in-Ok, in-Err+else-ne}
 
@@ -24,8 +24,8 @@ returns-in-Ok-eq0-clause-taken g c =
     let after = c.truncate-in-Ok-eq0.new.self.items in
     let count : vec_len c.args.bytes ≡ length before = search rules in
     let len : c.make_room.new.bytes.len ≡ length buf = search rules in
-    let front : take f buf ≡ take f c.loop.bytes.items = c.read_at.ensures.front
-    ∙ (ap (take f) c.as_mut_slice.ensures.value ∙ c.make_room.ensures.front) in
+    let front : take f buf ≡ take f c.loop.bytes.items = front_kept f buf _ _ c.loop.bytes.items
+    c.read_at.ensures.front c.as_mut_slice.ensures.value c.make_room.ensures.front in
     let more = goes_on a (recorded c.loop.reader) b before c.loop.bytes.items buf f n c.loop.invariant.goes_on front
     c.in-Ok-eq0.ensures.ok in
     let same : after ≡ take (f + n) buf = cut f n c.make_room.new.bytes.len buf c.make_room.new.bytes.items after
@@ -43,8 +43,8 @@ returns-in-Ok-eq0-clause-limit g c =
     let n = c.in-Ok-eq0.field-0 in
     let before = c.args.bytes.items in
     let len : c.make_room.new.bytes.len ≡ length buf = search rules in
-    let front : take f buf ≡ take f c.loop.bytes.items = c.read_at.ensures.front
-    ∙ (ap (take f) c.as_mut_slice.ensures.value ∙ c.make_room.ensures.front) in
+    let front : take f buf ≡ take f c.loop.bytes.items = front_kept f buf _ _ c.loop.bytes.items
+    c.read_at.ensures.front c.as_mut_slice.ensures.value c.make_room.ensures.front in
     let more = goes_on a (recorded c.loop.reader) b before c.loop.bytes.items buf f n c.loop.invariant.goes_on front
     c.in-Ok-eq0.ensures.ok in
     took a b b before buf (f + n) c.args.most (vec_len c.args.bytes) more (Keeps-refl b)
@@ -69,8 +69,8 @@ loop-preserved g c =
     let f = c.loop.filled in
     let before = c.args.bytes.items in
     let len : room.len ≡ length buf = search rules in
-    let front : take f buf ≡ take f old = c.read_at.ensures.front
-    ∙ (ap (take f) c.as_mut_slice.ensures.value ∙ c.make_room.ensures.front) in
+    let front : take f buf ≡ take f old = front_kept f buf _ _ c.loop.bytes.items
+    c.read_at.ensures.front c.as_mut_slice.ensures.value c.make_room.ensures.front in
     elim c.match-read_at.branch [
       | in-Ok w ↦
           let n = w.in-Ok.n in
