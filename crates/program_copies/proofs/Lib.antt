@@ -1,3 +1,4 @@
 pub mod Given
 pub mod AsMirror
+pub mod MirrorProofs
 pub mod Reading

@@ -18,7 +18,7 @@ mod status;
 pub use compare::compare_copy;
 pub use copy_reader::CopyFault;
 pub use fault::CopyAskFault;
-pub use laws::{refusals_law, status_law};
+pub use laws::{proofs_law, refusals_law, status_law};
 pub use opened::open_copy;
 pub use prove::prove_copy;
 pub use status::status_copy;
