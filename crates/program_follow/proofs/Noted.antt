@@ -255,3 +255,11 @@ spares_told Q forks done from left old new (Err (Follow f)) tells = λ e.
     let same : f ≡ following.NoFile = cc in absurd (cc (same, tells.fault_is))
 spares_told Q forks done from left old new (Err WriteFault) tells = λ e. absurd cc
 spares_told Q forks done from left old new (Err (Evidence f)) tells = λ e. absurd cc
+
+-- the copy at each moment, between two calls that put nothing
+pub whole_same : (digest : List ℕ → List ℕ) (origin : List ℕ) (keys : List Key) (so : List ℕ → Type 0)
+    (a b put last : Option (List Put)) → b ≡ a → last ≡ put → FollowsCandidates digest origin keys so b put →
+    FollowsCandidates digest origin keys so a last
+whole_same digest origin keys so a b put last same kept f =
+    subst (λ o. FollowsCandidates digest origin keys so o last) same
+    (subst (λ o. FollowsCandidates digest origin keys so b o) (sym kept) f)
