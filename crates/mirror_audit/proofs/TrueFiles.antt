@@ -1,5 +1,5 @@
 -- Files that verify are true, if the strings of the log's tree and of the files do not clash.
-use Rattle.std.proofs.Common.{◌≡◌, inl, inr, ℕ, ◌+◌, ◌*◌, ◌^◌, ◌<◌, ◌≤◌, All, List, [], ◌∷◌, ◌++◌, length, map, take, drop, get_or}
+use Rattle.std.proofs.Common.{◌≡◌, inl, inr, ℕ, ◌+◌, ◌*◌, ◌^◌, ◌<◌, ◌≤◌, All, List, [], ◌∷◌, ◌++◌, length, map, drop, get_or}
 use Rattle.std.proofs.Common.{refl, sym, ap, subst, ◌∙◌, arith}
 use Rattle.std.specs.FinSet as set
 use Rattle.std.specs.List.{AllByRecursion, Contains}
@@ -13,7 +13,7 @@ use Rattle.tlog_hash.proofs.Folds.{length-ranges}
 use Rattle.tlog_hash.proofs.LeafRanges.{rows_of_leaves}
 use Rattle.tlog_hash.proofs.NodeStrings.{string_of_node, to_joins}
 use Rattle.tlog_tiles.specs.Bundle.{bundle_text}
-use Rattle.tlog_tiles.specs.Row.{IsRow, row_text}
+use Rattle.tlog_tiles.specs.Row.{row_text}
 use Rattle.tlog_tiles.specs.Tiles.{bundle_bytes, tile_bytes}
 use Rattle.tlog_tiles.specs.declared.paths.Path.{Path}
 use Rattle.tlog_tiles.specs.declared.paths.Path.TheVariants.{Tile, Entries}
@@ -30,8 +30,8 @@ use Rattle.log_reader.specs.Verified.{HasLeaves}
 use Rattle.log_reader.proofs.OneRow.{only_row}
 use Rattle.log_reader.proofs.Truths.{shown_rows_are_true}
 use Rattle.mirror_audit.specs.Answering.{IsTreeFile}
-use Rattle.mirror_audit.specs.First.{AreClear, FilesAreClear, IsFileClear, VerifiedFilesAreTrue}
-use Rattle.mirror_audit.specs.Found.{AreTrue, AreVerified, Begins, EdgeRow, EndBundle, FileRead, Found, FullBundle, FullTile, IsEdgeRead, IsLogOf, IsOfEdge, IsTrueFound, IsVerified, TrueFile, paths_read}
+use Rattle.mirror_audit.specs.First.{AreClear, IsFileClear, VerifiedFilesAreTrue}
+use Rattle.mirror_audit.specs.Found.{AreTrue, AreVerified, Begins, EdgeRow, EndBundle, FileRead, Found, FullBundle, FullTile, IsOfEdge, IsTrueFound, IsVerified, TrueFile, paths_read}
 use Rattle.mirror_audit.proofs.FilePaths.{all_front, all_reads, log_files}
 
 -- ---- strings of a tree

@@ -16,9 +16,9 @@ use Rattle.log_reader.specs.Holding.{GoesOn, IsEdgeRowOf, IsTileHash, IsTreeFile
 use Rattle.mirror_audit.specs.declared.fault.AuditFault.{AuditFault}
 use Rattle.mirror_audit.specs.declared.fault.AuditFault.TheVariants.{NoCheckpoint, Head, NoEdge, NoFile, FalseFile, Source, OutOfMemory}
 use Rattle.mirror_audit.specs.Answering.{AreGiven}
-use Rattle.mirror_audit.specs.Found.{AreTrue, AreVerified, Begins, FileRead, Found, InFull, IsAbsent, IsAbsentEdge, IsBelowEdge, IsEdgeRead, IsLogOf, IsNoHead, IsPresent, IsTrueFound}
-use Rattle.mirror_audit.specs.Found.{NotInFull, all_replies, paths_read, replies_of}
-use Rattle.mirror_audit.specs.Order.{edge_file, edge_order, file_order, first_path}
+use Rattle.mirror_audit.specs.Found.{AreTrue, AreVerified, Begins, FileRead, Found, IsAbsent, IsAbsentEdge, IsBelowEdge, IsEdgeRead, IsLogOf, IsNoHead, IsPresent, IsTrueFound}
+use Rattle.mirror_audit.specs.Found.{all_replies, paths_read, replies_of}
+use Rattle.mirror_audit.specs.Order.{edge_file, edge_order, first_path}
 use Rattle.mirror_audit.specs.WholeLogs.{IsTrueRow}
 
 -- the files of these paths were read in order. For entries of that kind each file verifies, if the files before it are true
