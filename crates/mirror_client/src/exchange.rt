@@ -113,7 +113,8 @@ fn known_body(
     n: usize,
     reason: &mut Option<Reason>,
 ) -> Result<Option<Vec<u8>>, SourceFault>
-    ensures reply { (bytes rest : List ℕ) → IsPlainReply bytes rest n → body.items ≡ take (n + 1) rest
+    ensures reply { (bytes rest : List ℕ) → IsPlainReply bytes rest n
+        → body.items ≡ take (n + 1) rest
         → Receives bytes (seen (option_map (λ v. v.items)) result) }
     ensures bound { IfOk result (λ answer. IsShortAnswer n (option_map (λ v. v.items) answer)) }
 {
