@@ -6,6 +6,7 @@ pub mod OneViews
 pub mod TrueFiles
 pub mod WholeFiles
 pub mod CopyBodies
+pub mod LawfulViews
 pub mod MirrorAnswers
 pub mod Blaming
 pub mod TrueProofs

@@ -6,6 +6,7 @@ use Rattle.tlog_tiles.specs.declared.paths.Path.TheVariants.{Checkpoint}
 use Rattle.node_store.specs.Strings.{NoClash}
 use Rattle.mirror_export.specs.SinceLaws.{HoldsLog}
 use Rattle.mirror_folders.specs.Shelf.{HasPut, Put}
+use Rattle.mirror_model.specs.Complete.{IsLawful}
 use Rattle.mirror_model.specs.Heads.{IsHead}
 use Rattle.mirror_model.specs.Strings.{IsDigest}
 use Rattle.mirror_model.specs.TrueLaws.{AreShort}
@@ -37,3 +38,9 @@ CopiesAnswerAsMirrors =
     (digest : List ℕ → List ℕ) → IsDigest digest → (origin : List ℕ) (puts : List Put) (v : View) →
     IsViewOf digest origin puts v → (bytes reply : List ℕ) →
     ResponseBy (IsCopyBody digest origin (Some puts)) bytes reply → Response digest v bytes reply
+
+-- that view is lawful, so it has one reply to the bytes of a client (`one_response_law` of mirror_server)
+abbrev pub CopyViewsAreLawful : Type 0
+CopyViewsAreLawful =
+    (digest : List ℕ → List ℕ) → IsDigest digest → (origin : List ℕ) (puts : List Put) (v : View) →
+    IsViewOf digest origin puts v → IsLawful digest v
