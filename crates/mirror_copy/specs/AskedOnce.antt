@@ -20,11 +20,11 @@ module _ {S : Type 0} (asked : S → Option (List Path)) where
   pub record AsksOnce (so : ℕ → Path → Type 0) (old new : Places S) : Type 0 where
     pub each : (k : ℕ) (d : Place S) → IsAskedOnce (so k) (get_or old.list.items k d) (get_or new.list.items k d)
 
--- ---- only contracts of private functions cite what follows
-
 -- such a path, at the place of that index
 abbrev pub IsAtPlace : ℕ → (Path → Type 0) → ℕ → Path → Type 0
 IsAtPlace index so k path = (k ≡ index) × so path
+
+-- ---- only contracts of private functions cite what follows
 
 -- such a path, at a place that had a turn before that one
 abbrev pub IsBeforeTurn : ℕ → ℕ → (Path → Type 0) → ℕ → Path → Type 0
