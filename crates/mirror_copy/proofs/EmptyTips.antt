@@ -1,5 +1,5 @@
 -- The tip of an empty copy. Each row and each bundle begins with its own, and no call for it ends by a conflict with a copy.
-use Rattle.std.proofs.Common.{◌≡◌, ◌∙◌, ℕ, ◌*◌, ◌≤◌, List, [], length, take, get_or, Option, Some, None, refl, sym, ap, subst, arith}
+use Rattle.std.proofs.Common.{◌≡◌, ◌∙◌, ℕ, ◌*◌, ◌≤◌, List, [], length, take, get_or, Option, Some, None, refl, sym, ap, arith}
 use Rattle.tlog_shape.specs.Edge.{edge_index_of, width_of}
 use Rattle.tlog_hash.specs.Rows.{level_row, part}
 use Rattle.tlog_hash.specs.Tree.{mth}

@@ -25,7 +25,7 @@ use Rattle.mirror_sources.specs.Files.{full_of}
 use Rattle.mirror_sources.specs.Honest.{true_bytes}
 use Rattle.log_reader.specs.Holding.{IsTreeFile}
 use Rattle.tlog_tiles.proofs.EdgeLemmas.{contains_one}
-use Rattle.std.specs.Prelude.{Result, Ok}
+use Rattle.std.specs.Prelude.{Ok}
 use Rattle.mirror_copy.proofs.CopyMoments.{copy_files}
 use Rattle.mirror_copy.proofs.TipReads.{stands_one}
 use Rattle.mirror_copy.proofs.WholeMoments.{none_found}
