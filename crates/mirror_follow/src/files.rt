@@ -96,29 +96,20 @@ pub(crate) fn proof_paths(alloc: Global, first: u64, size: u64) -> Result<Vec<Pa
     Ok(paths)
 }
 
-// The bytes of the answer, if the place has the file.
-fn bytes_of(answer: PlaceAnswer) -> Option<Vec<u8>> {
-    match answer {
-        PlaceAnswer::File(bytes) => Some(bytes),
-        PlaceAnswer::NotFound => None,
-        PlaceAnswer::Failed => None,
-    }
-}
-
 // Gets the file at a path from a place.
 fn get_file<S: Source + Drop>(
     places: &mut Places<S>,
     index: usize,
     path: &Path,
-) -> Result<Option<Vec<u8>>, AllocError>
+) -> Result<PlaceAnswer, AllocError>
     requires { index < length places.old.list.items }
     ensures { AsksAny S.may_answer S.failed S.asked places.old places.new }
 {
     let answer = places.get(index, path)?;
-    Ok(bytes_of(answer))
+    Ok(answer)
 }
 
-// Gets the file at a path from a place, or else its full file.
+// Gets the file at a path from a place. If the place lacks a partial file, gets its full file.
 fn ask_file<S: Source + Drop>(
     places: &mut Places<S>,
     index: usize,
@@ -128,13 +119,18 @@ fn ask_file<S: Source + Drop>(
     ensures { AsksAny S.may_answer S.failed S.asked places.old places.new }
 {
     match get_file(places, index, path)? {
-        Some(bytes) => return Ok(Some((*path, bytes))),
-        None => {}
+        PlaceAnswer::File(bytes) => return Ok(Some((*path, bytes))),
+        PlaceAnswer::NotFound => {}
+        PlaceAnswer::Failed => return Ok(None),
     }
     let full = full_of(path);
+    if full == *path {
+        return Ok(None);
+    }
     match get_file(places, index, &full)? {
-        Some(bytes) => Ok(Some((full, bytes))),
-        None => Ok(None),
+        PlaceAnswer::File(bytes) => Ok(Some((full, bytes))),
+        PlaceAnswer::NotFound => Ok(None),
+        PlaceAnswer::Failed => Ok(None),
     }
 }
 

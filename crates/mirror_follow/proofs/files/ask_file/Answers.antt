@@ -6,12 +6,17 @@ returns-in_err-bytes-2 g c =
     any_then g.S.Source.may_answer g.S.Source.failed g.S.Source.asked c.args.places.now c.get_file.new.places c.get_file-2.new.places
     c.get_file.ensures c.get_file-2.ensures
 
-pub returns-in-Some-2 : goal.returns-in-Some-2
-returns-in-Some-2 g c =
+pub returns-in-File-2 : goal.returns-in-File-2
+returns-in-File-2 g c =
     any_then g.S.Source.may_answer g.S.Source.failed g.S.Source.asked c.args.places.now c.get_file.new.places c.get_file-2.new.places
     c.get_file.ensures c.get_file-2.ensures
 
-pub returns-in-None-2 : goal.returns-in-None-2
-returns-in-None-2 g c =
+pub returns-in-NotFound-2 : goal.returns-in-NotFound-2
+returns-in-NotFound-2 g c =
+    any_then g.S.Source.may_answer g.S.Source.failed g.S.Source.asked c.args.places.now c.get_file.new.places c.get_file-2.new.places
+    c.get_file.ensures c.get_file-2.ensures
+
+pub returns-in-Failed-2 : goal.returns-in-Failed-2
+returns-in-Failed-2 g c =
     any_then g.S.Source.may_answer g.S.Source.failed g.S.Source.asked c.args.places.now c.get_file.new.places c.get_file-2.new.places
     c.get_file.ensures c.get_file-2.ensures
