@@ -1,12 +1,15 @@
 -- The note of the copy at the end.
-use Rattle.std.proofs.Common.{◌≡◌, ◌⊎◌, inl, inr, ℕ, List, [], length, Option, Some, None, Result, Ok, Err, IfOk, Bool, sym, subst, ◌∙◌}
+use Rattle.std.proofs.Common.{◌≡◌, ◌⊎◌, inl, inr, ℕ, List, [], ◌++◌, length, Option, Some, None, Result, Ok, Err, IfOk, Bool, sym, subst, ◌∙◌}
 use Rattle.std.specs.List.Sorted.{IsSorted}
+use Rattle.tlog_hash.specs.Tree.{mth}
 use Rattle.mirror_folders.specs.Shelf.{Put}
+use Rattle.mirror_copy.specs.Copies.{IsCopy}
+use Rattle.mirror_copy.specs.Pruned.{IsPrunedCopy}
 use Rattle.mirror_follow.specs.Candidates.{turn_cmp}
 use Rattle.mirror_follow.specs.Gathering.{note_of}
 use Rattle.mirror_follow.specs.Lines.{AreLines}
-use Rattle.mirror_follow.specs.Says.{HasLeastInTheEnd, HasLeastNote, IsNoteOfOne, IsNoteUpTo, IsOldNote, Says, SettlesEach}
-use Rattle.mirror_follow.specs.Standing.{HadCopy, IsCopyOfRun, IsCopyRead, IsFoundCopy, StandsUnder}
+use Rattle.mirror_follow.specs.Says.{HasLeastInTheEnd, HasLeastNote, IsNoteOfOne, IsNoteUpTo, IsOldNote, IsUpToOld, Says, SettlesEach}
+use Rattle.mirror_follow.specs.Standing.{HadCopy, IsCopyOfRun, IsCopyRead, IsFoundCopy, PrunedUnder, StandsUnder}
 use Rattle.mirror_follow.specs.Taken.{HasTaken, HasTakenRun, IsGrown, IsOneOf}
 use Rattle.mirror_follow.specs.declared.candidate.Candidate.{Candidate}
 use Rattle.mirror_follow.specs.declared.report.Followed.{Followed}
@@ -48,41 +51,53 @@ module _ (digest : List ℕ → List ℕ) (origin : List ℕ) (candidates : List
 
   module _ (first : Option Candidate) (forks : List ForkLine) (lacked : List Candidate) (behind : Option (ℕ × List ℕ))
       (reached : Bool) (h : HasTaken digest first candidates (Some c) forks lacked behind reached) where
-    least_some : (note : List ℕ) (entries : List (List ℕ)) (now : List Put) → IsCopyRead note (length entries) first →
-        StandsUnder digest origin c entries now → HasLeastNote digest origin candidates f (Some note) entries now
-    least_some note entries now read u = record {
+    -- "such" is the kind of the copy
+    least : (such : List ℕ → List (List ℕ) → List Put → Type 0) (old : Option (List ℕ)) (entries more : List (List ℕ))
+        (now : List Put) → such (note_of c) (entries ++ more) now → c.size.0 ≡ length (entries ++ more) →
+        c.root ≡ mth digest (entries ++ more) → IsUpToOld old entries f (note_of c) → NoteOf old →
+        HasLeastNote digest origin candidates such f old entries now
+    least such old entries more now copy size root up_to_old had = record {
       note = note_of c;
-      more = u.more;
-      copy = u.copy;
-      size_is = size_is ∙ u.size_is;
-      root_is = root_is ∙ u.root_is;
+      more = more;
+      copy = copy;
+      size_is = size_is ∙ size;
+      root_is = root_is ∙ root;
       least = λ k d lt sizes roots. h.noted k d lt (sizes ∙ size_is, roots ∙ root_is);
-      up_to_old = λ e. up_to_old first c note (length entries) read h.grown (e ∙ size_is);
-      had = had_some first note (length entries) read h.one_of;
+      up_to_old = up_to_old;
+      had = had;
     }
 
+    least_some : (such : List ℕ → List (List ℕ) → List Put → Type 0) (note : List ℕ) (entries more : List (List ℕ))
+        (now : List Put) → IsCopyRead note (length entries) first → such (note_of c) (entries ++ more) now →
+        c.size.0 ≡ length (entries ++ more) → c.root ≡ mth digest (entries ++ more) →
+        HasLeastNote digest origin candidates such f (Some note) entries now
+    least_some such note entries more now read copy size root =
+        least such (Some note) entries more now copy size root
+        (λ e. up_to_old first c note (length entries) read h.grown (e ∙ size_is))
+        (had_some first note (length entries) read h.one_of)
+
     least_none : (now : List Put) → first ≡ None → StandsUnder digest origin c [] now →
-        HasLeastNote digest origin candidates f None [] now
-    least_none now none u = record {
-      note = note_of c;
-      more = u.more;
-      copy = u.copy;
-      size_is = size_is ∙ u.size_is;
-      root_is = root_is ∙ u.root_is;
-      least = λ k d lt sizes roots. h.noted k d lt (sizes ∙ size_is, roots ∙ root_is);
-      up_to_old = tt;
-      had = had_none (subst (λ o. IsOneOf o candidates (Some c)) none h.one_of);
-    }
+        HasLeastNote digest origin candidates (IsCopy digest origin) f None [] now
+    least_none now none u =
+        least (IsCopy digest origin) None [] u.more now u.copy u.size_is u.root_is tt
+        (had_none (subst (λ o. IsOneOf o candidates (Some c)) none h.one_of))
 
     noted : (x w : Option (List Put)) → HadCopy digest origin x first → IsCopyOfRun digest origin x w (Some c) →
         HasLeastInTheEnd digest origin candidates x w f
     noted x w had k = record {
       some = λ held e note entries copy.
           end_weaker w (StandsUnder digest origin c entries)
-          (HasLeastNote digest origin candidates f (Some note) entries)
-          (λ now u. least_some note entries now (had.some held e note entries copy) u) (k.some held e note entries copy);
+          (HasLeastNote digest origin candidates (IsCopy digest origin) f (Some note) entries)
+          (λ now u. least_some (IsCopy digest origin) note entries u.more now (had.some held e note entries copy) u.copy
+          u.size_is u.root_is) (k.some held e note entries copy);
+      pruned = λ held e note entries copy.
+          end_weaker w (PrunedUnder digest origin c entries)
+          (HasLeastNote digest origin candidates (IsPrunedCopy digest origin) f (Some note) entries)
+          (λ now u. least_some (IsPrunedCopy digest origin) note entries u.more now (had.pruned held e note entries copy)
+          u.copy u.size_is u.root_is) (k.pruned held e note entries copy);
       none = λ held e none.
-          end_weaker w (StandsUnder digest origin c []) (HasLeastNote digest origin candidates f None [])
+          end_weaker w (StandsUnder digest origin c [])
+          (HasLeastNote digest origin candidates (IsCopy digest origin) f None [])
           (λ now u. least_none now (had.none held e none) u) (k.none held e none);
     }
 

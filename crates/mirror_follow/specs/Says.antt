@@ -10,6 +10,7 @@ use Rattle.mirror_folders.specs.Shelf.{Put, HasPut}
 use Rattle.mirror_model.specs.Forks.{Point}
 use Rattle.mirror_copy.specs.Copies.{IsCopy}
 use Rattle.mirror_copy.specs.Moments.{InTheEnd}
+use Rattle.mirror_copy.specs.Pruned.{IsPrunedCopy, OfPrunedCopies}
 use Rattle.mirror_follow.specs.Agreeing.{Agrees}
 use Rattle.mirror_follow.specs.Candidates.{turn_cmp}
 use Rattle.mirror_follow.specs.Gathering.{note_of}
@@ -98,13 +99,13 @@ module _ (digest : List ℕ → List ℕ) where
     pub behind : (point : ℕ × List ℕ) → (followed.behind ≡ Some point) ↔ IsBehind candidates followed point
 
   module _ (origin : List ℕ) (candidates : List Candidate) where
-    -- the shelf has a copy with the size and root of the answer, of entries that begin with these. Its note is the least among the
-    -- candidates of that size and root and the old note
-    pub record HasLeastNote (followed : Followed) (old : Option (List ℕ)) (entries : List (List ℕ)) (puts : List Put)
-        : Type 0 where
+    -- the shelf has such a copy, with the size and root of the answer, of entries that begin with these. Its note is the least among
+    -- the candidates of that size and root and the old note
+    pub record HasLeastNote (such : List ℕ → List (List ℕ) → List Put → Type 0) (followed : Followed)
+        (old : Option (List ℕ)) (entries : List (List ℕ)) (puts : List Put) : Type 0 where
       pub note : List ℕ
       pub more : List (List ℕ)
-      pub copy : IsCopy digest origin note (entries ++ more) puts
+      pub copy : such note (entries ++ more) puts
       pub size_is : followed.size ≡ length (entries ++ more)
       pub root_is : followed.root ≡ mth digest (entries ++ more)
       pub least : All (λ candidate. candidate.size.0 ≡ followed.size → candidate.root ≡ followed.root →
@@ -112,12 +113,15 @@ module _ (digest : List ℕ → List ℕ) where
       pub up_to_old : IsUpToOld old entries followed note
       pub had : IsNoteOfOne candidates followed note ⊎ IsOldNote old note
 
-    -- the shelf has such a copy at the end
+    -- the shelf has such a copy at the end. If partial files of the old copy were replaced by full ones, so may those of the new one be
     pub record HasLeastInTheEnd (old new : Option (List Put)) (followed : Followed) : Type 0 where
       pub some : (held : List Put) → old ≡ Some held → (note : List ℕ) (entries : List (List ℕ)) →
-          IsCopy digest origin note entries held → InTheEnd new (HasLeastNote followed (Some note) entries)
+          IsCopy digest origin note entries held →
+          InTheEnd new (HasLeastNote (IsCopy digest origin) followed (Some note) entries)
+      pub pruned : OfPrunedCopies digest origin old
+          (λ held note entries. InTheEnd new (HasLeastNote (IsPrunedCopy digest origin) followed (Some note) entries))
       pub none : (held : List Put) → old ≡ Some held → ¬ HasPut held Checkpoint →
-          InTheEnd new (HasLeastNote followed None [])
+          InTheEnd new (HasLeastNote (IsCopy digest origin) followed None [])
 
   -- the facts that an answer states about the gathered candidates, and about the copy that was found first
   pub record Says (origin : List ℕ) (so : List Candidate → Type 0) (old new : Option (List Put)) (followed : Followed)
