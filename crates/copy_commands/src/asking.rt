@@ -5,7 +5,7 @@ ghost use Rattle.std.specs.Result.{result_map_both};
 use mirror_model::TakeFault;
 use program_copies::{CopyAskFault, CopyFault};
 use program_env::served::{copy_size, of_heads, of_note, of_proof};
-use program_env::why::{Why, of_folder, of_origin};
+use program_env::why::{Why, of_folder};
 use program_env::{Env, Error, RunFault, RunFiles, RunFolders};
 use program_reports::{AskFault, ReportFault};
 use program_words::CopyArgs;
@@ -62,7 +62,7 @@ fn why_of_copy<R, F: RunFiles, D: RunFolders, I, O, E>(
 ) -> Option<Why> {
     let alloc = env.alloc;
     match fault {
-        CopyFault::Origin(fault) => of_origin(alloc, fault),
+        CopyFault::BadOrigin => Why::of_thing(alloc, "--origin"),
         CopyFault::Head(fault) => of_head(alloc, &env.files, folder, fault),
         CopyFault::CopyDamaged(path) => of_file(alloc, folder, &path),
         CopyFault::ShelfFault => of_folder(alloc, &env.folders, folder),

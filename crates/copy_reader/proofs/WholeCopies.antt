@@ -105,7 +105,7 @@ module _ {T : Type 0} (digest : List ℕ → List ℕ) (name : ℕ) (before held
   log_ok size root x reads entries size_is root_is files = reads entries size_is root_is (source_is entries files)
 
 pub of_shelf : (T : Type 0) (a b : ℕ) (fault : CopyFault) → CountsRead {T = T} a b (Err fault) → IsOfShelf fault
-of_shelf T a b (copy.Origin f) counts = absurd counts
+of_shelf T a b copy.BadOrigin counts = absurd counts
 of_shelf T a b (copy.Head f) counts = absurd counts
 of_shelf T a b (copy.CopyDamaged path) counts = tt
 of_shelf T a b copy.ShelfFault counts = tt
@@ -153,7 +153,7 @@ module _ (digest : List ℕ → List ℕ) (origin : List ℕ) (held after : Opti
   pub whole_refused : {T : Type 0} (keys : List Key) (claim : List (List ℕ) → T → Type 0) (a b : ℕ) (fault : CopyFault) →
       CountsRead {T = T} a b (Err fault) → ReadsCopyLog digest size root after (Err fault) claim →
       IsRefused digest origin keys held fault
-  whole_refused keys claim a b (copy.Origin f) counts reads = absurd counts
+  whole_refused keys claim a b copy.BadOrigin counts reads = absurd counts
   whole_refused keys claim a b (copy.Head f) counts reads = absurd counts
   whole_refused keys claim a b (copy.CopyDamaged path) counts reads =
       λ note entries whole. whole_read (Err (copy.CopyDamaged path)) claim reads note entries whole

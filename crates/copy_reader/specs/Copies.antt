@@ -11,7 +11,7 @@ use Rattle.mirror_model.specs.declared.fault.TakeFault.{TakeFault}
 use Rattle.log_reader.specs.Ways.{Reader}
 use Rattle.copy_reader.specs.WholeCopies.{IsDamaged}
 use Rattle.copy_reader.specs.declared.fault.CopyFault.{CopyFault}
-use Rattle.copy_reader.specs.declared.fault.CopyFault.TheVariants.{Origin, Head, CopyDamaged, ShelfFault, OutOfMemory}
+use Rattle.copy_reader.specs.declared.fault.CopyFault.TheVariants.{BadOrigin, Head, CopyDamaged, ShelfFault, OutOfMemory}
 
 -- nothing was put: the folder was not opened, or its puts were kept
 abbrev pub LeavesPuts : (held old new : Option (List Put)) → Type 0
@@ -37,7 +37,7 @@ module _ (origin : List ℕ) (keys : List Key) (held : Option (List Put)) where
 module _ (digest : List ℕ → List ℕ) (origin : List ℕ) (keys : List Key) (held : Option (List Put)) where
   -- the reason why a copy is not read
   abbrev pub IsRefused : CopyFault → Type 0
-  IsRefused (Origin fault) = ¬ IsOrigin origin
+  IsRefused BadOrigin = ¬ IsOrigin origin
   IsRefused (Head fault) = RefusesCheckpoint origin keys held fault
   IsRefused (CopyDamaged path) = IsDamaged digest origin held
   IsRefused ShelfFault = ⊤

@@ -4,6 +4,10 @@ use Rattle.mirror_model.specs.Forks.{Point}
 use Rattle.mirror_model.specs.Texts.{status_text}
 use Rattle.mirror_model.specs.declared.reports.Head.{Head}
 
+-- a size and a hash, from a pair of the code
+abbrev pub point_of : ℕ × List ℕ → Point
+point_of p = record { size = p.0; root = p.1 }
+
 -- the tree heads of a mirror that has only this one, complete, or none
 abbrev pub copy_heads : Option Point → List Head
 copy_heads None = []

@@ -9,11 +9,11 @@ use Rattle.mirror_model.specs.Heads.{IsHead}
 use Rattle.mirror_model.specs.TrueLaws.{AreShort}
 use Rattle.mirror_sources.specs.Files.{full_of, width_named}
 use Rattle.mirror_sources.specs.Honest.{true_bytes}
-use Rattle.mirror_export.specs.SinceLaws.{HoldsLog}
+use Rattle.log_paths.specs.Holding.{HoldsLog}
 use Rattle.log_reader.specs.Holding.{GoesOn, IsReaderOf, IsSourceOf, IsTreeFile}
 use Rattle.log_reader.specs.Ways.{Reader}
 use Rattle.copy_reader.specs.declared.fault.CopyFault.{CopyFault}
-use Rattle.copy_reader.specs.declared.fault.CopyFault.TheVariants.{Origin, Head, CopyDamaged, ShelfFault, OutOfMemory}
+use Rattle.copy_reader.specs.declared.fault.CopyFault.TheVariants.{BadOrigin, Head, CopyDamaged, ShelfFault, OutOfMemory}
 
 module _ (digest : List ℕ → List ℕ) where
   -- the shelf has each tile and bundle of a log of these entries, or the full file of a partial one
@@ -40,9 +40,9 @@ module _ (digest : List ℕ → List ℕ) where
   OpensWhole origin held (Some reader) =
       (note : List ℕ) (entries : List (List ℕ)) → IsWholeCopy origin note entries held → IsReaderOf digest entries reader
 
--- the fault is not Origin
+-- the fault is not BadOrigin
 abbrev pub IsOfShelf : CopyFault → Type 0
-IsOfShelf (Origin fault) = ⊥
+IsOfShelf BadOrigin = ⊥
 IsOfShelf (Head fault) = ⊤
 IsOfShelf (CopyDamaged path) = ⊤
 IsOfShelf ShelfFault = ⊤
@@ -50,7 +50,7 @@ IsOfShelf OutOfMemory = ⊤
 
 -- the shelf failed, or memory was refused
 abbrev pub IsShelfFailure : CopyFault → Type 0
-IsShelfFailure (Origin fault) = ⊥
+IsShelfFailure BadOrigin = ⊥
 IsShelfFailure (Head fault) = ⊥
 IsShelfFailure (CopyDamaged path) = ⊥
 IsShelfFailure ShelfFault = ⊤

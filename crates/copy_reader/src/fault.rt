@@ -8,7 +8,6 @@ use mirror_folders::ShelfError;
 use mirror_model::TakeFault;
 use std::alloc::{AllocError, AllocFailed};
 use thiserror::Error;
-use tlog_mirror::NewFault;
 use tlog_tiles::Path;
 
 /// The reason why a copy is not read. It prints as its variant's name, or as the name of the fault inside.
@@ -16,8 +15,8 @@ use tlog_tiles::Path;
 #[derive(Debug, Drop, PartialEq, Eq, Clone, Copy, Error)]
 pub enum CopyFault {
     /// No log can have that origin.
-    #[error(transparent)]
-    Origin(NewFault),
+    #[error("BadOrigin")]
+    BadOrigin,
     /// The copy's checkpoint does not open under the keys, or is not one of the origin.
     #[error(transparent)]
     Head(TakeFault),

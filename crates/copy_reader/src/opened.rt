@@ -55,7 +55,7 @@ pub fn open_reader<H: TreeHash, D: ReadableShelf>(
 /// # Errors
 ///
 /// The first that applies. `ShelfFault`: a file cannot be read. `Head`, with the fault of `check_head`: the checkpoint does not open. Then
-/// the faults of `open_reader`. `Origin` never comes.
+/// the faults of `open_reader`. `BadOrigin` never comes.
 #[tactic(auto, using(log_reader::proofs::Kept::kept_twice, crate::proofs::HeadNotes::opened_head))]
 pub fn open_shelf<H: TreeHash, D: ReadableShelf>(
     alloc: Global,

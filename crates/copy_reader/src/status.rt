@@ -2,8 +2,7 @@
 ghost use Rattle.std.specs.Prelude.{◌≡◌, ◌++◌, IfOk, OnOk, option_map, string_bytes};
 ghost use Rattle.std.specs.List.{flat_map};
 ghost use Rattle.mirror_model.specs.Texts.{head_line, point_text, served_line};
-ghost use Rattle.mirror_trees.specs.Marked.{point_of};
-ghost use Rattle.copy_reader.specs.Statuses.{copy_heads, copy_status};
+ghost use Rattle.copy_reader.specs.Statuses.{copy_heads, copy_status, point_of};
 
 use std::alloc::{AllocError, Global};
 use tlog_hash::Hash;

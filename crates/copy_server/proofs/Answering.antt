@@ -120,7 +120,7 @@ module _ {X : Type 0} (old new : Option (List ℕ)) (digest : List ℕ → List 
 
 counts_some : (T : Type 0) (a b : ℕ) (fault : CopyFault) → CountsRead {T = T} a b (Err fault) →
     (b ≡ a) ⊎ (b ≡ one_more a)
-counts_some T a b (copy.Origin f) c = absurd c
+counts_some T a b copy.BadOrigin c = absurd c
 counts_some T a b (copy.Head f) c = absurd c
 counts_some T a b (copy.CopyDamaged path) c = inl c
 counts_some T a b copy.ShelfFault c = inr c
@@ -128,7 +128,7 @@ counts_some T a b copy.OutOfMemory c = inl c
 
 counts_damaged : (T : Type 0) (a b : ℕ) (fault : CopyFault) (path : Path) → CountsRead {T = T} a b (Err fault) →
     by_body fault ≡ CopyDamaged path → b ≡ a
-counts_damaged T a b (copy.Origin f) path c e = absurd c
+counts_damaged T a b copy.BadOrigin path c e = absurd c
 counts_damaged T a b (copy.Head f) path c e = absurd c
 counts_damaged T a b (copy.CopyDamaged other) path c e = c
 counts_damaged T a b copy.ShelfFault path c e = absurd cc
@@ -136,7 +136,7 @@ counts_damaged T a b copy.OutOfMemory path c e = c
 
 counts_failed : (T : Type 0) (a b : ℕ) (fault : CopyFault) → CountsRead {T = T} a b (Err fault) →
     by_body fault ≡ ShelfFault → b ≡ one_more a
-counts_failed T a b (copy.Origin f) c e = absurd c
+counts_failed T a b copy.BadOrigin c e = absurd c
 counts_failed T a b (copy.Head f) c e = absurd c
 counts_failed T a b (copy.CopyDamaged path) c e = absurd cc
 counts_failed T a b copy.ShelfFault c e = c

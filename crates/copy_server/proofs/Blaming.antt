@@ -36,7 +36,7 @@ module _ (digest : List ℕ → List ℕ) (origin : List ℕ) where
       ((entries : List (List ℕ)) → HasLogOf digest after head.size head.root entries → IfErr result IsShelfFailure) →
       IfErr result (BlamesCopy digest origin held)
   body_blames held after head a b (Ok x) kept is counts honest = tt
-  body_blames held after head a b (Err (copy.Origin f)) kept is counts honest = absurd counts
+  body_blames held after head a b (Err copy.BadOrigin) kept is counts honest = absurd counts
   body_blames held after head a b (Err (copy.Head f)) kept is counts honest = absurd counts
   body_blames held after head a b (Err (copy.CopyDamaged path)) kept is counts honest = λ note entries w.
       let same : Some head.note ≡ Some note = w.checkpoint (Some head.note) is.0 in
@@ -60,7 +60,7 @@ module _ (digest : List ℕ → List ℕ) (origin : List ℕ) where
 
   pub blamed : (held : Option (List Put)) (fault : CopyFault) (path : Path) → BlamesCopy digest origin held fault →
       by_body fault ≡ answering.CopyDamaged path → IsDamaged digest origin held
-  blamed held (copy.Origin f) path h e = absurd h
+  blamed held copy.BadOrigin path h e = absurd h
   blamed held (copy.Head f) path h e = absurd h
   blamed held (copy.CopyDamaged other) path h e = h
   blamed held copy.ShelfFault path h e = absurd cc

@@ -14,11 +14,11 @@ use Rattle.mirror_model.specs.TrueLaws.{AreShort}
 use Rattle.mirror_model.specs.View.{nothing, View}
 use Rattle.mirror_model.proofs.HeadNotes.{head_once}
 use Rattle.mirror_folders.specs.Shelf.{HasPut, Put, Stands}
-use Rattle.mirror_export.specs.FileLaws.{IsFileOf}
-use Rattle.mirror_export.specs.Files.{served_bytes}
-use Rattle.mirror_export.specs.Since.{width_at}
-use Rattle.mirror_export.specs.SinceLaws.{HoldsLog}
-use Rattle.mirror_export.proofs.AllFiles.{files_are_all}
+use Rattle.log_paths.specs.FileLaws.{IsFileOf}
+use Rattle.log_paths.specs.Files.{served_bytes}
+use Rattle.log_paths.specs.Since.{width_at}
+use Rattle.log_paths.specs.Holding.{HoldsLog}
+use Rattle.log_paths.proofs.AllFiles.{files_are_all}
 use Rattle.mirror_server.specs.Response.{IsBody, IsServedProofText}
 use Rattle.mirror_server.specs.declared.resource.Resource.{Resource}
 use Rattle.mirror_server.specs.declared.resource.Resource.TheVariants.{File, Status, Forks, Missing, Proof}

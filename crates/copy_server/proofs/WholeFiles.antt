@@ -10,9 +10,9 @@ use Rattle.tlog_tiles.specs.declared.paths.Path.TheVariants.{Checkpoint, Tile, E
 use Rattle.mirror_model.specs.Strings.{IsDigest}
 use Rattle.mirror_sources.specs.Honest.{true_bytes}
 use Rattle.mirror_folders.specs.Shelf.{Put, RecordsRead}
-use Rattle.mirror_export.specs.Since.{width_at}
-use Rattle.mirror_export.proofs.AllFiles.{widest_last}
-use Rattle.mirror_export.proofs.PlaceWidths.{width_full}
+use Rattle.log_paths.specs.Since.{width_at}
+use Rattle.log_paths.proofs.AllFiles.{widest_last}
+use Rattle.log_paths.proofs.PlaceWidths.{width_full}
 use Rattle.log_reader.specs.Holding.{IsTreeFile}
 use Rattle.log_reader.proofs.TrueReads.{full_fits}
 use Rattle.copy_reader.specs.WholeCopies.{HasFilesOf}

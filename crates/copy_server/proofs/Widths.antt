@@ -7,11 +7,11 @@ use Rattle.std.proofs.lemmas.Bool.Decides.{eqb_tells}
 use Rattle.tlog_shape.specs.Edge.{width_of, edge_index_of, IsTile}
 use Rattle.tlog_tiles.specs.Tiles.{IsTileWithin}
 use Rattle.tlog_tiles.proofs.EdgeLemmas.{hashes_of}
-use Rattle.mirror_export.specs.Since.{width_at}
-use Rattle.mirror_export.specs.FileLaws.{IsWidestIn}
-use Rattle.mirror_export.proofs.AllFiles.{upto_hashes}
-use Rattle.mirror_export.proofs.FilePaths.{tile_within}
-use Rattle.mirror_export.proofs.PlaceWidths.{width_edge, width_found, width_full, width_none}
+use Rattle.log_paths.specs.Since.{width_at}
+use Rattle.log_paths.specs.FileLaws.{IsWidestIn}
+use Rattle.log_paths.proofs.AllFiles.{upto_hashes}
+use Rattle.log_paths.proofs.FilePaths.{tile_within}
+use Rattle.log_paths.proofs.PlaceWidths.{width_edge, width_found, width_full, width_none}
 
 pub within_upto : (n level index width : ℕ) → IsTileWithin n level index width → width ≤ width_at n level index
 within_upto n level index width h =

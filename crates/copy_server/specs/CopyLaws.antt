@@ -4,7 +4,7 @@ use Rattle.std.specs.FinSet as set
 use Rattle.tlog_hash.specs.Tree.{mth, strings}
 use Rattle.tlog_tiles.specs.declared.paths.Path.TheVariants.{Checkpoint}
 use Rattle.node_store.specs.Strings.{NoClash}
-use Rattle.mirror_export.specs.SinceLaws.{HoldsLog}
+use Rattle.log_paths.specs.Holding.{HoldsLog}
 use Rattle.mirror_folders.specs.Shelf.{HasPut, Put}
 use Rattle.mirror_model.specs.Complete.{IsLawful}
 use Rattle.mirror_model.specs.Heads.{IsHead}

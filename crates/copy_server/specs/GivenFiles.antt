@@ -4,7 +4,7 @@ use Rattle.tlog_tiles.specs.Bundle.{IsBundle}
 use Rattle.tlog_tiles.specs.Tiles.{IsWithin}
 use Rattle.tlog_tiles.specs.declared.paths.Path.{Path}
 use Rattle.tlog_tiles.specs.declared.paths.Path.TheVariants.{Checkpoint, Tile, Entries}
-use Rattle.mirror_export.specs.Since.{width_at}
+use Rattle.log_paths.specs.Since.{width_at}
 use Rattle.mirror_folders.specs.Shelf.{Put, RecordsRead}
 
 -- the number of hashes or entries in the file at a path

@@ -23,12 +23,12 @@ pub enum CopyAnswerFault {
     ShelfFault,
 }
 
-/// The client's fault for a fault of a body. The body itself never has `Origin` or `Head`.
+/// The client's fault for a fault of a body. The body itself never has `BadOrigin` or `Head`.
 pub(crate) fn answer_fault(fault: CopyFault) -> CopyAnswerFault
     ensures { result ≡ by_body fault }
 {
     match fault {
-        CopyFault::Origin(_) => CopyAnswerFault::CopyDamaged(Path::Checkpoint),
+        CopyFault::BadOrigin => CopyAnswerFault::CopyDamaged(Path::Checkpoint),
         CopyFault::Head(_) => CopyAnswerFault::CopyDamaged(Path::Checkpoint),
         CopyFault::CopyDamaged(path) => CopyAnswerFault::CopyDamaged(path),
         CopyFault::ShelfFault => CopyAnswerFault::ShelfFault,

@@ -1,7 +1,7 @@
 //! The widths of files.
 ghost use Rattle.std.specs.Prelude.{◌≡◌, ◌≤◌, IfNone, IfSome};
 ghost use Rattle.tlog_tiles.specs.Tiles.{IsTileWithin, IsWithin};
-ghost use Rattle.mirror_export.specs.Since.{width_at};
+ghost use Rattle.log_paths.specs.Since.{width_at};
 ghost use Rattle.copy_server.specs.GivenFiles.{of_width, path_width, widest_of};
 
 use tlog_shape::width_in;

@@ -13,7 +13,7 @@ use Rattle.tlog_tiles.specs.Tiles.{IsWithin, IsTileWithin}
 use Rattle.mirror_sources.specs.Recorded.{KeepsRecord, AddsToRecord}
 use Rattle.mirror_sources.specs.Honest.{true_bytes}
 use Rattle.mirror_folders.specs.Shelf.{Put, Stands}
-use Rattle.mirror_export.proofs.Standing.{stands_more}
+use Rattle.log_paths.proofs.Standing.{stands_more}
 use Rattle.mirror_folders.specs.Shelf.{RecordsRead}
 use Rattle.mirror_copy.specs.Standing.{RecordsStands}
 use Rattle.mirror_copy.specs.Growing.{IsBelow, IsNewFile, Obtains, HoldsBelow}

@@ -13,7 +13,7 @@ use Rattle.mirror_copy.specs.declared.fault.BringFault.TheVariants.{Contradictio
 use Rattle.mirror_copy.specs.declared.fault.BringFault.TheVariants.{ShelfFault, OutOfMemory}
 use Rattle.mirror_copy.specs.declared.places.Places.{Places}
 use Rattle.mirror_copy.proofs.Growth.{left_then}
-use Rattle.mirror_export.proofs.FoundOnce.{read_more, read_once}
+use Rattle.log_paths.proofs.FoundOnce.{read_more, read_once}
 use Rattle.mirror_copy.proofs.WholeMoments.{new_no_checkpoint, none_found}
 
 -- a fault that is not about a missing file is a fault of a call

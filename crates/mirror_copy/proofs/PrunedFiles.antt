@@ -24,12 +24,12 @@ use Rattle.mirror_model.specs.TrueLaws.{AreShort}
 use Rattle.mirror_sources.specs.Files.{full_of}
 use Rattle.mirror_sources.specs.Honest.{true_bytes}
 use Rattle.mirror_folders.specs.Shelf.{HasPut, Put, Stands}
-use Rattle.mirror_export.specs.Files.{paths_of, served_bytes}
-use Rattle.mirror_export.specs.FileLaws.{IsWidestIn}
-use Rattle.mirror_export.specs.SinceLaws.{HoldsFiles}
-use Rattle.mirror_export.proofs.AllFiles.{files_are_all, full_widest, partial_widest, widest_before, widest_last}
-use Rattle.mirror_export.proofs.Moments.{has_after}
-use Rattle.mirror_export.proofs.Standing.{put_has, stands_more}
+use Rattle.log_paths.specs.Files.{paths_of, served_bytes}
+use Rattle.log_paths.specs.FileLaws.{IsWidestIn}
+use Rattle.log_paths.specs.Holding.{HoldsFiles}
+use Rattle.log_paths.proofs.AllFiles.{files_are_all, full_widest, partial_widest, widest_before, widest_last}
+use Rattle.log_paths.proofs.Standing.{has_after}
+use Rattle.log_paths.proofs.Standing.{put_has, stands_more}
 use Rattle.log_reader.specs.Holding.{GoesOn, IsTreeFile}
 use Rattle.mirror_copy.specs.Copies.{IsCopy}
 use Rattle.mirror_copy.specs.Growing.{IsNewFile}

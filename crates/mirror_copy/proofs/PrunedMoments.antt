@@ -11,8 +11,8 @@ use Rattle.mirror_model.specs.TrueLaws.{AreShort}
 use Rattle.mirror_sources.specs.Honest.{true_bytes}
 use Rattle.mirror_sources.specs.Recorded.{AddsToRecord, KeepsRecord}
 use Rattle.mirror_folders.specs.Shelf.{Put}
-use Rattle.mirror_export.specs.Exports.{IsMoment}
-use Rattle.mirror_export.specs.Files.{paths_of}
+use Rattle.log_paths.specs.Holding.{IsMoment}
+use Rattle.log_paths.specs.Files.{paths_of}
 use Rattle.log_reader.specs.EdgeRows.{Edge, hash_of_edge}
 use Rattle.mirror_copy.specs.Copies.{IsCopy}
 use Rattle.mirror_copy.specs.Edges.{BringsToEdge, IsCopyBrought, PutsNote}

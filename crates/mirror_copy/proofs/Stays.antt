@@ -4,7 +4,7 @@ use Rattle.std.proofs.lemmas.List.{append-nil}
 use Rattle.tlog_tiles.specs.declared.paths.Path.TheVariants.{Checkpoint}
 use Rattle.mirror_sources.specs.Recorded.{AddsToRecord, KeepsRecord}
 use Rattle.mirror_folders.specs.Shelf.{Put, HasPut}
-use Rattle.mirror_export.specs.Exports.{IsMoment}
+use Rattle.log_paths.specs.Holding.{IsMoment}
 use Rattle.log_reader.specs.EdgeRows.{Edge}
 use Rattle.mirror_copy.specs.Copies.{IsCopy}
 use Rattle.mirror_copy.specs.Edges.{BringsToEdge, PutsNote}

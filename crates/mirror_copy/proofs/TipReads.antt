@@ -19,7 +19,7 @@ use Rattle.mirror_model.specs.Heads.{IsHead}
 use Rattle.mirror_model.specs.Strings.{IsDigest}
 use Rattle.mirror_model.proofs.HeadNotes.{head_once}
 use Rattle.mirror_folders.specs.Shelf.{HasPut, Put, Stands}
-use Rattle.mirror_export.proofs.Standing.{put_has}
+use Rattle.log_paths.proofs.Standing.{put_has}
 use Rattle.mirror_copy.specs.Found.{IsBundleRead, IsEdgeRead, IsRowRead, IsTipRead, RecordsPartial}
 use Rattle.mirror_copy.specs.Pruned.{HasGivenWay, IsPrunedCopy}
 use Rattle.mirror_copy.proofs.PrunedFiles.{copies_are_pruned, file_within}

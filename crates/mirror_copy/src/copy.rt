@@ -3,7 +3,7 @@ ghost use Rattle.std.specs.Prelude.{◌≡◌, ◌↔◌, ◌⊎◌, ◌<◌, �
 ghost use Rattle.tlog_hash.specs.Tree.{mth};
 ghost use Rattle.mirror_model.specs.Heads.{IsHead};
 ghost use Rattle.mirror_sources.specs.Recorded.{KeepsRecord};
-ghost use Rattle.mirror_export.specs.Since.{since_paths};
+ghost use Rattle.log_paths.specs.Since.{since_paths};
 ghost use Rattle.log_reader.specs.EdgeRows.{LeadsTo};
 ghost use Rattle.mirror_copy.specs.Conflicts.{HasConflict, IsConflict, IsFalseEmpty, IsNoConflict};
 ghost use Rattle.mirror_copy.specs.Asked.{IsEdgeTile, MayBeAsked};
@@ -29,8 +29,8 @@ use crate::places::Places;
 use crate::read_tip::read_tip;
 use crate::tip::CopyTip;
 use crate::to_edge::bring_to_edge;
+use log_paths::files_to_put;
 use log_reader::{EdgeRows, head_of};
-use mirror_export::files_to_put;
 use mirror_folders::ReadableShelf;
 use mirror_sources::Source;
 use std::alloc::Global;

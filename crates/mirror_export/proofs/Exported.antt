@@ -11,15 +11,15 @@ use Rattle.mirror_model.specs.Reports.{SaysServed}
 use Rattle.tlog_mirror.specs.Tops.{Top, IsServedTop}
 use Rattle.mirror_folders.specs.Shelf.{CountsFailures, Put, RecordsHas, RecordsNone, RecordsSome}
 use Rattle.mirror_export.specs.Faults.{of_shelf}
-use Rattle.mirror_export.specs.Files.{file_at, files_at, kind_paths, paths_of, tile_paths, IsServedFiles}
-use Rattle.mirror_export.specs.Exports.{AddsPrefix, CountsExport, Exports, PutsPrefix}
+use Rattle.log_paths.specs.Files.{file_at, files_at, kind_paths, paths_of, tile_paths}
+use Rattle.mirror_export.specs.Exports.{AddsPrefix, CountsExport, Exports, IsServedFiles, PutsPrefix}
 use Rattle.mirror_folders.specs.declared.shelf.ShelfError.{ShelfError}
 use Rattle.mirror_folders.specs.declared.shelf.ShelfError.TheVariants.{Failed, OutOfMemory}
 use Rattle.mirror_export.specs.declared.fault.ExportFault.{ExportFault}
 use Rattle.mirror_export.specs.declared.fault.ExportFault.TheVariants.{NothingComplete}
-use Rattle.mirror_export.specs.declared.files.FileKind.TheVariants.{Bundles}
-use Rattle.mirror_export.specs.Since.{files_since}
-use Rattle.mirror_export.proofs.NewFiles.{all_since_none}
+use Rattle.log_paths.specs.declared.kind.FileKind.TheVariants.{Bundles}
+use Rattle.log_paths.specs.Since.{files_since}
+use Rattle.log_paths.proofs.NewFiles.{all_since_none}
 use Rattle.mirror_export.proofs.Prefixes.{adds_kept, adds_then, front_then}
 
 -- ---- the answers of a shelf

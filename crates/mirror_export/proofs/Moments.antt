@@ -8,21 +8,23 @@ use Rattle.std.proofs.Math.Seq.{drop-cons}
 use Rattle.std.proofs.lemmas.Bool.{cases_lt}
 use Rattle.std.proofs.lemmas.List.{append-nil, append_cancel_left, get_or-map, get_or-take, length-map, length-take}
 use Rattle.std.proofs.lemmas.List.{map-append, nil_from_length, take-append-drop, take_all}
-use Rattle.std.proofs.lemmas.List.Elements.{All-append, All-cons, All-map, All-nil, Contains-append_cases, All-contains}
+use Rattle.std.proofs.lemmas.List.Elements.{All-append, All-cons, All-map, All-nil, All-contains}
 use Rattle.tlog_tiles.specs.declared.paths.Path.{Path}
 use Rattle.tlog_tiles.specs.declared.paths.Path.TheVariants.{Checkpoint}
 use Rattle.mirror_sources.specs.Recorded.{AddsToRecord, KeepsRecord}
 use Rattle.mirror_model.specs.View.{View}
 use Rattle.mirror_folders.specs.Shelf.{Put, HasPut, Stands}
-use Rattle.mirror_export.specs.Files.{served_bytes, file_at, full_paths, kind_paths, partial_path, kind_path, paths_of}
-use Rattle.mirror_export.specs.Files.{tile_paths, tiles_below, IsServedFiles}
-use Rattle.mirror_export.specs.Exports.{CheckpointIsLast, Exports, IsMoment, StandsWhole}
+use Rattle.log_paths.specs.Files.{served_bytes, file_at, full_paths, kind_paths, partial_path, kind_path, paths_of}
+use Rattle.log_paths.specs.Files.{tile_paths, tiles_below}
+use Rattle.mirror_export.specs.Exports.{CheckpointIsLast, Exports, IsServedFiles, StandsWhole}
+use Rattle.log_paths.specs.Holding.{IsMoment}
 use Rattle.mirror_export.specs.declared.fault.ExportFault.{ExportFault}
 use Rattle.mirror_export.specs.declared.fault.ExportFault.TheVariants.{NothingComplete, ShelfInUse, ShelfFault}
 use Rattle.mirror_export.specs.declared.fault.ExportFault.TheVariants.{OutOfMemory}
-use Rattle.mirror_export.specs.declared.files.FileKind.{FileKind}
-use Rattle.mirror_export.specs.declared.files.FileKind.TheVariants.{Tiles, Bundles}
-use Rattle.mirror_export.proofs.FilePaths.{partial_cases}
+use Rattle.log_paths.specs.declared.kind.FileKind.{FileKind}
+use Rattle.log_paths.specs.declared.kind.FileKind.TheVariants.{Tiles, Bundles}
+use Rattle.log_paths.proofs.FilePaths.{partial_cases}
+use Rattle.log_paths.proofs.Standing.{has_after}
 
 -- ---- no tile and no bundle is the checkpoint
 
@@ -120,15 +122,6 @@ module _ (digest : List ℕ → List ℕ) (note : List ℕ) (entries : List (Lis
       }
 
 -- ---- each moment
-
-pub has_after : (old so_far : List Put) (path : Path) → (HasPut old path → ⊥) → HasPut (old ++ so_far) path →
-    HasPut so_far path
-has_after old so_far path none h =
-    elim (Contains-append_cases (map (λ (put : Put). put.0) old) (map (λ (put : Put). put.0) so_far) path
-    (subst (λ (l : List Path). Contains l path) (map-append (λ (put : Put). put.0) old so_far) h)) [
-      | inl before ↦ absurd (none before)
-      | inr after ↦ after
-    ]
 
 module _ (digest : List ℕ → List ℕ) (v : View) where
   moment_whole : (old new files : List Put) (count : ℕ) → IsServedFiles digest v files → new ≡ old ++ take count files →

@@ -10,9 +10,9 @@ use Rattle.mirror_sources.specs.Recorded.{AddsToRecord}
 use Rattle.mirror_folders.specs.Shelf.{Put}
 use Rattle.mirror_export.specs.Exports.{AddsPrefix}
 use Rattle.tlog_shape.specs.Edge.{edge_index_of}
-use Rattle.mirror_export.specs.Files.{full_paths, kind_level, kind_path, kind_paths, tiles_below, tile_paths}
-use Rattle.mirror_export.specs.declared.files.FileKind.{FileKind}
-use Rattle.mirror_export.specs.declared.files.FileKind.TheVariants.{Tiles}
+use Rattle.log_paths.specs.Files.{full_paths, kind_level, kind_path, kind_paths, tiles_below, tile_paths}
+use Rattle.log_paths.specs.declared.kind.FileKind.{FileKind}
+use Rattle.log_paths.specs.declared.kind.FileKind.TheVariants.{Tiles}
 use Rattle.mirror_export.proofs.Prefixes.{files_then, files_more, files_front}
 
 -- the first list is a prefix of the second

@@ -10,18 +10,19 @@ use Rattle.tlog_tiles.specs.declared.paths.Path.{Path}
 use Rattle.tlog_tiles.specs.declared.paths.Path.TheVariants.{Checkpoint, Tile, Entries}
 use Rattle.mirror_model.proofs.TrueItems.{prefixes_serve_same}
 use Rattle.mirror_folders.specs.Shelf.{Put, HasPut, Stands, RecordsRead}
-use Rattle.mirror_export.specs.Files.{file_at, kind_paths, paths_of, served_bytes, tile_paths}
-use Rattle.mirror_export.specs.FileLaws.{IsFileOf}
-use Rattle.mirror_export.specs.Exports.{IsMoment}
-use Rattle.mirror_export.specs.Since.{files_since, is_new, since_paths}
-use Rattle.mirror_export.specs.SinceLaws.{HoldsFiles, HoldsFound, HoldsLog, IsWholeAt, UpdatesStayWhole}
-use Rattle.mirror_export.specs.declared.files.FileKind.TheVariants.{Bundles}
-use Rattle.mirror_export.proofs.AllFiles.{files_are_all}
-use Rattle.mirror_export.proofs.Filters.{filter_has}
-use Rattle.mirror_export.proofs.FoundOnce.{read_more}
+use Rattle.log_paths.specs.Files.{file_at, kind_paths, paths_of, served_bytes, tile_paths}
+use Rattle.log_paths.specs.FileLaws.{IsFileOf}
+use Rattle.log_paths.specs.Holding.{IsMoment}
+use Rattle.log_paths.specs.Since.{files_since, is_new, since_paths}
+use Rattle.log_paths.specs.Holding.{HoldsFiles, HoldsLog}
+use Rattle.mirror_export.specs.UpdateLaws.{HoldsFound, IsWholeAt, UpdatesStayWhole}
+use Rattle.log_paths.specs.declared.kind.FileKind.TheVariants.{Bundles}
+use Rattle.log_paths.proofs.AllFiles.{files_are_all}
+use Rattle.log_paths.proofs.Filters.{filter_has}
+use Rattle.log_paths.proofs.FoundOnce.{read_more}
 use Rattle.mirror_export.proofs.Moments.{front_files, long_is_all, short_has_none, stands_at}
-use Rattle.mirror_export.proofs.NewFiles.{files_since_are_new, old_is}
-use Rattle.mirror_export.proofs.Standing.{stands_more}
+use Rattle.log_paths.proofs.NewFiles.{files_since_are_new, old_is}
+use Rattle.log_paths.proofs.Standing.{stands_more}
 
 -- a checkpoint and the files of its entries are a log
 pub log_of : (digest : List ℕ → List ℕ) (entries : List (List ℕ)) (checkpoint : List ℕ) (puts : List Put) →

@@ -13,12 +13,12 @@ use Rattle.mirror_folders.specs.declared.shelf.ShelfError.TheVariants as shelf
 use Rattle.mirror_export.specs.Beginnings.{FindsSince, PutsLast, PutsPrefixTop, TopGoesOnFound, TopStandsOther, UpdatesTop}
 use Rattle.mirror_export.specs.Exports.{AddsPrefix}
 use Rattle.mirror_export.specs.Faults.{update_of_shelf}
-use Rattle.mirror_export.specs.Files.{file_at, kind_paths, tile_paths}
-use Rattle.mirror_export.specs.Since.{files_since, is_new, since_parts}
+use Rattle.log_paths.specs.Files.{file_at, kind_paths, tile_paths}
+use Rattle.log_paths.specs.Since.{files_since, is_new, since_parts}
 use Rattle.mirror_export.specs.declared.fault.UpdateFault.{UpdateFault}
 use Rattle.mirror_export.specs.declared.fault.UpdateFault.TheVariants.{NothingComplete, OtherLog, ShelfFault, OutOfMemory}
-use Rattle.mirror_export.specs.declared.files.FileKind.TheVariants.{Bundles}
-use Rattle.mirror_export.proofs.FoundOnce.{read_more, read_once}
+use Rattle.log_paths.specs.declared.kind.FileKind.TheVariants.{Bundles}
+use Rattle.log_paths.proofs.FoundOnce.{read_more, read_once}
 use Rattle.mirror_export.proofs.Moments.{front_files}
 use Rattle.mirror_export.proofs.Prefixes.{adds_kept, adds_then, file_refused, files_front, files_more, files_then, front_then}
 

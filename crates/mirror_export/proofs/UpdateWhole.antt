@@ -10,14 +10,15 @@ use Rattle.tlog_mirror.specs.Tops.{Top, IsListOf, IsServedTop}
 use Rattle.tlog_mirror.proofs.ServedParts.{list_of}
 use Rattle.mirror_sources.specs.Recorded.{KeepsRecord}
 use Rattle.mirror_folders.specs.Shelf.{Put, Stands, RecordsRead}
-use Rattle.mirror_export.specs.Since.{files_since}
-use Rattle.mirror_export.specs.SinceLaws.{HoldsFiles, HoldsLog, IsWholeAt}
+use Rattle.log_paths.specs.Since.{files_since}
+use Rattle.log_paths.specs.Holding.{HoldsFiles, HoldsLog}
+use Rattle.mirror_export.specs.UpdateLaws.{IsWholeAt}
 use Rattle.mirror_export.specs.Beginnings.{PutsPrefixTop, PutsTop, TopGoesOnFound, UpdatesTop}
-use Rattle.mirror_export.specs.Exports.{IsMoment}
+use Rattle.log_paths.specs.Holding.{IsMoment}
 use Rattle.mirror_export.specs.Updates.{GoesOn, KeepsWhole, StaysWhole}
 use Rattle.mirror_export.specs.declared.fault.UpdateFault.{UpdateFault}
 use Rattle.mirror_export.specs.declared.fault.UpdateFault.TheVariants.{NothingComplete, OtherLog, ShelfFault, OutOfMemory}
-use Rattle.mirror_export.proofs.FoundOnce.{read_once}
+use Rattle.log_paths.proofs.FoundOnce.{read_once}
 use Rattle.mirror_export.proofs.UpdateMoments.{all_stand, log_of, updates_stay_whole}
 use Rattle.mirror_export.proofs.Updated.{served_listed, served_top}
 

@@ -16,7 +16,7 @@ use Rattle.tlog_mirror.proofs.ServedParts.{list_of, listed}
 use Rattle.mirror_sources.specs.Recorded.{Rose}
 use Rattle.mirror_folders.specs.Shelf.{CountsError, Put}
 use Rattle.mirror_export.specs.Faults.{update_of_shelf}
-use Rattle.mirror_export.specs.Since.{files_since}
+use Rattle.log_paths.specs.Since.{files_since}
 use Rattle.mirror_export.specs.Beginnings.{Begins, FindsSince, FindsSize, PutsPrefixTop, ReadsPoint, TopGoesOn}
 use Rattle.mirror_export.specs.Beginnings.{TopGoesOnFound, TopStandsOther, UpdatesTop}
 use Rattle.mirror_export.specs.Updates.{CountsUpdate, GoesOn, GoesOnFrom, IsFilesSince, PutsPrefixSince, StandsOther}

@@ -1,6 +1,6 @@
 -- The files that an export puts onto a shelf, for each answer. Only the contracts of private functions cite
 -- `AddsFiles`.
-use Rattle.std.specs.Prelude.{◌≡◌, ℕ, ◌<◌, List, ◌++◌, length, take, Option, Some, None, Result, Ok}
+use Rattle.std.specs.Prelude.{◌≡◌, ℕ, ◌<◌, List, length, take, Option, Some, None, Result, Ok}
 use Rattle.std.specs.Prelude.{Err, Contains, ⊤}
 use Rattle.tlog_tiles.specs.declared.paths.Path.{Path}
 use Rattle.tlog_tiles.specs.declared.paths.Path.TheVariants.{Checkpoint}
@@ -8,7 +8,8 @@ use Rattle.mirror_model.specs.View.{View}
 use Rattle.mirror_model.specs.Served.{Served}
 use Rattle.mirror_sources.specs.Recorded.{KeepsRecord, AddsToRecord, Rose}
 use Rattle.mirror_folders.specs.Shelf.{Put, HasPut, Stands, RecordsNone, RecordsSome}
-use Rattle.mirror_export.specs.Files.{paths_of, served_bytes, IsServedFiles}
+use Rattle.log_paths.specs.Files.{files_at, paths_of, served_bytes}
+use Rattle.log_paths.specs.Holding.{IsMoment}
 use Rattle.mirror_export.specs.declared.fault.ExportFault.{ExportFault}
 use Rattle.mirror_export.specs.declared.fault.ExportFault.TheVariants.{NothingComplete, ShelfInUse}
 use Rattle.mirror_export.specs.declared.fault.ExportFault.TheVariants.{ShelfFault, OutOfMemory}
@@ -25,25 +26,27 @@ abbrev pub AddsFiles : {T E : Type 0} → Option (List Put) → Option (List Put
 AddsFiles old new files (Ok x) = AddsToRecord old new files
 AddsFiles old new files (Err e) = AddsPrefix old new files
 
--- a moment of a call that puts files in order: some files were put so far, and the rest came later
-pub record IsMoment (old new now : List Put) : Type 0 where
-  pub so_far : List Put
-  pub later : List Put
-  pub now_is : now ≡ old ++ so_far
-  pub new_is : new ≡ now ++ later
-
 module _ (digest : List ℕ → List ℕ) where
+  -- the files are those of the log that the view serves
+  pub record IsServedFiles (v : View) (files : List Put) : Type 0 where
+    pub note : List ℕ
+    pub size : ℕ
+    pub root : List ℕ
+    pub entries : List (List ℕ)
+    pub served : Served digest v note size root entries
+    pub files_are : files ≡ files_at digest note entries (paths_of size)
+
   -- all files of the served log were put, onto a shelf that had no checkpoint
   pub record PutsAll (v : View) (old new : Option (List Put)) : Type 0 where
     pub files : List Put
-    pub are_served : IsServedFiles digest v files
+    pub are_served : IsServedFiles v files
     pub free : RecordsNone old Checkpoint
     pub recorded : AddsToRecord old new files
 
   -- the first files of the served log were put, but not all; none were put if the shelf had a checkpoint
   pub record PutsPrefix (v : View) (old new : Option (List Put)) : Type 0 where
     pub files : List Put
-    pub are_served : IsServedFiles digest v files
+    pub are_served : IsServedFiles v files
     pub front : AddsPrefix old new files
     pub free : 0 < front.count → RecordsNone old Checkpoint
 

@@ -1,9 +1,5 @@
-pub mod Files
 pub mod Exports
 pub mod Faults
-pub mod FileLaws
-pub mod Since
-pub mod SinceLaws
-pub mod Total
+pub mod UpdateLaws
 pub mod Updates
 pub mod Beginnings

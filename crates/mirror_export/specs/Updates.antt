@@ -7,9 +7,11 @@ use Rattle.mirror_model.specs.Heads.{IsHead}
 use Rattle.mirror_model.specs.Served.{IsRangeHash, Served}
 use Rattle.mirror_sources.specs.Recorded.{KeepsRecord, AddsToRecord, Rose}
 use Rattle.mirror_folders.specs.Shelf.{Put, Stands, RecordsRead}
-use Rattle.mirror_export.specs.Exports.{AddsPrefix, IsMoment}
-use Rattle.mirror_export.specs.Since.{files_since}
-use Rattle.mirror_export.specs.SinceLaws.{HoldsFiles, HoldsLog, IsWholeAt}
+use Rattle.mirror_export.specs.Exports.{AddsPrefix}
+use Rattle.log_paths.specs.Holding.{IsMoment}
+use Rattle.log_paths.specs.Since.{files_since}
+use Rattle.log_paths.specs.Holding.{HoldsFiles, HoldsLog}
+use Rattle.mirror_export.specs.UpdateLaws.{IsWholeAt}
 use Rattle.mirror_export.specs.declared.fault.UpdateFault.{UpdateFault}
 use Rattle.mirror_export.specs.declared.fault.UpdateFault.TheVariants.{NothingComplete, OtherLog}
 use Rattle.mirror_export.specs.declared.fault.UpdateFault.TheVariants.{ShelfFault, OutOfMemory}

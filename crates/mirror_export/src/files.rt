@@ -4,46 +4,17 @@ ghost use Rattle.std.specs.List.{filter};
 ghost use Rattle.tlog_tiles.specs.Tiles.{IsWithin};
 ghost use Rattle.tlog_mirror.specs.Tops.{IsListOf};
 ghost use Rattle.mirror_export.specs.Exports.{AddsFiles};
-ghost use Rattle.mirror_export.specs.Files.{served_bytes, files_at, kind_paths, kind_level, kind_path};
+ghost use Rattle.log_paths.specs.Files.{served_bytes, files_at, kind_paths, kind_level, kind_path};
 ghost use Rattle.mirror_folders.specs.Shelf.{CountsFailures};
-ghost use Rattle.mirror_export.specs.Since.{is_new, since_parts, since_paths, width_at};
+ghost use Rattle.log_paths.specs.Since.{is_new, since_parts, since_paths, width_at};
 
-use crate::total::files_to_put;
+use log_paths::{FileKind, files_to_put, lacks, level_at, path_at};
 use mirror_folders::{Shelf, ShelfError};
 use std::alloc::{AllocError, Global};
 use tlog_hash::TreeHash;
 use tlog_mirror::TopRanges;
-use tlog_shape::{edge_index, edge_width, width_in};
+use tlog_shape::{edge_index, edge_width};
 use tlog_tiles::Path;
-
-// The tiles of a level, or the bundles.
-#[derive(Clone, Copy)]
-pub(crate) enum FileKind {
-    Tiles(u32),
-    Bundles,
-}
-
-pub(crate) fn path_at(kind: FileKind, index: u64, width: u32) -> Path
-    ensures { result ≡ kind_path kind index width }
-{
-    match kind {
-        FileKind::Tiles(level) => Path::Tile {
-            level,
-            index,
-            width,
-        },
-        FileKind::Bundles => Path::Entries { index, width },
-    }
-}
-
-pub(crate) fn level_at(kind: FileKind) -> u32
-    ensures { result ≡ kind_level kind }
-{
-    match kind {
-        FileKind::Tiles(level) => level,
-        FileKind::Bundles => 0,
-    }
-}
 
 fn file_bytes<H: TreeHash>(
     alloc: Global,
@@ -87,31 +58,6 @@ fn put_file<H: TreeHash, S: Shelf>(
     let put = shelf.put(&path, &bytes);
     drop(bytes);
     put
-}
-
-// The width of the tile with that level and index in a tree of that size; 0 if there is none.
-#[tactic(auto, using(crate::proofs::PlaceWidths::width_found))]
-pub(crate) fn place_width(size: u64, level: u32, index: u64) -> u32
-    requires { level ≤ 7 }
-    ensures { result ≡ width_at size level index }
-{
-    width_in(size, level, index).unwrap_or(0)
-}
-
-// Whether a log of that size lacks the file, or it is the checkpoint.
-fn lacks(since: u64, path: &Path) -> bool
-    requires { (n : ℕ) × IsWithin n path.now }
-    ensures { result ≡ is_new since path.now }
-{
-    match path {
-        Path::Checkpoint => true,
-        Path::Tile {
-            level,
-            index,
-            width,
-        } => *width != place_width(since, *level, *index),
-        Path::Entries { index, width } => *width != place_width(since, 0, *index),
-    }
 }
 
 // Puts a tile or a bundle, if a log of the first `since` entries lacks it.

@@ -1,5 +1,4 @@
 //! Exports a mirror onto a shelf in the layout of C2SP tlog-tiles: all files, or those that are new since a checkpoint.
-//! Lists and counts the files of a log.
 //!
 //! ```text
 //! let mut shelf = DirShelf::new(&rt, alloc, "log");
@@ -12,13 +11,9 @@ mod exporting;
 mod fault;
 mod files;
 mod laws;
-mod paths;
-mod total;
 mod updating;
 
 pub use exporting::export;
 pub use fault::{ExportFault, UpdateFault};
-pub use laws::{files_law, files_since_example, files_since_law, update_law};
-pub use paths::log_paths;
-pub use total::files_to_put;
+pub use laws::update_law;
 pub use updating::update;

@@ -1,10 +1,12 @@
 pub use Rattle.mirror_folders.specs.Shelf
-pub use Rattle.mirror_export.specs.Files
+pub use Rattle.log_paths.specs.Files
 pub use Rattle.mirror_export.specs.Exports
 pub use Rattle.mirror_export.specs.Faults
-pub use Rattle.mirror_export.specs.FileLaws
-pub use Rattle.mirror_export.specs.Since
-pub use Rattle.mirror_export.specs.SinceLaws
+pub use Rattle.log_paths.specs.FileLaws
+pub use Rattle.log_paths.specs.Since
+pub use Rattle.log_paths.specs.SinceLaws
+pub use Rattle.log_paths.specs.Holding
+pub use Rattle.mirror_export.specs.UpdateLaws
 pub use Rattle.mirror_export.specs.Updates
 pub use Rattle.mirror_folders.specs.Places
 pub use Rattle.mirror_state.specs.Items

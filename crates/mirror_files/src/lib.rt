@@ -1,5 +1,6 @@
 //! Files of a mirror and of a log: the text of a state, a log as a folder, and a mirror exported into one. It has no
-//! code of its own: it re-exports items of its parts `mirror_state`, `mirror_folders` and `mirror_export`.
+//! code of its own: it re-exports items of its parts `mirror_state`, `mirror_folders`, `log_paths`
+//! and `mirror_export`.
 //!
 //! ```text
 //! let mirror: Mirror<Sha256Tree> = load(alloc, "example.com/log", &keys, &mut file)?;
@@ -8,10 +9,11 @@
 //! ```
 #![tactic(auto)]
 
-pub use mirror_export::{
-    ExportFault, UpdateFault, export, files_law, files_since_example, files_since_law,
-    files_to_put, log_paths, update, update_law,
+pub use log_paths::{
+    FileKind, files_law, files_since_example, files_since_law, files_to_put, lacks, level_at,
+    log_paths, path_at,
 };
+pub use mirror_export::{ExportFault, UpdateFault, export, update, update_law};
 pub use mirror_folders::{
     DirShelf, DirSource, FailedFile, FolderFiles, MemShelf, NamedFolders, ReadableShelf, Shelf,
     ShelfError, replace_file,

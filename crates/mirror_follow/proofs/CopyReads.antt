@@ -37,7 +37,7 @@ abbrev IsBy : {U : Type 0} → CopyFault → Result U FollowFault → Type 0
 IsBy e r = IsErr r × IsErrAnd r (λ f. f ≡ by_copy e)
 
 fault_counts : (T : Type 0) (a b : ℕ) (e : CopyFault) → CountsRead {T = T} a b (Err e) → CountsFollowFault a b (by_copy e)
-fault_counts T a b (reading.Origin f) h = absurd h
+fault_counts T a b reading.BadOrigin h = absurd h
 fault_counts T a b (reading.Head f) h = absurd h
 fault_counts T a b (reading.CopyDamaged path) h = h
 fault_counts T a b reading.ShelfFault h = h
@@ -50,7 +50,7 @@ read_counts T a b e (Err f) is h = subst (CountsFollowFault a b) (sym is.1) (fau
 
 fault_ends : (T : Type 0) (A : Type 0) (a b : ℕ) (e : CopyFault) → CountsRead {T = T} a b (Err e) →
     ((IsShelfFailure e → ⊥) → A) → EndsRun A ⊥ (by_copy e)
-fault_ends T A a b (reading.Origin f) h so = absurd h
+fault_ends T A a b reading.BadOrigin h so = absurd h
 fault_ends T A a b (reading.Head f) h so = absurd h
 fault_ends T A a b (reading.CopyDamaged path) h so = so (λ no. no)
 fault_ends T A a b reading.ShelfFault h so = tt

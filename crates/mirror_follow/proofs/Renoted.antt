@@ -13,14 +13,14 @@ use Rattle.mirror_model.specs.Heads.{IsHead}
 use Rattle.mirror_model.proofs.HeadNotes.{head_once}
 use Rattle.mirror_sources.specs.Recorded.{AddsToRecord}
 use Rattle.mirror_folders.specs.Shelf.{Put, HasPut, Stands, RecordsRead}
-use Rattle.mirror_export.specs.Exports.{IsMoment}
-use Rattle.mirror_export.specs.Files.{paths_of, served_bytes}
-use Rattle.mirror_export.proofs.AllFiles.{files_are_all}
-use Rattle.mirror_export.proofs.Standing.{stands_more}
+use Rattle.log_paths.specs.Holding.{IsMoment}
+use Rattle.log_paths.specs.Files.{paths_of, served_bytes}
+use Rattle.log_paths.proofs.AllFiles.{files_are_all}
+use Rattle.log_paths.proofs.Standing.{stands_more}
 use Rattle.mirror_copy.specs.Copies.{IsCopy}
 use Rattle.mirror_copy.specs.Moments.{AtEachMoment, InTheEnd, IsBroughtTo, IsGrownCopy, KeepsCopy, PutsBeyond}
 use Rattle.mirror_copy.specs.Pruned.{HasGivenWay, IsGrownPruned, IsPrunedCopy, LeavesPruned}
-use Rattle.mirror_export.proofs.Moments.{has_after}
+use Rattle.log_paths.proofs.Standing.{has_after}
 use Rattle.mirror_sources.specs.Files.{full_of}
 use Rattle.mirror_sources.specs.Honest.{true_bytes}
 use Rattle.log_reader.specs.Holding.{IsTreeFile}

@@ -12,12 +12,12 @@ use Rattle.tlog_tiles.specs.declared.paths.Path.TheVariants.{Checkpoint, Tile, E
 use Rattle.tlog_tiles.specs.Tiles.{IsWithin}
 use Rattle.mirror_sources.specs.Recorded.{AddsToRecord, KeepsRecord}
 use Rattle.mirror_folders.specs.Shelf.{Put, HasPut, Stands}
-use Rattle.mirror_export.specs.Exports.{IsMoment}
-use Rattle.mirror_export.specs.FileLaws.{IsFileOf}
-use Rattle.mirror_export.specs.Files.{served_bytes}
-use Rattle.mirror_export.specs.SinceLaws.{HoldsFiles}
-use Rattle.mirror_export.proofs.AllFiles.{files_are_all}
-use Rattle.mirror_export.proofs.Standing.{stands_more}
+use Rattle.log_paths.specs.Holding.{IsMoment}
+use Rattle.log_paths.specs.FileLaws.{IsFileOf}
+use Rattle.log_paths.specs.Files.{served_bytes}
+use Rattle.log_paths.specs.Holding.{HoldsFiles}
+use Rattle.log_paths.proofs.AllFiles.{files_are_all}
+use Rattle.log_paths.proofs.Standing.{stands_more}
 use Rattle.mirror_copy.specs.Copies.{IsCopy}
 use Rattle.mirror_copy.specs.Moments.{AtEachMoment, IsGrownCopy, KeepsCopy, PutsBeyond}
 use Rattle.mirror_copy.specs.Pruned.{IsGrownPruned, IsPrunedCopy, LeavesPruned}

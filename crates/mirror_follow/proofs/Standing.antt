@@ -13,7 +13,7 @@ use Rattle.mirror_copy.specs.Pruned.{HadSize, IsGrownPruned, IsPrunedCopy, Leave
 use Rattle.mirror_copy.proofs.PrunedFiles.{copies_are_pruned}
 use Rattle.mirror_copy.proofs.PrunedMoments.{leaves_same}
 use Rattle.mirror_copy.proofs.Stays.{stays_same}
-use Rattle.mirror_export.proofs.AllFiles.{files_are_all}
+use Rattle.log_paths.proofs.AllFiles.{files_are_all}
 use Rattle.mirror_copy.proofs.TipReads.{stands_has, stands_one}
 use Rattle.mirror_copy.proofs.WholeMoments.{copy_found, none_found}
 use Rattle.mirror_follow.specs.Gathering.{note_of}

@@ -24,7 +24,7 @@ by_shelf shelf.OutOfMemory = OutOfMemory
 
 -- the fault of a run for a fault of reading a copy
 abbrev pub by_copy : CopyFault → FollowFault
-by_copy (reading.Origin fault) = CopyDamaged
+by_copy reading.BadOrigin = CopyDamaged
 by_copy (reading.Head fault) = CopyDamaged
 by_copy (reading.CopyDamaged path) = CopyDamaged
 by_copy reading.ShelfFault = ShelfFault

@@ -95,7 +95,7 @@ impl From<CopyFault> for FollowFault {
 
     fn from(e: CopyFault) -> FollowFault {
         match e {
-            CopyFault::Origin(_) => FollowFault::CopyDamaged,
+            CopyFault::BadOrigin => FollowFault::CopyDamaged,
             CopyFault::Head(_) => FollowFault::CopyDamaged,
             CopyFault::CopyDamaged(_) => FollowFault::CopyDamaged,
             CopyFault::ShelfFault => FollowFault::ShelfFault,

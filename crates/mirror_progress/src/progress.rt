@@ -9,7 +9,7 @@ use crate::counts::Counts;
 use crate::line::{followed_line, progress_line, pulled_line};
 use crate::task::Task;
 use byte_streams::write_whole;
-use mirror_export::files_to_put;
+use log_paths::files_to_put;
 use signed_note::Note;
 use std::alloc::{AllocError, Global};
 use std::io;

@@ -24,14 +24,14 @@ use Rattle.program_copies.specs.Proofs.{IsProvable, IsReadOf, ReportsAsk, Report
 use Rattle.program_copies.specs.declared.fault.CopyAskFault.{CopyAskFault}
 use Rattle.program_copies.specs.declared.fault.CopyAskFault.TheVariants as asking
 use Rattle.copy_reader.specs.declared.fault.CopyFault.{CopyFault}
-use Rattle.copy_reader.specs.declared.fault.CopyFault.TheVariants.{Origin, Head, CopyDamaged, ShelfFault, OutOfMemory}
+use Rattle.copy_reader.specs.declared.fault.CopyFault.TheVariants.{BadOrigin, Head, CopyDamaged, ShelfFault, OutOfMemory}
 
 -- if a read of an opened copy ended by a fault, this is the reason
 pub read_refused : {T : Type 0} (digest : List ℕ → List ℕ) (origin : List ℕ) (keys : List Key) (held after : Option (List Put))
     (old new : Reader) (claim : List (List ℕ) → T → Type 0) (a b : ℕ) (fault : CopyFault) → KeepsRecord held after →
     OpensWhole digest origin held (Some old) → CountsRead {T = T} a b (Err fault) →
     ReadsCopyOf IsShelfFailure digest old new after (Err fault) claim → IsRefused digest origin keys held fault
-read_refused digest origin keys held after old new claim a b (Origin f) kept opens counts reads = absurd counts
+read_refused digest origin keys held after old new claim a b BadOrigin kept opens counts reads = absurd counts
 read_refused digest origin keys held after old new claim a b (Head f) kept opens counts reads = absurd counts
 read_refused digest origin keys held after old new claim a b (CopyDamaged path) kept opens counts reads =
     λ note entries w. (reads entries (opens note entries w) (files_later digest held after kept entries w.files)).answer
@@ -110,7 +110,7 @@ passed_on P fault (Err f) is h = subst P (sym is.1) h
 
 -- a fault of a read is one of reading files
 pub read_fault : (T : Type 0) (a b : ℕ) (fault : CopyFault) → CountsRead {T = T} a b (Err fault) → IsReadFault fault
-read_fault T a b (Origin f) counts = absurd counts
+read_fault T a b BadOrigin counts = absurd counts
 read_fault T a b (Head f) counts = absurd counts
 read_fault T a b (CopyDamaged path) counts = tt
 read_fault T a b ShelfFault counts = tt
@@ -129,7 +129,7 @@ module _ (digest : List ℕ → List ℕ) (origin : List ℕ) (keys : List Key) 
   proof_refused : (fault : CopyFault) →
       IsReadOf digest reader.edge.size reader.root (IsProvable digest reader after) fault →
       IsRefused digest origin keys held fault
-  proof_refused (Origin f) r = absurd r.is
+  proof_refused BadOrigin r = absurd r.is
   proof_refused (Head f) r = absurd r.is
   proof_refused (CopyDamaged path) r = λ note entries w. r.whole entries (provable entries (note, w))
   proof_refused ShelfFault r = tt

@@ -21,7 +21,7 @@ use Rattle.copy_reader.specs.WholeCopies.{HasFilesOf, HoldsWhole}
 use Rattle.log_reader.specs.Holding.{IsReaderOf}
 use Rattle.log_reader.specs.Ways.{Reader}
 use Rattle.copy_reader.specs.declared.fault.CopyFault.{CopyFault}
-use Rattle.copy_reader.specs.declared.fault.CopyFault.TheVariants.{Origin, Head, CopyDamaged, ShelfFault}
+use Rattle.copy_reader.specs.declared.fault.CopyFault.TheVariants.{BadOrigin, Head, CopyDamaged, ShelfFault}
 use Rattle.copy_reader.specs.declared.fault.CopyFault.TheVariants.{OutOfMemory as NoMemory}
 use Rattle.program_copies.specs.declared.fault.CopyAskFault.{CopyAskFault}
 use Rattle.program_copies.specs.declared.fault.CopyAskFault.TheVariants as asking
@@ -60,7 +60,7 @@ IsLogRead digest reader held entries = IsReaderOf digest entries reader × HasFi
 
 -- the reason why there can be no mirror of the origin, to which the files' checkpoints would belong
 abbrev pub IsNoMirror : List ℕ → CopyFault → Type 0
-IsNoMirror origin (Origin fault) = ¬ IsOrigin origin
+IsNoMirror origin BadOrigin = ¬ IsOrigin origin
 IsNoMirror origin (Head fault) = ⊥
 IsNoMirror origin (CopyDamaged path) = ⊥
 IsNoMirror origin ShelfFault = ⊥

@@ -156,7 +156,7 @@ fn given_heads<H: TreeHash, F: NamedFiles>(
     let mirror: Mirror<H> = match Mirror::new(alloc, origin) {
         Ok(mirror) => mirror,
         Err(NewFault::BadOrigin) => {
-            return Err(CopyAskFault::Copy(CopyFault::Origin(NewFault::BadOrigin)));
+            return Err(CopyAskFault::Copy(CopyFault::BadOrigin));
         }
         Err(NewFault::OutOfMemory) => return Err(CopyAskFault::Copy(CopyFault::OutOfMemory)),
     };

@@ -24,7 +24,7 @@ use tlog_mirror::NewFault;
 ///
 /// # Errors
 ///
-/// The first that applies. `Origin`, as for `Mirror::new`. `ShelfFault`: a file cannot be read. `Head`, with the fault of `check_head`: the
+/// The first that applies. `BadOrigin`, as for `Mirror::new`. `ShelfFault`: a file cannot be read. `Head`, with the fault of `check_head`: the
 /// checkpoint does not open. `CopyDamaged`: a partial tile is missing or false. `OutOfMemory`: memory was refused.
 pub fn open_copy<H: TreeHash, D: NamedFolders>(
     folders: &mut D,
@@ -44,7 +44,7 @@ pub fn open_copy<H: TreeHash, D: NamedFolders>(
 {
     match check_origin(alloc, origin) {
         Ok(()) => {}
-        Err(NewFault::BadOrigin) => return Err(CopyFault::Origin(NewFault::BadOrigin)),
+        Err(NewFault::BadOrigin) => return Err(CopyFault::BadOrigin),
         Err(NewFault::OutOfMemory) => return Err(CopyFault::OutOfMemory),
     }
     match folders.open(folder) {

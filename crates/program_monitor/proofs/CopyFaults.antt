@@ -6,14 +6,14 @@ use Rattle.copy_reader.specs.Copies.{IsRefused}
 use Rattle.copy_reader.specs.WholeCopies.{IsOfShelf, IsShelfFailure}
 use Rattle.copy_reader.specs.Faults.{CountsFault as CountsRefused, CountsRead}
 use Rattle.copy_reader.specs.declared.fault.CopyFault.{CopyFault}
-use Rattle.copy_reader.specs.declared.fault.CopyFault.TheVariants.{Origin, Head, CopyDamaged, ShelfFault, OutOfMemory}
+use Rattle.copy_reader.specs.declared.fault.CopyFault.TheVariants.{BadOrigin, Head, CopyDamaged, ShelfFault, OutOfMemory}
 use Rattle.program_monitor.specs.Copied.{by_copy, CountsFault, IsOfFiles, IsUndamaged, RefusesCopy}
 use Rattle.program_monitor.specs.declared.fault.CopyEntriesFault.{CopyEntriesFault}
 
 module _ (digest : List ℕ → List ℕ) (origin : List ℕ) (keys : List Key) (held : Option (List Put)) where
   refuses : (fault : CopyFault) → IsOfShelf fault → IsRefused digest origin keys held fault →
       RefusesCopy digest origin keys held (by_copy fault)
-  refuses (Origin f) is h = absurd is
+  refuses BadOrigin is h = absurd is
   refuses (Head f) is h = h
   refuses (CopyDamaged path) is h = h
   refuses ShelfFault is h = tt
@@ -25,7 +25,7 @@ module _ (digest : List ℕ → List ℕ) (origin : List ℕ) (keys : List Key) 
   refuses_copy fault answer e is h = rw e (refuses fault is h)
 
 counts : (old new : ℕ) (fault : CopyFault) → CountsRefused old new fault → CountsFault old new (by_copy fault)
-counts old new (Origin f) h = h
+counts old new BadOrigin h = h
 counts old new (Head f) h = h
 counts old new (CopyDamaged path) h = h
 counts old new ShelfFault h = h
@@ -38,7 +38,7 @@ counts_copy old new fault answer e h = rw e (counts old new fault h)
 
 read_counts : (T : Type 0) (old new : ℕ) (fault : CopyFault) → CountsRead {T = T} old new (Err fault) →
     CountsRefused old new fault
-read_counts T old new (Origin f) h = absurd h
+read_counts T old new BadOrigin h = absurd h
 read_counts T old new (Head f) h = absurd h
 read_counts T old new (CopyDamaged path) h = h
 read_counts T old new ShelfFault h = h
@@ -49,7 +49,7 @@ pub counts_read : (T : Type 0) (old new : ℕ) (fault : CopyFault) (answer : Cop
 counts_read T old new fault answer e h = counts_copy old new fault answer e (read_counts T old new fault h)
 
 read_files : (T : Type 0) (old new : ℕ) (fault : CopyFault) → CountsRead {T = T} old new (Err fault) → IsOfFiles (by_copy fault)
-read_files T old new (Origin f) h = absurd h
+read_files T old new BadOrigin h = absurd h
 read_files T old new (Head f) h = absurd h
 read_files T old new (CopyDamaged path) h = tt
 read_files T old new ShelfFault h = tt
@@ -61,7 +61,7 @@ pub of_files : (T : Type 0) (old new : ℕ) (fault : CopyFault) (answer : CopyEn
 of_files T old new fault answer e h = rw e (read_files T old new fault h)
 
 undamaged : (fault : CopyFault) → IsShelfFailure fault → IsUndamaged (by_copy fault)
-undamaged (Origin f) h = absurd h
+undamaged BadOrigin h = absurd h
 undamaged (Head f) h = absurd h
 undamaged (CopyDamaged path) h = absurd h
 undamaged ShelfFault h = tt

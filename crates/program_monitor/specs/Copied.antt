@@ -17,9 +17,9 @@ use Rattle.program_monitor.specs.declared.fault.CopyEntriesFault.{CopyEntriesFau
 use Rattle.program_monitor.specs.declared.fault.CopyEntriesFault.TheVariants.{NothingComplete, Head, CopyDamaged, ShelfFault}
 use Rattle.program_monitor.specs.declared.fault.CopyEntriesFault.TheVariants.{NoSuchSize, Backwards, WriteFault, OutOfMemory}
 
--- the fault of the command for a fault of a copy. Origin never comes
+-- the fault of the command for a fault of a copy. BadOrigin never comes
 abbrev pub by_copy : CopyFault → CopyEntriesFault
-by_copy (copy.Origin fault) = CopyDamaged Checkpoint
+by_copy copy.BadOrigin = CopyDamaged Checkpoint
 by_copy (copy.Head fault) = Head fault
 by_copy (copy.CopyDamaged path) = CopyDamaged path
 by_copy copy.ShelfFault = ShelfFault

@@ -72,12 +72,12 @@ pub enum CopyEntriesFault {
     OutOfMemory,
 }
 
-/// The fault of `entries` for a fault of a copy. `Origin` never comes.
+/// The fault of `entries` for a fault of a copy. `BadOrigin` never comes.
 pub(crate) fn fault_of(fault: CopyFault) -> CopyEntriesFault
     ensures { result ≡ by_copy fault }
 {
     match fault {
-        CopyFault::Origin(_) => CopyEntriesFault::CopyDamaged(Path::Checkpoint),
+        CopyFault::BadOrigin => CopyEntriesFault::CopyDamaged(Path::Checkpoint),
         CopyFault::Head(fault) => CopyEntriesFault::Head(fault),
         CopyFault::CopyDamaged(path) => CopyEntriesFault::CopyDamaged(path),
         CopyFault::ShelfFault => CopyEntriesFault::ShelfFault,

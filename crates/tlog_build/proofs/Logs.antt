@@ -14,7 +14,7 @@ use Rattle.mirror_sources.specs.Recorded.{KeepsRecord}
 use Rattle.mirror_pull.specs.declared.fault.PullFault.{PullFault}
 use Rattle.mirror_pull.specs.declared.fault.PullFault.TheVariants as pull
 use Rattle.mirror_folders.specs.Shelf.{Put}
-use Rattle.mirror_export.specs.Files.{files_at, paths_of}
+use Rattle.log_paths.specs.Files.{files_at, paths_of}
 use Rattle.mirror_export.specs.declared.fault.ExportFault.{ExportFault}
 use Rattle.mirror_export.specs.declared.fault.ExportFault.TheVariants as export
 use Rattle.tlog_build.specs.Building.{IsLogNote, AreLogFiles, BuildsLog, PutsFiles}

@@ -4,8 +4,8 @@ use Rattle.std.proofs.Common.{◌∙◌, Contains, add-one, arith}
 use Rattle.std.proofs.Math.Seq.{take-suc}
 use Rattle.std.proofs.lemmas.List.{length-map, map-append, take-append-drop}
 use Rattle.tlog_tiles.specs.declared.paths.Path.TheVariants.{Checkpoint}
-use Rattle.mirror_export.specs.Files.{paths_of}
-use Rattle.mirror_export.specs.FileLaws.{FilesAreAll}
+use Rattle.log_paths.specs.Files.{paths_of}
+use Rattle.log_paths.specs.FileLaws.{FilesAreAll}
 use Rattle.tlog_tiles.specs.declared.paths.Path.{Path}
 use Rattle.mirror_sources.specs.Recorded.{AddsToRecord}
 use Rattle.mirror_folders.specs.Shelf.{Put}

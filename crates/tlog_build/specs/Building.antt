@@ -8,7 +8,7 @@ use Rattle.mirror_model.specs.Origin.{IsOrigin}
 use Rattle.mirror_sources.specs.ListSource.{OpensAnywhere}
 use Rattle.mirror_sources.specs.Recorded.{KeepsRecord, AddsToRecord}
 use Rattle.mirror_folders.specs.Shelf.{Put, RecordsNone, RecordsSome}
-use Rattle.mirror_export.specs.Files.{paths_of, files_at}
+use Rattle.log_paths.specs.Files.{paths_of, files_at}
 use Rattle.mirror_export.specs.Exports.{AddsPrefix}
 use Rattle.mirror_export.specs.declared.fault.ExportFault.{ExportFault}
 use Rattle.mirror_export.specs.declared.fault.ExportFault.TheVariants as export

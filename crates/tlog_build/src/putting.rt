@@ -1,12 +1,13 @@
 //! Puts the files of a log of a list of entries onto a shelf.
 ghost use Rattle.std.specs.Prelude.{◌≡◌, [], ◌∷◌, length};
 ghost use Rattle.mirror_export.specs.Exports.{AddsFiles, CountsExport};
-ghost use Rattle.mirror_export.specs.FileLaws.{IsFileOf};
-ghost use Rattle.mirror_export.specs.Files.{files_at, paths_of};
+ghost use Rattle.log_paths.specs.FileLaws.{IsFileOf};
+ghost use Rattle.log_paths.specs.Files.{files_at, paths_of};
 ghost use Rattle.mirror_folders.specs.Shelf.{CountsFailures};
 ghost use Rattle.tlog_build.specs.Building.{PutsFiles};
 
-use mirror_export::{ExportFault, files_law, log_paths};
+use log_paths::{files_law, log_paths};
+use mirror_export::ExportFault;
 use mirror_folders::{Shelf, ShelfError};
 use mirror_sources::ListSource;
 use std::alloc::Global;

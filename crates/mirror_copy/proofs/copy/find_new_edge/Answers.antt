@@ -1,5 +1,5 @@
 use Rattle.std.proofs.Common.{◌≡◌, IfSome, length, subst}
-use Rattle.mirror_export.specs.Since.{since_paths}
+use Rattle.log_paths.specs.Since.{since_paths}
 use Rattle.mirror_copy.proofs.copy.find_new_edge.Goals as goal
 
 pub returns-clause-expected : goal.returns-clause-expected

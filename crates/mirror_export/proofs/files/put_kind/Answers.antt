@@ -3,9 +3,9 @@ use Rattle.std.proofs.lemmas.Result.{err_from_is_err_and}
 use Rattle.tlog_shape.specs.Edge.{edge_index_of}
 use Rattle.tlog_tiles.specs.declared.paths.Path.{Path}
 use Rattle.tlog_tiles.specs.Tiles.{IsWithin}
-use Rattle.mirror_export.specs.Files.{file_at, full_paths, kind_level, kind_path, partial_path}
-use Rattle.mirror_export.specs.Since.{is_new}
-use Rattle.mirror_export.proofs.FilePaths.{full_within, partial_within, partial_none, partial_some, index_is, path_is, width_is}
+use Rattle.log_paths.specs.Files.{file_at, full_paths, kind_level, kind_path, partial_path}
+use Rattle.log_paths.specs.Since.{is_new}
+use Rattle.log_paths.proofs.FilePaths.{full_within, partial_within, partial_none, partial_some, index_is, path_is, width_is}
 use Rattle.mirror_export.proofs.Orders.{first_cut, first_put, full_put}
 use Rattle.mirror_export.proofs.Prefixes.{adds_none, files_more, files_result, files_then}
 use Rattle.mirror_export.proofs.files.put_kind.Goals as goal

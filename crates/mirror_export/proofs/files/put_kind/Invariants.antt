@@ -1,9 +1,9 @@
 use Rattle.std.proofs.Common.{◌≡◌, ℕ, List, map}
 use Rattle.std.specs.List.{filter, range_with_len}
-use Rattle.mirror_export.specs.Since.{is_new}
+use Rattle.log_paths.specs.Since.{is_new}
 use Rattle.tlog_mirror.specs.Tops.{IsListOf}
 use Rattle.mirror_sources.specs.Recorded.{AddsToRecord}
-use Rattle.mirror_export.specs.Files.{files_at, kind_path}
+use Rattle.log_paths.specs.Files.{files_at, kind_path}
 use Rattle.mirror_export.proofs.files.put_kind.Given as goal
 
 abbrev pub invariant-loop-index : goal.invariant-loop-index

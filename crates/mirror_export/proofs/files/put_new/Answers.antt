@@ -1,6 +1,6 @@
 use Rattle.std.proofs.Common.{sym, ◌∙◌}
-use Rattle.mirror_export.specs.Files.{file_at}
-use Rattle.mirror_export.specs.Since.{is_new}
+use Rattle.log_paths.specs.Files.{file_at}
+use Rattle.log_paths.specs.Since.{is_new}
 use Rattle.mirror_export.proofs.Prefixes.{none_kept, one_kept}
 use Rattle.mirror_export.proofs.files.put_new.Goals as goal
 

@@ -1,8 +1,8 @@
 use Rattle.std.proofs.Common.{◌≡◌, ◌∙◌, arith}
 use Rattle.std.proofs.lemmas.Result.{err_from_is_err_and}
-use Rattle.mirror_export.specs.Files.{file_at, kind_paths, tile_paths}
-use Rattle.mirror_export.specs.declared.files.FileKind.TheVariants.{Bundles}
-use Rattle.mirror_export.specs.Since.{is_new}
+use Rattle.log_paths.specs.Files.{file_at, kind_paths, tile_paths}
+use Rattle.log_paths.specs.declared.kind.FileKind.TheVariants.{Bundles}
+use Rattle.log_paths.specs.Since.{is_new}
 use Rattle.mirror_export.proofs.Orders.{all_levels_put, level_cut, level_put}
 use Rattle.mirror_export.proofs.Prefixes.{files_more, files_result}
 use Rattle.mirror_export.proofs.files.put_parts.Goals as goal

@@ -2,9 +2,9 @@ use Rattle.std.proofs.Common.{◌≡◌, ℕ, List, [], ◌∷◌, ◌++◌, sub
 use Rattle.std.proofs.lemmas.Result.{err_from_is_err_and}
 use Rattle.tlog_tiles.specs.declared.paths.Path.TheVariants.{Checkpoint}
 use Rattle.mirror_folders.specs.Shelf.{RecordsPut}
-use Rattle.mirror_export.specs.Files.{file_at, kind_paths, tile_paths}
-use Rattle.mirror_export.specs.declared.files.FileKind.TheVariants.{Bundles}
-use Rattle.mirror_export.specs.Since.{is_new}
+use Rattle.log_paths.specs.Files.{file_at, kind_paths, tile_paths}
+use Rattle.log_paths.specs.declared.kind.FileKind.TheVariants.{Bundles}
+use Rattle.log_paths.specs.Since.{is_new}
 use Rattle.mirror_export.proofs.Prefixes.{files_more, files_result, put_result}
 use Rattle.mirror_export.proofs.files.put_served.Goals as goal
 

@@ -1,5 +1,5 @@
 use Rattle.std.proofs.Common.{length}
-use Rattle.mirror_export.specs.Files.{file_at, files_at, paths_of}
+use Rattle.log_paths.specs.Files.{file_at, files_at, paths_of}
 use Rattle.mirror_export.proofs.Prefixes.{front_none}
 use Rattle.tlog_build.proofs.PutPaths.{some_files}
 use Rattle.tlog_build.proofs.putting.put_files.Goals as goal

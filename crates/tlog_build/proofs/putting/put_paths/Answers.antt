@@ -1,7 +1,7 @@
 use Rattle.std.proofs.Common.{◌∙◌}
 use Rattle.std.proofs.lemmas.Result.{err_from_is_err_and}
 use Rattle.tlog_tiles.specs.declared.paths.Path.TheVariants.{Checkpoint}
-use Rattle.mirror_export.specs.Files.{file_at}
+use Rattle.log_paths.specs.Files.{file_at}
 use Rattle.tlog_build.proofs.PutPaths.{path_put, path_cut}
 use Rattle.tlog_build.proofs.putting.put_paths.Goals as goal
 

@@ -1,6 +1,6 @@
 use Rattle.std.proofs.Common.{◌≡◌, take}
 use Rattle.mirror_sources.specs.Recorded.{AddsToRecord}
-use Rattle.mirror_export.specs.Files.{files_at}
+use Rattle.log_paths.specs.Files.{files_at}
 use Rattle.tlog_build.proofs.putting.put_paths.Given as goal
 
 abbrev pub invariant-loop-path : goal.invariant-loop-path

@@ -1,5 +1,0 @@
-use Rattle.mirror_export.proofs.NewFiles.{files_of_steps}
-use Rattle.mirror_export.proofs.laws.files_since_example.Goals as goal
-
-pub returns : goal.returns
-returns c = files_of_steps
