@@ -13,8 +13,8 @@ const ROOT: Hash = [
     82, 178, 40, 162, 218, 20, 50, 196, 25, 4, 144,
 ];
 
-// The key of the logs.
-fn keys(alloc: Global) -> Result<Vec<Box<dyn Verifier>>, Fail> {
+/// The key of the logs.
+pub(crate) fn keys(alloc: Global) -> Result<Vec<Box<dyn Verifier>>, Fail> {
     let mut keys: Vec<Box<dyn Verifier>> = Vec::new(alloc);
     let key = HmacKey::new(alloc, "ex", 1, &[0])?;
     keys.push(Box::new(alloc, key)?)?;

@@ -10,7 +10,7 @@ use mirror_sources::{ListSource, Source};
 use signed_note::HmacKey;
 use std::alloc::{AllocError, Global};
 use std::test::Fail;
-use tlog_hash::Sha256Tree;
+use tlog_hash::{Sha256Tree, TreeHash};
 use tlog_tiles::Path;
 
 // An entry: its number in two bytes.
@@ -32,15 +32,20 @@ fn entries(alloc: Global, count: u32) -> Result<Vec<Vec<u8>>, AllocError>
     Ok(entries)
 }
 
-/// A place that serves C(n).
-pub(crate) fn log_of(alloc: Global, count: u32) -> Result<ListSource<Sha256Tree>, Fail> {
+/// A place that serves C(n), with those tree hashes.
+pub(crate) fn list_of<H: TreeHash>(alloc: Global, count: u32) -> Result<ListSource<H>, Fail> {
     let entries = entries(alloc, count)?;
     let key = HmacKey::new(alloc, "ex", 1, &[0])?;
     Ok(ListSource::new(alloc, "ex", entries, key)?)
 }
 
+/// A place that serves C(n).
+pub(crate) fn log_of(alloc: Global, count: u32) -> Result<ListSource<Sha256Tree>, Fail> {
+    list_of::<Sha256Tree>(alloc, count)
+}
+
 /// The checkpoint of a log.
-pub(crate) fn note_of(alloc: Global, log: &ListSource<Sha256Tree>) -> Result<Vec<u8>, Fail> {
+pub(crate) fn note_of<H: TreeHash>(alloc: Global, log: &ListSource<H>) -> Result<Vec<u8>, Fail> {
     match log.file_at(Path::Checkpoint) {
         Some(note) => Ok(Vec::from_slice(alloc, note)?),
         None => Err("no checkpoint".into()),

@@ -38,10 +38,11 @@ pub(crate) fn audit_levels<H: TreeHash, S: Source>(
         → ((level : ℕ) → level ≤ 7 → RowIsTrue H.digest edge.now entries level)
         → IfErr result IsFailure }
 {
+    let bundles = edge.size() / 256;
     for done in 0..7u32 {
         let level = 7 - done;
         let index = edge_index(edge.size(), level);
-        audit_row::<H, S>(alloc, source, level, index, edge.row(level))?;
+        audit_row::<H, S>(alloc, source, level, index, edge.row(level), bundles)?;
     }
     Ok(())
 }

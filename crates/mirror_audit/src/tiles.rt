@@ -10,7 +10,7 @@ ghost use Rattle.mirror_audit.specs.Order.{row_order, tile_order};
 ghost use Rattle.mirror_audit.specs.Stops.{AreRead, HasRow, HasTile, StopsIn};
 ghost use Rattle.mirror_audit.specs.WholeLogs.{IsTrueRow};
 
-use crate::ahead::expect_bundles;
+use crate::ahead::expect_from;
 use crate::ask::get_file;
 use crate::bundle::audit_bundle;
 use crate::fault::AuditFault;
@@ -49,7 +49,7 @@ fn row_of<H: TreeHash, S: Source>(
     }
 }
 
-/// Reads a full tile, and then all files below it, from left to right.
+/// Reads a full tile, and then all files below it, from left to right. The tree has `bundles` full bundles.
 #[cycle(tiles)]
 fn audit_tile<H: TreeHash, S: Source>(
     alloc: Global,
@@ -57,6 +57,7 @@ fn audit_tile<H: TreeHash, S: Source>(
     level: u32,
     index: u64,
     hash: &Hash,
+    bundles: u64,
 ) -> Result<(), AuditFault>
     requires level { level ≤ 6 }
     requires fits { (index + 1) * 256 ^ (level + 1) < 2 ^ 64 }
@@ -82,10 +83,11 @@ fn audit_tile<H: TreeHash, S: Source>(
         width: 256,
     };
     let row = row_of::<H, S>(alloc, source, path, hash)?;
-    audit_row::<H, S>(alloc, source, level, index, &row)
+    audit_row::<H, S>(alloc, source, level, index, &row, bundles)
 }
 
-/// Reads all files below a row, from left to right. The row is that of a full tile or of the right edge.
+/// Reads all files below a row, from left to right. The row is that of a full tile or of the right edge. The tree has `bundles` full
+/// bundles.
 #[cycle(tiles)]
 pub(crate) fn audit_row<H: TreeHash, S: Source>(
     alloc: Global,
@@ -93,6 +95,7 @@ pub(crate) fn audit_row<H: TreeHash, S: Source>(
     level: u32,
     index: u64,
     row: &[Hash],
+    bundles: u64,
 ) -> Result<(), AuditFault>
     requires above { 1 ≤ level }
     requires level { level ≤ 7 }
@@ -112,11 +115,10 @@ pub(crate) fn audit_row<H: TreeHash, S: Source>(
         → IsSourceOf H.digest entries (S.may_answer source.old)
         → IsTrueRow H.digest entries level index row.now → IfErr result IsFailure }
 {
-    let width = row.len() as u64;
-    for i in 0..width {
+    for i in 0..row.len() as u64 {
         let child = 256 * index + i;
-        expect_bundles::<S>(alloc, source, level, child, width - i);
-        audit_tile::<H, S>(alloc, source, level - 1, child, &row[i as usize])?;
+        expect_from::<S>(alloc, source, level, child, bundles);
+        audit_tile::<H, S>(alloc, source, level - 1, child, &row[i as usize], bundles)?;
     }
     Ok(())
 }

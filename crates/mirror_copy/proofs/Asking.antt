@@ -219,6 +219,11 @@ module _ {S : Type 0} (may : S → Path → Option (List ℕ) → Type 0) (faile
       AsksPlaces may failed asked (λ path. ⊥) y z → AsksPlaces may failed asked so x z
   asks_noted so x y z p q = asks_then so x y z p (asks_weaker (λ path. ⊥) so (λ path none. absurd none) y z q)
 
+  -- a hint before the call
+  pub noted_asks : (so : Path → Type 0) (x y z : Places S) → AsksPlaces may failed asked (λ path. ⊥) x y →
+      AsksPlaces may failed asked so y z → AsksPlaces may failed asked so x z
+  noted_asks so x y z p q = asks_then so x y z (asks_weaker (λ path. ⊥) so (λ path none. absurd none) x y p) q
+
   -- the requests below the edge, and then those for the partial bundle
   pub to_edge_asks : (n m : ℕ) (x y z : Places S) → AsksPlaces may failed asked (IsNewFull m) x y →
       AsksPlaces may failed asked (IsEdgeBundle n) y z → AsksPlaces may failed asked (IsEdgeBundleOrNew n m) x z

@@ -113,18 +113,29 @@ module _ {S : Type 0} (asked : S → Option (List Path)) where
         (get_or z.list.items k d) (p.each k d) (q.each k d);
   }
 
+  -- a call that requests nothing
+  once_none : (may : S → Path → Option (List ℕ) → Type 0) (failed : S → ℕ) (x y : Places S) →
+      AsksPlaces may failed asked (λ path. ⊥) x y → AsksOnce asked (λ k path. ⊥) x y
+  once_none may failed x y q = record {
+    each = λ k d. let a = q.each k d in record {
+      paths = a.paths;
+      recorded = a.recorded;
+      are_so = a.are_so;
+      once = pairs_none a.paths a.are_so;
+    };
+  }
+
   -- the record after the call
   pub once_noted : (may : S → Path → Option (List ℕ) → Type 0) (failed : S → ℕ) (so : ℕ → Path → Type 0) (x y z : Places S) →
       AsksOnce asked so x y → AsksPlaces may failed asked (λ path. ⊥) y z → AsksOnce asked so x z
   once_noted may failed so x y z p q = once_then so (λ k path. ⊥) so (λ k path h none. none) (λ k path h. h)
-      (λ k path none. absurd none) x y z p (record {
-        each = λ k d. let a = q.each k d in record {
-          paths = a.paths;
-          recorded = a.recorded;
-          are_so = a.are_so;
-          once = pairs_none a.paths a.are_so;
-        };
-      })
+      (λ k path none. absurd none) x y z p (once_none may failed y z q)
+
+  -- a hint before the call
+  pub noted_once : (may : S → Path → Option (List ℕ) → Type 0) (failed : S → ℕ) (so : ℕ → Path → Type 0) (x y z : Places S) →
+      AsksPlaces may failed asked (λ path. ⊥) x y → AsksOnce asked so y z → AsksOnce asked so x z
+  noted_once may failed so x y z p q = once_then (λ k path. ⊥) so so (λ k path none h. none) (λ k path none. absurd none)
+      (λ k path h. h) x y z (once_none may failed x y p) q
 
   -- one place got a request
   pub once_at : (so : Path → Type 0) (x y : Places S) (i : ℕ) (old new : Place S) → i < length x.list.items →

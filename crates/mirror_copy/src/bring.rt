@@ -11,7 +11,6 @@ ghost use Rattle.mirror_copy.specs.Suffices.{IsSpared, IsTileHash, IsTileRow, Is
 ghost use Rattle.mirror_copy.specs.Taken.{PutsTaken};
 ghost use Rattle.mirror_copy.specs.Growing.{IsKnown, BringsRow, BringsTile};
 
-use crate::ahead::find_bundle;
 use crate::fault::BringFault;
 use crate::find::find;
 use crate::keep::keep;
@@ -24,7 +23,7 @@ use std::alloc::Global;
 use tlog_hash::{Hash, TreeHash};
 use tlog_tiles::{Path, write_row};
 
-// Brings a full bundle, and its tile of level 0. `more` is the number of bundles after it in its row.
+// Brings a full bundle, and its tile of level 0. The tree has `bundles` full bundles.
 fn bring_bundle<H: TreeHash, D: ReadableShelf, S: Source + Drop>(
     alloc: Global,
     shelf: &mut D,
@@ -32,7 +31,7 @@ fn bring_bundle<H: TreeHash, D: ReadableShelf, S: Source + Drop>(
     tip: &CopyTip,
     index: u64,
     hash: &Hash,
-    more: u64,
+    bundles: u64,
 ) -> Result<(), BringFault>
     requires fits { (index + 1) * 256 ≤ 2 ^ 63 }
     requires beyond { tip.now.size < (index + 1) * 256 }
@@ -54,7 +53,7 @@ fn bring_bundle<H: TreeHash, D: ReadableShelf, S: Source + Drop>(
         (D.puts shelf.new) result }
 {
     let path = Path::Entries { index, width: 256 };
-    let found = find_bundle::<H, D, S>(alloc, shelf, places, index, hash, more)?;
+    let found = find::<H, D, S>(alloc, shelf, places, FullFile::Bundle, &path, hash, bundles)?;
     let Some(_first) = tip.first_new(0, index, &found.row) else {
         return Err(BringFault::Contradiction);
     };
@@ -74,8 +73,8 @@ fn bring_bundle<H: TreeHash, D: ReadableShelf, S: Source + Drop>(
     )
 }
 
-/// Brings a full tile: finds its row, brings all files below it from left to right, and then puts it. `more` is the number of tiles
-/// after it in the row above.
+/// Brings a full tile: finds its row, brings all files below it from left to right, and then puts it. The tree has `bundles` full
+/// bundles.
 #[cycle(tiles)]
 fn bring_tile<H: TreeHash, D: ReadableShelf, S: Source + Drop>(
     alloc: Global,
@@ -85,7 +84,7 @@ fn bring_tile<H: TreeHash, D: ReadableShelf, S: Source + Drop>(
     level: u32,
     index: u64,
     hash: &Hash,
-    more: u64,
+    bundles: u64,
 ) -> Result<(), BringFault>
     requires level { level ≤ 6 }
     requires fits { (index + 1) * 256 ^ (level + 1) ≤ 2 ^ 63 }
@@ -110,19 +109,20 @@ fn bring_tile<H: TreeHash, D: ReadableShelf, S: Source + Drop>(
         (D.puts shelf.new) result }
 {
     if level == 0 {
-        return bring_bundle::<H, D, S>(alloc, shelf, places, tip, index, hash, more);
+        return bring_bundle::<H, D, S>(alloc, shelf, places, tip, index, hash, bundles);
     }
     let path = Path::Tile {
         level,
         index,
         width: 256,
     };
-    let found = find::<H, D, S>(alloc, shelf, places, FullFile::Tile, &path, hash)?;
-    bring_row::<H, D, S>(alloc, shelf, places, tip, level, index, &found.row)?;
+    let found = find::<H, D, S>(alloc, shelf, places, FullFile::Tile, &path, hash, bundles)?;
+    bring_row::<H, D, S>(alloc, shelf, places, tip, level, index, &found.row, bundles)?;
     keep(shelf, &path, &found.bytes)
 }
 
-/// Brings all files below a row, from left to right. The row is that of a full tile or of the right edge.
+/// Brings all files below a row, from left to right. The row is that of a full tile or of the right edge. The tree has `bundles` full
+/// bundles.
 #[cycle(tiles)]
 pub(crate) fn bring_row<H: TreeHash, D: ReadableShelf, S: Source + Drop>(
     alloc: Global,
@@ -132,6 +132,7 @@ pub(crate) fn bring_row<H: TreeHash, D: ReadableShelf, S: Source + Drop>(
     level: u32,
     index: u64,
     row: &[Hash],
+    bundles: u64,
 ) -> Result<(), BringFault>
     requires above { 1 ≤ level }
     requires level { level ≤ 7 }
@@ -171,7 +172,7 @@ pub(crate) fn bring_row<H: TreeHash, D: ReadableShelf, S: Source + Drop>(
             level - 1,
             256 * index + i,
             &row[i as usize],
-            row.len() as u64 - i - 1,
+            bundles,
         )?;
     }
     Ok(())

@@ -53,10 +53,20 @@ pub(crate) fn bring_levels<H: TreeHash, D: ReadableShelf, S: Source + Drop>(
     ensures brings { (known : List (List ℕ)) → IsKnown H.digest tip.now 0 known
         → BringsEdge H.digest tip.now edge.now known (D.puts shelf.old) (D.puts shelf.new) result }
 {
+    let bundles = edge.size() / 256;
     for done in 0..7u32 {
         let level = 7 - done;
         let index = edge_index(edge.size(), level);
-        bring_row::<H, D, S>(alloc, shelf, places, tip, level, index, edge.row(level))?;
+        bring_row::<H, D, S>(
+            alloc,
+            shelf,
+            places,
+            tip,
+            level,
+            index,
+            edge.row(level),
+            bundles,
+        )?;
     }
     Ok(())
 }

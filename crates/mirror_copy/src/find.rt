@@ -12,6 +12,7 @@ ghost use Rattle.mirror_copy.specs.Suffices.{HasTruePlace, IsFileUnder, IsNoLack
 ghost use Rattle.mirror_copy.specs.Taken.{MayGive, MayTake};
 ghost use Rattle.mirror_copy.specs.declared.place.Place.{Place};
 
+use crate::ahead::expect_from;
 use crate::fault::BringFault;
 use crate::place::{PlaceAnswer, Wrong};
 use crate::places::{Places, in_turn};
@@ -22,12 +23,11 @@ use std::alloc::{AllocError, Global};
 use tlog_hash::{Hash, TreeHash};
 use tlog_tiles::Path;
 
-/// A full file that verifies: its bytes, its row, and whether a place gave it.
+/// A full file that verifies: its bytes and its row.
 #[derive(Drop)]
 pub(crate) struct Found {
     pub(crate) bytes: Vec<u8>,
     pub(crate) row: Vec<Hash>,
-    pub(crate) is_given: bool,
 }
 
 // These bytes, if they verify.
@@ -44,11 +44,7 @@ fn accept<H: TreeHash>(
     ensures same { IfOk result (λ found. IfSome found (λ f. f.bytes.items ≡ bytes.items)) }
 {
     match verified::<H>(alloc, kind, hash, &bytes)? {
-        Some(row) => Ok(Some(Found {
-            bytes,
-            row,
-            is_given: false,
-        })),
+        Some(row) => Ok(Some(Found { bytes, row })),
         None => Ok(None),
     }
 }
@@ -77,9 +73,8 @@ fn find_at_place<H: TreeHash, S: Source + Drop>(
 {
     match places.get(index, path)? {
         PlaceAnswer::File(bytes) => match accept::<H>(alloc, kind, hash, bytes)? {
-            Some(mut found) => {
+            Some(found) => {
                 places.note_verified(index);
-                found.is_given = true;
                 Ok(Some(found))
             }
             None => {
@@ -127,7 +122,7 @@ fn find_at_places<H: TreeHash, S: Source + Drop>(
     Ok(None)
 }
 
-/// The file from the shelf, or else from a place.
+/// The file from the shelf, or else from a place. The tree has `bundles` full bundles, so that a hint names the next files.
 pub(crate) fn find<H: TreeHash, D: ReadableShelf, S: Source + Drop>(
     alloc: Global,
     shelf: &mut D,
@@ -135,6 +130,7 @@ pub(crate) fn find<H: TreeHash, D: ReadableShelf, S: Source + Drop>(
     kind: FullFile,
     path: &Path,
     hash: &Hash,
+    bundles: u64,
 ) -> Result<Found, BringFault>
     ensures found { IfOk result (λ f. Verifies H.digest kind hash.now f.bytes.items f.row.items) }
     ensures fault { IfErr result IsNoConflict }
@@ -155,6 +151,7 @@ pub(crate) fn find<H: TreeHash, D: ReadableShelf, S: Source + Drop>(
             return Ok(found);
         }
     }
+    expect_from::<S>(alloc, places, path, bundles);
     match find_at_places::<H, S>(alloc, places, kind, path, hash)? {
         Some(found) => Ok(found),
         None => Err(places.lacks(path)),

@@ -4,7 +4,7 @@ use Rattle.log_reader.specs.Holding.{IsTileHash}
 use Rattle.log_reader.proofs.TrueReads.{source_later}
 use Rattle.mirror_audit.specs.Covering.{CoversRow, CoversTile}
 use Rattle.mirror_audit.proofs.Given.{on_ok}
-use Rattle.mirror_audit.proofs.TileRows.{child_small, row_first, row_fits, row_hinted, row_more, row_small, tile_covers}
+use Rattle.mirror_audit.proofs.TileRows.{child_small, row_first, row_fits, row_hinted, row_more, tile_covers}
 use Rattle.mirror_audit.proofs.WholeLogs.{child_hash, tile_row_true}
 use Rattle.mirror_audit.specs.WholeLogs.{IsTrueRow}
 use Rattle.tlog_tiles.specs.Row.{row_text}
@@ -37,28 +37,22 @@ audit_row-overflow_add-child g t c =
     let small = child_small c.args.level c.args.index (length c.args.row.now) c.loop-i.i c.loop-i-test.true c.requires.fits in
     search rules
 
-pub audit_row-expect_bundles-requires : goal.audit_row-expect_bundles-requires
-audit_row-expect_bundles-requires g t c =
-    let small = row_small c.args.level c.args.index (length c.args.row.now) c.requires.fits in
-    let lt : c.loop-i.i < length c.args.row.now = c.loop-i-test.true in
-    omega (arith, small, lt)
-
 pub audit_row-loop-i-preserved : goal.audit_row-loop-i-preserved
 audit_row-loop-i-preserved g t c = record {
-  counted = c.in_ok-audit_tile.ensures.counted ∙ (c.expect_bundles.ensures.counted ∙ c.loop-i.invariant.counted);
+  counted = c.in_ok-audit_tile.ensures.counted ∙ (c.expect_from.ensures.counted ∙ c.loop-i.invariant.counted);
   covers =
       let may = g.S.Source.may_answer in
       let asked = g.S.Source.asked in
       let row = c.args.row.now in
       let i = c.loop-i.i in
       let h = get_or row i [] in
-      let hinted = c.expect_bundles.new.source in
+      let hinted = c.expect_from.new.source in
       row_more g.H.TreeHash.digest c.args.level c.args.index row (may c.args.source.now) (may hinted)
       (may c.audit_tile.new.source) (asked c.args.source.now) (asked hinted) (asked c.audit_tile.new.source) i h
       c.requires.above c.loop-i-test.true (get_or_default row i [] h c.loop-i-test.true)
       (row_hinted g.H.TreeHash.digest c.args.level c.args.index row i (may c.args.source.now) (may c.loop-i.source) (may hinted)
-      (asked c.args.source.now) (asked c.loop-i.source) (asked hinted) c.expect_bundles.ensures.later
-      c.expect_bundles.ensures.recorded c.loop-i.invariant.covers)
+      (asked c.args.source.now) (asked c.loop-i.source) (asked hinted) c.expect_from.ensures.later
+      c.expect_from.ensures.recorded c.loop-i.invariant.covers)
       c.in_ok-audit_tile.ensures.covers;
   read =
       let may = g.S.Source.may_answer in
@@ -66,7 +60,7 @@ audit_row-loop-i-preserved g t c = record {
       let level = c.args.level in
       let first = 256 * c.args.index in
       let i = c.loop-i.i in
-      let hinted = c.expect_bundles.new.source in
+      let hinted = c.expect_from.new.source in
       let digest = g.H.TreeHash.digest in
       let row = c.args.row.now in
       let about = HasRow digest level c.args.index row in
@@ -75,8 +69,8 @@ audit_row-loop-i-preserved g t c = record {
       (row_order level c.args.index i) (tile_order (level - 1) (first + i))
       (row_order level c.args.index (i + 1)) (each_next (tile_order (level - 1)) first i)
       (read_hinted (may c.args.source.now) (may c.loop-i.source) (asked c.args.source.now) (asked c.loop-i.source) digest about
-      (may hinted) (asked hinted) (row_order level c.args.index i) c.expect_bundles.ensures.later
-      c.expect_bundles.ensures.recorded c.loop-i.invariant.read)
+      (may hinted) (asked hinted) (row_order level c.args.index i) c.expect_from.ensures.later
+      c.expect_from.ensures.recorded c.loop-i.invariant.read)
       (λ entries r t. record {
         short = r.short;
         is_hash = child_hash digest entries level c.args.index row r.is_row c.requires.above c.requires.level i
@@ -121,8 +115,8 @@ audit_row-returns-in_err-audit_tile-clause-honest g t c = λ entries s row.
     let digest = g.H.TreeHash.digest in
     let may = g.S.Source.may_answer in
     let now = source_later digest entries (may c.args.source.now) (may c.loop-i.source) c.loop-i.invariant.covers.given.stays s in
-    let later = source_later digest entries (may c.loop-i.source) (may c.expect_bundles.new.source)
-    c.expect_bundles.ensures.later now in
+    let later = source_later digest entries (may c.loop-i.source) (may c.expect_from.new.source)
+    c.expect_from.ensures.later now in
     let fault = c.in_err-audit_tile.ensures.honest entries later
     (child_hash digest entries c.args.level c.args.index c.args.row.now row c.requires.above c.requires.level c.loop-i.i
     c.loop-i-test.true) in
@@ -257,14 +251,14 @@ audit_row-returns-in_err-audit_tile-clause-first g t c =
     let i = c.loop-i.i in
     let order = tile_order (level - 1) in
     let first = 256 * index in
-    let hinted = c.expect_bundles.new.source in
+    let hinted = c.expect_from.new.source in
     let h = get_or row i [] in
     let parts = each_parts order first i (length row) c.loop-i-test.true in
     let stop = stops_in digest (row_order level index i) (order (first + i)) parts.rest (row_order level index (length row))
     (HasRow digest level index row) (HasTile digest (level - 1) (first + i) h) (may c.args.source.now) (may hinted)
     (may c.audit_tile.new.source) (asked c.args.source.now) (asked hinted) (asked c.audit_tile.new.source)
     (read_hinted (may c.args.source.now) (may c.loop-i.source) (asked c.args.source.now) (asked c.loop-i.source) digest
-    (HasRow digest level index row) (may hinted) (asked hinted) (row_order level index i) c.expect_bundles.ensures.later c.expect_bundles.ensures.recorded
+    (HasRow digest level index row) (may hinted) (asked hinted) (row_order level index i) c.expect_from.ensures.later c.expect_from.ensures.recorded
     c.loop-i.invariant.read)
     (λ entries r t. record {
       short = r.short;

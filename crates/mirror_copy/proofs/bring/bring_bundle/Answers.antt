@@ -22,30 +22,30 @@ pub returns-in_err-found-clause-brings : goal.returns-in_err-found-clause-brings
 returns-in_err-found-clause-brings g c = λ known is.
     let p = err_from_is_err_and c.from_residual.result c.from_residual.ensures.1 in
     rw p.1 (left_none g.H.TreeHash.digest c.args.tip.now.size known (g.D.Shelf.puts c.args.shelf.now)
-    (g.D.Shelf.puts c.find_bundle.new.shelf) c.find_bundle.ensures.same)
+    (g.D.Shelf.puts c.find.new.shelf) c.find.ensures.same)
 
 pub returns-in_default-clause-brings : goal.returns-in_default-clause-brings
 returns-in_default-clause-brings g c = λ known is.
     left_none g.H.TreeHash.digest c.args.tip.now.size known (g.D.Shelf.puts c.args.shelf.now)
-    (g.D.Shelf.puts c.find_bundle.new.shelf) c.find_bundle.ensures.same
+    (g.D.Shelf.puts c.find.new.shelf) c.find.ensures.same
 
 pub returns-then-not-goes_on-clause-brings : goal.returns-then-not-goes_on-clause-brings
 returns-then-not-goes_on-clause-brings g c = λ known is.
     left_none g.H.TreeHash.digest c.args.tip.now.size known (g.D.Shelf.puts c.args.shelf.now)
-    (g.D.Shelf.puts c.find_bundle.new.shelf) c.find_bundle.ensures.same
+    (g.D.Shelf.puts c.find.new.shelf) c.find.ensures.same
 
 pub returns-in_err-bytes-clause-brings : goal.returns-in_err-bytes-clause-brings
 returns-in_err-bytes-clause-brings g c = λ known is.
     let p = err_from_is_err_and c.from_residual-in_err-bytes.result c.from_residual-in_err-bytes.ensures.1 in
     rw p.1 (left_none g.H.TreeHash.digest c.args.tip.now.size known (g.D.Shelf.puts c.args.shelf.now)
-    (g.D.Shelf.puts c.find_bundle.new.shelf) c.find_bundle.ensures.same)
+    (g.D.Shelf.puts c.find.new.shelf) c.find.ensures.same)
 
 pub returns-in_err-keep-clause-brings : goal.returns-in_err-keep-clause-brings
 returns-in_err-keep-clause-brings g c = λ known is.
     let p = err_from_is_err_and c.from_residual-in_err-keep.result c.from_residual-in_err-keep.ensures.1 in
     let bytes = c.in_ok-found.found.bytes.items in
     let x = g.D.Shelf.puts c.args.shelf.now in
-    let y = g.D.Shelf.puts c.find_bundle.new.shelf in
+    let y = g.D.Shelf.puts c.find.new.shelf in
     let z = g.D.Shelf.puts c.keep.new.shelf in
     let v = c.in_ok-found.ensures.found.is_row in
     let there : c.args.index ≡ edge_index_of c.args.tip.now.size 0 →
@@ -55,7 +55,7 @@ returns-in_err-keep-clause-brings g c = λ known is.
     let puts = subst (λ b. (KeepsRecord y z) ⊎ (AddsToRecord y z ((Entries c.args.index 256, b) ∷ [])))
     c.deref-4.ensures.value c.keep.ensures.puts in
     rw p.1 (bundle_left g.H.TreeHash.digest c.args.tip.now c.args.index 256 (omega arith) (omega arith) known is (omega arith) bytes
-    c.in_ok-found.found.row.items v goes_on x y z c.find_bundle.ensures.same puts)
+    c.in_ok-found.found.row.items v goes_on x y z c.find.ensures.same puts)
 
 pub returns-clause-brings : goal.returns-clause-brings
 returns-clause-brings g c = λ known is.
@@ -63,7 +63,7 @@ returns-clause-brings g c = λ known is.
     let bytes = c.in_ok-found.found.bytes.items in
     let row = c.in_ok-found.found.row.items in
     let x = g.D.Shelf.puts c.args.shelf.now in
-    let y = g.D.Shelf.puts c.find_bundle.new.shelf in
+    let y = g.D.Shelf.puts c.find.new.shelf in
     let z = g.D.Shelf.puts c.keep.new.shelf in
     let w = g.D.Shelf.puts c.keep-2.new.shelf in
     let found = c.in_ok-found.ensures.found in
@@ -75,12 +75,12 @@ returns-clause-brings g c = λ known is.
     c.deref-4.ensures.value c.keep.ensures.puts in
     let text = c.deref-5.ensures.value ∙ (c.in_ok-bytes.ensures.text ∙ ap row_text c.deref-3.ensures.value) in
     let left = tile_left digest c.args.tip.now c.args.index 256 (omega arith) (omega arith) known is (omega arith) bytes row
-    found.is_row goes_on x y z c.find_bundle.ensures.same puts w c.deref-5.result.now text c.keep-2.ensures.puts in
+    found.is_row goes_on x y z c.find.ensures.same puts w c.deref-5.result.now text c.keep-2.ensures.puts in
     let there = subst (λ b. RecordsStands y z (Entries c.args.index 256) b) c.deref-4.ensures.value c.in_ok-keep.ensures.stands in
     brings_ok digest c.args.tip.now 0 c.args.index c.args.hash.now known x w c.keep-2.result
     (RecordsStands z w (Tile 0 c.args.index 256) c.deref-5.result.now) c.keep-2.ensures.stands
     (λ row_there. bundle_brought digest c.args.tip.now c.args.index 256 (omega arith) (omega arith) known is (omega arith)
-    bytes row found.is_row goes_on x y z c.find_bundle.ensures.same puts w c.deref-5.result.now text c.keep-2.ensures.puts refl
+    bytes row found.is_row goes_on x y z c.find.ensures.same puts w c.deref-5.result.now text c.keep-2.ensures.puts refl
     c.args.hash.now found.folds there row_there)
     left
 
@@ -88,66 +88,66 @@ pub returns-in_err-found-clause-asks : goal.returns-in_err-found-clause-asks
 returns-in_err-found-clause-asks g c =
     asks_weaker g.S.Source.may_answer g.S.Source.failed g.S.Source.asked (λ p. p ≡ Entries c.args.index 256)
     (IsNewFull c.args.tip.now.size) (bundle_asked c.args.tip.now.size c.args.index c.requires.beyond)
-    c.args.places.now c.find_bundle.new.places c.find_bundle.ensures.asks
+    c.args.places.now c.find.new.places c.find.ensures.asks
 
 pub returns-in_default-clause-asks : goal.returns-in_default-clause-asks
 returns-in_default-clause-asks g c =
     asks_weaker g.S.Source.may_answer g.S.Source.failed g.S.Source.asked (λ p. p ≡ Entries c.args.index 256)
     (IsNewFull c.args.tip.now.size) (bundle_asked c.args.tip.now.size c.args.index c.requires.beyond)
-    c.args.places.now c.find_bundle.new.places c.find_bundle.ensures.asks
+    c.args.places.now c.find.new.places c.find.ensures.asks
 
 pub returns-then-not-goes_on-clause-asks : goal.returns-then-not-goes_on-clause-asks
 returns-then-not-goes_on-clause-asks g c =
     asks_weaker g.S.Source.may_answer g.S.Source.failed g.S.Source.asked (λ p. p ≡ Entries c.args.index 256)
     (IsNewFull c.args.tip.now.size) (bundle_asked c.args.tip.now.size c.args.index c.requires.beyond)
-    c.args.places.now c.find_bundle.new.places c.find_bundle.ensures.asks
+    c.args.places.now c.find.new.places c.find.ensures.asks
 
 pub returns-in_err-bytes-clause-asks : goal.returns-in_err-bytes-clause-asks
 returns-in_err-bytes-clause-asks g c =
     asks_weaker g.S.Source.may_answer g.S.Source.failed g.S.Source.asked (λ p. p ≡ Entries c.args.index 256)
     (IsNewFull c.args.tip.now.size) (bundle_asked c.args.tip.now.size c.args.index c.requires.beyond)
-    c.args.places.now c.find_bundle.new.places c.find_bundle.ensures.asks
+    c.args.places.now c.find.new.places c.find.ensures.asks
 
 pub returns-in_err-keep-clause-asks : goal.returns-in_err-keep-clause-asks
 returns-in_err-keep-clause-asks g c =
     asks_weaker g.S.Source.may_answer g.S.Source.failed g.S.Source.asked (λ p. p ≡ Entries c.args.index 256)
     (IsNewFull c.args.tip.now.size) (bundle_asked c.args.tip.now.size c.args.index c.requires.beyond)
-    c.args.places.now c.find_bundle.new.places c.find_bundle.ensures.asks
+    c.args.places.now c.find.new.places c.find.ensures.asks
 
 pub returns-clause-asks : goal.returns-clause-asks
 returns-clause-asks g c =
     asks_weaker g.S.Source.may_answer g.S.Source.failed g.S.Source.asked (λ p. p ≡ Entries c.args.index 256)
     (IsNewFull c.args.tip.now.size) (bundle_asked c.args.tip.now.size c.args.index c.requires.beyond)
-    c.args.places.now c.find_bundle.new.places c.find_bundle.ensures.asks
+    c.args.places.now c.find.new.places c.find.ensures.asks
 
 pub returns-in_err-found-clause-taken : goal.returns-in_err-found-clause-taken
 returns-in_err-found-clause-taken g c =
     puts_none g.S.Source.may_answer g.S.Source.failed g.S.Source.asked c.args.places.now (g.D.Shelf.puts c.args.shelf.now)
-    (g.D.Shelf.puts c.find_bundle.new.shelf) c.find_bundle.ensures.same
+    (g.D.Shelf.puts c.find.new.shelf) c.find.ensures.same
 
 pub returns-in_default-clause-taken : goal.returns-in_default-clause-taken
 returns-in_default-clause-taken g c =
     puts_none g.S.Source.may_answer g.S.Source.failed g.S.Source.asked c.args.places.now (g.D.Shelf.puts c.args.shelf.now)
-    (g.D.Shelf.puts c.find_bundle.new.shelf) c.find_bundle.ensures.same
+    (g.D.Shelf.puts c.find.new.shelf) c.find.ensures.same
 
 pub returns-then-not-goes_on-clause-taken : goal.returns-then-not-goes_on-clause-taken
 returns-then-not-goes_on-clause-taken g c =
     puts_none g.S.Source.may_answer g.S.Source.failed g.S.Source.asked c.args.places.now (g.D.Shelf.puts c.args.shelf.now)
-    (g.D.Shelf.puts c.find_bundle.new.shelf) c.find_bundle.ensures.same
+    (g.D.Shelf.puts c.find.new.shelf) c.find.ensures.same
 
 pub returns-in_err-bytes-clause-taken : goal.returns-in_err-bytes-clause-taken
 returns-in_err-bytes-clause-taken g c =
     puts_none g.S.Source.may_answer g.S.Source.failed g.S.Source.asked c.args.places.now (g.D.Shelf.puts c.args.shelf.now)
-    (g.D.Shelf.puts c.find_bundle.new.shelf) c.find_bundle.ensures.same
+    (g.D.Shelf.puts c.find.new.shelf) c.find.ensures.same
 
 pub returns-in_err-keep-clause-taken : goal.returns-in_err-keep-clause-taken
 returns-in_err-keep-clause-taken g c =
-    let y = g.D.Shelf.puts c.find_bundle.new.shelf in
+    let y = g.D.Shelf.puts c.find.new.shelf in
     let z = g.D.Shelf.puts c.keep.new.shelf in
     let puts = subst (λ b. (KeepsRecord y z) ⊎ (AddsToRecord y z ((Entries c.args.index 256, b) ∷ [])))
     c.deref-4.ensures.value c.keep.ensures.puts in
     puts_after g.S.Source.may_answer g.S.Source.failed g.S.Source.asked c.args.places.now (g.D.Shelf.puts c.args.shelf.now) y z
-    (Entries c.args.index 256) c.in_ok-found.found.bytes.items c.find_bundle.ensures.same puts (inr c.in_ok-found.ensures.taken)
+    (Entries c.args.index 256) c.in_ok-found.found.bytes.items c.find.ensures.same puts (inr c.in_ok-found.ensures.taken)
 
 pub returns-clause-taken : goal.returns-clause-taken
 returns-clause-taken g c =
@@ -156,13 +156,13 @@ returns-clause-taken g c =
     let asked = g.S.Source.asked in
     let places = c.args.places.now in
     let x = g.D.Shelf.puts c.args.shelf.now in
-    let y = g.D.Shelf.puts c.find_bundle.new.shelf in
+    let y = g.D.Shelf.puts c.find.new.shelf in
     let z = g.D.Shelf.puts c.keep.new.shelf in
     let w = g.D.Shelf.puts c.keep-2.new.shelf in
     let puts = subst (λ b. (KeepsRecord y z) ⊎ (AddsToRecord y z ((Entries c.args.index 256, b) ∷ [])))
     c.deref-4.ensures.value c.keep.ensures.puts in
     let first = puts_after may failed asked places x y z (Entries c.args.index 256) c.in_ok-found.found.bytes.items
-    c.find_bundle.ensures.same puts (inr c.in_ok-found.ensures.taken) in
+    c.find.ensures.same puts (inr c.in_ok-found.ensures.taken) in
     puts_then may failed asked (IsNewFull c.args.tip.now.size) places places
     (asks_same may failed asked (IsNewFull c.args.tip.now.size) places) x z w first
     (puts_one may failed asked places z w (Tile 0 c.args.index 256) c.deref-5.result.now c.keep-2.ensures.puts (inl refl))
