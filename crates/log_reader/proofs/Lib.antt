@@ -16,3 +16,4 @@ pub mod NodeHashes
 pub mod Asked
 pub mod ShownBundles
 pub mod FirstHashes
+pub mod FullNodes

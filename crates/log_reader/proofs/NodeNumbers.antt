@@ -1,6 +1,6 @@
 -- The levels and indices of the hashes of a tree's nodes.
 use Rattle.std.proofs.Common.{◌≡◌, ℕ, zero, suc, ◌+◌, ◌-◌, ◌*◌, ◌/◌, ◌%◌, ◌^◌, ◌<◌, ◌≤◌, inl, inr, refl, sym, ap, subst, ◌∙◌, arith}
-use Rattle.std.proofs.Math.Nat.{div-mul-le_self, lt-div-mul-add}
+use Rattle.std.proofs.Math.Nat.{div-mul-le_self, lt-div-mul-add, mul-add-mod_self_right}
 use Rattle.std.proofs.lemmas.Bool.{cases_lt}
 use Rattle.std.proofs.lemmas.Nat.{div-add-mod', div-mul-add, div_below, le-div, mod-mul-add, mul-le, pow-add, pow_pos}
 use Rattle.tlog_shape.specs.Edge.{IsTop, edge_index_of, width_of}
@@ -31,6 +31,26 @@ power_multiple low high p q le =
     record {
       times = 2 ^ (j - i);
       is = q.is ∙ (ap (λ e. 2 ^ e) gap ∙ (pow-add 2 (j - i) i ∙ ap (λ k. 2 ^ (j - i) * k) (sym p.is)));
+    }
+
+-- a number is known by a multiple of it
+same_times : (size x y : ℕ) → 0 < size → x * size ≡ y * size → x ≡ y
+same_times size x y some same =
+    let sum : (z : ℕ) → z * size ≡ z * size + 0 = λ z. omega arith in
+    let whole : (z : ℕ) → z * size / size ≡ z = λ z. ap (λ n. n / size) (sum z) ∙ div-mul-add z size 0 some in
+    sym (whole x) ∙ (ap (λ n. n / size) same ∙ whole y)
+
+quotient_power : (low high times : ℕ) → IsPowerOfTwo low → IsPowerOfTwo high → low ≤ high → times * low ≡ high →
+    IsPowerOfTwo times
+quotient_power low high times p q le is =
+    let i = p.exponent in
+    let j = q.exponent in
+    let upto : i ≤ j = power_le i j (omega (arith, le, p.is, q.is, pow_pos j)) in
+    let gap : j ≡ (j - i) + i = omega (arith, upto) in
+    record {
+      exponent = j - i;
+      is = same_times low times (2 ^ (j - i)) (omega (arith, p.is, pow_pos i))
+          (is ∙ (q.is ∙ (ap (λ e. 2 ^ e) gap ∙ (pow-add 2 (j - i) i ∙ ap (λ k. 2 ^ (j - i) * k) (sym p.is)))));
     }
 
 multiple_aligned : (size whole : ℕ) → 0 < size → IsMultiple size whole → whole % size ≡ 0
@@ -212,6 +232,50 @@ module _ (n start len level : ℕ) (small : len < 2 ^ 64) (within : start + len 
             absurd (omega (arith, most, more, sum, in_tile, whole, level_positive level))
       ] in
       omega (arith, reached, narrow)
+
+-- the same node by the hashes of its tile's row, whatever the size of the tree
+module _ (start len level : ℕ) (small : len < 2 ^ 64) (power : IsPowerOfTwo len) (aligned : start % len ≡ 0)
+    (top : IsTop len level) where
+  abbrev end : ℕ
+  end = start + len
+
+  within_end : start + len ≤ end
+  within_end = omega arith
+
+  abbrev one : ℕ
+  one = 256 ^ level
+
+  abbrev wide : ℕ
+  wide = width_of len level
+
+  some_wide : 0 < wide
+  some_wide = count_some end start len level small within_end power aligned top
+
+  whole_wide : wide * one ≡ len
+  whole_wide = count_is end start len level small within_end power aligned top
+
+  pub count_power : IsPowerOfTwo wide
+  count_power =
+      quotient_power one len wide (block_power level) power (top_within len level (power_positive len power) small top) whole_wide
+
+  pub row_fits : width_of start level + wide ≤ 256
+  row_fits = omega (arith, fits end start len level small within_end power aligned top)
+
+  pub first_aligned : width_of start level % wide ≡ 0
+  first_aligned =
+      let first = width_of start level in
+      let index = edge_index_of start level in
+      let nodes = aligned_multiple len start aligned in
+      let row = power_multiple wide 256 count_power (record { exponent = 8; is = refl }) (omega (arith, row_fits)) in
+      let apart : nodes.times * (wide * one) ≡ nodes.times * wide * one = omega arith in
+      let all : 256 * index + first ≡ nodes.times * wide =
+      same_times one (256 * index + first) (nodes.times * wide) (level_positive level)
+      (start_is end start len level small within_end power aligned top ∙ (nodes.is ∙ (ap (λ k. nodes.times * k) (sym whole_wide) ∙ apart))) in
+      let before : index * row.times * wide ≡ index * (row.times * wide) = omega arith in
+      let before_is : 256 * index ≡ index * row.times * wide = omega (arith, before, ap (λ k. index * k) row.is) in
+      sym (mul-add-mod_self_right (index * row.times) wide first)
+      ∙ (ap (λ k. k % wide) (omega (arith, before_is, all)) ∙ multiple_aligned wide (nodes.times * wide) some_wide
+      (record { times = nodes.times; is = refl }))
 
 -- a node whose number of entries is a power of two begins at a multiple of this number
 pub perfect_aligned : (n start len : ℕ) → IsNodeRange n start len → IsPowerOfTwo len → start % len ≡ 0

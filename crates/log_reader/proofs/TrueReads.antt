@@ -284,6 +284,11 @@ module _ (digest : List ℕ → List ℕ) (hash : IsDigest digest) (entries : Li
     pub here_true : row_of_way reader.edge reader.level reader.way ≡ true_row digest entries reader.level reader.index
     here_true = way_true reader.level reader.index reader.way r.way
 
+    -- the row of the tile to which the reader went
+    pub there_true : (level index : ℕ) (row : List (List ℕ)) → row ≡ row_of_way reader.edge reader.level reader.way →
+        (reader.level ≡ level) × (reader.index ≡ index) → row ≡ true_row digest entries level index
+    there_true level index row is there = is ∙ (here_true ∙ (λ i. true_row digest entries (there.0 i) (there.1 i)))
+
     module _ (level index : ℕ) (b : IsBelow reader level index) where
       before_edge : index < edge_index_of n level
       before_edge = subst (λ m. index < edge_index_of m level) r.size_is b.full

@@ -6,3 +6,4 @@ pub mod Proving
 pub mod Truth
 pub mod Holding
 pub mod Nodes
+pub mod FullRows

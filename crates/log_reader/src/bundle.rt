@@ -14,6 +14,7 @@ ghost use Rattle.log_reader.specs.Ways.{IsShownBundle};
 use crate::fault::ReadFault;
 use crate::reader::LogReader;
 use crate::verify::{FullFile, leaves_of, verified};
+use crate::walk::go_to;
 use mirror_sources::Source;
 use std::alloc::{AllocError, Global};
 use tlog_hash::{Hash, TreeHash};
@@ -191,8 +192,8 @@ impl<H: TreeHash> LogReader<H> {
         if index == edge_index(self.size(), 0) {
             return read_end::<H, S>(alloc, source, index, self.edge().row(0));
         }
-        let row = self.row(alloc, source, 1, index / 256)?;
-        match row.get((index % 256) as usize) {
+        go_to::<H, S>(alloc, self, source, 1, index / 256)?;
+        match self.here().get((index % 256) as usize) {
             Some(hash) => read_full::<H, S>(alloc, source, index, hash),
             None => Err(ReadFault::NoFile(Path::Entries { index, width: 256 })),
         }

@@ -20,8 +20,12 @@ use tlog_hash::{Hash, TreeHash};
 use tlog_shape::{edge_index, edge_width};
 use tlog_tiles::{Path, RowFault, read_row};
 
-// The row of that width in some bytes. None: they are not such a row.
-fn row_in(alloc: Global, width: u32, bytes: &[u8]) -> Result<Option<Vec<Hash>>, AllocError>
+/// The row of that width in some bytes. None: they are not such a row.
+pub(crate) fn row_in(
+    alloc: Global,
+    width: u32,
+    bytes: &[u8],
+) -> Result<Option<Vec<Hash>>, AllocError>
     ensures row { IfOk result (λ found. IfSome found (λ row. IsRow width bytes.now row.items)) }
     ensures none { IfOk result (λ found. IfNone found ((row : List (List ℕ))
         → ¬ IsRow width bytes.now row)) }

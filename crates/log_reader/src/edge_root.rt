@@ -3,6 +3,7 @@ ghost use Rattle.std.specs.Prelude.{◌≡◌, ◌↔◌, ◌<◌, ◌++◌, ◌
 ghost use Rattle.log_reader.specs.EdgeRows.{HasWidths, IsHashOfRows, hash_of_edge};
 
 use crate::edge_rows::EdgeRows;
+use crate::verify::is_same;
 use std::alloc::{AllocError, Global};
 use tlog_hash::{Hash, TreeHash, fold};
 
@@ -48,12 +49,6 @@ pub fn edge_hash<H: TreeHash>(alloc: Global, edge: &EdgeRows) -> Result<Hash, Al
         Some(hash) => Ok(hash),
         None => Ok(H::empty()),
     }
-}
-
-fn is_same(first: &Hash, second: &Hash) -> bool
-    ensures { IsTrue result ↔ (first.now ≡ second.now) }
-{
-    first == second
 }
 
 /// Whether the rows of an edge lead to the root.

@@ -16,6 +16,7 @@ ghost use Rattle.log_reader.specs.Ways.{IsShownLeaf};
 use crate::fault::ReadFault;
 use crate::node_hash::add_node;
 use crate::reader::LogReader;
+use crate::walk::go_to;
 use mirror_sources::Source;
 use std::alloc::Global;
 use tlog_hash::{Hash, TreeHash};
@@ -87,8 +88,8 @@ impl<H: TreeHash> LogReader<H> {
         ensures honest { ReadsTilesOf H.digest self.old self.new (S.may_answer source.old) result
             (λ entries hash. hash ≡ leaf_hash H.digest (get_or entries index [])) }
     {
-        let row = self.row(alloc, source, 0, index / 256)?;
-        match row.get((index % 256) as usize) {
+        go_to::<H, S>(alloc, self, source, 0, index / 256)?;
+        match self.here().get((index % 256) as usize) {
             Some(hash) => Ok(*hash),
             None => Err(ReadFault::NoFile(Path::Tile {
                 level: 0,

@@ -17,6 +17,7 @@ mod edge_root;
 mod edge_row;
 mod edge_rows;
 mod fault;
+mod full_row;
 mod head;
 mod inclusion;
 mod laws;

@@ -15,13 +15,14 @@ use crate::edge_root::with_row;
 use crate::edge_rows::EdgeRows;
 use crate::fault::ReadFault;
 use crate::reader::LogReader;
+use crate::walk::go_to;
 use mirror_sources::Source;
 use std::alloc::{AllocError, Global};
 use tlog_hash::{Hash, TreeHash, fold};
 use tlog_shape::{edge_index, edge_width, is_perfect, top_level};
 
-// The fold of some hashes of a row. None: the row does not have them.
-fn fold_part<H: TreeHash>(row: &[Hash], first: u32, count: u32) -> Option<Hash>
+/// The fold of some hashes of a row. None: the row does not have them.
+pub(crate) fn fold_part<H: TreeHash>(row: &[Hash], first: u32, count: u32) -> Option<Hash>
     ensures { 0 < count → first + count ≤ length row.now → IsSomeAnd result
         (λ hash. hash ≡ fold_of H.digest (take count (drop first row.now))) }
 {
@@ -54,8 +55,8 @@ fn perfect_hash<H: TreeHash, S: Source>(
         (λ entries hash. hash ≡ mth H.digest (part start len entries)) }
 {
     let level = top_level(len);
-    let row = reader.row(alloc, source, level, edge_index(start, level))?;
-    match fold_part::<H>(&row, edge_width(start, level), edge_width(len, level)) {
+    go_to::<H, S>(alloc, reader, source, level, edge_index(start, level))?;
+    match reader.node(edge_width(start, level), edge_width(len, level)) {
         Some(hash) => Ok(hash),
         None => Err(ReadFault::Collision),
     }

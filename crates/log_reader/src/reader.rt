@@ -1,6 +1,8 @@
 //! The state of a reader of a log.
-ghost use Rattle.std.specs.Prelude.{◌≡◌, ◌≢◌, ◌↔◌, ◌+◌, ◌-◌, ◌/◌, ◌%◌, ◌<◌, ◌≤◌, [], ◌∷◌, IfOk, IfErr, IsTrue, OnOk, drop, map};
+ghost use Rattle.std.specs.Prelude.{◌≡◌, ◌≢◌, ◌↔◌, ◌+◌, ◌-◌, ◌/◌, ◌%◌, ◌<◌, ◌≤◌, [], ◌∷◌, IfOk, IfErr, IsSomeAnd, IsTrue, OnOk, drop, length, take};
 ghost use Rattle.tlog_shape.specs.Edge.{edge_index_of};
+ghost use Rattle.tlog_shape.specs.Split.{IsPowerOfTwo};
+ghost use Rattle.tlog_hash.specs.Tree.{fold_of};
 ghost use Rattle.mirror_sources.specs.Source.{StaysWithin};
 ghost use Rattle.mirror_sources.specs.Recorded.{KeepsRecord};
 ghost use Rattle.log_reader.specs.Faults.{CountsFailure};
@@ -11,6 +13,8 @@ ghost use Rattle.log_reader.specs.Ways.{HasEdgeHashes, IsRowUnder, IsShownRow, r
 use crate::edge_files::read_edge;
 use crate::edge_rows::EdgeRows;
 use crate::fault::ReadFault;
+use crate::full_row::FullRow;
+use crate::node_hash::fold_part;
 use mirror_sources::Source;
 use std::alloc::{AllocError, Global};
 use std::marker::{Model, PhantomData};
@@ -39,12 +43,11 @@ pub struct LogReader<H: TreeHash> {
     // The tile that was read last, and the rows from its own up to below the edge, the lowest first. No rows for a tile of the edge.
     level: u32,
     index: u64,
-    rows: Vec<Vec<Hash>>,
+    rows: Vec<FullRow<H>>,
     by: PhantomData<H>,
 }
 
 impl<H: TreeHash> Model for LogReader<H> {
-    ghost use Rattle.std.specs.Prelude.{map};
     ghost use Rattle.log_reader.specs.Ways.{Reader, IsReader};
 
     ghost Value = { Reader };
@@ -54,7 +57,7 @@ impl<H: TreeHash> Model for LogReader<H> {
       root = a.root;
       level = a.level;
       index = a.index;
-      way = map (λ row. row.items) a.rows.items;
+      way = a.rows.items;
     } };
 
     ghost invariant = { λ a. IsReader H.digest (record {
@@ -62,7 +65,7 @@ impl<H: TreeHash> Model for LogReader<H> {
       root = a.root;
       level = a.level;
       index = a.index;
-      way = map (λ row. row.items) a.rows.items;
+      way = a.rows.items;
     }) };
 }
 
@@ -161,8 +164,23 @@ impl<H: TreeHash> LogReader<H> {
         ensures shown { IsShownRow H.digest self.now.edge self.now.level self.now.index result.now }
     {
         match self.rows.first() {
-            Some(row) => row.as_slice(),
+            Some(row) => row.row(),
             None => self.edge.row(self.level),
+        }
+    }
+
+    /// The hash of a node of the reader's tile: of `count` hashes of its row, from hash `first` on. None: the row does not have them.
+    pub(crate) fn node(&self, first: u32, count: u32) -> Option<Hash>
+        requires power { IsPowerOfTwo count }
+        requires aligned { first % count ≡ 0 }
+        requires fits { first + count ≤ 256 }
+        ensures { let row = row_of_way self.now.edge self.now.level self.now.way in
+            first + count ≤ length row
+            → IsSomeAnd result (λ hash. hash ≡ fold_of H.digest (take count (drop first row))) }
+    {
+        match self.rows.first() {
+            Some(row) => Some(row.node(first, count)),
+            None => fold_part::<H>(self.edge.row(self.level), first, count),
         }
     }
 
@@ -195,15 +213,15 @@ impl<H: TreeHash> LogReader<H> {
     }
 
     /// Goes down to the tile of that index, which has that row.
-    pub(crate) fn down(&mut self, index: u64, row: Vec<Hash>) -> Result<(), AllocError>
+    pub(crate) fn down(&mut self, index: u64, row: FullRow<H>) -> Result<(), AllocError>
         requires level { 1 ≤ self.old.level }
         requires below { index / 256 ≡ self.old.index }
         requires row { IsRowUnder H.digest (row_of_way self.old.edge self.old.level self.old.way)
-            (index % 256) row.items }
+            (index % 256) row }
         ensures ok { OnOk result (self.new ≡ record self.old {
           level = self.old.level - 1;
           index = index;
-          way = row.items ∷ self.old.way;
+          way = row ∷ self.old.way;
         }) }
         ensures err { IfErr result (λ _. self.new ≡ self.old) }
     {

@@ -1,18 +1,43 @@
 //! The row of a full tile, from a source.
-ghost use Rattle.std.specs.Prelude.{◌≡◌, ◌*◌, ℕ, IfOk, List};
+ghost use Rattle.std.specs.Prelude.{◌≡◌, ◌*◌, ℕ, IfNone, IfOk, IfSome, List};
 ghost use Rattle.tlog_hash.specs.Rows.{level_row};
 ghost use Rattle.mirror_sources.specs.Source.{StaysWithin};
 ghost use Rattle.mirror_sources.specs.Recorded.{KeepsRecord};
 ghost use Rattle.log_reader.specs.Faults.{CountsFailure};
 ghost use Rattle.log_reader.specs.Holding.{HasFullTiles, IsTileHash, ReadsTrue};
-ghost use Rattle.log_reader.specs.Verified.{IsVerifiedRow};
+ghost use Rattle.log_reader.specs.Verified.{IsVerifiedRow, Verifies};
+ghost use Rattle.log_reader.specs.declared.verify.FullFile.TheVariants.{Tile};
 
+use crate::edge_files::row_in;
 use crate::fault::ReadFault;
-use crate::verify::{FullFile, verified};
+use crate::full_row::FullRow;
+use crate::verify::is_same;
 use mirror_sources::Source;
-use std::alloc::Global;
+use std::alloc::{AllocError, Global};
 use tlog_hash::{Hash, TreeHash};
 use tlog_tiles::Path;
+
+// The row of a full tile whose fold is the hash. None: the bytes are not such a tile.
+fn verified_row<H: TreeHash>(
+    alloc: Global,
+    hash: &Hash,
+    bytes: &[u8],
+) -> Result<Option<FullRow<H>>, AllocError>
+    ensures found { IfOk result
+        (λ found. IfSome found (λ row. Verifies H.digest Tile hash.now bytes.now row)) }
+    ensures none { IfOk result (λ found. IfNone found ((row : List (List ℕ))
+        → ¬ Verifies H.digest Tile hash.now bytes.now row)) }
+{
+    let Some(hashes) = row_in(alloc, 256, bytes)? else {
+        return Ok(None);
+    };
+    let row = FullRow::new(hashes)?;
+    if is_same(&row.fold(), hash) {
+        Ok(Some(row))
+    } else {
+        Ok(None)
+    }
+}
 
 /// The row of a full tile, which has to fold to the hash.
 pub(crate) fn read_tile<H: TreeHash, S: Source>(
@@ -21,14 +46,14 @@ pub(crate) fn read_tile<H: TreeHash, S: Source>(
     level: u32,
     index: u64,
     hash: &Hash,
-) -> Result<Vec<Hash>, ReadFault>
-    ensures row { IfOk result (λ row. IsVerifiedRow H.digest hash.now row.items) }
+) -> Result<FullRow<H>, ReadFault>
+    ensures row { IfOk result (λ row. IsVerifiedRow H.digest hash.now row) }
     ensures later { StaysWithin (S.may_answer source.old) (S.may_answer source.new) }
     ensures kept { KeepsRecord (S.files source.old) (S.files source.new) }
     ensures counted { CountsFailure (S.failed source.old) (S.failed source.new) result }
     ensures honest { (entries : List (List ℕ)) → IsTileHash H.digest entries level index hash.now
         → HasFullTiles H.digest entries (S.may_answer source.old) → ReadsTrue result
-        (λ row. row.items ≡ level_row H.digest entries level (256 * index) 256) }
+        (λ row. row ≡ level_row H.digest entries level (256 * index) 256) }
 {
     let path = Path::Tile {
         level,
@@ -38,7 +63,7 @@ pub(crate) fn read_tile<H: TreeHash, S: Source>(
     let Some(bytes) = source.get(&path)? else {
         return Err(ReadFault::NoFile(path));
     };
-    match verified::<H>(alloc, FullFile::Tile, hash, &bytes)? {
+    match verified_row::<H>(alloc, hash, &bytes)? {
         Some(row) => Ok(row),
         None => Err(ReadFault::FalseFile(path)),
     }

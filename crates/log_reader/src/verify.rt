@@ -81,7 +81,8 @@ fn row_of<H: TreeHash>(
     }
 }
 
-fn is_same(first: &Hash, second: &Hash) -> bool
+/// Whether two hashes are equal.
+pub(crate) fn is_same(first: &Hash, second: &Hash) -> bool
     ensures { IsTrue result ↔ (first.now ≡ second.now) }
 {
     first == second

@@ -9,6 +9,7 @@ ghost use Rattle.log_reader.specs.Holding.{IsBelow, IsReaderOf, HasFullTiles, Re
 ghost use Rattle.log_reader.specs.Ways.{IsRowUnder, IsShownRow, row_of_way};
 
 use crate::fault::ReadFault;
+use crate::full_row::FullRow;
 use crate::reader::LogReader;
 use crate::tile::read_tile;
 use mirror_sources::Source;
@@ -37,16 +38,16 @@ fn read_below<H: TreeHash, S: Source>(
     source: &mut S,
     level: u32,
     index: u64,
-) -> Result<Vec<Hash>, ReadFault>
+) -> Result<FullRow<H>, ReadFault>
     ensures row { IfOk result (λ row. IsRowUnder H.digest
-        (row_of_way reader.now.edge reader.now.level reader.now.way) (index % 256) row.items) }
+        (row_of_way reader.now.edge reader.now.level reader.now.way) (index % 256) row) }
     ensures later { StaysWithin (S.may_answer source.old) (S.may_answer source.new) }
     ensures kept { KeepsRecord (S.files source.old) (S.files source.new) }
     ensures counted { CountsFailure (S.failed source.old) (S.failed source.new) result }
     ensures honest { (entries : List (List ℕ)) → IsReaderOf H.digest entries reader.now
         → HasFullTiles H.digest entries (S.may_answer source.old) → IsBelow reader.now level index
         → ReadsTrue result
-        (λ row. row.items ≡ level_row H.digest entries level (256 * index) 256) }
+        (λ row. row ≡ level_row H.digest entries level (256 * index) 256) }
 {
     let row = reader.here();
     let Some(hash) = row.get((index % 256) as usize) else {

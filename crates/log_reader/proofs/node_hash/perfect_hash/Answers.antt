@@ -1,14 +1,35 @@
-use Rattle.std.proofs.Common.{◌≡◌, ◌+◌, ◌*◌, ◌<◌, ◌≤◌, ◌^◌, length, take, drop, ap, subst, ◌∙◌, rules, arith}
+use Rattle.std.proofs.Common.{◌≡◌, ◌+◌, ◌*◌, ◌<◌, ◌≤◌, ◌^◌, ◌%◌, length, take, drop, ap, subst, sym, refl, ◌∙◌, rules, arith}
 use Rattle.tlog_shape.specs.Edge.{edge_index_of, width_of}
 use Rattle.tlog_hash.specs.Tree.{fold_of}
+use Rattle.tlog_shape.specs.Split.{IsPowerOfTwo}
 use Rattle.log_reader.specs.Holding.{row_width, true_row}
+use Rattle.log_reader.specs.Ways.{row_of_way}
 use Rattle.log_reader.proofs.NodeHashes.{part_folds, row_count}
-use Rattle.log_reader.proofs.NodeNumbers.{count_is, count_some, fits, start_is}
+use Rattle.log_reader.proofs.NodeNumbers.{count_is, count_power, count_some, first_aligned, fits, row_fits, start_is}
+use Rattle.log_reader.proofs.TrueReads.{there_true}
 use Rattle.log_reader.proofs.node_hash.perfect_hash.Goals as goal
 
-pub returns-in_err-row-clause-honest : goal.returns-in_err-row-clause-honest
-returns-in_err-row-clause-honest g c = λ entries r s.
-    let went = c.in_err-row.ensures.honest entries r s in
+pub node-requires-clause-power : goal.node-requires-clause-power
+node-requires-clause-power g c =
+    subst IsPowerOfTwo (sym c.edge_width-2.ensures)
+    (count_power c.args.start c.args.len c.top_level-level.result c.ranges.len.fits c.requires.power c.requires.aligned
+    c.top_level-level.ensures)
+
+pub node-requires-clause-aligned : goal.node-requires-clause-aligned
+node-requires-clause-aligned g c =
+    (λ i. c.edge_width.ensures i % c.edge_width-2.ensures i)
+    ∙ first_aligned c.args.start c.args.len c.top_level-level.result c.ranges.len.fits c.requires.power c.requires.aligned
+    c.top_level-level.ensures
+
+pub node-requires-clause-fits : goal.node-requires-clause-fits
+node-requires-clause-fits g c =
+    let fits = row_fits c.args.start c.args.len c.top_level-level.result c.ranges.len.fits c.requires.power c.requires.aligned
+    c.top_level-level.ensures in
+    omega (arith, fits, c.edge_width.ensures, c.edge_width-2.ensures)
+
+pub returns-in_err-go_to-clause-honest : goal.returns-in_err-go_to-clause-honest
+returns-in_err-go_to-clause-honest g c = λ entries r s.
+    let went = c.in_err-go_to.ensures.honest entries r s in
     let fault = went.answer in
     record { reader_is = went.reader_is; answer = search (rules, fault) }
 
@@ -28,26 +49,30 @@ returns-in-Some-clause-honest g c = λ entries r s.
     let power = c.requires.power in
     let aligned = c.requires.aligned in
     let top = c.top_level-level.ensures in
-    let done = c.in_ok-row.ensures.honest entries r s in
-    let row = c.deref.result.now in
-    let is = c.deref.ensures.value ∙ (done.answer ∙ ap (true_row digest entries level) c.edge_index.ensures) in
+    let done = c.in_ok-go_to.ensures.honest entries r s in
+    let there = c.in_ok-go_to.ensures.there in
+    let at = c.go_to.new.reader in
+    let row = row_of_way at.edge at.level at.way in
+    let is : row ≡ true_row digest entries level index =
+    there_true digest g.met.H.TreeHash.digest_length entries at done.reader_is level index row refl
+    (there.0, there.1 ∙ c.edge_index.ensures) in
     let long : length row ≡ wide = ap length is ∙ row_count digest entries level (256 * index) wide in
     let upto = fits n start len level small within power aligned top in
     let some = count_some n start len level small within power aligned top in
     let f = c.edge_width.ensures in
     let w = c.edge_width-2.ensures in
-    let folded = rw c.in-Some.is at c.fold_part.ensures in
+    let folded = rw c.in-Some.is at c.node.ensures in
     record {
       reader_is = done.reader_is;
-      answer = folded (omega (arith, w, some)) (omega (arith, f, w, upto, long))
+      answer = folded (omega (arith, f, w, upto, long))
           ∙ ((λ i. fold_of digest (take (w i) (drop (f i) row)))
           ∙ part_folds digest entries level start len index first count wide row is upto some
           (start_is n start len level small within power aligned top) (count_is n start len level small within power aligned top)
           within);
     }
 
-pub returns-clause-honest : goal.returns-clause-honest
-returns-clause-honest g c = λ entries r s.
+pub returns-in-None-clause-honest : goal.returns-in-None-clause-honest
+returns-in-None-clause-honest g c = λ entries r s.
     let digest = g.H.TreeHash.digest in
     let n = length entries in
     let start = c.args.start in
@@ -62,13 +87,16 @@ returns-clause-honest g c = λ entries r s.
     let power = c.requires.power in
     let aligned = c.requires.aligned in
     let top = c.top_level-level.ensures in
-    let done = c.in_ok-row.ensures.honest entries r s in
-    let row = c.deref.result.now in
-    let is = c.deref.ensures.value ∙ (done.answer ∙ ap (true_row digest entries level) c.edge_index.ensures) in
+    let done = c.in_ok-go_to.ensures.honest entries r s in
+    let there = c.in_ok-go_to.ensures.there in
+    let at = c.go_to.new.reader in
+    let row = row_of_way at.edge at.level at.way in
+    let is : row ≡ true_row digest entries level index =
+    there_true digest g.met.H.TreeHash.digest_length entries at done.reader_is level index row refl
+    (there.0, there.1 ∙ c.edge_index.ensures) in
     let long : length row ≡ wide = ap length is ∙ row_count digest entries level (256 * index) wide in
     let upto = fits n start len level small within power aligned top in
-    let some = count_some n start len level small within power aligned top in
     let f = c.edge_width.ensures in
     let w = c.edge_width-2.ensures in
-    let folded = rw c.in-None.is at c.fold_part.ensures in
-    absurd (folded (omega (arith, w, some)) (omega (arith, f, w, upto, long)))
+    let folded = rw c.in-None.is at c.node.ensures in
+    absurd (folded (omega (arith, f, w, upto, long)))

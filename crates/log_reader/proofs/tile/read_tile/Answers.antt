@@ -7,7 +7,7 @@ returns-in-Some-2-clause-honest g c = λ entries t s.
     let is = tile_given g.H.TreeHash.digest g.met.H.TreeHash.digest_length entries (g.S.Source.may_answer c.args.source.now) s
     c.args.level c.args.index c.args.hash.now t c.in-Some.bytes.items (rw c.in-Some.is at c.in_ok-bytes.ensures.answer) in
     row_is_true g.H.TreeHash.digest g.met.H.TreeHash.digest_length entries c.args.level c.args.index 256 c.deref.result.now
-    c.in-Some-2.row.items (c.deref.ensures.value ∙ is) (rw c.in-Some-2.is at c.in_ok-row.ensures.found).is_row
+    c.in-Some-2.row (c.deref.ensures.value ∙ is) (rw c.in-Some-2.is at c.in_ok-row.ensures.found).is_row
 
 pub returns-clause-honest : goal.returns-clause-honest
 returns-clause-honest g c = λ entries t s.

@@ -1,5 +1,6 @@
 use Rattle.std.proofs.Common.{rules, ◌≡◌, sym, subst, ap, ◌∙◌, ◌+◌, ◌/◌, ◌<◌, ◌≤◌, ◌^◌, arith}
 use Rattle.tlog_shape.specs.Edge.{edge_index_of}
+use Rattle.log_reader.specs.Holding.{IsReaderOf}
 use Rattle.log_reader.proofs.Climbing.{above_full}
 use Rattle.log_reader.proofs.TrueReads.{is_below, row_below, tiles_later, went_down}
 use Rattle.log_reader.proofs.walk.+go_to.Goals as goal
@@ -38,10 +39,18 @@ returns-clause-honest g t c = λ entries r s.
     c.in_ok-go_to.ensures.there.0 c.in_ok-go_to.ensures.there.1 c.edge_index-end.ensures
     (ap (λ e. e.size) c.in_ok-go_to.ensures.edge ∙ sym c.size.ensures) c.if-index-end.false in
     let length_is = g.met.H.TreeHash.digest_length in
-    let row = row_below digest length_is entries c.go_to.new.reader up.reader_is c.args.level c.args.index b c.in_ok-row.row.items
+    let row = row_below digest length_is entries c.go_to.new.reader up.reader_is c.args.level c.args.index b c.in_ok-row.row
     (c.in_ok-row.ensures.honest entries up.reader_is (tiles_later digest entries _ _ c.in_ok-go_to.ensures.later s) b) in
     record {
       reader_is = went_down digest length_is entries c.go_to.new.reader up.reader_is c.args.level c.args.index b c.down.new.self
-          c.in_ok-row.row.items row c.in_ok-down.ensures.ok;
+          c.in_ok-row.row row c.in_ok-down.ensures.ok;
       answer = tt;
+    }
+
+pub returns-in_err-down-clause-honest : goal.returns-in_err-down-clause-honest
+returns-in_err-down-clause-honest g t c = λ entries r s.
+    let up = c.in_ok-go_to.ensures.honest entries (c.climb.ensures.honest entries r) s in
+    record {
+      reader_is = subst (IsReaderOf g.H.TreeHash.digest entries) (sym c.in_err-down.ensures.err) up.reader_is;
+      answer = search rules;
     }

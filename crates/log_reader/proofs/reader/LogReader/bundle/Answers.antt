@@ -1,13 +1,13 @@
-use Rattle.std.proofs.Common.{◌≡◌, ◌*◌, ◌%◌, ◌<◌, ◌≤◌, ℕ, Global, Vec, [], ap, arith, get_or, length, refl, rules, subst, sym, ◌∙◌}
+use Rattle.std.proofs.Common.{◌≡◌, ◌*◌, ◌/◌, ◌%◌, ◌<◌, ◌≤◌, ℕ, Global, Vec, [], ap, arith, get_or, length, refl, rules, subst, sym, ◌∙◌}
 use Rattle.std.proofs.lemmas.List.{get_or_read_under}
 use Rattle.tlog_shape.specs.Edge.{edge_index_of, width_of}
 use Rattle.tlog_hash.specs.Rows.{level_row}
 use Rattle.tlog_tiles.specs.Tiles.{bundle_bytes}
 use Rattle.log_reader.specs.EdgeRows.{row_at}
-use Rattle.log_reader.specs.Holding.{IsTileHash, ReadsTrue, row_width}
+use Rattle.log_reader.specs.Holding.{IsTileHash, ReadsTrue, row_width, true_row}
 use Rattle.log_reader.proofs.FullTiles.{source_tiles}
 use Rattle.log_reader.proofs.TrueBundles.{end_row}
-use Rattle.log_reader.proofs.TrueReads.{hash_in_row, source_later, width_at_edge, width_full, within_row}
+use Rattle.log_reader.proofs.TrueReads.{hash_in_row, source_later, there_true, width_at_edge, width_full, within_row}
 use Rattle.log_reader.proofs.reader.LogReader.bundle.Goals as goal
 
 pub returns-then-index-edge_index-clause-honest : goal.returns-then-index-edge_index-clause-honest
@@ -32,9 +32,9 @@ returns-then-index-edge_index-clause-honest g c = λ entries r s.
           (c.read_end.ensures.honest entries e s);
     }
 
-pub returns-in_err-row-clause-honest : goal.returns-in_err-row-clause-honest
-returns-in_err-row-clause-honest g c = λ entries r s.
-    let went = c.in_err-row.ensures.honest entries r
+pub returns-in_err-go_to-clause-honest : goal.returns-in_err-go_to-clause-honest
+returns-in_err-go_to-clause-honest g c = λ entries r s.
+    let went = c.in_err-go_to.ensures.honest entries r
     (source_tiles g.H.TreeHash.digest entries (g.S.Source.may_answer c.args.source.now) s) in
     let fault = went.answer in
     record { reader_is = went.reader_is; answer = search (rules, fault) }
@@ -45,14 +45,16 @@ returns-in-Some-clause-honest g c = λ entries r s.
     let length_is = g.met.H.TreeHash.digest_length in
     let n = length entries in
     let index = c.args.index in
-    let row = c.deref.result.now in
-    let done = c.in_ok-row.ensures.honest entries r
+    let row = c.here.result.now in
+    let done = c.in_ok-go_to.ensures.honest entries r
     (source_tiles digest entries (g.S.Source.may_answer c.args.source.now) s) in
     let end : c.edge_index.result ≡ edge_index_of n 0 =
     c.edge_index.ensures ∙ ap (λ m. edge_index_of m 0) (c.size.ensures ∙ r.size_is) in
     let some : 256 * index < n = subst (λ m. 256 * index < m) r.size_is c.requires in
     let before : index < edge_index_of n 0 = omega (arith, end, some, c.if-index-edge_index.false) in
-    let is = c.deref.ensures.value ∙ done.answer in
+    let is : row ≡ true_row digest entries 1 (index / 256) =
+    there_true digest g.met.H.TreeHash.digest_length entries c.go_to.new.reader done.reader_is 1 (index / 256) row
+    c.here.ensures.row c.in_ok-go_to.ensures.there in
     let at : c.in-Some.hash.now ≡ get_or row (index % 256) [] =
     get_or_read_under row (index % 256) (length row) c.in-Some.hash.now [] c.in-Some.ensures.lookup.1
     (within_row digest length_is entries 0 index (omega arith) before row is) refl in
@@ -64,22 +66,24 @@ returns-in-Some-clause-honest g c = λ entries r s.
           (c.read_full.ensures.honest entries
           (subst (IsTileHash digest entries 0 index) (sym at)
           (hash_in_row digest length_is entries 0 index (omega arith) before row is))
-          (source_later digest entries _ _ c.in_ok-row.ensures.later s));
+          (source_later digest entries _ _ c.in_ok-go_to.ensures.later s));
     }
 
-pub returns-clause-honest : goal.returns-clause-honest
-returns-clause-honest g c = λ entries r s.
+pub returns-in-None-clause-honest : goal.returns-in-None-clause-honest
+returns-in-None-clause-honest g c = λ entries r s.
     let digest = g.H.TreeHash.digest in
     let n = length entries in
     let index = c.args.index in
-    let row = c.deref.result.now in
-    let done = c.in_ok-row.ensures.honest entries r
+    let row = c.here.result.now in
+    let done = c.in_ok-go_to.ensures.honest entries r
     (source_tiles digest entries (g.S.Source.may_answer c.args.source.now) s) in
     let end : c.edge_index.result ≡ edge_index_of n 0 =
     c.edge_index.ensures ∙ ap (λ m. edge_index_of m 0) (c.size.ensures ∙ r.size_is) in
     let some : 256 * index < n = subst (λ m. 256 * index < m) r.size_is c.requires in
     let before : index < edge_index_of n 0 = omega (arith, end, some, c.if-index-edge_index.false) in
-    let within = within_row digest g.met.H.TreeHash.digest_length entries 0 index (omega arith) before row
-    (c.deref.ensures.value ∙ done.answer) in
+    let is : row ≡ true_row digest entries 1 (index / 256) =
+    there_true digest g.met.H.TreeHash.digest_length entries c.go_to.new.reader done.reader_is 1 (index / 256) row
+    c.here.ensures.row c.in_ok-go_to.ensures.there in
+    let within = within_row digest g.met.H.TreeHash.digest_length entries 0 index (omega arith) before row is in
     let none : length row ≤ index % 256 = c.in-None.ensures.lookup.3 in
     absurd (omega (arith, within, none))

@@ -1,36 +1,40 @@
-use Rattle.std.proofs.Common.{◌/◌, ◌%◌, ◌<◌, ◌≤◌, [], length, refl, rules, subst, sym, ◌∙◌, arith}
+use Rattle.std.proofs.Common.{◌≡◌, ◌/◌, ◌%◌, ◌<◌, ◌≤◌, [], length, refl, rules, subst, sym, ◌∙◌, arith}
 use Rattle.std.proofs.lemmas.Bool.{ltb-true}
 use Rattle.std.proofs.lemmas.List.{get_or_read_under}
-use Rattle.log_reader.specs.Ways.{IsShownRow}
+use Rattle.log_reader.specs.Holding.{true_row}
+use Rattle.log_reader.proofs.Climbing.{shown_there}
 use Rattle.log_reader.proofs.TruePrefixes.{leaf_is, leaf_within}
+use Rattle.log_reader.proofs.TrueReads.{there_true}
 use Rattle.log_reader.proofs.reader.LogReader.leaf.Goals as goal
 
 pub returns-in-Some-clause-shown : goal.returns-in-Some-clause-shown
 returns-in-Some-clause-shown g c =
     let index = c.args.index in
-    let row = c.deref.result.now in
+    let row = c.here.result.now in
     let within : index % 256 < length row = ltb-true _ _ (sym c.in-Some.ensures.lookup.0) in
     record {
       row = row;
-      shown = subst (IsShownRow g.H.TreeHash.digest c.args.self.now.edge 0 (index / 256)) (sym c.deref.ensures.value)
-          c.in_ok-row.ensures.shown;
+      shown = shown_there g.H.TreeHash.digest c.args.self.now.edge c.go_to.new.reader 0 (index / 256) row
+          c.in_ok-go_to.ensures.edge c.in_ok-go_to.ensures.there c.here.ensures.shown;
       within = within;
       hash_is = get_or_read_under row (index % 256) (length row) c.in-Some.hash.now [] c.in-Some.ensures.lookup.1 within refl;
     }
 
-pub returns-in_err-row-clause-honest : goal.returns-in_err-row-clause-honest
-returns-in_err-row-clause-honest g c = λ entries r s.
-    let went = c.in_err-row.ensures.honest entries r s in
+pub returns-in_err-go_to-clause-honest : goal.returns-in_err-go_to-clause-honest
+returns-in_err-go_to-clause-honest g c = λ entries r s.
+    let went = c.in_err-go_to.ensures.honest entries r s in
     let fault = went.answer in
     record { reader_is = went.reader_is; answer = search (rules, fault) }
 
 pub returns-in-Some-clause-honest : goal.returns-in-Some-clause-honest
 returns-in-Some-clause-honest g c = λ entries r s.
-    let done = c.in_ok-row.ensures.honest entries r s in
+    let done = c.in_ok-go_to.ensures.honest entries r s in
     let index = c.args.index in
-    let row = c.deref.result.now in
+    let row = c.here.result.now in
     let before : index < length entries = subst (λ n. index < n) r.size_is c.requires in
-    let is = c.deref.ensures.value ∙ done.answer in
+    let is : row ≡ true_row g.H.TreeHash.digest entries 0 (index / 256) =
+    there_true g.H.TreeHash.digest g.met.H.TreeHash.digest_length entries c.go_to.new.reader done.reader_is 0 (index / 256) row
+    c.here.ensures.row c.in_ok-go_to.ensures.there in
     record {
       reader_is = done.reader_is;
       answer = get_or_read_under row (index % 256) (length row) c.in-Some.hash.now [] c.in-Some.ensures.lookup.1
@@ -38,12 +42,15 @@ returns-in-Some-clause-honest g c = λ entries r s.
           ∙ leaf_is g.H.TreeHash.digest entries index before row is;
     }
 
-pub returns-clause-honest : goal.returns-clause-honest
-returns-clause-honest g c = λ entries r s.
-    let done = c.in_ok-row.ensures.honest entries r s in
+pub returns-in-None-clause-honest : goal.returns-in-None-clause-honest
+returns-in-None-clause-honest g c = λ entries r s.
+    let done = c.in_ok-go_to.ensures.honest entries r s in
     let index = c.args.index in
-    let row = c.deref.result.now in
+    let row = c.here.result.now in
     let before : index < length entries = subst (λ n. index < n) r.size_is c.requires in
-    let within = leaf_within g.H.TreeHash.digest entries index before row (c.deref.ensures.value ∙ done.answer) in
+    let is : row ≡ true_row g.H.TreeHash.digest entries 0 (index / 256) =
+    there_true g.H.TreeHash.digest g.met.H.TreeHash.digest_length entries c.go_to.new.reader done.reader_is 0 (index / 256) row
+    c.here.ensures.row c.in_ok-go_to.ensures.there in
+    let within = leaf_within g.H.TreeHash.digest entries index before row is in
     let none : length row ≤ index % 256 = c.in-None.ensures.lookup.3 in
     absurd (omega (arith, within, none))
