@@ -10,8 +10,8 @@ use tlog_tiles::Path;
 // The maximum number of bundles in a hint.
 const MOST_AHEAD: u64 = 64;
 
-// Adds the full tiles whose first bundle has that index, the highest first: they are requested right before it. The lower tiles of the
-// tree are made from bundles.
+// Adds the full tiles whose first bundle has that index, the highest first: they are requested right before it. Tiles of level 0 are
+// made from bundles, and not requested.
 fn push_tiles(paths: &mut Vec<Path>, index: u64, bundles: u64) -> Result<(), AllocError>
     requires { index ≤ bundles }
 {

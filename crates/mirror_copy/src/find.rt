@@ -122,7 +122,7 @@ fn find_at_places<H: TreeHash, S: Source + Drop>(
     Ok(None)
 }
 
-/// The file from the shelf, or else from a place. The tree has `bundles` full bundles, so that a hint names the next files.
+/// The file from the shelf, or else from a place. The tree has `bundles` full bundles: a hint names none after them.
 pub(crate) fn find<H: TreeHash, D: ReadableShelf, S: Source + Drop>(
     alloc: Global,
     shelf: &mut D,
