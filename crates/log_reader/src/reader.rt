@@ -17,7 +17,7 @@ use crate::hashed_edge::HashedEdge;
 use crate::node_hash::fold_part;
 use mirror_sources::Source;
 use std::alloc::{AllocError, Global};
-use std::marker::{Model, PhantomData};
+use std::marker::Model;
 use tlog_hash::{Hash, TreeHash};
 use tlog_shape::edge_index;
 
@@ -25,7 +25,7 @@ use tlog_shape::edge_index;
 ///
 /// All that it returns leads up to the root: a full tile folds to its hash in the row above it, and so on up to the edge. It keeps the
 /// edge, and the rows of the last tile and of those above it. So a read of a neighbour gets one file, and a read from left to right
-/// gets each file once. It holds at most one row a level beside the edge, for all sizes of the log.
+/// gets each file once. It holds at most one row a level with its nodes (16 KB) beside the edge, for all sizes of the log.
 ///
 /// Any source may serve any read: files that verify are equally good from each source.
 ///
@@ -44,7 +44,6 @@ pub struct LogReader<H: TreeHash> {
     level: u32,
     index: u64,
     rows: Vec<FullRow<H>>,
-    by: PhantomData<H>,
 }
 
 impl<H: TreeHash> Model for LogReader<H> {
@@ -116,7 +115,6 @@ impl<H: TreeHash> LogReader<H> {
             level: 0,
             index,
             rows: Vec::new(alloc),
-            by: PhantomData,
         }
     }
 
