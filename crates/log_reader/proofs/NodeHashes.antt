@@ -2,6 +2,7 @@
 use Rattle.std.proofs.Common.{◌≡◌, ℕ, zero, suc, ◌+◌, ◌-◌, ◌*◌, ◌/◌, ◌^◌, ◌<◌, ◌≤◌, List, [], ◌∷◌, ◌++◌, length, map, take, drop}
 use Rattle.std.proofs.Common.{IfOk, Option, Some, None, Result, Ok, Err, slice_range, refl, sym, ap, subst, ◌∙◌, arith, length-drop}
 use Rattle.std.proofs.Math.Nat.{div-mul-le_self, lt-div-mul-add}
+use Rattle.std.proofs.Math.Numerals.{add-one}
 use Rattle.std.proofs.lemmas.List.{drop-drop, length-map, take-map, take_all}
 use Rattle.std.proofs.lemmas.Nat.{mul-le}
 use Rattle.tlog_shape.specs.Edge.{edge_index_of, width_of}
@@ -9,12 +10,12 @@ use Rattle.tlog_shape.proofs.Levels.{level_next, level_positive}
 use Rattle.tlog_hash.specs.Tree.{fold_of, mth}
 use Rattle.tlog_hash.specs.Rows.{level_row, part, ranges}
 use Rattle.tlog_hash.proofs.Folds.{length-ranges}
-use Rattle.tlog_hash.proofs.Trees.{fold_of-one}
 use Rattle.tlog_tiles.proofs.EdgeLemmas.{hashes_of}
 use Rattle.tlog_tiles.proofs.TileLemmas.{row_folds}
 use Rattle.mirror_model.proofs.EdgeRoots.{IsLevel, fold_row, fold_row_rest}
-use Rattle.log_reader.specs.EdgeRows.{IsHashOfRows}
-use Rattle.log_reader.specs.Nodes.{IsHashFrom, hash_on_top}
+use Rattle.log_reader.specs.EdgeRows.{Edge, RowIsTrue, row_at}
+use Rattle.log_reader.specs.Nodes.{IsHashFrom, hash_below, hash_on_top}
+use Rattle.log_reader.proofs.EdgeHashes.{below_next, below_none}
 use Rattle.log_reader.proofs.Prefixes.{first_ranges}
 
 module _ {A : Type 0} (b : ℕ) where
@@ -166,22 +167,29 @@ module _ (digest : List ℕ → List ℕ) (entries : List (List ℕ)) (level : �
       on_top_from (256 * p + first) (w - first) (n / b) (omega (arith, fits, hashes_of n level)) q_upto q_above below
       (drop first row) rest from
 
--- no level
-pub no_level : (digest : List ℕ → List ℕ) (entries : List (List ℕ)) →
-    IsHashFrom digest entries (length entries / 256 ^ 0 * 256 ^ 0) None
-no_level digest entries = omega arith
+-- the hash below a level is that of the entries after the whole blocks of the level
+module _ (digest : List ℕ → List ℕ) (entries : List (List ℕ)) (edge : Edge) (size : edge.size ≡ length entries)
+    (rows : (level : ℕ) → level ≤ 7 → RowIsTrue digest edge entries level) where
+  pub true_row_at : (level : ℕ) → level ≤ 7 → row_at edge level
+      ≡ level_row digest entries level (256 * edge_index_of (length entries) level) (width_of (length entries) level)
+  true_row_at level low =
+      rows level low ∙ ap (λ m. level_row digest entries level (256 * edge_index_of m level) (width_of m level)) size
 
--- the fold of a row, with the hash of the entries after those of the row at its end
-module _ (digest : List ℕ → List ℕ) where
-  pub hash_on : (below : Option (List ℕ)) (row : List (List ℕ)) (hash : List ℕ) → 0 < length row →
-      ((rows : List (List (List ℕ))) → IsHashOfRows digest rows below → IsHashOfRows digest (rows ++ row ∷ []) (Some hash)) →
-      Some hash ≡ hash_on_top digest below row
-  hash_on below [] hash some lead = absurd (omega (arith, some))
-  hash_on None (first ∷ row) hash some lead = ap Some (sym (lead [] refl).1)
-  hash_on (Some value) (first ∷ row) hash some lead =
-      let one : fold_of digest (value ∷ []) ≡ value = fold_of-one digest value in
-      let led = (lead ((value ∷ []) ∷ []) ((λ e. absurd (cc e)), one)).1 in
-      ap Some (sym led ∙ ap (λ v. fold_of digest ((first ∷ row) ++ v ∷ [])) one)
+  next_below : (level : ℕ) → level ≤ 7 →
+      IsHashFrom digest entries (length entries / 256 ^ level * 256 ^ level) (hash_below digest edge level) →
+      IsHashFrom digest entries (length entries / 256 ^ (level + 1) * 256 ^ (level + 1)) (hash_below digest edge (level + 1))
+  next_below level low is =
+      subst (IsHashFrom digest entries (length entries / 256 ^ (level + 1) * 256 ^ (level + 1)))
+      (sym (below_next digest edge level))
+      (next_level digest entries level (hash_below digest edge level) (row_at edge level) (true_row_at level low) is)
+
+  pub below_true : (level : ℕ) → level ≤ 8 →
+      IsHashFrom digest entries (length entries / 256 ^ level * 256 ^ level) (hash_below digest edge level)
+  below_true zero low = subst (IsHashFrom digest entries (length entries / 256 ^ 0 * 256 ^ 0)) (sym (below_none digest edge))
+      (omega arith)
+  below_true (suc level) low =
+      subst (λ l. IsHashFrom digest entries (length entries / 256 ^ l * 256 ^ l) (hash_below digest edge l)) (add-one level)
+      (next_below level (omega (arith, low)) (below_true level (omega (arith, low))))
 
 pub if_ok : {T E : Type 0} (P Q : T → Type 0) (r : Result T E) → ((x : T) → P x → Q x) → IfOk r P → IfOk r Q
 if_ok P Q (Ok x) f p = f x p

@@ -190,7 +190,7 @@ impl<H: TreeHash> LogReader<H> {
             ≡ bundle_bytes entries index (row_width (length entries) 0 index)) }
     {
         if index == edge_index(self.size(), 0) {
-            return read_end::<H, S>(alloc, source, index, self.edge().row(0));
+            return read_end::<H, S>(alloc, source, index, self.edge().rows().row(0));
         }
         go_to::<H, S>(alloc, self, source, 1, index / 256)?;
         match self.here().get((index % 256) as usize) {

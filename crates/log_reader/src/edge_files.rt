@@ -10,10 +10,11 @@ ghost use Rattle.log_reader.specs.EdgeRows.{RowIsTrue, hash_of_edge};
 ghost use Rattle.log_reader.specs.Holding.{GivesWay, IsEdgeRowOf, IsSourceOf, ReadsLog, ReadsTrue};
 ghost use Rattle.log_reader.specs.Ways.{AreHashesOf, HasEdgeHashes};
 
-use crate::edge_root::leads_to;
 use crate::edge_row::edge_path;
 use crate::edge_rows::EdgeRows;
 use crate::fault::ReadFault;
+use crate::hashed_edge::HashedEdge;
+use crate::verify::is_same;
 use mirror_sources::Source;
 use std::alloc::{AllocError, Global};
 use tlog_hash::{Hash, TreeHash};
@@ -141,7 +142,7 @@ pub(crate) fn read_edge<H: TreeHash, S: Source>(
     source: &mut S,
     size: u64,
     root: &Hash,
-) -> Result<EdgeRows, ReadFault>
+) -> Result<HashedEdge<H>, ReadFault>
     ensures size { IfOk result (λ edge. edge.size ≡ size) }
     ensures rows { IfOk result (λ edge. HasEdgeHashes edge) }
     ensures root { IfOk result (λ edge. hash_of_edge H.digest edge ≡ root.now) }
@@ -151,8 +152,9 @@ pub(crate) fn read_edge<H: TreeHash, S: Source>(
     ensures honest { ReadsLog H.digest size root.now (S.may_answer source.old) result
         (λ entries edge. (level : ℕ) → level ≤ 7 → RowIsTrue H.digest edge entries level) }
 {
-    let edge = read_rows::<H, S>(alloc, source, size)?;
-    if leads_to::<H>(alloc, &edge, root)? {
+    let rows = read_rows::<H, S>(alloc, source, size)?;
+    let edge = HashedEdge::new(alloc, rows)?;
+    if is_same(&edge.root(), root) {
         Ok(edge)
     } else {
         Err(ReadFault::FalseFile(lowest_path(size)))

@@ -1,28 +1,58 @@
 //! The hash that the rows of an edge lead to.
-ghost use Rattle.std.specs.Prelude.{◌≡◌, ◌↔◌, ◌<◌, ◌++◌, ◌∷◌, [], ℕ, IfOk, IsTrue, List, length, option_map};
-ghost use Rattle.log_reader.specs.EdgeRows.{HasWidths, IsHashOfRows, hash_of_edge};
+ghost use Rattle.std.specs.Prelude.{◌≡◌, ◌↔◌, IfOk, IsTrue};
+ghost use Rattle.log_reader.specs.EdgeRows.{Edge, HasWidths, hash_of_edge};
+ghost use Rattle.log_reader.specs.Nodes.{AreBelow, hash_below, hash_on_top};
 
 use crate::edge_rows::EdgeRows;
 use crate::verify::is_same;
 use std::alloc::{AllocError, Global};
 use tlog_hash::{Hash, TreeHash, fold};
 
-/// The hash of the rows so far, the lowest first, with one more row above them.
-pub(crate) fn with_row<H: TreeHash>(
+/// The hash of the rows so far with one more row above them, which may be empty.
+pub(crate) fn on_top<H: TreeHash>(
     alloc: Global,
     below: Option<Hash>,
     row: &[Hash],
-) -> Result<Hash, AllocError>
-    requires { 0 < length row.now }
-    ensures { IfOk result (λ hash. (rows : List (List (List ℕ))) → IsHashOfRows H.digest rows below
-        → IsHashOfRows H.digest (rows ++ row.now ∷ []) (Some hash)) }
+) -> Result<Option<Hash>, AllocError>
+    ensures { IfOk result (λ hash. hash ≡ hash_on_top H.digest below row.now) }
 {
+    if row.is_empty() {
+        return Ok(below);
+    }
     let Some(value) = below else {
-        return Ok(fold::<H>(row));
+        return Ok(Some(fold::<H>(row)));
     };
     let mut whole = Vec::from_slice(alloc, row)?;
     whole.push(value)?;
-    Ok(fold::<H>(whole.as_slice()))
+    Ok(Some(fold::<H>(whole.as_slice())))
+}
+
+/// For each level from 0 to 8, the hash that the rows below it lead to. None if there are none.
+pub(crate) fn hashes_below<H: TreeHash>(
+    alloc: Global,
+    edge: &EdgeRows,
+) -> Result<Vec<Option<Hash>>, AllocError>
+    ensures { IfOk result (λ below. AreBelow H.digest edge.now 9 below.items) }
+{
+    let mut below = Vec::new(alloc);
+    let mut hash = None;
+    below.push(hash)?;
+    for level in 0..8u32 {
+        hash = on_top::<H>(alloc, hash, edge.row(level))?;
+        below.push(hash)?;
+    }
+    Ok(below)
+}
+
+/// The hash that all rows lead to, from the last of those hashes. The digest of no bytes if there are no rows.
+pub(crate) fn root_of<H: TreeHash>(last: Option<Hash>) -> Hash
+    ensures { (edge : Edge) → HasWidths edge → last ≡ hash_below H.digest edge 8
+        → result ≡ hash_of_edge H.digest edge }
+{
+    match last {
+        Some(hash) => hash,
+        None => H::empty(),
+    }
 }
 
 /// The hash that the rows of an edge lead to. If each row is true of some entries, it is their tree hash.
@@ -38,17 +68,8 @@ pub fn edge_hash<H: TreeHash>(alloc: Global, edge: &EdgeRows) -> Result<Hash, Al
     requires { HasWidths edge.now }
     ensures { IfOk result (λ hash. hash ≡ hash_of_edge H.digest edge.now) }
 {
-    let mut hash = None;
-    for level in 0..8u32 {
-        let row = edge.row(level);
-        if !row.is_empty() {
-            hash = Some(with_row::<H>(alloc, hash, row)?);
-        }
-    }
-    match hash {
-        Some(hash) => Ok(hash),
-        None => Ok(H::empty()),
-    }
+    let below = hashes_below::<H>(alloc, edge)?;
+    Ok(root_of::<H>(below[8]))
 }
 
 /// Whether the rows of an edge lead to the root.

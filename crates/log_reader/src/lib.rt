@@ -18,6 +18,7 @@ mod edge_row;
 mod edge_rows;
 mod fault;
 mod full_row;
+mod hashed_edge;
 mod head;
 mod inclusion;
 mod laws;

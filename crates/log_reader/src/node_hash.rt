@@ -9,11 +9,11 @@ ghost use Rattle.mirror_sources.specs.Recorded.{KeepsRecord};
 ghost use Rattle.log_reader.specs.EdgeRows.{RowIsTrue};
 ghost use Rattle.log_reader.specs.Faults.{CountsFailure};
 ghost use Rattle.log_reader.specs.Holding.{ReadsTilesOf};
-ghost use Rattle.log_reader.specs.Nodes.{IsHashFrom, IsNodeRange, hash_on_top};
+ghost use Rattle.log_reader.specs.Nodes.{IsHashFrom, IsNodeRange};
 
-use crate::edge_root::with_row;
-use crate::edge_rows::EdgeRows;
+use crate::edge_root::on_top;
 use crate::fault::ReadFault;
+use crate::hashed_edge::HashedEdge;
 use crate::reader::LogReader;
 use crate::walk::go_to;
 use mirror_sources::Source;
@@ -62,24 +62,10 @@ fn perfect_hash<H: TreeHash, S: Source>(
     }
 }
 
-// The hash of the rows so far with one more row above them, which may be empty.
-fn on_top<H: TreeHash>(
-    alloc: Global,
-    below: Option<Hash>,
-    row: &[Hash],
-) -> Result<Option<Hash>, AllocError>
-    ensures { IfOk result (λ hash. hash ≡ hash_on_top H.digest below row.now) }
-{
-    if row.is_empty() {
-        return Ok(below);
-    }
-    Ok(Some(with_row::<H>(alloc, below, row)?))
-}
-
 // The hash of the last entries: those from hash `first` on in the edge row of that level, and all after that row.
 fn end_hash<H: TreeHash>(
     alloc: Global,
-    edge: &EdgeRows,
+    edge: &HashedEdge<H>,
     level: u32,
     first: u32,
 ) -> Result<Option<Hash>, AllocError>
@@ -89,12 +75,8 @@ fn end_hash<H: TreeHash>(
         → first ≤ width_of (length entries) level → IsHashFrom H.digest entries
         ((256 * edge_index_of (length entries) level + first) * 256 ^ level) hash) }
 {
-    let mut hash = None;
-    for below in 0..level {
-        hash = on_top::<H>(alloc, hash, edge.row(below))?;
-    }
-    match edge.row(level).get(first as usize..) {
-        Some(row) => on_top::<H>(alloc, hash, row),
+    match edge.rows().row(level).get(first as usize..) {
+        Some(row) => on_top::<H>(alloc, edge.below(level), row),
         None => Ok(None),
     }
 }

@@ -8,10 +8,10 @@ ghost use Rattle.log_reader.specs.EdgeRows.{RowIsTrue};
 ghost use Rattle.log_reader.specs.Holding.{IsEdgeRowOf, IsReaderOf, ReadsTilesOf};
 ghost use Rattle.log_reader.specs.Ways.{HasEdgeHashes, IsShownEdge, IsShownPart, IsShownStart};
 
-use crate::edge_root::edge_hash;
 use crate::edge_row::edge_path;
 use crate::edge_rows::EdgeRows;
 use crate::fault::ReadFault;
+use crate::hashed_edge::HashedEdge;
 use crate::reader::LogReader;
 use crate::walk::copy_row;
 use mirror_sources::Source;
@@ -142,8 +142,9 @@ impl<H: TreeHash> LogReader<H> {
         ensures honest { ReadsTilesOf H.digest self.old self.new (S.may_answer source.old) result
             (λ entries reader. IsReaderOf H.digest (take size entries) reader) }
     {
-        let edge = first_edge::<H, S>(alloc, self, source, size)?;
-        let root = edge_hash::<H>(alloc, &edge)?;
+        let rows = first_edge::<H, S>(alloc, self, source, size)?;
+        let edge = HashedEdge::new(alloc, rows)?;
+        let root = edge.root();
         Ok(LogReader::over(alloc, edge, root))
     }
 }

@@ -11,13 +11,13 @@ ghost use Rattle.log_reader.specs.EdgeRows.{hash_of_edge};
 ghost use Rattle.log_reader.specs.Ways.{HasEdgeHashes, IsRowUnder, IsShownRow, row_of_way};
 
 use crate::edge_files::read_edge;
-use crate::edge_rows::EdgeRows;
 use crate::fault::ReadFault;
 use crate::full_row::FullRow;
+use crate::hashed_edge::HashedEdge;
 use crate::node_hash::fold_part;
 use mirror_sources::Source;
 use std::alloc::{AllocError, Global};
-use std::marker::{Model, PhantomData};
+use std::marker::Model;
 use tlog_hash::{Hash, TreeHash};
 use tlog_shape::edge_index;
 
@@ -25,7 +25,7 @@ use tlog_shape::edge_index;
 ///
 /// All that it returns leads up to the root: a full tile folds to its hash in the row above it, and so on up to the edge. It keeps the
 /// edge, and the rows of the last tile and of those above it. So a read of a neighbour gets one file, and a read from left to right
-/// gets each file once. It holds at most one row a level beside the edge, for all sizes of the log.
+/// gets each file once. It holds at most one row a level with its nodes (16 KB) beside the edge, for all sizes of the log.
 ///
 /// Any source may serve any read: files that verify are equally good from each source.
 ///
@@ -38,13 +38,12 @@ use tlog_shape::edge_index;
 /// ```
 #[derive(Drop)]
 pub struct LogReader<H: TreeHash> {
-    edge: EdgeRows,
+    edge: HashedEdge<H>,
     root: Hash,
     // The tile that was read last, and the rows from its own up to below the edge, the lowest first. No rows for a tile of the edge.
     level: u32,
     index: u64,
     rows: Vec<FullRow<H>>,
-    by: PhantomData<H>,
 }
 
 impl<H: TreeHash> Model for LogReader<H> {
@@ -101,7 +100,7 @@ impl<H: TreeHash> LogReader<H> {
     }
 
     /// A reader of the log with that edge, which leads to the root.
-    pub(crate) fn over(alloc: Global, edge: EdgeRows, root: Hash) -> LogReader<H>
+    pub(crate) fn over(alloc: Global, edge: HashedEdge<H>, root: Hash) -> LogReader<H>
         requires hashes { HasEdgeHashes edge }
         requires leads { hash_of_edge H.digest edge ≡ root }
         ensures edge { result.edge ≡ edge }
@@ -109,14 +108,13 @@ impl<H: TreeHash> LogReader<H> {
         ensures place { (result.level ≡ 0) × (result.index ≡ edge_index_of edge.size 0)
             × (result.way ≡ []) }
     {
-        let index = edge_index(edge.size(), 0);
+        let index = edge_index(edge.rows().size(), 0);
         LogReader {
             edge,
             root,
             level: 0,
             index,
             rows: Vec::new(alloc),
-            by: PhantomData,
         }
     }
 
@@ -124,7 +122,7 @@ impl<H: TreeHash> LogReader<H> {
     pub fn size(&self) -> u64
         ensures { result ≡ self.now.edge.size }
     {
-        self.edge.size()
+        self.edge.rows().size()
     }
 
     /// The tree hash of its entries.
@@ -137,7 +135,7 @@ impl<H: TreeHash> LogReader<H> {
     }
 
     /// The edge of the log.
-    pub(crate) fn edge(&self) -> &EdgeRows
+    pub(crate) fn edge(&self) -> &HashedEdge<H>
         ensures edge { result.now ≡ self.now.edge }
         ensures hashes { HasEdgeHashes self.now.edge }
     {
@@ -165,7 +163,7 @@ impl<H: TreeHash> LogReader<H> {
     {
         match self.rows.first() {
             Some(row) => row.row(),
-            None => self.edge.row(self.level),
+            None => self.edge.rows().row(self.level),
         }
     }
 
@@ -180,7 +178,7 @@ impl<H: TreeHash> LogReader<H> {
     {
         match self.rows.first() {
             Some(row) => Some(row.node(first, count)),
-            None => fold_part::<H>(self.edge.row(self.level), first, count),
+            None => fold_part::<H>(self.edge.rows().row(self.level), first, count),
         }
     }
 
@@ -209,7 +207,7 @@ impl<H: TreeHash> LogReader<H> {
     {
         self.rows.clear();
         self.level = level;
-        self.index = edge_index(self.edge.size(), level);
+        self.index = edge_index(self.edge.rows().size(), level);
     }
 
     /// Goes down to the tile of that index, which has that row.

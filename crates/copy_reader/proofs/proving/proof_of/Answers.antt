@@ -1,9 +1,31 @@
-use Rattle.std.proofs.Common.{◌≤◌, length, subst, take, arith}
+use Rattle.std.proofs.Common.{◌≤◌, inr, length, refl, subst, take, ◌∙◌, arith}
 use Rattle.log_reader.proofs.FullTiles.{first_tiles}
+use Rattle.log_reader.proofs.NodeHashes.{if_ok}
 use Rattle.log_reader.proofs.TrueReads.{reads_more, tiles_later}
-use Rattle.copy_reader.specs.Proofs.{IsMadeOf}
-use Rattle.copy_reader.proofs.MadeProofs.{first_made, within_size}
+use Rattle.copy_reader.specs.Proofs.{IsAsked, IsInTree, IsMadeOf}
+use Rattle.copy_reader.proofs.MadeProofs.{first_made, in_tree_asked, within_size}
 use Rattle.copy_reader.proofs.proving.proof_of.Goals as goal
+
+pub returns-clause-asked : goal.returns-clause-asked
+returns-clause-asked g c =
+    let digest = g.H.TreeHash.digest in
+    let reader = c.args.reader.now in
+    let n = reader.edge.size in
+    let ask = c.args.ask in
+    let first = c.in_ok-first.first in
+    if_ok (IsInTree first.root ask) (IsAsked digest n reader.root ask) c.whole_proof-2.result
+    (λ proof p. in_tree_asked digest n reader.root first.root ask proof (within_size ask n c.requires)
+    (inr (record {
+      edge = reader.edge;
+      hashes = c.root-root.ensures.hashes;
+      size_is = refl;
+      leads = c.root-root.ensures.leads;
+      start = first.edge;
+      shown = c.in_ok-first.ensures.shown;
+      first_is = c.in_ok-first.ensures.size ∙ c.tree_size-size.ensures;
+      first_leads = c.root-first_root.ensures.leads;
+    })) p)
+    c.whole_proof-2.ensures.asked
 
 pub returns-clause-honest : goal.returns-clause-honest
 returns-clause-honest g c = λ entries r s.

@@ -20,7 +20,7 @@ returns-then-index-edge_index-clause-honest g c = λ entries r s.
     let at : index ≡ edge_index_of n 0 =
     c.if-index-edge_index.true ∙ (c.edge_index.ensures ∙ ap (λ m. edge_index_of m 0) (c.size.ensures ∙ r.size_is)) in
     let is : row ≡ level_row digest entries 0 (256 * edge_index_of n 0) (width_of n 0) =
-    c.row.ensures ∙ (ap (λ e. row_at e 0) c.edge.ensures.edge ∙ (r.edge 0 (omega arith)
+    c.row.ensures ∙ (ap (λ e. row_at e 0) (c.rows.ensures ∙ c.edge.ensures.edge) ∙ (r.edge 0 (omega arith)
     ∙ ap (λ m. level_row digest entries 0 (256 * edge_index_of m 0) (width_of m 0)) r.size_is)) in
     let e = end_row digest g.met.H.TreeHash.digest_length entries index row before at is in
     let wide : length row ≡ row_width n 0 index =

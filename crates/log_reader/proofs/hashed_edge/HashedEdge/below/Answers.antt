@@ -1,0 +1,13 @@
+use Rattle.std.proofs.Common.{◌∙◌, ap, arith}
+use Rattle.log_reader.specs.Nodes.{hash_below}
+use Rattle.log_reader.proofs.EdgeHashes.{below_at}
+use Rattle.log_reader.proofs.hashed_edge.HashedEdge.below.Goals as goal
+
+pub returns : goal.returns
+returns g c =
+    let digest = g.H.TreeHash.digest in
+    let inside = c.self.inside in
+    let level = c.args.level in
+    below_at digest inside.rows 9 level inside.below.items c.index.result.now c.self.invariant (omega (arith, c.requires))
+    c.index.ensures
+    ∙ ap (λ e. hash_below digest e level) c.self.view_is
