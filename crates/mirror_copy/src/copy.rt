@@ -10,7 +10,7 @@ ghost use Rattle.mirror_copy.specs.Asked.{IsEdgeTile, MayBeAsked};
 ghost use Rattle.mirror_copy.specs.AskedForCopy.{AsksForCopy, BlamesFailed, IsInUse, RefusesNote};
 ghost use Rattle.mirror_copy.specs.Faults.{BlamesFrom, BlamesPlaces, BlamesRun, CountsShelf, IsOfNoPlace, IsOtherThen};
 ghost use Rattle.mirror_copy.specs.AskedOnce.{AsksEachOnce, AsksOnce};
-ghost use Rattle.mirror_copy.specs.EndTiles.{IsKept};
+ghost use Rattle.mirror_copy.specs.EndTiles.{AreEnds, IsKept};
 ghost use Rattle.mirror_copy.specs.PlaceGets.{AsksPlaces};
 ghost use Rattle.mirror_copy.specs.Damaged.{IsDamaged};
 ghost use Rattle.mirror_copy.specs.Found.{BringsFromTip};
@@ -245,6 +245,8 @@ pub fn bring_copy<H: TreeHash, D: ReadableShelf, S: Source + Drop>(
         (D.puts shelf.new)) }
     ensures conflicts { IfErr result (λ e. IsConflict e
         → HasConflict H.digest origin.now note.now (D.puts shelf.old)) }
+    ensures ends { IfErr result (λ e. IsConflict e
+        → AreEnds H.digest origin.now note.now (D.puts shelf.old) places.new.ends.sizes) }
     ensures whole { KeepsCopy H.digest origin.now note.now (D.puts shelf.old) (D.puts shelf.new) }
     ensures stays { IfErr result
         (λ _. CopyStays H.digest origin.now (D.puts shelf.old) (D.puts shelf.new)) }

@@ -65,7 +65,9 @@ impl EndTiles {
     }
 
     /// Forgets all answers. From now on those for trees of these sizes are kept.
-    pub(crate) fn begin(&mut self, sizes: (u64, u64)) {
+    pub(crate) fn begin(&mut self, sizes: (u64, u64))
+        ensures { self.new.sizes ≡ sizes }
+    {
         self.sizes = sizes;
         self.tiles.clear();
     }

@@ -177,6 +177,7 @@ impl<S: Source + Drop> Places<S> {
     pub(crate) fn keep_ends(&mut self, old_size: u64, size: u64)
         ensures list { self.new.list.items ≡ self.old.list.items }
         ensures failed { self.new.has_failed ≡ self.old.has_failed }
+        ensures ends { self.new.ends.sizes ≡ (old_size, size) }
     {
         self.ends.begin((old_size, size));
     }

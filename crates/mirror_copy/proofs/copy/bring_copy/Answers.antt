@@ -2,7 +2,8 @@ use Rattle.std.proofs.lemmas.Result.{err_from_is_err_and}
 use Rattle.mirror_copy.specs.Asked.{MayBeAsked}
 use Rattle.mirror_copy.specs.AskedForCopy.{AsksFiles, AsksNothing}
 use Rattle.std.proofs.Common.{◌∙◌, subst, sym, take, IsFalse}
-use Rattle.mirror_copy.specs.EndTiles.{IsKept}
+use Rattle.mirror_copy.specs.EndTiles.{AreEnds, IsKept}
+use Rattle.mirror_copy.specs.Pruned.{HadSize}
 use Rattle.mirror_copy.proofs.Damages.{not_damaged_later, tip_damaged}
 use Rattle.mirror_copy.proofs.OneHonest.{ended_for, read_fails}
 use Rattle.mirror_copy.proofs.Begun.{asks_begun, begun_then, blames_from, blames_tip, refuses_from, refuses_tip}
@@ -240,3 +241,25 @@ pub returns-clause-once : goal.returns-clause-once
 returns-clause-once g c =
     begun_once g.S.Source.asked (λ k path. ⊤) c.args.places.now c.keep_ends.new.self c.bring_from-done.new.places
     (c.keep_ends.ensures.list ∙ c.begin.ensures.list) c.bring_from-done.ensures.once
+
+pub returns-in_err-tip-clause-ends : goal.returns-in_err-tip-clause-ends
+returns-in_err-tip-clause-ends g c =
+    let p = err_from_is_err_and c.from_residual-in_err-tip.result c.from_residual-in_err-tip.ensures.1 in
+    rw (p.1, p.2) (λ conflict. no_conflict c.in_err-tip.field-0.0 _ c.in_err-tip.ensures.fault conflict)
+
+pub returns-in_err-done-clause-ends : goal.returns-in_err-done-clause-ends
+returns-in_err-done-clause-ends g c =
+    let p = err_from_is_err_and c.from_residual-in_err-done.result c.from_residual-in_err-done.ensures.1 in
+    let digest = g.H.TreeHash.digest in
+    let origin = c.args.origin.now in
+    let note = c.args.note.now in
+    let x = g.D.Shelf.puts c.args.shelf.now in
+    let head = c.in-Some.head in
+    let had = subst (λ n. HadSize digest origin x n) (sym c.size-had.ensures)
+        (had_size digest origin c.in_ok-tip.tip x c.in_ok-tip.ensures.tip) in
+    rw (p.1, p.2) (λ conflict. subst (λ sizes. AreEnds digest origin note x sizes)
+    (sym (c.bring_from-done.ensures.once.still.sizes_are ∙ c.keep_ends.ensures.ends)) (record {
+      root = head.1;
+      had_is = had;
+      is_head = rw c.in-Some.is at c.in_ok-head.ensures.found;
+    }))
