@@ -256,7 +256,7 @@ returns-in_err-done-clause-ends g c =
     let x = g.D.Shelf.puts c.args.shelf.now in
     let head = c.in-Some.head in
     let had = subst (λ n. HadSize digest origin x n) (sym c.size-had.ensures)
-        (had_size digest origin c.in_ok-tip.tip x c.in_ok-tip.ensures.tip) in
+    (had_size digest origin c.in_ok-tip.tip x c.in_ok-tip.ensures.tip) in
     rw (p.1, p.2) (λ conflict. subst (λ sizes. AreEnds digest origin note x sizes)
     (sym (c.bring_from-done.ensures.once.still.sizes_are ∙ c.keep_ends.ensures.ends)) (record {
       root = head.1;
