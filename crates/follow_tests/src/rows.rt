@@ -9,15 +9,16 @@ use std::process::Abort;
 use std::test::Fail;
 use tlog_hash::Sha256Tree;
 
-// Follows a place over C(n).
+// Follows a place over C(n) or F(n).
 fn follow_log(
     alloc: Global,
     shelf: &mut MemShelf,
     count: u32,
+    forked: bool,
 ) -> Result<(String, String, usize), Fail> {
     let had = shelf.puts().len();
     let mut places = Places::new(alloc);
-    places.add(place_of(alloc, count, false, 0)?)?;
+    places.add(place_of(alloc, count, forked, 0)?)?;
     let keys = keys(alloc)?;
     let done = follow::<Sha256Tree, MemShelf, Place>(alloc, "ex", &keys, shelf, &mut places, None);
     let text = match done {
@@ -82,9 +83,42 @@ fn assert_step(
     shelf: &mut MemShelf,
     step: &(u32, &str, &str, usize),
 ) -> Result<(), Fail> {
-    let (text, asked, put) = follow_log(alloc, shelf, step.0)?;
+    let (text, asked, put) = follow_log(alloc, shelf, step.0, false)?;
     assert!(rt; text.as_str() == step.1, "{text}");
     assert!(rt; asked.as_str() == step.2, "{asked}");
     assert!(rt; put == step.3, "{put}");
+    Ok(())
+}
+
+// The sizes of copies of C(n), and for each one the report and the requests if the place is over F(300).
+const FORKS: [(u32, &str, &str); 2] = [
+    (
+        3,
+        "followed 3 8bnxZGS31f08aQe6Fx0eVantFhgeChNfXlXJNMPL5Ao= from 3\nfork 3 8bnxZGS31f08aQe6Fx0eVantFhgeChNfXlXJNMPL5Ao= 300 yLkhyCkirhBIPDWdbKzWEl0M7mUNhhrqa6beCGubPR4=\n",
+        "checkpoint\ntile/0/001.p/44\ntile/1/000.p/1\ntile/entries/000\ntile/0/000\n",
+    ),
+    (
+        257,
+        "followed 257 Vtr95bs6bTEAwKWkpA8ePu37C9grbzipJ/t/5Cf4fos= from 257\nfork 257 Vtr95bs6bTEAwKWkpA8ePu37C9grbzipJ/t/5Cf4fos= 300 yLkhyCkirhBIPDWdbKzWEl0M7mUNhhrqa6beCGubPR4=\n",
+        "checkpoint\ntile/0/001.p/44\ntile/1/000.p/1\n",
+    ),
+];
+
+// The case copy-fork-larger, and one that wants a tile beside the edge for its proof.
+#[test]
+fn a_fork_asks_for_no_path_twice(rt: HostRuntime) -> Result<(), Fail> {
+    for fork in &FORKS {
+        assert_fork(&rt, rt.alloc(), fork)?;
+    }
+    Ok(())
+}
+
+fn assert_fork(rt: &impl Abort, alloc: Global, fork: &(u32, &str, &str)) -> Result<(), Fail> {
+    let mut shelf = MemShelf::new(alloc);
+    follow_log(alloc, &mut shelf, fork.0, false)?;
+    let (text, asked, put) = follow_log(alloc, &mut shelf, 300, true)?;
+    assert!(rt; text.as_str() == fork.1, "{text}");
+    assert!(rt; asked.as_str() == fork.2, "{asked}");
+    assert!(rt; put == 0, "{put}");
     Ok(())
 }

@@ -9,8 +9,10 @@ use Rattle.tlog_tiles.specs.declared.paths.Path.{Path}
 use Rattle.mirror_sources.specs.Source.{StaysWithin}
 use Rattle.mirror_sources.specs.Recorded.{AddsToRecord}
 use Rattle.mirror_copy.specs.declared.place.Place.{Place}
+use Rattle.mirror_copy.specs.declared.end_tiles.EndTiles.{EndTiles}
 use Rattle.mirror_copy.specs.declared.places.Places.{Places}
 use Rattle.mirror_copy.specs.Asked.{IsAskedInVain, IsAskedInTurn, IsEdgeBundle, IsEdgeBundleOrNew, IsEdgeTile, IsNewFull, MayBeAsked}
+use Rattle.mirror_copy.specs.EndTiles.{KeepsAnswers}
 use Rattle.mirror_copy.specs.PlaceGets.{RoseTimes, IsAskedFor, APlaceFailed, AsksPlaces}
 
 pub recorded_same : {X : Type 0} (a : Option (List X)) → AddsToRecord a a []
@@ -34,6 +36,20 @@ rose_then m n a b c p q =
     let q0 : n ≡ 0 → c ≡ b = q.0 in
     let q1 : 1 ≤ n → c ≡ min (b + n) (2 ^ 64 - 1) = q.1 in
     (λ none. grind arith, λ some. grind arith)
+
+-- the answers that are kept
+
+pub still_same : (e : EndTiles) → KeepsAnswers e e
+still_same e = record { sizes_are = refl; heard = λ k path h. h }
+
+pub still_is : (a b : EndTiles) → b ≡ a → KeepsAnswers a b
+still_is a b e = subst (λ t. KeepsAnswers a t) (sym e) (still_same a)
+
+pub still_then : (a b c : EndTiles) → KeepsAnswers a b → KeepsAnswers b c → KeepsAnswers a c
+still_then a b c p q = record {
+  sizes_are = q.sizes_are ∙ p.sizes_are;
+  heard = λ k path h. q.heard k path (p.heard k path h);
+}
 
 module _ {S : Type 0} (may : S → Path → Option (List ℕ) → Type 0) (failed : S → ℕ) (asked : S → Option (List Path)) where
   pub asked_same : (so : Path → Type 0) (a : Place S) → IsAskedFor may failed asked so a a
@@ -100,6 +116,20 @@ module _ {S : Type 0} (may : S → Path → Option (List ℕ) → Type 0) (faile
     kept = λ has. has;
     blames = λ has none. cc;
     spares = λ none k d. refl;
+    still = still_same x.ends;
+  }
+
+  -- the places got no request, and none of them failed
+  pub asks_listed : (so : Path → Type 0) (x y : Places S) → y.list.items ≡ x.list.items → y.has_failed ≡ x.has_failed →
+      KeepsAnswers x.ends y.ends → AsksPlaces may failed asked so x y
+  asks_listed so x y list has still = record {
+    count = ap length list;
+    each = λ k d. subst (λ (ys : List (Place S)). IsAskedFor may failed asked so (get_or x.list.items k d) (get_or ys k d)) (sym list)
+        (asked_same so (get_or x.list.items k d));
+    kept = λ was. subst (λ b. IsTrue b) (sym has) was;
+    blames = λ now none. cc;
+    spares = λ none k d. ap (λ (ys : List (Place S)). (get_or ys k d).failures) list;
+    still = still;
   }
 
   pub failed_then : (so : Path → Type 0) (x y z : Places S) → AsksPlaces may failed asked so x y → APlaceFailed may failed asked y z →
@@ -140,6 +170,7 @@ module _ {S : Type 0} (may : S → Path → Option (List ℕ) → Type 0) (faile
     kept = λ has. q.kept (p.kept has);
     blames = blames_then so x y z y.has_failed refl p q;
     spares = λ none k d. q.spares none k d ∙ p.spares (not_kept so y z y.has_failed refl q none) k d;
+    still = still_then x.ends y.ends z.ends p.still q.still;
   }
 
   pub asks_weaker : (so also : Path → Type 0) → ((path : Path) → so path → also path) → (x y : Places S) →
@@ -150,6 +181,7 @@ module _ {S : Type 0} (may : S → Path → Option (List ℕ) → Type 0) (faile
     kept = p.kept;
     blames = p.blames;
     spares = p.spares;
+    still = p.still;
   }
 
   -- one place got a request
@@ -181,10 +213,10 @@ module _ {S : Type 0} (may : S → Path → Option (List ℕ) → Type 0) (faile
 
   -- the get failed
   pub asks_failed : (so : Path → Type 0) (x y : Places S) (i : ℕ) (old new : Place S) → i < length x.list.items →
-      y.list.items ≡ set x.list.items i new → y.has_failed ≡ true →
+      y.list.items ≡ set x.list.items i new → y.ends ≡ x.ends → y.has_failed ≡ true →
       old ≡ get_or x.list.items i old → IsAskedFor may failed asked so old new → old.failures < new.failures →
       AsksPlaces may failed asked so x y
-  asks_failed so x y i old new lt list has is h rose = record {
+  asks_failed so x y i old new lt list ends has is h rose = record {
     count = ap length list ∙ length-set x.list.items i new;
     each = λ k d. subst (λ (ys : List (Place S)). IsAskedFor may failed asked so (get_or x.list.items k d) (get_or ys k d)) (sym list)
         (one_at so x.list.items i old new lt is h k d);
@@ -197,14 +229,15 @@ module _ {S : Type 0} (may : S → Path → Option (List ℕ) → Type 0) (faile
           (subst (λ (p : Place S). p.failures < new.failures) is rose));
     };
     spares = λ none k d. cc;
+    still = still_is x.ends y.ends ends;
   }
 
   -- the get did not fail
   pub asks_well : (so : Path → Type 0) (x y : Places S) (i : ℕ) (old new : Place S) → i < length x.list.items →
-      y.list.items ≡ set x.list.items i new → y.has_failed ≡ x.has_failed →
+      y.list.items ≡ set x.list.items i new → y.ends ≡ x.ends → y.has_failed ≡ x.has_failed →
       old ≡ get_or x.list.items i old → IsAskedFor may failed asked so old new → new.failures ≡ old.failures →
       AsksPlaces may failed asked so x y
-  asks_well so x y i old new lt list has is h same = record {
+  asks_well so x y i old new lt list ends has is h same = record {
     count = ap length list ∙ length-set x.list.items i new;
     each = λ k d. subst (λ (ys : List (Place S)). IsAskedFor may failed asked so (get_or x.list.items k d) (get_or ys k d)) (sym list)
         (one_at so x.list.items i old new lt is h k d);
@@ -212,6 +245,7 @@ module _ {S : Type 0} (may : S → Path → Option (List ℕ) → Type 0) (faile
     blames = λ now none. cc;
     spares = λ none k d. subst (λ (ys : List (Place S)). (get_or ys k d).failures ≡ (get_or x.list.items k d).failures) (sym list)
         (same_at x.list.items i old new lt is same k d);
+    still = still_is x.ends y.ends ends;
   }
 
   -- the record after the call

@@ -1,5 +1,6 @@
 pub mod Asking
 pub mod AskingOnce
+pub mod Getting
 pub mod Between
 pub mod Begun
 pub mod NewFulls

@@ -5,6 +5,7 @@ use Rattle.tlog_tiles.specs.declared.paths.Path.TheVariants.{Checkpoint, Tile, E
 use Rattle.tlog_tiles.specs.Tiles.{IsWithin}
 use Rattle.mirror_sources.specs.Recorded.{AddsToRecord}
 use Rattle.mirror_copy.specs.Asked.{IsAskedInTurn, IsEdgeTile, IsNewFull}
+use Rattle.mirror_copy.specs.EndTiles.{IsEndTile, IsHeard, IsKept, KeepsAnswers}
 use Rattle.mirror_copy.specs.declared.place.Place.{Place}
 use Rattle.mirror_copy.specs.declared.places.Places.{Places}
 
@@ -17,8 +18,20 @@ module _ {S : Type 0} (asked : S → Option (List Path)) where
     pub once : AllPairs (λ earlier later. earlier ≢ later) paths
 
   -- no place got two requests for one path. "so" has the index of a place and the paths that it may have been asked for
-  pub record AsksOnce (so : ℕ → Path → Type 0) (old new : Places S) : Type 0 where
+  pub record AsksEachOnce (so : ℕ → Path → Type 0) (old new : Places S) : Type 0 where
     pub each : (k : ℕ) (d : Place S) → IsAskedOnce (so k) (get_or old.list.items k d) (get_or new.list.items k d)
+
+  -- the same, and the answers for the tiles in which the two trees end are kept
+  pub record AsksOnce (so : ℕ → Path → Type 0) (old new : Places S) : Type 0 where
+    pub asks : AsksEachOnce (λ k path. so k path × IsKept new k path) old new
+    pub still : KeepsAnswers old.ends new.ends
+
+  -- no place got two requests for one path, and none for a path whose answer was kept. All requests were for tiles in which the two
+  -- trees end, and the answers are kept
+  pub record AsksMore (old new : Places S) : Type 0 where
+    pub asks : AsksEachOnce (λ k path. IsEndTile new.ends.sizes path × (¬ IsHeard old.ends.tiles.items k path)
+        × IsHeard new.ends.tiles.items k path) old new
+    pub still : KeepsAnswers old.ends new.ends
 
 -- such a path, at the place of that index
 abbrev pub IsAtPlace : ℕ → (Path → Type 0) → ℕ → Path → Type 0

@@ -1,3 +1,4 @@
+pub mod EndTiles
 pub mod PlaceGets
 pub mod Faults
 pub mod Standing

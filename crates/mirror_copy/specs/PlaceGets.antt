@@ -4,6 +4,7 @@ use Rattle.std.specs.Prelude.{IsTrue, IsFalse, IsSome}
 use Rattle.tlog_tiles.specs.declared.paths.Path.{Path}
 use Rattle.mirror_sources.specs.Source.{StaysWithin}
 use Rattle.mirror_sources.specs.Recorded.{AddsToRecord}
+use Rattle.mirror_copy.specs.EndTiles.{KeepsAnswers}
 use Rattle.mirror_copy.specs.declared.place.Place.{Place}
 use Rattle.mirror_copy.specs.declared.place.PlaceAnswer.{PlaceAnswer}
 use Rattle.mirror_copy.specs.declared.place.PlaceAnswer.TheVariants.{File, NotFound, Failed}
@@ -50,7 +51,8 @@ module _ {S : Type 0} (may : S → Path → Option (List ℕ) → Type 0) (faile
     pub count : length new.list.items ≡ length old.list.items
     pub each : (k : ℕ) (d : Place S) → IsAskedFor so (get_or old.list.items k d) (get_or new.list.items k d)
 
-  -- all requests to the places were for such paths. The record that a place failed is kept
+  -- all requests to the places were for such paths. The record that a place failed is kept, and so are the answers for the tiles
+  -- in which the two trees end
   pub record AsksPlaces (so : Path → Type 0) (old new : Places S) : Type 0 where
     pub count : length new.list.items ≡ length old.list.items
     pub each : (k : ℕ) (d : Place S) → IsAskedFor so (get_or old.list.items k d) (get_or new.list.items k d)
@@ -58,3 +60,4 @@ module _ {S : Type 0} (may : S → Path → Option (List ℕ) → Type 0) (faile
     pub blames : IsTrue new.has_failed → IsFalse old.has_failed → APlaceFailed old new
     pub spares : IsFalse new.has_failed → (k : ℕ) (d : Place S) →
         (get_or new.list.items k d).failures ≡ (get_or old.list.items k d).failures
+    pub still : KeepsAnswers old.ends new.ends

@@ -9,7 +9,8 @@ ghost use Rattle.mirror_copy.specs.Conflicts.{HasConflict, IsConflict, IsFalseEm
 ghost use Rattle.mirror_copy.specs.Asked.{IsEdgeTile, MayBeAsked};
 ghost use Rattle.mirror_copy.specs.AskedForCopy.{AsksForCopy, BlamesFailed, IsInUse, RefusesNote};
 ghost use Rattle.mirror_copy.specs.Faults.{BlamesFrom, BlamesPlaces, BlamesRun, CountsShelf, IsOfNoPlace, IsOtherThen};
-ghost use Rattle.mirror_copy.specs.AskedOnce.{AsksOnce};
+ghost use Rattle.mirror_copy.specs.AskedOnce.{AsksEachOnce, AsksOnce};
+ghost use Rattle.mirror_copy.specs.EndTiles.{AreEnds, IsKept};
 ghost use Rattle.mirror_copy.specs.PlaceGets.{AsksPlaces};
 ghost use Rattle.mirror_copy.specs.Damaged.{IsDamaged};
 ghost use Rattle.mirror_copy.specs.Found.{BringsFromTip};
@@ -196,6 +197,8 @@ fn bring_from<H: TreeHash, D: ReadableShelf, S: Source + Drop>(
 /// places. No file is removed. A file is put again only if its bytes are false. If they are true, the file is flushed before the
 /// checkpoint is put.
 ///
+/// No place is asked twice for a path. Its answers for the tiles in which the old and the larger tree end are kept: `places.end_tile`.
+///
 /// If the shelf or a place lacks a partial file at the right edge, it is cut from the full file.
 ///
 /// A shelf without a checkpoint is an empty copy. Only an empty copy may be brought to a checkpoint without entries.
@@ -212,6 +215,7 @@ fn bring_from<H: TreeHash, D: ReadableShelf, S: Source + Drop>(
 /// - `CopyDamaged`: the shelf's checkpoint is not such a note, or the shelf lacks its edge rows or its partial bundle.
 /// - `NotLarger`: the copy has at least as many entries as the checkpoint.
 /// - `Contradiction`: the larger tree does not have the old rows. `Collision`: it has them, but not the old bundle. Nothing was put.
+///   `Contradiction` also comes if the copy is empty, and the note has no entries and a root that is not the empty list's hash.
 /// - `NoFile`: neither the shelf nor a place has a file that verifies. `Source`: the same, and a place failed in this call. The file's
 ///   path is then `places.lacked()`.
 /// - `CopyInUse`: another run changed the shelf's checkpoint. The call saw it after it had put all other files.
@@ -226,7 +230,7 @@ pub fn bring_copy<H: TreeHash, D: ReadableShelf, S: Source + Drop>(
     ensures counted { CountsShelf (D.failed shelf.old) (D.failed shelf.new) result }
     ensures asks { AsksForCopy H.digest S.may_answer S.failed S.asked origin.now note.now
         (D.puts shelf.old) places.old places.new }
-    ensures once { AsksOnce S.asked (λ k path. ⊤) places.old places.new }
+    ensures once { AsksEachOnce S.asked (IsKept places.new) places.old places.new }
     ensures blames { IfErr result (BlamesFailed S.may_answer S.failed S.asked
         places.old places.new) }
     ensures refuses { IfErr result (RefusesNote H.digest origin.now note.now (D.puts shelf.old)) }
@@ -241,6 +245,8 @@ pub fn bring_copy<H: TreeHash, D: ReadableShelf, S: Source + Drop>(
         (D.puts shelf.new)) }
     ensures conflicts { IfErr result (λ e. IsConflict e
         → HasConflict H.digest origin.now note.now (D.puts shelf.old)) }
+    ensures ends { IfErr result (λ e. IsConflict e
+        → AreEnds H.digest origin.now note.now (D.puts shelf.old) places.new.ends.sizes) }
     ensures whole { KeepsCopy H.digest origin.now note.now (D.puts shelf.old) (D.puts shelf.new) }
     ensures stays { IfErr result
         (λ _. CopyStays H.digest origin.now (D.puts shelf.old) (D.puts shelf.new)) }
@@ -262,6 +268,7 @@ pub fn bring_copy<H: TreeHash, D: ReadableShelf, S: Source + Drop>(
     };
     let tip = read_tip::<H, D>(alloc, origin, shelf)?;
     let had = tip.size();
+    places.keep_ends(had, candidate.size);
     let done = bring_from::<H, D, S>(alloc, origin, shelf, places, &tip, &candidate);
     drop(tip);
     done?;

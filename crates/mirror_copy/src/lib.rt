@@ -11,6 +11,7 @@ mod bring;
 mod copy;
 mod edge;
 mod edge_bundle;
+mod end_tiles;
 mod fault;
 mod find;
 mod find_edge;

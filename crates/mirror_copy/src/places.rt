@@ -3,10 +3,12 @@ ghost use Rattle.std.specs.Prelude.{◌≡◌, ◌∷◌, ◌++◌, [], ◌<◌,
 ghost use Rattle.mirror_copy.specs.Asked.{IsAskedInTurn};
 ghost use Rattle.mirror_copy.specs.Conflicts.{IsNoConflict};
 ghost use Rattle.mirror_copy.specs.Faults.{BlamesPlaces, CountsFault};
-ghost use Rattle.mirror_copy.specs.AskedOnce.{AsksOnce, IsAtPlace};
+ghost use Rattle.mirror_copy.specs.AskedOnce.{AsksEachOnce, AsksMore, AsksOnce, IsAtPlace};
+ghost use Rattle.mirror_copy.specs.EndTiles.{IsEndTile};
 ghost use Rattle.mirror_copy.specs.PlaceGets.{AnswersGet, AsksPlaces};
 ghost use Rattle.mirror_copy.specs.declared.place.Place.{Place};
 
+use crate::end_tiles::EndTiles;
 use crate::fault::BringFault;
 use crate::place::{Place, PlaceAnswer, Wrong};
 use mirror_sources::Source;
@@ -30,6 +32,7 @@ pub struct Places<S: Source + Drop> {
     verified_last: usize,
     has_failed: bool,
     lacked: Option<Path>,
+    ends: EndTiles,
 }
 
 impl<S: Source + Drop> Places<S> {
@@ -42,6 +45,7 @@ impl<S: Source + Drop> Places<S> {
             verified_last: 0,
             has_failed: false,
             lacked: None,
+            ends: EndTiles::new(alloc),
         }
     }
 
@@ -74,6 +78,35 @@ impl<S: Source + Drop> Places<S> {
         self.lacked
     }
 
+    /// The numbers of entries of the old and of the larger tree, in the last call that brought a copy.
+    pub fn ends(&self) -> (u64, u64)
+        ensures { result ≡ self.now.ends.sizes }
+    {
+        self.ends.sizes()
+    }
+
+    // Gets the file at a path from a place.
+    fn ask(&mut self, index: usize, path: &Path) -> Result<PlaceAnswer, AllocError>
+        requires { index < length self.old.list.items }
+        ensures ends { self.new.ends ≡ self.old.ends }
+        ensures asks { AsksPlaces S.may_answer S.failed S.asked (λ p. p ≡ path.now)
+            self.old self.new }
+        ensures once { AsksEachOnce S.asked (IsAtPlace index (λ p. p ≡ path.now))
+            self.old self.new }
+        ensures answer { IfOk result (λ answer. (d : Place S) → AnswersGet
+            (S.may_answer (get_or self.old.list.items index d).source) path.now
+            (get_or self.old.list.items index d).failures (get_or self.new.list.items index d).failures
+            answer) }
+    {
+        let place = &mut self.list[index];
+        let before = place.failures();
+        let answer = place.get(path);
+        if place.failures() != before {
+            self.has_failed = true;
+        }
+        answer
+    }
+
     /// Gets the file at a path from a place.
     ///
     /// # Errors
@@ -89,13 +122,29 @@ impl<S: Source + Drop> Places<S> {
             (get_or self.old.list.items index d).failures (get_or self.new.list.items index d).failures
             answer) }
     {
-        let place = &mut self.list[index];
-        let before = place.failures();
-        let answer = place.get(path);
-        if place.failures() != before {
-            self.has_failed = true;
+        let at = self.ends.note(index, path)?;
+        let answer = self.ask(index, path)?;
+        self.ends.keep(at, &answer)?;
+        Ok(answer)
+    }
+
+    /// The tile at a path, in which the old or the larger tree of the last call ends. If that call asked the place for it, this is
+    /// what the place answered, and no get goes to it.
+    ///
+    /// # Errors
+    ///
+    /// `AllocError`: memory was refused.
+    pub fn end_tile(&mut self, index: usize, path: &Path) -> Result<PlaceAnswer, AllocError>
+        requires place { index < length self.old.list.items }
+        requires end { IsEndTile self.old.ends.sizes path.now }
+        ensures asks { AsksPlaces S.may_answer S.failed S.asked (λ p. p ≡ path.now)
+            self.old self.new }
+        ensures more { AsksMore S.asked self.old self.new }
+    {
+        match self.ends.find(index, path)? {
+            Some(answer) => Ok(answer),
+            None => self.get(index, path),
         }
-        answer
     }
 
     pub(crate) fn len(&self) -> usize
@@ -122,6 +171,15 @@ impl<S: Source + Drop> Places<S> {
     {
         self.has_failed = false;
         self.lacked = None;
+    }
+
+    /// From now on keeps what places answer for the tiles in which trees of these two sizes end.
+    pub(crate) fn keep_ends(&mut self, old_size: u64, size: u64)
+        ensures list { self.new.list.items ≡ self.old.list.items }
+        ensures failed { self.new.has_failed ≡ self.old.has_failed }
+        ensures ends { self.new.ends.sizes ≡ (old_size, size) }
+    {
+        self.ends.begin((old_size, size));
     }
 
     /// Gives the place that is asked first a hint of the next paths.

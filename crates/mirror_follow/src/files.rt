@@ -1,5 +1,7 @@
 //! The files of a log for a proof, read into memory.
-ghost use Rattle.std.specs.Prelude.{◌<◌, length};
+ghost use Rattle.std.specs.Prelude.{◌<◌, ℕ, All, IfOk, length};
+ghost use Rattle.mirror_copy.specs.AskedOnce.{AsksMore};
+ghost use Rattle.mirror_copy.specs.EndTiles.{IsEndTile};
 ghost use Rattle.mirror_follow.specs.Blame.{AsksAny};
 
 use mirror_copy::{PlaceAnswer, Places};
@@ -54,7 +56,9 @@ impl ReadFiles {
 }
 
 // The path of the full file with the same level and index.
-fn full_of(path: &Path) -> Path {
+fn full_of(path: &Path) -> Path
+    ensures { (sizes : ℕ × ℕ) → IsEndTile sizes path.now → IsEndTile sizes result }
+{
     match path {
         Path::Checkpoint => Path::Checkpoint,
         Path::Tile { level, index, .. } => Path::Tile {
@@ -71,7 +75,9 @@ fn full_of(path: &Path) -> Path {
 
 /// The paths of the files for the consistency proof from the first entries to all. These are the right edge of the whole tree, the full
 /// tiles in which the first entries end, and the tiles above them.
-pub(crate) fn proof_paths(alloc: Global, first: u64, size: u64) -> Result<Vec<Path>, AllocError> {
+pub(crate) fn proof_paths(alloc: Global, first: u64, size: u64) -> Result<Vec<Path>, AllocError>
+    ensures { IfOk result (λ paths. All (IsEndTile (first, size)) paths.items) }
+{
     let mut paths = Vec::new(alloc);
     let mut has_ended = false;
     for level in 0..8u32 {
@@ -96,16 +102,18 @@ pub(crate) fn proof_paths(alloc: Global, first: u64, size: u64) -> Result<Vec<Pa
     Ok(paths)
 }
 
-// Gets the file at a path from a place.
+// Gets the file at a path from a place, unless the place was asked for it when the copy was brought.
 fn get_file<S: Source + Drop>(
     places: &mut Places<S>,
     index: usize,
     path: &Path,
 ) -> Result<PlaceAnswer, AllocError>
-    requires { index < length places.old.list.items }
-    ensures { AsksAny S.may_answer S.failed S.asked places.old places.new }
+    requires place { index < length places.old.list.items }
+    requires end { IsEndTile places.old.ends.sizes path.now }
+    ensures asks { AsksAny S.may_answer S.failed S.asked places.old places.new }
+    ensures more { AsksMore S.asked places.old places.new }
 {
-    let answer = places.get(index, path)?;
+    let answer = places.end_tile(index, path)?;
     Ok(answer)
 }
 
@@ -115,8 +123,10 @@ fn ask_file<S: Source + Drop>(
     index: usize,
     path: &Path,
 ) -> Result<Option<(Path, Vec<u8>)>, AllocError>
-    requires { index < length places.old.list.items }
-    ensures { AsksAny S.may_answer S.failed S.asked places.old places.new }
+    requires place { index < length places.old.list.items }
+    requires end { IsEndTile places.old.ends.sizes path.now }
+    ensures asks { AsksAny S.may_answer S.failed S.asked places.old places.new }
+    ensures more { AsksMore S.asked places.old places.new }
 {
     match get_file(places, index, path)? {
         PlaceAnswer::File(bytes) => return Ok(Some((*path, bytes))),
@@ -134,15 +144,18 @@ fn ask_file<S: Source + Drop>(
     }
 }
 
-/// Gets those files from a place. If a partial file is missing, gets its full file.
+/// Gets those files from a place. If a partial file is missing, gets its full file. For what the place was asked when the copy was
+/// brought, its answer is used.
 pub(crate) fn ask_files<S: Source + Drop>(
     alloc: Global,
     places: &mut Places<S>,
     index: usize,
     paths: &[Path],
 ) -> Result<ReadFiles, AllocError>
-    requires { index < length places.old.list.items }
-    ensures { AsksAny S.may_answer S.failed S.asked places.old places.new }
+    requires place { index < length places.old.list.items }
+    requires ends { All (IsEndTile places.old.ends.sizes) paths.now }
+    ensures asks { AsksAny S.may_answer S.failed S.asked places.old places.new }
+    ensures more { AsksMore S.asked places.old places.new }
 {
     let mut read = ReadFiles::new(alloc);
     for path in paths {

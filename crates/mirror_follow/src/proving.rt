@@ -11,6 +11,7 @@ ghost use Rattle.log_reader.specs.Faults.{CountsFailure};
 ghost use Rattle.log_reader.specs.Holding.{ReadsLog};
 ghost use Rattle.copy_reader.specs.Faults.{CountsRead};
 ghost use Rattle.copy_reader.specs.WholeCopies.{ReadsCopyLog};
+ghost use Rattle.mirror_copy.specs.AskedOnce.{AsksMore};
 ghost use Rattle.mirror_follow.specs.Agreeing.{Agrees};
 ghost use Rattle.mirror_follow.specs.Blame.{AsksAny, CountsFollow};
 ghost use Rattle.mirror_follow.specs.Checked.{HasFirstRoot, IsCheckedFork};
@@ -149,7 +150,8 @@ fn fork_proof<H: TreeHash, S: Source>(
     }
 }
 
-/// The proof that a larger candidate contradicts the copy, made from files of one of the places. None: no place has these files.
+/// The proof that a larger candidate contradicts the copy, made from files of one of the places, after the copy was to be brought to
+/// that candidate. None: no place has these files.
 pub(crate) fn ask_proof<H: TreeHash, S: Source + Drop>(
     alloc: Global,
     places: &mut Places<S>,
@@ -157,10 +159,12 @@ pub(crate) fn ask_proof<H: TreeHash, S: Source + Drop>(
     larger: &Candidate,
 ) -> Result<Option<Proof>, AllocError>
     ensures asks { AsksAny S.may_answer S.failed S.asked places.old places.new }
+    ensures more { AsksMore S.asked places.old places.new }
     ensures proof { IfOk result (λ found. IfSome found
         (λ proof. ShowsLarger H.digest copy.now larger.now (Some proof))) }
 {
-    let paths = proof_paths(alloc, copy.size.0, larger.size.0)?;
+    let (first, size) = places.ends();
+    let paths = proof_paths(alloc, first, size)?;
     for i in 0..places.list().len() {
         let mut files = ask_files(alloc, places, i, &paths)?;
         match fork_proof::<H, ReadFiles>(alloc, &mut files, copy, larger) {

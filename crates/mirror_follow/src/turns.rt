@@ -6,6 +6,8 @@ ghost use Rattle.mirror_folders.specs.Shelf.{Put};
 ghost use Rattle.mirror_copy.specs.Conflicts.{HasConflict, IsConflict};
 ghost use Rattle.mirror_copy.specs.Faults.{CountsFault, IsOtherFound};
 ghost use Rattle.mirror_copy.specs.OneHonest.{IsShelfOrMemory};
+ghost use Rattle.mirror_copy.specs.AskedOnce.{AsksEachOnce, AsksMore};
+ghost use Rattle.mirror_copy.specs.EndTiles.{IsKept};
 ghost use Rattle.mirror_follow.specs.Blame.{AsksAny, CountsFollow, IsGivenOrMayGive, PlaceFails};
 ghost use Rattle.mirror_follow.specs.Candidates.{IsCandidate, turn_cmp};
 ghost use Rattle.mirror_follow.specs.Ending.{BlamesPlace, EndsAt, EndsFor, EndsRun, HasFalseRoot, IsOfConflict, IsOfEmpty, IsOfOtherRun, KeepsFault, LacksCandidates, RefusesGiven};
@@ -86,6 +88,7 @@ fn bring<H: TreeHash, D: ReadableShelf, S: Source + Drop>(
     ensures after { IfOk result (λ turn. StandsAfter H.digest origin.now candidate.now
         (D.puts shelf.old) (D.puts shelf.new) turn) }
     ensures asks { AsksAny S.may_answer S.failed S.asked places.old places.new }
+    ensures once { AsksEachOnce S.asked (IsKept places.new) places.old places.new }
     ensures source { IfOk result (λ turn. turn ≡ Outcome.NotHad FollowFault.Source
         → PlaceFails places.old places.new) }
     ensures ends { IfErr result (EndsRun (HoldsNoCopy H.digest origin.now (D.puts shelf.old))
@@ -121,6 +124,7 @@ fn contradict<H: TreeHash, S: Source + Drop>(
         (old new : Option (List Put)) → EachStays digest origin old new
         → StandsAfter digest origin candidate.now old new turn) }
     ensures asks { AsksAny S.may_answer S.failed S.asked places.old places.new }
+    ensures more { AsksMore S.asked places.old places.new }
     ensures source { IfOk result (λ turn. turn ≢ Outcome.NotHad FollowFault.Source) }
     ensures shows { IfOk result (ShowsTurn H.digest (Some copy.now) candidate.now) }
     ensures says { IfOk result (SaysTurn H.digest (Some copy.now) candidate.now) }
@@ -131,7 +135,7 @@ fn contradict<H: TreeHash, S: Source + Drop>(
     }
 }
 
-// The turn of a candidate that is larger than the copy.
+// The turn of a candidate that is larger than the copy. No place is asked twice for a path, also if it is a fork.
 fn take_larger<H: TreeHash, D: ReadableShelf, S: Source + Drop>(
     alloc: Global,
     origin: &str,
@@ -148,6 +152,7 @@ fn take_larger<H: TreeHash, D: ReadableShelf, S: Source + Drop>(
     ensures after { IfOk result (λ turn. StandsAfter H.digest origin.now candidate.now
         (D.puts shelf.old) (D.puts shelf.new) turn) }
     ensures asks { AsksAny S.may_answer S.failed S.asked places.old places.new }
+    ensures once { AsksEachOnce S.asked (λ k path. ⊤) places.old places.new }
     ensures source { IfOk result (λ turn. turn ≡ Outcome.NotHad FollowFault.Source
         → PlaceFails places.old places.new) }
     ensures ends { IfErr result

@@ -1,7 +1,9 @@
 use Rattle.std.proofs.lemmas.Result.{err_from_is_err_and}
 use Rattle.mirror_copy.specs.Asked.{MayBeAsked}
 use Rattle.mirror_copy.specs.AskedForCopy.{AsksFiles, AsksNothing}
-use Rattle.std.proofs.Common.{take}
+use Rattle.std.proofs.Common.{◌∙◌, subst, sym, take, IsFalse}
+use Rattle.mirror_copy.specs.EndTiles.{AreEnds, IsKept}
+use Rattle.mirror_copy.specs.Pruned.{HadSize}
 use Rattle.mirror_copy.proofs.Damages.{not_damaged_later, tip_damaged}
 use Rattle.mirror_copy.proofs.OneHonest.{ended_for, read_fails}
 use Rattle.mirror_copy.proofs.Begun.{asks_begun, begun_then, blames_from, blames_tip, refuses_from, refuses_tip}
@@ -73,8 +75,8 @@ returns-in_err-done-clause-asks g c =
     AsksFiles tip.size head.0 head.1
     (had_size g.H.TreeHash.digest c.args.origin.now tip (g.D.Shelf.puts c.args.shelf.now) c.in_ok-tip.ensures.tip)
     (rw c.in-Some.is at c.in_ok-head.ensures.found)
-    (begun_then g.S.Source.may_answer g.S.Source.failed g.S.Source.asked (MayBeAsked tip.size head.0) c.args.places.now c.begin.new.self c.bring_from-done.new.places
-    c.begin.ensures.list c.bring_from-done.ensures.asks)
+    (begun_then g.S.Source.may_answer g.S.Source.failed g.S.Source.asked (MayBeAsked tip.size head.0) c.args.places.now c.keep_ends.new.self c.bring_from-done.new.places
+    (c.keep_ends.ensures.list ∙ c.begin.ensures.list) c.bring_from-done.ensures.asks)
 
 pub returns-clause-asks : goal.returns-clause-asks
 returns-clause-asks g c =
@@ -83,16 +85,16 @@ returns-clause-asks g c =
     AsksFiles tip.size head.0 head.1
     (had_size g.H.TreeHash.digest c.args.origin.now tip (g.D.Shelf.puts c.args.shelf.now) c.in_ok-tip.ensures.tip)
     (rw c.in-Some.is at c.in_ok-head.ensures.found)
-    (begun_then g.S.Source.may_answer g.S.Source.failed g.S.Source.asked (MayBeAsked tip.size head.0) c.args.places.now c.begin.new.self c.bring_from-done.new.places
-    c.begin.ensures.list c.bring_from-done.ensures.asks)
+    (begun_then g.S.Source.may_answer g.S.Source.failed g.S.Source.asked (MayBeAsked tip.size head.0) c.args.places.now c.keep_ends.new.self c.bring_from-done.new.places
+    (c.keep_ends.ensures.list ∙ c.begin.ensures.list) c.bring_from-done.ensures.asks)
 
 pub returns-in_err-done-clause-blames : goal.returns-in_err-done-clause-blames
 returns-in_err-done-clause-blames g c =
     let p = err_from_is_err_and c.from_residual-in_err-done.result c.from_residual-in_err-done.ensures.1 in
     rw (p.1, p.2) (blames_from g.S.Source.may_answer g.S.Source.failed g.S.Source.asked (MayBeAsked c.in_ok-tip.tip.size c.in-Some.head.0) c.args.places.now
-    c.begin.new.self c.bring_from-done.new.places g.H.TreeHash.digest c.in-Some.head.0 c.in_ok-tip.tip
+    c.keep_ends.new.self c.bring_from-done.new.places g.H.TreeHash.digest c.in-Some.head.0 c.in_ok-tip.tip
     (g.D.Shelf.puts c.read_tip.new.shelf) c.in_err-done.field-0.0
-    c.begin.ensures.list c.begin.ensures.failed c.bring_from-done.ensures.asks c.in_err-done.ensures.blames)
+    (c.keep_ends.ensures.list ∙ c.begin.ensures.list) (subst (λ b. IsFalse b) (sym c.keep_ends.ensures.failed) c.begin.ensures.failed) c.bring_from-done.ensures.asks c.in_err-done.ensures.blames)
 
 pub returns-in_default-clause-refuses : goal.returns-in_default-clause-refuses
 returns-in_default-clause-refuses g c = rw c.in_default.is at c.in_ok-head.ensures.none
@@ -146,8 +148,8 @@ returns-in_err-done-clause-suffices g c = λ h.
     let head = c.in-Some.head in
     let x = g.D.Shelf.puts c.args.shelf.now in
     let y = g.D.Shelf.puts c.read_tip.new.shelf in
-    rw (p.1, p.2) (ended_for digest g.S.Source.may_answer origin c.args.note.now x y c.args.places.now c.begin.new.self
-    c.bring_from-done.new.places c.begin.ensures.list c.read_tip.ensures.same tip c.in_ok-tip.ensures.tip head.0 head.1
+    rw (p.1, p.2) (ended_for digest g.S.Source.may_answer origin c.args.note.now x y c.args.places.now c.keep_ends.new.self
+    c.bring_from-done.new.places (c.keep_ends.ensures.list ∙ c.begin.ensures.list) c.read_tip.ensures.same tip c.in_ok-tip.ensures.tip head.0 head.1
     (rw c.in-Some.is at c.in_ok-head.ensures.found) c.in_err-done.field-0.0 c.in_err-done.ensures.blames
     c.in_err-done.ensures.honest h)
 
@@ -220,22 +222,44 @@ returns-in_err-done-clause-conflicts g c =
 
 pub returns-in_err-head-clause-once : goal.returns-in_err-head-clause-once
 returns-in_err-head-clause-once g c =
-    once_begun g.S.Source.asked (λ k path. ⊤) c.args.places.now c.begin.new.self c.begin.ensures.list
+    once_begun g.S.Source.asked (IsKept c.begin.new.self) c.args.places.now c.begin.new.self c.begin.ensures.list
 
 pub returns-in_default-clause-once : goal.returns-in_default-clause-once
 returns-in_default-clause-once g c =
-    once_begun g.S.Source.asked (λ k path. ⊤) c.args.places.now c.begin.new.self c.begin.ensures.list
+    once_begun g.S.Source.asked (IsKept c.begin.new.self) c.args.places.now c.begin.new.self c.begin.ensures.list
 
 pub returns-in_err-tip-clause-once : goal.returns-in_err-tip-clause-once
 returns-in_err-tip-clause-once g c =
-    once_begun g.S.Source.asked (λ k path. ⊤) c.args.places.now c.begin.new.self c.begin.ensures.list
+    once_begun g.S.Source.asked (IsKept c.begin.new.self) c.args.places.now c.begin.new.self c.begin.ensures.list
 
 pub returns-in_err-done-clause-once : goal.returns-in_err-done-clause-once
 returns-in_err-done-clause-once g c =
-    begun_once g.S.Source.asked (λ k path. ⊤) c.args.places.now c.begin.new.self c.bring_from-done.new.places
-    c.begin.ensures.list c.bring_from-done.ensures.once
+    begun_once g.S.Source.asked (λ k path. ⊤) c.args.places.now c.keep_ends.new.self c.bring_from-done.new.places
+    (c.keep_ends.ensures.list ∙ c.begin.ensures.list) c.bring_from-done.ensures.once
 
 pub returns-clause-once : goal.returns-clause-once
 returns-clause-once g c =
-    begun_once g.S.Source.asked (λ k path. ⊤) c.args.places.now c.begin.new.self c.bring_from-done.new.places
-    c.begin.ensures.list c.bring_from-done.ensures.once
+    begun_once g.S.Source.asked (λ k path. ⊤) c.args.places.now c.keep_ends.new.self c.bring_from-done.new.places
+    (c.keep_ends.ensures.list ∙ c.begin.ensures.list) c.bring_from-done.ensures.once
+
+pub returns-in_err-tip-clause-ends : goal.returns-in_err-tip-clause-ends
+returns-in_err-tip-clause-ends g c =
+    let p = err_from_is_err_and c.from_residual-in_err-tip.result c.from_residual-in_err-tip.ensures.1 in
+    rw (p.1, p.2) (λ conflict. no_conflict c.in_err-tip.field-0.0 _ c.in_err-tip.ensures.fault conflict)
+
+pub returns-in_err-done-clause-ends : goal.returns-in_err-done-clause-ends
+returns-in_err-done-clause-ends g c =
+    let p = err_from_is_err_and c.from_residual-in_err-done.result c.from_residual-in_err-done.ensures.1 in
+    let digest = g.H.TreeHash.digest in
+    let origin = c.args.origin.now in
+    let note = c.args.note.now in
+    let x = g.D.Shelf.puts c.args.shelf.now in
+    let head = c.in-Some.head in
+    let had = subst (λ n. HadSize digest origin x n) (sym c.size-had.ensures)
+    (had_size digest origin c.in_ok-tip.tip x c.in_ok-tip.ensures.tip) in
+    rw (p.1, p.2) (λ conflict. subst (λ sizes. AreEnds digest origin note x sizes)
+    (sym (c.bring_from-done.ensures.once.still.sizes_are ∙ c.keep_ends.ensures.ends)) (record {
+      root = head.1;
+      had_is = had;
+      is_head = rw c.in-Some.is at c.in_ok-head.ensures.found;
+    }))

@@ -1,4 +1,4 @@
-use Rattle.std.proofs.Common.{◌≡◌, ◌*◌, ℕ, List, [], get_or, sym, subst, arith}
+use Rattle.std.proofs.Common.{◌≡◌, ◌*◌, ℕ, List, [], length, get_or, ap, sym, subst, arith}
 use Rattle.tlog_shape.specs.Edge.{edge_index_of, width_of}
 use Rattle.tlog_hash.specs.Rows.{level_row}
 use Rattle.mirror_copy.specs.Asked.{IsEdgeTile}
@@ -7,6 +7,8 @@ use Rattle.mirror_copy.proofs.Asking.{asks_same, asks_then}
 use Rattle.mirror_copy.proofs.OnePlace.{given_before, true_between}
 use Rattle.mirror_copy.proofs.TrueEdges.{row_weaker}
 use Rattle.log_reader.proofs.RowLists.{count_more, rows_more}
+use Rattle.mirror_copy.specs.AskedOnce.{IsAtPlace, IsEdgeTileBelow}
+use Rattle.mirror_copy.proofs.AskingOnce.{once_same}
 use Rattle.mirror_copy.proofs.Between.{once_last_level, once_level, once_levels}
 use Rattle.mirror_copy.proofs.find_edge.rows_at_place.Goals as goal
 
@@ -37,6 +39,15 @@ returns-in-None-clause-honest g c = λ digest hash entries short t le.
     let now = row digest hash entries short (true_between may failed asked digest entries so so so c.args.places.now y z z
     c.loop-level.invariant.asks c.row_at_place.ensures.asks (asks_same may failed asked so z) c.args.index t) le in
     absurd (cc now)
+
+pub loop-level-init : goal.loop-level-init
+loop-level-init g c = record {
+  asks = asks_same g.S.Source.may_answer g.S.Source.failed g.S.Source.asked (IsEdgeTile c.args.size) c.args.places.now;
+  once = once_same g.S.Source.asked (IsAtPlace c.args.index (IsEdgeTileBelow c.args.size 0)) c.args.places.now;
+  count = ap length c.new-rows.ensures.items;
+  taken = λ k none. absurd (omega (arith, none));
+  honest = λ digest hash entries short t le k none. absurd (omega (arith, none));
+}
 
 pub loop-level-preserved : goal.loop-level-preserved
 loop-level-preserved g c =

@@ -3,6 +3,9 @@ use Rattle.std.proofs.lemmas.Result.{err_from_is_err_and}
 use Rattle.mirror_follow.specs.Standing.{HasStanding, HoldsNoCopy, HoldsNoSmaller}
 use Rattle.mirror_follow.proofs.Blame.{any_then}
 use Rattle.mirror_follow.proofs.Ending.{ends_so, none_at_all, none_stands}
+use Rattle.mirror_copy.specs.EndTiles.{IsKept}
+use Rattle.mirror_copy.proofs.AskingOnce.{each_weaker, once_more}
+use Rattle.std.specs.Prelude.{⊤}
 use Rattle.mirror_follow.proofs.OneHonest.{honest_before}
 use Rattle.mirror_follow.proofs.turns.take_larger.Goals as goal
 
@@ -48,3 +51,23 @@ returns-in_ok-contradict-in-Contradicts-clause-suffices g c = λ h.
     g.S.Source.asked (g.D.Shelf.puts c.args.shelf.now) c.args.places.now c.bring.new.places c.contradict.new.places
     c.args.origin.now c.args.candidate.now c.bring.ensures.asks c.contradict.ensures.asks h) in
     absurd (cc (brought, c.in-Contradicts.is))
+
+pub returns-in_err-contradict-in-Contradicts-clause-once : goal.returns-in_err-contradict-in-Contradicts-clause-once
+returns-in_err-contradict-in-Contradicts-clause-once g c =
+    once_more g.S.Source.asked c.args.places.now c.bring.new.places c.contradict.new.places c.bring.ensures.once
+    c.contradict.ensures.more
+
+pub returns-in_ok-contradict-in-Contradicts-clause-once : goal.returns-in_ok-contradict-in-Contradicts-clause-once
+returns-in_ok-contradict-in-Contradicts-clause-once g c =
+    once_more g.S.Source.asked c.args.places.now c.bring.new.places c.contradict.new.places c.bring.ensures.once
+    c.contradict.ensures.more
+
+pub returns-in_err-turn-clause-once : goal.returns-in_err-turn-clause-once
+returns-in_err-turn-clause-once g c =
+    each_weaker g.S.Source.asked (IsKept c.bring.new.places) (λ k path. ⊤) (λ k path h. tt) c.args.places.now c.bring.new.places
+    c.bring.ensures.once
+
+pub returns-in_default-clause-once : goal.returns-in_default-clause-once
+returns-in_default-clause-once g c =
+    each_weaker g.S.Source.asked (IsKept c.bring.new.places) (λ k path. ⊤) (λ k path h. tt) c.args.places.now c.bring.new.places
+    c.bring.ensures.once
