@@ -3,6 +3,7 @@ use Rattle.std.proofs.Common.{◌≡◌, ℕ, List, [], Option, Some, None, Resu
 use Rattle.signed_note.specs.Keys.{Key}
 use Rattle.signed_note.specs.KeyFiles.{ReadsKeys}
 use Rattle.signed_note.specs.declared.fault.KeyFileFault.{KeyFileFault}
+use Rattle.signed_note.specs.declared.key_line.KeyLine.{KeyLine}
 use Rattle.program_files.specs.Named.{NamedFile}
 use Rattle.program_words.specs.Lines.{IsLine}
 use Rattle.program_words.specs.Readings.{Reads, ReadsKeyFile}
@@ -12,9 +13,10 @@ use Rattle.program_words.specs.declared.words.Line.{Line}
 use Rattle.program_env.specs.Done.{IsDoable}
 use Rattle.program_env.specs.Moment.{Moment}
 use Rattle.program_env.specs.Performing.{Ends}
-use Rattle.program_library.specs.Runs.{AreKeyBytes, FailsAtKeys, FindsKeys, Runs, RunsKeyed, no_lines}
+use Rattle.program_library.specs.Runs.{AreKeyBytes, FailsAtKeys, FindsKeys, JoinsLines, ReadsKeyLines}
+use Rattle.program_library.specs.Runs.{Runs, RunsKeyed, no_lines}
 use Rattle.program_env.specs.declared.fault.RunFault.{RunFault}
-use Rattle.program_env.specs.declared.fault.RunFault.TheVariants.{KeyFile, KeyLines}
+use Rattle.program_env.specs.declared.fault.RunFault.TheVariants.{Command, KeyFile, KeyLines}
 use Rattle.program_library.proofs.Doable.{asked_doable}
 use Rattle.program_env.proofs.Written.{keeps_itself}
 
@@ -38,6 +40,25 @@ pub keys_missed : (printed : Option (List NamedFile)) (words : List (List ℕ)) 
 keys_missed printed words (Some name) (KeyFile fault) has reads = record { name = name; has = has; reads = reads }
 keys_missed printed words name fault has finds = absurd finds
 
+-- the answer of a reader of key files from those of its bytes and its lines
+pub bytes_missed : (printed : Option (List NamedFile)) (name : Option (List ℕ)) (fault : RunFault) →
+    FindsKeys printed name (Err fault) → ReadsKeyLines printed name (Err fault)
+bytes_missed printed (Some name) (KeyFile fault) finds = finds
+bytes_missed printed name fault finds = absurd finds
+
+pub lines_found : (printed : Option (List NamedFile)) (name : Option (List ℕ)) (bytes lent : List ℕ)
+    (joined : List KeyLine) → lent ≡ bytes → FindsKeys printed name (Ok bytes) → JoinsLines lent joined →
+    ReadsKeyLines printed name (Ok (bytes, joined))
+lines_found printed name bytes lent joined same finds joins =
+    (finds, subst (λ (b : List ℕ). JoinsLines b joined) same joins)
+
+pub lines_missed : (printed : Option (List NamedFile)) (name : Option (List ℕ)) (bytes lent : List ℕ)
+    (fault : KeyFileFault) (error : RunFault) → error ≡ KeyLines fault → lent ≡ bytes →
+    FindsKeys printed name (Ok bytes) → ReadsKeys lent (no_lines fault) → ReadsKeyLines printed name (Err error)
+lines_missed printed name bytes lent fault error is same finds reads =
+    subst (λ (e : RunFault). ReadsKeyLines printed name (Err e)) (sym is)
+    record { bytes = bytes; finds = finds; reads = subst (λ (b : List ℕ). ReadsKeys b (no_lines fault)) same reads }
+
 -- nothing was written, and the run failed
 pub nothing_done : (now : Option (List ℕ)) (fault : RunFault) → Ends now now (Err fault)
 nothing_done now fault = record { status = tt; quiet = λ other. keeps_itself now }
@@ -59,6 +80,37 @@ module _ (digest : List ℕ → List ℕ) (now : Moment) (words : List (List ℕ
       ReadsKeys bytes (no_lines fault) → RunsKeyed digest words now now (Err (KeyLines fault))
   lines_lack bytes fault are_bytes reads =
       keys_lack (KeyLines fault) record { bytes = bytes; are_bytes = are_bytes; reads = reads }
+
+  -- the key file was not read, or has a line that is no key
+  pub keys_refused : (name : Option (List ℕ)) (fault : RunFault) → ReadsKeyFile words (Ok name) →
+      ReadsKeyLines now.files name (Err fault) → RunsKeyed digest words now now (Err fault)
+  keys_refused name (KeyFile fault) has finds =
+      keys_lack (KeyFile fault) (keys_missed now.files words name (KeyFile fault) has finds)
+  keys_refused name (KeyLines fault) has lacks =
+      lines_lack lacks.bytes fault (keys_found now.files words name lacks.bytes lacks.bytes refl has lacks.finds)
+      lacks.reads
+  keys_refused name fault has finds = absurd finds
+
+  -- the key file has keys, and the words are those of no command
+  pub words_refused : (name : Option (List ℕ)) (bytes : List ℕ) (joined : List KeyLine) (fault : CommandFault) →
+      ReadsKeyFile words (Ok name) → Reads words (Err fault) → ReadsKeyLines now.files name (Ok (bytes, joined)) →
+      RunsKeyed digest words now now (Err (Command fault))
+  words_refused name bytes joined fault has reads finds = inr record {
+    bytes = bytes;
+    lines = finds.1.lines;
+    joined = joined;
+    are_bytes = keys_found now.files words name bytes bytes refl has finds.0;
+    are_lines = finds.1.are_lines;
+    joins = finds.1.joins;
+    runs = inl record {
+      fault = fault;
+      answer_is = refl;
+      reads = reads;
+      quiet = keeps_itself now.output;
+      files = refl;
+      folders = refl;
+    };
+  }
 
 -- a run under an equal list of keys
 pub runs_under : (digest : List ℕ → List ℕ) (keys all : List Key) (key_bytes : List ℕ) (words : List (List ℕ))

@@ -1,5 +1,5 @@
--- The answer and the output of a run of the program. Only contracts of private functions cite `FindsKeys`, `JoinsLines`
--- and `ReadsJoined`.
+-- The answer and the output of a run of the program. Only contracts of private functions cite `FindsKeys`, `JoinsLines`,
+-- `ReadsJoined` and `ReadsKeyLines`.
 use Rattle.std.specs.Prelude.{◌≡◌, ◌⊎◌, ℕ, List, [], Option, Some, None, Result, Ok, Err, map, ⊤}
 use Rattle.std.specs.Io.KnownBytes.{Keeps}
 use Rattle.signed_note.specs.Keys.{Key}
@@ -112,6 +112,19 @@ pub record JoinsLines (bytes : List ℕ) (joined : List KeyLine) : Type 0 where
 abbrev pub ReadsJoined : List ℕ → Result (List KeyLine) KeyFileFault → Type 0
 ReadsJoined bytes (Ok joined) = JoinsLines bytes joined
 ReadsJoined bytes (Err fault) = ReadsKeys bytes (no_lines fault)
+
+-- the bytes of the key file of that name are not lines of keys, as the fault says
+pub record LacksLines (printed : Option (List NamedFile)) (name : Option (List ℕ)) (fault : KeyFileFault) : Type 0 where
+  pub bytes : List ℕ
+  pub finds : FindsKeys printed name (Ok bytes)
+  pub reads : ReadsKeys bytes (no_lines fault)
+
+-- the meaning of each answer of the reader of the key file of that name: its bytes, and its lines with their pins joined
+abbrev pub ReadsKeyLines : Option (List NamedFile) → Option (List ℕ) → Result (List ℕ × List KeyLine) RunFault → Type 0
+ReadsKeyLines printed name (Ok keys) = FindsKeys printed name (Ok keys.0) × JoinsLines keys.0 keys.1
+ReadsKeyLines printed name (Err (KeyFile fault)) = FindsKeys printed name (Err (KeyFile fault))
+ReadsKeyLines printed name (Err (KeyLines fault)) = LacksLines printed name fault
+ReadsKeyLines printed name (Err other) = ⊥
 
 module _ (digest : List ℕ → List ℕ) (words : List (List ℕ)) (old new : Moment)
     (answer : Result ℕ RunFault) where

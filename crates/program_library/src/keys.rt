@@ -1,7 +1,7 @@
 //! The key file that the words name.
 ghost use Rattle.std.specs.Prelude.{map, option_map, string_bytes};
 ghost use Rattle.tlog_text.specs.Answers.{seen};
-ghost use Rattle.program_library.specs.Runs.{FindsKeys, NamesKeyFile, ReadsJoined};
+ghost use Rattle.program_library.specs.Runs.{FindsKeys, NamesKeyFile, ReadsJoined, ReadsKeyLines};
 
 use program_env::why::{Why, of_named};
 use program_env::{Error, RunFault, RunFiles};
@@ -22,16 +22,8 @@ pub struct Keys<'a> {
     pub verifiers: &'a [Box<dyn Verifier>],
 }
 
-/// The bytes of the key file of that name; no bytes if the command has no keys.
-///
-/// # Errors
-///
-/// `KeyFile` if the file cannot be read.
-pub(crate) fn key_bytes<F: RunFiles>(
-    files: &F,
-    alloc: Global,
-    name: Option<&str>,
-) -> Result<Vec<u8>, Error>
+// The bytes of the key file of that name; no bytes if the command has no keys.
+fn key_bytes<F: RunFiles>(files: &F, alloc: Global, name: Option<&str>) -> Result<Vec<u8>, Error>
     ensures { FindsKeys (F.puts files.now) (option_map (λ name. name.now) name.entry)
         (seen (λ bytes. bytes.items) result) }
 {
@@ -47,8 +39,34 @@ pub(crate) fn key_bytes<F: RunFiles>(
     }
 }
 
-/// The lines of the key file. All pins of one name and id are joined into one.
-pub(crate) fn joined_lines(alloc: Global, key_bytes: &[u8]) -> Result<Vec<KeyLine>, KeyFileFault>
+/// The bytes of the key file of that name, and its lines. All pins of one name and id are joined into one.
+///
+/// # Errors
+///
+/// `KeyFile` if the file cannot be read. `KeyLines` if its lines are no keys, or memory was refused for them.
+pub(crate) fn key_lines<F: RunFiles>(
+    files: &F,
+    alloc: Global,
+    name: Option<&str>,
+) -> Result<(Vec<u8>, Vec<KeyLine>), Error>
+    ensures { ReadsKeyLines (F.puts files.now) (option_map (λ name. name.now) name.entry)
+        (seen (λ keys. (keys.0.items, keys.1.items)) result) }
+{
+    let bytes = match key_bytes(files, alloc, name) {
+        Ok(bytes) => bytes,
+        Err(error) => return Err(error),
+    };
+    match joined_lines(alloc, &bytes) {
+        Ok(lines) => Ok((bytes, lines)),
+        Err(fault) => {
+            let why = why_of_lines(alloc, &bytes, name, fault);
+            Err(Error::new(RunFault::KeyLines(fault), why))
+        }
+    }
+}
+
+// The lines of the key file, with their pins joined.
+fn joined_lines(alloc: Global, key_bytes: &[u8]) -> Result<Vec<KeyLine>, KeyFileFault>
     ensures { ReadsJoined key_bytes.now (seen (λ lines. lines.items) result) }
 {
     let lines = match read_keys(alloc, key_bytes) {
@@ -61,8 +79,8 @@ pub(crate) fn joined_lines(alloc: Global, key_bytes: &[u8]) -> Result<Vec<KeyLin
     }
 }
 
-/// The thing that a fault of the key file's lines is about: the number of the bad line, and the common mistake in it.
-pub(crate) fn why_of_lines(
+// The thing that a fault of the key file's lines is about: the number of the bad line, and the common mistake in it.
+fn why_of_lines(
     alloc: Global,
     key_bytes: &[u8],
     name: Option<&str>,

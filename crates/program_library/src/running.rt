@@ -2,22 +2,23 @@
 ghost use Rattle.std.specs.Prelude.{◌≡◌, IfErr, IfOk, List, map, string_bytes, ℕ};
 ghost use Rattle.std.specs.Io.KnownBytes.{Keeps};
 ghost use Rattle.sha2.specs.Sha256.{sha256};
+ghost use Rattle.program_words.specs.Commands.{AsksFor};
 ghost use Rattle.program_words.specs.Lines.{IsLine};
 ghost use Rattle.program_env.specs.Done.{IsDoable, IsWriteFault};
 ghost use Rattle.program_env.specs.Envs.{IsSameEnv, moment};
 ghost use Rattle.program_env.specs.Moment.{on_system, seen_of};
 ghost use Rattle.program_env.specs.Performing.{Ends};
-ghost use Rattle.program_library.specs.Runs.{AreKeyBytes, Runs, RunsKeyed};
+ghost use Rattle.program_library.specs.Runs.{AreKeyBytes, JoinsLines, Runs, RunsKeyed};
 ghost use Rattle.program_env.specs.Works.{IsStatus};
 
 use crate::commands::run_command;
-use crate::keys::{Keys, joined_lines, key_bytes, why_of_lines};
+use crate::keys::{Keys, key_lines};
 use mirror_folders::DirShelf;
 use mirror_progress::{CountingShelf, Progress, StandardError};
 use program_env::why::{FailedStreams, Why, print_why};
 use program_env::{Env, Error, Failing, RunFault, RunFiles, RunFolders};
 use program_files::SystemFiles;
-use program_words::{BadWord, CommandFault, Line, read_line};
+use program_words::{BadWord, Command, CommandFault, Line, read_line};
 use signed_note::{KeyFileFault, KeyLine, Verifier};
 use std::alloc::Global;
 use std::fs::Files;
@@ -179,64 +180,52 @@ where
         (moment F.puts D.held D.puts I.remaining O.contents env.new) result }
     ensures ends { Ends (O.contents env.old.output.now) (O.contents env.new.output.now) result }
 {
-    match key_bytes(&env.files, env.alloc, line.keys) {
-        Ok(bytes) => run_keyed(env, &bytes, line),
-        Err(error) => {
-            drop(line);
-            Err(error)
-        }
+    let bad = line.bad;
+    let asked = line.command;
+    match key_lines(&env.files, env.alloc, line.keys) {
+        Ok((bytes, lines)) => match asked {
+            Ok(command) => run_keyed(env, &bytes, lines, &command),
+            Err(fault) => Err(refused(env.alloc, bad, fault)),
+        },
+        Err(error) => Err(error),
     }
 }
 
-// The same after the bytes of the key file were read.
+// Runs the command with the keys of these lines.
 fn run_keyed<R, F: RunFiles, D: RunFolders, I: Read, O: Write, E: Write>(
     env: &mut Env<'_, '_, '_, '_, R, F, D, I, O, E>,
     key_bytes: &[u8],
-    asked: Line<'_>,
+    lines: Vec<KeyLine>,
+    command: &Command<'_>,
 ) -> Result<u8, Error>
 where
     R: Files + Clock + Eprint + Net<Stream = TcpStream, Listener = TcpListener>,
-    requires { IfOk asked.command IsDoable }
+    requires { IsDoable command.now }
     ensures same { IsSameEnv env.old env.new }
-    ensures runs { (words : List (List ℕ)) → IsLine words asked.entry
-        → AreKeyBytes (F.puts env.old.files) words key_bytes.now → RunsKeyed sha256 words
+    ensures runs { (words : List (List ℕ)) → AsksFor words command.now
+        → AreKeyBytes (F.puts env.old.files) words key_bytes.now
+        → JoinsLines key_bytes.now lines.items → RunsKeyed sha256 words
         (moment F.puts D.held D.puts I.remaining O.contents env.old)
         (moment F.puts D.held D.puts I.remaining O.contents env.new) result }
     ensures ends { Ends (O.contents env.old.output.now) (O.contents env.new.output.now) result }
 {
-    let lines = match joined_lines(env.alloc, key_bytes) {
-        Ok(lines) => lines,
-        Err(fault) => return Err(no_lines(env.alloc, key_bytes, asked, fault)),
-    };
     let mut keys: Vec<Box<dyn Verifier>> = Vec::new(env.alloc);
     for line in lines {
         match line {
             KeyLine::Hmac(key) => {
                 let Ok(key) = Box::new(env.alloc, key) else {
-                    return Err(Error {
-                        fault: RunFault::KeyLines(KeyFileFault::OutOfMemory),
-                        why: None,
-                    });
+                    return Err(no_memory());
                 };
                 let Ok(()) = keys.push(key) else {
-                    return Err(Error {
-                        fault: RunFault::KeyLines(KeyFileFault::OutOfMemory),
-                        why: None,
-                    });
+                    return Err(no_memory());
                 };
             }
             KeyLine::Pin(texts) => {
                 let Ok(texts) = Box::new(env.alloc, texts) else {
-                    return Err(Error {
-                        fault: RunFault::KeyLines(KeyFileFault::OutOfMemory),
-                        why: None,
-                    });
+                    return Err(no_memory());
                 };
                 let Ok(()) = keys.push(texts) else {
-                    return Err(Error {
-                        fault: RunFault::KeyLines(KeyFileFault::OutOfMemory),
-                        why: None,
-                    });
+                    return Err(no_memory());
                 };
             }
         }
@@ -245,16 +234,17 @@ where
         bytes: key_bytes,
         verifiers: &keys,
     };
-    obey(env, &keys, asked)
+    run_command(env, &keys, command)
 }
 
-// The error for a key file that has lines which are no keys.
-fn no_lines(alloc: Global, key_bytes: &[u8], asked: Line<'_>, fault: KeyFileFault) -> Error
-    ensures { result ≡ RunFault.KeyLines fault }
+// The error if memory is refused for the keys.
+fn no_memory() -> Error
+    ensures { result ≡ RunFault.KeyLines KeyFileFault.OutOfMemory }
 {
-    let why = why_of_lines(alloc, key_bytes, asked.keys, fault);
-    drop(asked);
-    Error::new(RunFault::KeyLines(fault), why)
+    Error {
+        fault: RunFault::KeyLines(KeyFileFault::OutOfMemory),
+        why: None,
+    }
 }
 
 // Runs the command of the line.

@@ -25,8 +25,8 @@ loop-line-preserved-in-Ok-push g c = (
       c.in-Some.line c.loop-line.line-iterator.rest.items c.next.new.self.rest.items
       (map key_of c.into_iter-line-iterator.result.rest.items) c.in-Ok-push.ensures.items c.in-Some.ensures.steps.0
       (made_first secret_key pinned_key hmac.the_row.coded (λ y. refl) c.into_dyn_box.result.vtable
-      c.into_dyn_box.result.value c.in-Ok-new.key.value c.into_dyn_box.ensures.1
-      ∙ (ap secret_key c.in-Ok-new.ensures.ok ∙ sym (ap key_of c.in-Hmac.is))) c.loop-line.invariant.2,
+      c.into_dyn_box.result.value c.in-Ok.key.value c.into_dyn_box.ensures.1
+      ∙ (ap secret_key c.in-Ok.ensures.ok ∙ sym (ap key_of c.in-Hmac.is))) c.loop-line.invariant.2,
 )
 
 pub loop-line-preserved : goal.loop-line-preserved
@@ -38,40 +38,52 @@ loop-line-preserved g c = (
       (map key_of c.into_iter-line-iterator.result.rest.items) c.in-Ok-push-2.ensures.items
       c.in-Some.ensures.steps.0
       (made_second secret_key pinned_key pinned.the_row.coded (λ y. refl) c.into_dyn_box-in-Pin.result.vtable
-      c.into_dyn_box-in-Pin.result.value c.in-Ok-new-2.texts.value c.into_dyn_box-in-Pin.ensures.1
-      ∙ (ap pinned_key c.in-Ok-new-2.ensures.ok ∙ sym (ap key_of c.in-Pin.is))) c.loop-line.invariant.2,
+      c.into_dyn_box-in-Pin.result.value c.in-Ok-new.texts.value c.into_dyn_box-in-Pin.ensures.1
+      ∙ (ap pinned_key c.in-Ok-new.ensures.ok ∙ sym (ap key_of c.in-Pin.is))) c.loop-line.invariant.2,
 )
 
-pub returns-in-Err-clause-runs : goal.returns-in-Err-clause-runs
-returns-in-Err-clause-runs g c = λ words is are.
-    rw c.no_lines.ensures (lines_lack _ _ words c.args.key_bytes.now c.in-Err.fault are c.in-Err.ensures)
-
 pub returns-in_default-clause-runs : goal.returns-in_default-clause-runs
-returns-in_default-clause-runs g c = λ words is are. lines_lack _ _ words c.args.key_bytes.now OutOfMemory are tt
+returns-in_default-clause-runs g c = λ words asks are joins.
+    rw c.no_memory.ensures (lines_lack _ _ words c.args.key_bytes.now OutOfMemory are tt)
 
 pub returns-in_default-push-clause-runs : goal.returns-in_default-push-clause-runs
-returns-in_default-push-clause-runs g c = λ words is are. lines_lack _ _ words c.args.key_bytes.now OutOfMemory are tt
+returns-in_default-push-clause-runs g c = λ words asks are joins.
+    rw c.no_memory-in_default-push.ensures (lines_lack _ _ words c.args.key_bytes.now OutOfMemory are tt)
 
 pub returns-in_default-new-clause-runs : goal.returns-in_default-new-clause-runs
-returns-in_default-new-clause-runs g c = λ words is are. lines_lack _ _ words c.args.key_bytes.now OutOfMemory are tt
+returns-in_default-new-clause-runs g c = λ words asks are joins.
+    rw c.no_memory-in_default-new.ensures (lines_lack _ _ words c.args.key_bytes.now OutOfMemory are tt)
 
 pub returns-in_default-push-2-clause-runs : goal.returns-in_default-push-2-clause-runs
-returns-in_default-push-2-clause-runs g c = λ words is are. lines_lack _ _ words c.args.key_bytes.now OutOfMemory are tt
+returns-in_default-push-2-clause-runs g c = λ words asks are joins.
+    rw c.no_memory-in_default-push-2.ensures (lines_lack _ _ words c.args.key_bytes.now OutOfMemory are tt)
 
 pub returns-clause-runs : goal.returns-clause-runs
-returns-clause-runs g c = λ words is are. inr record {
+returns-clause-runs g c = λ words asks are joins. inr record {
   bytes = c.args.key_bytes.now;
-  lines = c.in-Ok.ensures.lines;
-  joined = c.in-Ok.lines.items;
+  lines = joins.lines;
+  joined = c.args.lines.items;
   are_bytes = are;
-  are_lines = c.in-Ok.ensures.are_lines;
-  joins = c.in-Ok.ensures.joins;
-  runs = runs_under sha256 _ (map key_of c.in-Ok.lines.items) c.args.key_bytes.now words _ _ c.obey.result
+  are_lines = joins.are_lines;
+  joins = joins.joins;
+  runs = runs_under sha256 _ (map key_of c.args.lines.items) c.args.key_bytes.now words _ _ c.run_command.result
       (ap (map _) c.deref.ensures.value
       ∙ (all_boxes secret_key pinned_key _ (λ b x. refl) (λ b x. refl) c.loop-line.keys.items
       ∙ (none_left (map (key_in secret_key pinned_key) c.loop-line.keys.items) key_of
       c.loop-line.line-iterator.rest.items (sym c.loop-line.line-iterator.rest.ok.0 ∙ c.in-None.ensures.steps.0)
       (map key_of c.into_iter-line-iterator.result.rest.items) c.loop-line.invariant.2
       ∙ ap (map key_of) c.into_iter-line-iterator.ensures.into_iter_gives.0)))
-      (c.obey.ensures.runs words is);
+      (inr record {
+        command = c.args.command.now;
+        asked = asks;
+        done = c.run_command.ensures.does.done;
+        files = c.run_command.ensures.does.files;
+        folders = c.run_command.ensures.does.folders;
+      });
 }
+
+pub returns-clause-ends : goal.returns-clause-ends
+returns-clause-ends g c = c.run_command.ensures.does.ends
+
+pub returns-clause-same : goal.returns-clause-same
+returns-clause-same g c = c.run_command.ensures.same
