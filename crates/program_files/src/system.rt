@@ -215,13 +215,20 @@ fn read_short<R: Files>(files: &R, alloc: Global, name: &str) -> io::Result<Vec<
 // The bytes of a plain file that is not too long, or None if nothing has that name. It opens only a plain file:
 // opening anything else could wait.
 fn find_short<R: Files>(files: &R, alloc: Global, name: &str) -> io::Result<Option<Vec<u8>>> {
-    let Ok(about) = fs::metadata(files, name) else {
-        return Ok(None);
-    };
-    if !about.is_file() {
-        return Err(io::Error::new(ErrorKind::InvalidInput, "it is no plain file"));
+    match fs::metadata(files, name) {
+        Ok(about) => {
+            if !about.is_file() {
+                return Err(io::Error::new(ErrorKind::InvalidInput, "it is no plain file"));
+            }
+            Ok(Some(read_short(files, alloc, name)?))
+        }
+        Err(e) => { if is_missing(&e) { Ok(None) } else { Err(e) } }
     }
-    Ok(Some(read_short(files, alloc, name)?))
+}
+
+// Whether the system says that nothing has the name.
+fn is_missing(e: &io::Error) -> bool {
+    e.kind() == ErrorKind::NotFound || e.kind() == ErrorKind::NotADirectory
 }
 
 // Opens the folder of that name, and makes it first if it is missing.

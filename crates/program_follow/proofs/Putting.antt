@@ -5,10 +5,12 @@ use Rattle.std.specs.Prelude.{is_some}
 use Rattle.std.specs.List.{flat_map}
 use Rattle.std.proofs.lemmas.List.{append_assoc, append-nil, flat_map_more, take_more, take-append-drop}
 use Rattle.std.proofs.lemmas.List.Concat.{flat_map-append}
+use Rattle.std.proofs.lemmas.Option.{none-some}
 use Rattle.mirror_sources.specs.Recorded.{KeepsRecord}
-use Rattle.program_files.specs.Named.{NamedFile, HasContents, LacksFile, RecordsReplace}
+use Rattle.program_files.specs.Named.{NamedFile, FindsFile, HasContents, LacksFile, RecordsFault, RecordsReplace}
 use Rattle.program_files.specs.declared.fault.NamedFault.{NamedFault}
-use Rattle.program_follow.specs.Evidence.{PutsEach, PutsFiles, PutsFront, RecordsEach}
+use Rattle.program_files.specs.declared.fault.NamedFault.TheVariants as named
+use Rattle.program_follow.specs.Evidence.{PutsEach, PutsFiles, PutsFront, RecordsEach, StopsAt}
 
 -- ---- no files, and files in order
 
@@ -21,16 +23,68 @@ kept_nothing None new kept = tt
 kept_nothing (Some old) None kept = absurd kept
 kept_nothing (Some old) (Some new) kept = kept
 
-pub front_kept : (files : List NamedFile) (old new : Option (List NamedFile)) → KeepsRecord old new →
-    PutsFront files old new
-front_kept files old new kept = record { front = []; rest = files; files_are = refl; recorded = kept_nothing old new kept }
+-- ---- the reason of an early end
 
-pub front_none : (files : List NamedFile) (recorded : Option (List NamedFile)) → PutsFront files recorded recorded
-front_none files recorded = record { front = []; rest = files; files_are = refl; recorded = recorded_nothing recorded }
+refused_stops : (old new : Option (List NamedFile)) (rest : List NamedFile) (fault : NamedFault) → RecordsFault old fault →
+    StopsAt old new rest fault
+refused_stops None new rest fault refused = tt
+refused_stops (Some old) new rest named.FileFault refused = absurd (none-some old (sym refused))
+refused_stops (Some old) new rest named.OutOfMemory refused = tt
 
-pub front_all : (files : List NamedFile) (old new : Option (List NamedFile)) → RecordsEach files old new →
-    PutsFront files old new
-front_all files old new each = record { front = files; rest = []; files_are = sym (append-nil files); recorded = each }
+stops_more : (old new : Option (List NamedFile)) (rest ys : List NamedFile) (fault : NamedFault) → StopsAt old new rest fault →
+    StopsAt old new (rest ++ ys) fault
+stops_more None new rest ys fault stops = tt
+stops_more (Some old) new rest ys named.OutOfMemory stops = tt
+stops_more (Some old) new [] ys named.FileFault stops = absurd stops
+stops_more (Some old) new (file ∷ rest) ys named.FileFault stops = stops
+
+stops_before : (xs : List NamedFile) (old between new : Option (List NamedFile)) (rest : List NamedFile) (fault : NamedFault) →
+    RecordsEach xs old between → StopsAt between new rest fault → StopsAt old new rest fault
+stops_before xs None between new rest fault first stops = tt
+stops_before xs (Some old) None new rest fault first stops = absurd first
+stops_before xs (Some old) (Some between) new rest named.OutOfMemory first stops = tt
+stops_before xs (Some old) (Some between) new [] named.FileFault first stops = stops
+stops_before xs (Some old) (Some between) new (file ∷ rest) named.FileFault first stops = stops
+
+-- ---- the first files
+
+pub front_kept : (files : List NamedFile) (old new : Option (List NamedFile)) (fault : NamedFault) → KeepsRecord old new →
+    RecordsFault old fault → PutsFront files old new fault
+front_kept files old new fault kept refused = record {
+  front = [];
+  rest = files;
+  files_are = refl;
+  recorded = kept_nothing old new kept;
+  stops = refused_stops old new files fault refused;
+}
+
+pub front_none : (files : List NamedFile) (recorded : Option (List NamedFile)) (fault : NamedFault) → RecordsFault recorded fault →
+    PutsFront files recorded recorded fault
+front_none files recorded fault refused = record {
+  front = [];
+  rest = files;
+  files_are = refl;
+  recorded = recorded_nothing recorded;
+  stops = refused_stops recorded recorded files fault refused;
+}
+
+pub front_unfound : (file : NamedFile) (recorded : Option (List NamedFile)) (fault : NamedFault) →
+    FindsFile recorded file.0 (Err fault) → PutsFront (file ∷ []) recorded recorded fault
+front_unfound file None fault unfound =
+    record { front = []; rest = file ∷ []; files_are = refl; recorded = tt; stops = tt }
+front_unfound file (Some puts) named.OutOfMemory unfound = front_none (file ∷ []) (Some puts) named.OutOfMemory tt
+front_unfound file (Some puts) named.FileFault unfound =
+    record { front = []; rest = file ∷ []; files_are = refl; recorded = refl; stops = unfound }
+
+pub front_all : (files : List NamedFile) (old new : Option (List NamedFile)) (fault : NamedFault) → RecordsEach files old new →
+    RecordsFault new fault → PutsFront files old new fault
+front_all files old new fault each refused = record {
+  front = files;
+  rest = [];
+  files_are = sym (append-nil files);
+  recorded = each;
+  stops = stops_before files old new new [] fault each (refused_stops new new [] fault refused);
+}
 
 each_both : (xs ys : List NamedFile) (old between new : List NamedFile) → PutsEach xs old between →
     PutsEach ys between new → PutsEach (xs ++ ys) old new
@@ -45,30 +99,32 @@ recorded_both xs ys (Some old) None new first second = absurd first
 recorded_both xs ys (Some old) (Some between) None first second = absurd second
 recorded_both xs ys (Some old) (Some between) (Some new) first second = each_both xs ys old between new first second
 
-pub front_both : (xs ys : List NamedFile) (old between new : Option (List NamedFile)) → RecordsEach xs old between →
-    PutsFront ys between new → PutsFront (xs ++ ys) old new
-front_both xs ys old between new first second = record {
+pub front_both : (xs ys : List NamedFile) (old between new : Option (List NamedFile)) (fault : NamedFault) →
+    RecordsEach xs old between → PutsFront ys between new fault → PutsFront (xs ++ ys) old new fault
+front_both xs ys old between new fault first second = record {
   front = xs ++ second.front;
   rest = second.rest;
   files_are = ap (λ files. xs ++ files) second.files_are ∙ sym (append_assoc xs second.front second.rest);
   recorded = recorded_both xs second.front old between new first second.recorded;
+  stops = stops_before xs old between new second.rest fault first second.stops;
 }
 
 -- a call that ended early, after calls that did not
-pub front_more : (xs ys : List NamedFile) (old new : Option (List NamedFile)) → PutsFront xs old new →
-    PutsFront (xs ++ ys) old new
-front_more xs ys old new first = record {
+pub front_more : (xs ys : List NamedFile) (old new : Option (List NamedFile)) (fault : NamedFault) → PutsFront xs old new fault →
+    PutsFront (xs ++ ys) old new fault
+front_more xs ys old new fault first = record {
   front = first.front;
   rest = first.rest ++ ys;
   files_are = ap (λ files. files ++ ys) first.files_are ∙ append_assoc first.front first.rest ys;
   recorded = first.recorded;
+  stops = stops_more old new first.rest ys fault first.stops;
 }
 
 -- the last of several calls
 pub files_then : {T : Type 0} (xs ys : List NamedFile) (old between new : Option (List NamedFile))
     (r : Result T NamedFault) → RecordsEach xs old between → PutsFiles ys between new r → PutsFiles (xs ++ ys) old new r
 files_then xs ys old between new (Ok x) first second = recorded_both xs ys old between new first second
-files_then xs ys old between new (Err fault) first second = front_both xs ys old between new first second
+files_then xs ys old between new (Err fault) first second = front_both xs ys old between new fault first second
 
 -- ---- one file
 
@@ -77,7 +133,7 @@ pub put_new : {T : Type 0} (old new : Option (List NamedFile)) (file : NamedFile
 put_new None new file (Ok x) absent recorded = tt
 put_new (Some old) None file (Ok x) absent recorded = absurd recorded
 put_new (Some old) (Some new) file (Ok x) absent recorded = (new, inr (absent, recorded), refl)
-put_new old new file (Err fault) absent recorded = front_kept (file ∷ []) old new recorded.0
+put_new old new file (Err fault) absent recorded = front_kept (file ∷ []) old new fault recorded.0 recorded.1
 
 pub put_kept : (recorded : Option (List NamedFile)) (file : NamedFile) (there : List ℕ) → HasContents recorded file.0 there →
     RecordsEach (file ∷ []) recorded recorded
@@ -107,10 +163,10 @@ module _ {X : Type 0} (files_of : X → List NamedFile) (xs : List X) (i : ℕ) 
       subst (λ files. RecordsEach files old new) (sym more)
       (recorded_both (flat_map files_of (take i xs)) (files_of x) old between new each one)
 
-  pub front_here : (old between new : Option (List NamedFile)) →
-      RecordsEach (flat_map files_of (take i xs)) old between → PutsFront (files_of x) between new →
-      PutsFront (flat_map files_of xs) old new
-  front_here old between new each one =
-      subst (λ files. PutsFront files old new) (sym parts)
-      (front_more (flat_map files_of (take i xs) ++ files_of x) (flat_map files_of (drop (i + 1) xs)) old new
-      (front_both (flat_map files_of (take i xs)) (files_of x) old between new each one))
+  pub front_here : (old between new : Option (List NamedFile)) (fault : NamedFault) →
+      RecordsEach (flat_map files_of (take i xs)) old between → PutsFront (files_of x) between new fault →
+      PutsFront (flat_map files_of xs) old new fault
+  front_here old between new fault each one =
+      subst (λ files. PutsFront files old new fault) (sym parts)
+      (front_more (flat_map files_of (take i xs) ++ files_of x) (flat_map files_of (drop (i + 1) xs)) old new fault
+      (front_both (flat_map files_of (take i xs)) (files_of x) old between new fault each one))

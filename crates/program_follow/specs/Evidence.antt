@@ -10,8 +10,9 @@ use Rattle.tlog_proof.specs.declared.proof.Proof.{Proof}
 use Rattle.tlog_proof.specs.declared.proof.Proof.TheVariants.{Inclusion, Consistency}
 use Rattle.mirror_follow.specs.declared.candidate.Candidate.{Candidate}
 use Rattle.mirror_follow.specs.declared.report.ForkLine.{ForkLine}
-use Rattle.program_files.specs.Named.{NamedFile, contents_of}
+use Rattle.program_files.specs.Named.{NamedFile, RecordsLong, contents_of}
 use Rattle.program_files.specs.declared.fault.NamedFault.{NamedFault}
+use Rattle.program_files.specs.declared.fault.NamedFault.TheVariants.{FileFault, OutOfMemory}
 
 -- ---- names
 
@@ -85,15 +86,24 @@ RecordsEach files None new = ⊤
 RecordsEach files (Some old) None = ⊥
 RecordsEach files (Some old) (Some new) = PutsEach files old new
 
--- the first of the files were put, and no others
-pub record PutsFront (files : List NamedFile) (old new : Option (List NamedFile)) : Type 0 where
+-- the reason why the first of the rest was not put, if the files are recorded: a file of its name is there, and is too long to be read.
+-- The other reason is that memory was refused
+abbrev pub StopsAt : Option (List NamedFile) → Option (List NamedFile) → List NamedFile → NamedFault → Type 0
+StopsAt None new rest fault = ⊤
+StopsAt (Some old) new rest OutOfMemory = ⊤
+StopsAt (Some old) new [] FileFault = ⊥
+StopsAt (Some old) new (file ∷ rest) FileFault = RecordsLong new file.0
+
+-- the first of the files were put, and no others, for this reason
+pub record PutsFront (files : List NamedFile) (old new : Option (List NamedFile)) (fault : NamedFault) : Type 0 where
   pub front : List NamedFile
   pub rest : List NamedFile
   pub files_are : files ≡ front ++ rest
   pub recorded : RecordsEach front old new
+  pub stops : StopsAt old new rest fault
 
 -- the files that a call has put, by its answer: all of them, or the first ones if it ended early
 abbrev pub PutsFiles : {T : Type 0} → List NamedFile → Option (List NamedFile) → Option (List NamedFile) →
     Result T NamedFault → Type 0
 PutsFiles files old new (Ok x) = RecordsEach files old new
-PutsFiles files old new (Err fault) = PutsFront files old new
+PutsFiles files old new (Err fault) = PutsFront files old new fault

@@ -10,9 +10,9 @@ returns-in_err-put_note g c =
     let folder = c.args.folder.now in
     let line = c.args.line.now in
     let p = err_from_is_err_and c.from_residual.result c.from_residual.ensures.1 in
-    rw p.1
+    rw (p.1, p.2)
     (front_more (note_file folder line.small ∷ []) (note_file folder line.large ∷ proof_files folder line line.proof)
-    (puts c.args.files.now) (puts c.put_note.new.files) c.in_err-put_note.ensures)
+    (puts c.args.files.now) (puts c.put_note.new.files) c.in_err-put_note.field-0.0 c.in_err-put_note.ensures)
 
 pub returns-in_err-put_note-2 : goal.returns-in_err-put_note-2
 returns-in_err-put_note-2 g c =
@@ -20,11 +20,12 @@ returns-in_err-put_note-2 g c =
     let folder = c.args.folder.now in
     let line = c.args.line.now in
     let p = err_from_is_err_and c.from_residual-in_err-put_note-2.result c.from_residual-in_err-put_note-2.ensures.1 in
-    rw p.1
+    rw (p.1, p.2)
     (front_more (note_file folder line.small ∷ (note_file folder line.large ∷ [])) (proof_files folder line line.proof)
-    (puts c.args.files.now) (puts c.put_note-2.new.files)
+    (puts c.args.files.now) (puts c.put_note-2.new.files) c.in_err-put_note-2.field-0.0
     (front_both (note_file folder line.small ∷ []) (note_file folder line.large ∷ []) (puts c.args.files.now)
-    (puts c.put_note.new.files) (puts c.put_note-2.new.files) c.in_ok-put_note.ensures c.in_err-put_note-2.ensures))
+    (puts c.put_note.new.files) (puts c.put_note-2.new.files) c.in_err-put_note-2.field-0.0 c.in_ok-put_note.ensures
+    c.in_err-put_note-2.ensures))
 
 pub returns : goal.returns
 returns g c =

@@ -7,10 +7,10 @@ pub returns-in_err-put_fork : goal.returns-in_err-put_fork
 returns-in_err-put_fork g c =
     let puts = g.F.NamedFiles.puts in
     let p = err_from_is_err_and c.from_residual.result c.from_residual.ensures.1 in
-    rw p.1
+    rw (p.1, p.2)
     (front_here (fork_files c.args.folder.now) c.args.lines.now c.loop-line.line-index c.line-item.result
     c.loop-line-test.true c.line-item.is (puts c.args.files.now) (puts c.loop-line.files) (puts c.put_fork.new.files)
-    c.loop-line.invariant c.in_err-put_fork.ensures)
+    c.in_err-put_fork.field-0.0 c.loop-line.invariant c.in_err-put_fork.ensures)
 
 pub loop-line-preserved : goal.loop-line-preserved
 loop-line-preserved g c =
