@@ -513,6 +513,12 @@ Says options (order.CopyServe c) = IsCopyServe options c
 
 -- ---- the whole command line
 
+-- the program with the first half of its commands; only a private contract cites it
+abbrev pub first_app : App
+first_app =
+    with_commands program_app (root_app ∷ check_app ∷ build_app ∷ take_app ∷ merge_app ∷ pull_app ∷ follow_app
+    ∷ audit_app ∷ [])
+
 -- the program with its commands
 abbrev pub mirror_app : App
 mirror_app = with_commands program_app command_apps
