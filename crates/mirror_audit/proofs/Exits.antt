@@ -2,7 +2,7 @@
 use Rattle.std.proofs.Common.{◌≡◌, ℕ, Result, Ok, Err, IfErr, IsErr, IsErrAnd, sym, subst, ◌∙◌}
 use Rattle.std.proofs.lemmas.Bool.{false≢true}
 use Rattle.mirror_sources.specs.Recorded.{Rose}
-use Rattle.mirror_audit.specs.Faults.{BlamesPlace}
+use Rattle.mirror_audit.specs.Faults.{BlamesPlace, GivesTrue, IsFailure}
 use Rattle.mirror_audit.specs.declared.fault.AuditFault.{AuditFault}
 use Rattle.mirror_audit.specs.declared.fault.AuditFault.TheVariants.{NoCheckpoint, Head, NoEdge, NoFile, FalseFile, Source, OutOfMemory}
 
@@ -29,3 +29,8 @@ pub err_exit : {T : Type 0} (P : AuditFault → Type 0) (result : Result T Audit
     IsErr result × IsErrAnd result (λ f. f ≡ fault) → P fault → IfErr result P
 err_exit P (Ok x) fault is h = tt
 err_exit P (Err f) fault is h = subst P (sym is.1) h
+
+pub true_exit : {T : Type 0} (result : Result T AuditFault) (claim : T → Type 0) (fault : AuditFault) →
+    IsErr result × IsErrAnd result (λ f. f ≡ fault) → IsFailure fault → GivesTrue result claim
+true_exit (Ok x) claim fault is h = absurd (false≢true is.0)
+true_exit (Err f) claim fault is h = subst IsFailure (sym is.1) h

@@ -1,4 +1,4 @@
-use Rattle.std.proofs.Common.{◌≡◌, ◌<◌, ℕ, [], length, get_or, ap, refl, rules, sym, subst, ◌∙◌, arith}
+use Rattle.std.proofs.Common.{◌≡◌, ◌<◌, ℕ, [], length, get_or, ap, refl, sym, subst, ◌∙◌, arith}
 use Rattle.tlog_shape.specs.Edge.{width_of}
 use Rattle.mirror_audit.specs.Edges.{AreRowsGiven}
 use Rattle.log_reader.specs.Holding.{IsEdgeRowOf}
@@ -11,7 +11,7 @@ use Rattle.mirror_audit.proofs.RowsGiven.{no_rows, no_rows_read, one_more, one_m
 use Rattle.mirror_audit.proofs.Stops.{stops_in}
 use Rattle.std.proofs.lemmas.Result.{IfOk-from_err}
 use Rattle.mirror_audit.specs.Faults.{IsForAbsence}
-use Rattle.mirror_audit.proofs.Exits.{blames_exit, err_exit}
+use Rattle.mirror_audit.proofs.Exits.{blames_exit, err_exit, true_exit}
 use Rattle.mirror_audit.proofs.LogStops.{absence_before}
 use Rattle.mirror_audit.proofs.edge_rows.rows_of.Goals as goal
 
@@ -84,7 +84,7 @@ returns-in_err-row-clause-honest g c = λ digest entries hash s same.
     let may = g.S.Source.may_answer in
     let fault = c.in_err-row.ensures.honest digest entries hash
     (source_later digest entries (may c.args.source.now) (may c.loop-level.source) c.loop-level.invariant.given.given.stays s) same in
-    search (rules, fault)
+    true_exit c.from_residual.result _ c.in_err-row.field-0.0 c.from_residual.ensures fault
 
 pub returns-clause-honest : goal.returns-clause-honest
 returns-clause-honest g c = λ digest entries hash s same level low.

@@ -18,7 +18,7 @@ use Rattle.mirror_audit.proofs.ShortLogs.{row_of_tile, tile_verified}
 use Rattle.mirror_audit.proofs.Stops.{on_err, read_hinted, read_none, read_one, read_then, stops_in}
 use Rattle.std.proofs.lemmas.Result.{IfOk-from_err}
 use Rattle.log_reader.proofs.Kept.{stays_twice}
-use Rattle.mirror_audit.specs.Faults.{BlamesPlace, IsForAbsence}
+use Rattle.mirror_audit.specs.Faults.{BlamesPlace, IsFailure, IsForAbsence}
 use Rattle.mirror_audit.proofs.Exits.{blames_exit, err_exit}
 use Rattle.mirror_audit.proofs.LogStops.{absence_before}
 use Rattle.mirror_audit.proofs.tiles.+tiles.Goals as goal
@@ -146,7 +146,7 @@ audit_row-returns-in_err-audit_tile-clause-honest g t c = λ entries s row.
     let fault = c.in_err-audit_tile.ensures.honest entries later
     (child_hash digest entries c.args.level c.args.index c.args.row.now row c.requires.above c.requires.level c.loop-i.i
     c.loop-i-test.true) in
-    search (rules, fault)
+    err_exit IsFailure c.from_residual.result c.in_err-audit_tile.field-0.0 c.from_residual.ensures fault
 
 pub audit_tile-returns-then-level-eq0-clause-honest : goal.audit_tile-returns-then-level-eq0-clause-honest
 audit_tile-returns-then-level-eq0-clause-honest g t c = λ entries s hash.
@@ -177,7 +177,7 @@ audit_tile-returns-in_err-row-clause-read g t c = IfOk-from_err c.from_residual.
 pub audit_tile-returns-in_err-row-clause-honest : goal.audit_tile-returns-in_err-row-clause-honest
 audit_tile-returns-in_err-row-clause-honest g t c = λ entries s hash.
     let fault = c.in_err-row.ensures.honest entries c.args.level c.args.index refl s hash in
-    search (rules, fault)
+    err_exit IsFailure c.from_residual.result c.in_err-row.field-0.0 c.from_residual.ensures fault
 
 pub audit_tile-returns-clause-counted : goal.audit_tile-returns-clause-counted
 audit_tile-returns-clause-counted g t c =
@@ -238,7 +238,7 @@ audit_tile-returns-in_err-row-clause-first g t c =
     let has = HasTile digest level index c.args.hash.now in
     let stop = stops_in digest [] (path ∷ []) (row_order level index 256) (tile_order level index) has has a a b x x y
     (read_none digest has a x [] refl) (λ entries h t. h) (tile_then level index some) _ (c.in_err-row.ensures.first level index refl) in
-    search (rules, stop)
+    err_exit _ c.from_residual.result c.in_err-row.field-0.0 c.from_residual.ensures stop
 
 pub audit_tile-returns-clause-read : goal.audit_tile-returns-clause-read
 audit_tile-returns-clause-read g t c =
@@ -324,4 +324,4 @@ audit_row-returns-in_err-audit_tile-clause-first g t c =
       is_hash = child_hash digest entries level index row r.is_row c.requires.above c.requires.level i c.loop-i-test.true;
     })
     parts.parts_are _ c.in_err-audit_tile.ensures.first in
-    search (rules, stop)
+    err_exit _ c.from_residual.result c.in_err-audit_tile.field-0.0 c.from_residual.ensures stop
