@@ -8,7 +8,26 @@ use Rattle.log_reader.proofs.NodeHashes.{part_folds, row_count}
 use Rattle.log_reader.proofs.NodeNumbers.{count_is, count_power, count_some, first_aligned, fits, row_fits, start_is}
 use Rattle.log_reader.proofs.TrueReads.{there_true}
 use Rattle.log_reader.proofs.Exits.{counted_exit, failed_exit}
+use Rattle.std.proofs.Math.Nat.{div-mul-le_self}
+use Rattle.std.proofs.lemmas.Nat.{le-div}
+use Rattle.tlog_shape.proofs.Levels.{level_positive}
 use Rattle.log_reader.proofs.node_hash.perfect_hash.Goals as goal
+
+pub go_to-requires-clause-level : goal.go_to-requires-clause-level
+go_to-requires-clause-level g c = c.top_level-level.ensures.within
+
+pub go_to-requires-clause-within : goal.go_to-requires-clause-within
+go_to-requires-clause-within g c =
+    let n = c.args.reader.now.edge.size in
+    let level = c.top_level-level.result in
+    let index = edge_index_of c.args.start level in
+    let width = 256 ^ (level + 1) in
+    let upto : index ≤ edge_index_of n level =
+    le-div index n width (level_positive (level + 1)) (omega (arith, div-mul-le_self c.args.start width, c.requires.within)) in
+    omega (arith, c.edge_index.ensures, upto)
+
+pub edge_width-requires : goal.edge_width-requires
+edge_width-requires g c = c.top_level-level.ensures.within
 
 pub node-requires-clause-power : goal.node-requires-clause-power
 node-requires-clause-power g c =
