@@ -104,6 +104,12 @@ module _ {T : Type 0} (digest : List ℕ → List ℕ) (name : ℕ) (before held
       ReadsCopyLog digest size root held (Ok x) claim
   log_ok size root x reads entries size_is root_is files = reads entries size_is root_is (source_is entries files)
 
+  pub log_err : (size : ℕ) (root : List ℕ) (fault : ReadFault) (result : Result T CopyFault) →
+      IsErr result × IsErrAnd result (λ f. f ≡ by_read fault) → ReadsLog digest size root (MayGive name before) (Err fault) claim →
+      ReadsCopyLog digest size root held result claim
+  log_err size root fault result is reads entries size_is root_is files =
+      err_given fault result entries (reads entries size_is root_is (source_is entries files)) is
+
 pub of_shelf : (T : Type 0) (a b : ℕ) (fault : CopyFault) → CountsRead {T = T} a b (Err fault) → IsOfShelf fault
 of_shelf T a b copy.BadOrigin counts = absurd counts
 of_shelf T a b (copy.Head f) counts = absurd counts

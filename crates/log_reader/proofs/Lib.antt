@@ -1,4 +1,5 @@
 pub mod Kept
+pub mod Exits
 pub mod Refusing
 pub mod HeadNotes
 pub mod EdgeHashes

@@ -16,3 +16,4 @@ pub mod Stops
 pub mod ShortLogs
 pub mod LogStops
 pub mod TrueFiles
+pub mod Exits

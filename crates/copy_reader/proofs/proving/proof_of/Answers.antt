@@ -4,7 +4,46 @@ use Rattle.log_reader.proofs.NodeHashes.{if_ok}
 use Rattle.log_reader.proofs.TrueReads.{reads_more, tiles_later}
 use Rattle.copy_reader.specs.Proofs.{IsAsked, IsInTree, IsMadeOf}
 use Rattle.copy_reader.proofs.MadeProofs.{first_made, in_tree_asked, within_size}
+use Rattle.std.proofs.lemmas.Result.{IfOk-from_err}
+use Rattle.log_reader.specs.Faults.{CountsFailure}
+use Rattle.log_reader.proofs.Exits.{counted_exit, failed_exit}
+use Rattle.log_reader.proofs.Kept.{kept_twice, stays_twice}
 use Rattle.copy_reader.proofs.proving.proof_of.Goals as goal
+
+pub returns-in_err-first : goal.returns-in_err-first
+returns-in_err-first g c =
+    let failed = g.S.Source.failed in
+    let exit = c.from_residual in
+    let step = c.in_err-first.ensures in
+    record {
+      asked = IfOk-from_err exit.result _ exit.ensures.0;
+      holds = IfOk-from_err exit.result _ exit.ensures.0;
+      later = step.later;
+      kept = step.kept;
+      counted = counted_exit exit.result c.prefix.result c.in_err-first.field-0.0 exit.ensures c.in_err-first.was
+          (failed c.args.files.now) (failed c.args.files.now) (failed c.prefix.new.source) refl c.prefix.ensures.counted;
+      honest = λ entries r s.
+          let went = step.honest entries r s in
+          record {
+            reader_is = went.reader_is;
+            answer = failed_exit exit.result _ c.in_err-first.field-0.0 exit.ensures went.answer;
+          };
+    }
+
+pub returns-clause-later : goal.returns-clause-later
+returns-clause-later g c = stays_twice c.in_ok-first.ensures.later c.whole_proof-2.ensures.later
+
+pub returns-clause-kept : goal.returns-clause-kept
+returns-clause-kept g c =
+    let files = g.S.Source.files in
+    kept_twice (files c.args.files.now) (files c.prefix.new.source) (files c.whole_proof-2.new.files) c.in_ok-first.ensures.kept
+    c.whole_proof-2.ensures.kept
+
+pub returns-clause-counted : goal.returns-clause-counted
+returns-clause-counted g c =
+    let failed = g.S.Source.failed in
+    subst (λ n. CountsFailure n (failed c.whole_proof-2.new.files) c.whole_proof-2.result) c.in_ok-first.ensures.counted
+    c.whole_proof-2.ensures.counted
 
 pub returns-clause-asked : goal.returns-clause-asked
 returns-clause-asked g c =

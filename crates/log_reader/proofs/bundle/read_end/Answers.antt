@@ -1,12 +1,38 @@
-use Rattle.std.proofs.Common.{rules, sym, ◌∙◌}
+use Rattle.std.proofs.Common.{rules, sym, ◌∙◌, refl}
 use Rattle.std.proofs.lemmas.Bool.{false≢true}
 use Rattle.log_reader.proofs.TrueBundles.{end_leaves}
+use Rattle.std.proofs.lemmas.Result.{IfOk-from_err}
+use Rattle.log_reader.specs.declared.fault.ReadFault.TheVariants.{OutOfMemory}
+use Rattle.log_reader.proofs.Exits.{counted_exit, failed_exit, memory_exit}
 use Rattle.log_reader.proofs.bundle.read_end.Goals as goal
 
-pub returns-in_err-bytes-clause-honest : goal.returns-in_err-bytes-clause-honest
-returns-in_err-bytes-clause-honest g c = λ entries e s.
-    let fault = c.in_err-bytes.ensures.honest entries e.end s in
-    search (rules, fault)
+pub returns-in_err-bytes : goal.returns-in_err-bytes
+returns-in_err-bytes g c =
+    let failed = g.S.Source.failed in
+    let exit = c.from_residual in
+    let step = c.in_err-bytes.ensures in
+    record {
+      bytes = IfOk-from_err exit.result _ exit.ensures.0;
+      later = step.later;
+      kept = step.kept;
+      counted = counted_exit exit.result c.get_end.result c.in_err-bytes.field-0.0 exit.ensures c.in_err-bytes.was
+          (failed c.args.source.now) (failed c.args.source.now) (failed c.get_end.new.source) refl c.get_end.ensures.counted;
+      honest = λ entries e s.
+          failed_exit exit.result _ c.in_err-bytes.field-0.0 exit.ensures (step.honest entries e.end s);
+    }
+
+pub returns-in_err-has_leaves : goal.returns-in_err-has_leaves
+returns-in_err-has_leaves g c =
+    let failed = g.S.Source.failed in
+    let exit = c.from_residual-in_err-has_leaves in
+    let step = c.in_ok-bytes.ensures in
+    record {
+      bytes = IfOk-from_err exit.result _ exit.ensures.0;
+      later = step.later;
+      kept = step.kept;
+      counted = memory_exit exit.result exit.ensures (failed c.args.source.now) (failed c.get_end.new.source) step.counted;
+      honest = λ entries e s. failed_exit exit.result _ OutOfMemory exit.ensures tt;
+    }
 
 pub returns-then-branch-clause-honest : goal.returns-then-branch-clause-honest
 returns-then-branch-clause-honest g c = λ entries e s. c.in_ok-bytes.ensures.honest entries e.end s

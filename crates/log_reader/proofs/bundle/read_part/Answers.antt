@@ -3,7 +3,21 @@ use Rattle.tlog_hash.specs.Rows.{part}
 use Rattle.tlog_tiles.specs.Tiles.{bundle_bytes}
 use Rattle.tlog_tiles.proofs.TileLemmas.{length-part}
 use Rattle.log_reader.proofs.TrueBundles.{part_short}
+use Rattle.log_reader.proofs.Exits.{get_exit, get_failed}
 use Rattle.log_reader.proofs.bundle.read_part.Goals as goal
+
+pub returns-in_err-bytes : goal.returns-in_err-bytes
+returns-in_err-bytes g c =
+    let failed = g.S.Source.failed in
+    let exit = c.from_residual in
+    let step = c.in_err-bytes.ensures in
+    record {
+      later = step.later;
+      kept = step.kept;
+      counted = get_exit exit.result c.get.result c.in_err-bytes.field-0.0 exit.ensures c.in_err-bytes.was (failed c.args.source.now)
+          (failed c.get.new.self) c.get.ensures.counted;
+      honest = λ entries short within way. get_failed exit.result _ c.in_err-bytes.field-0.0 exit.ensures;
+    }
 
 pub returns-in_default-clause-honest : goal.returns-in_default-clause-honest
 returns-in_default-clause-honest g c = λ entries short within way.

@@ -1,8 +1,10 @@
-use Rattle.std.proofs.Common.{◌+◌, ◌-◌, ◌<◌, ◌≤◌, length, subst, sym, ap, rules, arith}
+use Rattle.std.proofs.Common.{◌+◌, ◌-◌, ◌<◌, ◌≤◌, length, subst, sym, ap, rules, arith, refl, ◌∙◌}
 use Rattle.log_reader.specs.Nodes.{IsNodeRange}
 use Rattle.log_reader.proofs.FirstHashes.{left_added, right_added, whole_added}
 use Rattle.log_reader.proofs.NodeNumbers.{left_node, right_node}
 use Rattle.log_reader.proofs.TrueReads.{reads_more, tiles_later}
+use Rattle.log_reader.proofs.Exits.{counted_exit, failed_exit}
+use Rattle.log_reader.proofs.Kept.{kept_twice, stays_twice}
 use Rattle.log_reader.proofs.consistency.+add_subproof.Goals as goal
 
 pub returns-then-first-len-clause-honest : goal.returns-then-first-len-clause-honest
@@ -33,14 +35,60 @@ add_node-requires g t c =
     let right = right_node c.args.reader.now.edge.size start n k c.requires.node (omega arith) c.split-k.ensures.value in
     subst (λ m. IsNodeRange m (start + k) (n - k)) (sym (ap (λ e. e.size) c.in_ok-hash.ensures.edge)) right
 
-pub returns-in_err-add_node-clause-honest : goal.returns-in_err-add_node-clause-honest
-returns-in_err-add_node-clause-honest g t c = λ entries r s.
-    let may = g.S.Source.may_answer in
-    let low = c.in_ok-hash.ensures.honest entries r s in
-    let went = c.in_err-add_node.ensures.honest entries low.reader_is
-    (tiles_later g.H.TreeHash.digest entries (may c.args.source.now) (may c.add_subproof.new.source) c.in_ok-hash.ensures.later s) in
-    let fault = went.answer in
-    record { reader_is = went.reader_is; answer = search (rules, fault) }
+pub returns-in_err-hash : goal.returns-in_err-hash
+returns-in_err-hash g t c =
+    let failed = g.S.Source.failed in
+    let exit = c.from_residual in
+    let step = c.in_err-hash.ensures in
+    record {
+      edge = step.edge;
+      root = step.root;
+      later = step.later;
+      kept = step.kept;
+      counted = counted_exit exit.result c.add_subproof.result c.in_err-hash.field-0.0 exit.ensures c.in_err-hash.was
+          (failed c.args.source.now) (failed c.args.source.now) (failed c.add_subproof.new.source) refl
+          c.add_subproof.ensures.counted;
+      honest = λ entries r s.
+          let went = step.honest entries r s in
+          record {
+            reader_is = went.reader_is;
+            answer = failed_exit exit.result _ c.in_err-hash.field-0.0 exit.ensures went.answer;
+          };
+    }
+
+pub returns-in_err-add_node : goal.returns-in_err-add_node
+returns-in_err-add_node g t c =
+    let files = g.S.Source.files in
+    let failed = g.S.Source.failed in
+    let exit = c.from_residual-in_err-add_node in
+    let below = c.in_ok-hash.ensures in
+    let step = c.in_err-add_node.ensures in
+    record {
+      edge = step.edge ∙ below.edge;
+      root = step.root ∙ below.root;
+      later = stays_twice below.later step.later;
+      kept = kept_twice (files c.args.source.now) (files c.add_subproof.new.source) (files c.add_node.new.source) below.kept
+          step.kept;
+      counted = counted_exit exit.result c.add_node.result c.in_err-add_node.field-0.0 exit.ensures c.in_err-add_node.was
+          (failed c.args.source.now) (failed c.add_subproof.new.source) (failed c.add_node.new.source) below.counted
+          c.add_node.ensures.counted;
+      honest = λ entries r s.
+          let low = below.honest entries r s in
+          let went = step.honest entries low.reader_is (tiles_later g.H.TreeHash.digest entries _ _ below.later s) in
+          record {
+            reader_is = went.reader_is;
+            answer = failed_exit exit.result _ c.in_err-add_node.field-0.0 exit.ensures went.answer;
+          };
+    }
+
+pub returns-then-first-k-clause-later : goal.returns-then-first-k-clause-later
+returns-then-first-k-clause-later g t c = stays_twice c.in_ok-hash.ensures.later c.in_ok-add_node.ensures.later
+
+pub returns-then-first-k-clause-kept : goal.returns-then-first-k-clause-kept
+returns-then-first-k-clause-kept g t c =
+    let files = g.S.Source.files in
+    kept_twice (files c.args.source.now) (files c.add_subproof.new.source) (files c.add_node.new.source)
+    c.in_ok-hash.ensures.kept c.in_ok-add_node.ensures.kept
 
 pub returns-then-first-k-clause-honest : goal.returns-then-first-k-clause-honest
 returns-then-first-k-clause-honest g t c = λ entries r s.
@@ -72,14 +120,60 @@ add_whole-requires-2 g t c =
     let left = left_node c.args.reader.now.edge.size start n k c.requires.node (omega arith) c.split-k.ensures.value in
     subst (λ m. IsNodeRange m start k) (sym (ap (λ e. e.size) c.in_ok-end.ensures.edge)) left
 
-pub returns-in_err-left-clause-honest : goal.returns-in_err-left-clause-honest
-returns-in_err-left-clause-honest g t c = λ entries r s.
-    let may = g.S.Source.may_answer in
-    let low = c.in_ok-end.ensures.honest entries r s in
-    let went = c.in_err-left.ensures.honest entries low.reader_is
-    (tiles_later g.H.TreeHash.digest entries (may c.args.source.now) (may c.add_subproof-2.new.source) c.in_ok-end.ensures.later s) in
-    let fault = went.answer in
-    record { reader_is = went.reader_is; answer = search (rules, fault) }
+pub returns-in_err-end : goal.returns-in_err-end
+returns-in_err-end g t c =
+    let failed = g.S.Source.failed in
+    let exit = c.from_residual-in_err-end in
+    let step = c.in_err-end.ensures in
+    record {
+      edge = step.edge;
+      root = step.root;
+      later = step.later;
+      kept = step.kept;
+      counted = counted_exit exit.result c.add_subproof-2.result c.in_err-end.field-0.0 exit.ensures c.in_err-end.was
+          (failed c.args.source.now) (failed c.args.source.now) (failed c.add_subproof-2.new.source) refl
+          c.add_subproof-2.ensures.counted;
+      honest = λ entries r s.
+          let went = step.honest entries r s in
+          record {
+            reader_is = went.reader_is;
+            answer = failed_exit exit.result _ c.in_err-end.field-0.0 exit.ensures went.answer;
+          };
+    }
+
+pub returns-in_err-left : goal.returns-in_err-left
+returns-in_err-left g t c =
+    let files = g.S.Source.files in
+    let failed = g.S.Source.failed in
+    let exit = c.from_residual-in_err-left in
+    let below = c.in_ok-end.ensures in
+    let step = c.in_err-left.ensures in
+    record {
+      edge = step.edge ∙ below.edge;
+      root = step.root ∙ below.root;
+      later = stays_twice below.later step.later;
+      kept = kept_twice (files c.args.source.now) (files c.add_subproof-2.new.source) (files c.add_whole-2.new.source) below.kept
+          step.kept;
+      counted = counted_exit exit.result c.add_whole-2.result c.in_err-left.field-0.0 exit.ensures c.in_err-left.was
+          (failed c.args.source.now) (failed c.add_subproof-2.new.source) (failed c.add_whole-2.new.source) below.counted
+          c.add_whole-2.ensures.counted;
+      honest = λ entries r s.
+          let low = below.honest entries r s in
+          let went = step.honest entries low.reader_is (tiles_later g.H.TreeHash.digest entries _ _ below.later s) in
+          record {
+            reader_is = went.reader_is;
+            answer = failed_exit exit.result _ c.in_err-left.field-0.0 exit.ensures went.answer;
+          };
+    }
+
+pub returns-clause-later : goal.returns-clause-later
+returns-clause-later g t c = stays_twice c.in_ok-end.ensures.later c.in_ok-left.ensures.later
+
+pub returns-clause-kept : goal.returns-clause-kept
+returns-clause-kept g t c =
+    let files = g.S.Source.files in
+    kept_twice (files c.args.source.now) (files c.add_subproof-2.new.source) (files c.add_whole-2.new.source)
+    c.in_ok-end.ensures.kept c.in_ok-left.ensures.kept
 
 pub returns-clause-honest : goal.returns-clause-honest
 returns-clause-honest g t c = λ entries r s.

@@ -1,13 +1,43 @@
-use Rattle.std.proofs.Common.{ℕ, ◌<◌, ◌≤◌, ◌^◌, length, rules, subst, sym, ap, ◌∙◌, arith}
+use Rattle.std.proofs.Common.{ℕ, ◌<◌, ◌≤◌, ◌^◌, length, rules, subst, sym, ap, ◌∙◌, arith, refl}
 use Rattle.std.proofs.lemmas.Bool.{false≢true}
 use Rattle.log_reader.specs.EdgeRows.{RowIsTrue, hash_of_edge}
 use Rattle.log_reader.proofs.Prefixes.{true_rows_lead}
+use Rattle.std.proofs.lemmas.Result.{IfOk-from_err}
+use Rattle.log_reader.specs.declared.fault.ReadFault.TheVariants.{OutOfMemory}
+use Rattle.log_reader.proofs.Exits.{counted_exit, failed_exit, memory_exit}
 use Rattle.log_reader.proofs.edge_files.read_edge.Goals as goal
 
-pub returns-in_err-rows-clause-honest : goal.returns-in_err-rows-clause-honest
-returns-in_err-rows-clause-honest g c = λ entries same root s.
-    let fault = c.in_err-rows.ensures.honest entries same s in
-    search (rules, fault)
+pub returns-in_err-rows : goal.returns-in_err-rows
+returns-in_err-rows g c =
+    let failed = g.S.Source.failed in
+    let exit = c.from_residual in
+    let step = c.in_err-rows.ensures in
+    record {
+      size = IfOk-from_err exit.result _ exit.ensures.0;
+      rows = IfOk-from_err exit.result _ exit.ensures.0;
+      root = IfOk-from_err exit.result _ exit.ensures.0;
+      later = step.later;
+      kept = step.kept;
+      counted = counted_exit exit.result c.read_rows.result c.in_err-rows.field-0.0 exit.ensures c.in_err-rows.was
+          (failed c.args.source.now) (failed c.args.source.now) (failed c.read_rows.new.source) refl c.read_rows.ensures.counted;
+      honest = λ entries same root s.
+          failed_exit exit.result _ c.in_err-rows.field-0.0 exit.ensures (step.honest entries same s);
+    }
+
+pub returns-in_err-edge : goal.returns-in_err-edge
+returns-in_err-edge g c =
+    let failed = g.S.Source.failed in
+    let exit = c.from_residual-in_err-edge in
+    let step = c.in_ok-rows.ensures in
+    record {
+      size = IfOk-from_err exit.result _ exit.ensures.0;
+      rows = IfOk-from_err exit.result _ exit.ensures.0;
+      root = IfOk-from_err exit.result _ exit.ensures.0;
+      later = step.later;
+      kept = step.kept;
+      counted = memory_exit exit.result exit.ensures (failed c.args.source.now) (failed c.read_rows.new.source) step.counted;
+      honest = λ entries same root s. failed_exit exit.result _ OutOfMemory exit.ensures tt;
+    }
 
 pub returns-then-is_same-clause-honest : goal.returns-then-is_same-clause-honest
 returns-then-is_same-clause-honest g c = λ entries same root s.

@@ -1,4 +1,4 @@
-use Rattle.std.proofs.Common.{◌≡◌, ◌+◌, ◌-◌, ◌≤◌, [], ◌∷◌, ◌++◌, length, subst, sym, ap, ◌∙◌, rules, arith}
+use Rattle.std.proofs.Common.{◌≡◌, ◌+◌, ◌-◌, ◌≤◌, [], ◌∷◌, ◌++◌, length, subst, sym, ap, ◌∙◌, rules, arith, refl}
 use Rattle.tlog_hash.specs.Rows.{part}
 use Rattle.tlog_hash.specs.Tree.{mth}
 use Rattle.tlog_proof.specs.Inclusion.{path_of}
@@ -7,6 +7,11 @@ use Rattle.log_reader.specs.Holding.{IsReaderOf, HasFullTiles}
 use Rattle.log_reader.specs.Nodes.{IsNodeRange}
 use Rattle.log_reader.proofs.NodeNumbers.{left_node, right_node}
 use Rattle.log_reader.proofs.TrueReads.{reads_more, tiles_later}
+use Rattle.mirror_sources.specs.Source.{StaysWithin}
+use Rattle.mirror_sources.specs.Recorded.{KeepsRecord}
+use Rattle.log_reader.specs.Faults.{CountsFailure}
+use Rattle.log_reader.proofs.Exits.{counted_exit, failed_exit}
+use Rattle.log_reader.proofs.Kept.{kept_twice, stays_twice}
 use Rattle.log_reader.proofs.inclusion.+add_path.Goals as goal
 use Rattle.log_reader.proofs.inclusion.+add_path.Goals.{then-index-k+in_ok-add_path, else-index-k+in_ok-add_path-2}
 
@@ -33,6 +38,48 @@ add_path-requires-else-index-k g t c κs within =
     c.split-k.ensures.value in
     search (rules, right)
 
+pub returns-in_err-add_path : goal.returns-in_err-add_path
+returns-in_err-add_path g t c =
+    let failed = g.S.Source.failed in
+    let exit = c.from_residual in
+    let step = c.in_err-add_path.ensures in
+    record {
+      edge = step.edge;
+      root = step.root;
+      later = step.later;
+      kept = step.kept;
+      counted = counted_exit exit.result c.add_path.result c.in_err-add_path.field-0.0 exit.ensures c.in_err-add_path.was
+          (failed c.args.source.now) (failed c.args.source.now) (failed c.add_path.new.source) refl
+          c.add_path.ensures.counted;
+      honest = λ entries r s.
+          let went = step.honest entries r s in
+          record {
+            reader_is = went.reader_is;
+            answer = failed_exit exit.result _ c.in_err-add_path.field-0.0 exit.ensures went.answer;
+          };
+    }
+
+pub returns-in_err-add_path-2 : goal.returns-in_err-add_path-2
+returns-in_err-add_path-2 g t c =
+    let failed = g.S.Source.failed in
+    let exit = c.from_residual-in_err-add_path-2 in
+    let step = c.in_err-add_path-2.ensures in
+    record {
+      edge = step.edge;
+      root = step.root;
+      later = step.later;
+      kept = step.kept;
+      counted = counted_exit exit.result c.add_path-else-index-k.result c.in_err-add_path-2.field-0.0 exit.ensures c.in_err-add_path-2.was
+          (failed c.args.source.now) (failed c.args.source.now) (failed c.add_path-else-index-k.new.source) refl
+          c.add_path-else-index-k.ensures.counted;
+      honest = λ entries r s.
+          let went = step.honest entries r s in
+          record {
+            reader_is = went.reader_is;
+            answer = failed_exit exit.result _ c.in_err-add_path-2.field-0.0 exit.ensures went.answer;
+          };
+    }
+
 pub add_node-requires : goal.add_node-requires
 add_node-requires g t c =
     let start = c.args.node.0 in
@@ -50,6 +97,42 @@ add_node-requires g t c =
           let same = ap (λ rd. rd.edge.size) w.reader-is ∙ ap (λ e. e.size) w.in_ok-add_path-2.ensures.edge in
           subst (λ p. IsNodeRange c.if-index-k.reader.edge.size p.0 p.1) (sym w.beside-is)
           (subst (λ m. IsNodeRange m start k) (sym same) left)
+    ]
+
+pub returns-clause-later : goal.returns-clause-later
+returns-clause-later g t c =
+    let may = g.S.Source.may_answer in
+    elim c.if-index-k.branch [
+      | then-index-k+in_ok-add_path w ↦
+          stays_twice (subst (λ x. StaysWithin (may c.args.source.now) (may x)) (sym w.source-is) w.in_ok-add_path.ensures.later)
+          c.add_node.ensures.later
+      | else-index-k+in_ok-add_path-2 w ↦
+          stays_twice (subst (λ x. StaysWithin (may c.args.source.now) (may x)) (sym w.source-is) w.in_ok-add_path-2.ensures.later)
+          c.add_node.ensures.later
+    ]
+
+pub returns-clause-kept : goal.returns-clause-kept
+returns-clause-kept g t c =
+    let files = g.S.Source.files in
+    elim c.if-index-k.branch [
+      | then-index-k+in_ok-add_path w ↦
+          kept_twice (files c.args.source.now) (files c.if-index-k.source) (files c.add_node.new.source)
+          (subst (λ x. KeepsRecord (files c.args.source.now) (files x)) (sym w.source-is) w.in_ok-add_path.ensures.kept) c.add_node.ensures.kept
+      | else-index-k+in_ok-add_path-2 w ↦
+          kept_twice (files c.args.source.now) (files c.if-index-k.source) (files c.add_node.new.source)
+          (subst (λ x. KeepsRecord (files c.args.source.now) (files x)) (sym w.source-is) w.in_ok-add_path-2.ensures.kept) c.add_node.ensures.kept
+    ]
+
+pub returns-clause-counted : goal.returns-clause-counted
+returns-clause-counted g t c =
+    let failed = g.S.Source.failed in
+    elim c.if-index-k.branch [
+      | then-index-k+in_ok-add_path w ↦
+          subst (λ n. CountsFailure n (failed c.add_node.new.source) c.add_node.result)
+          (ap failed w.source-is ∙ w.in_ok-add_path.ensures.counted) c.add_node.ensures.counted
+      | else-index-k+in_ok-add_path-2 w ↦
+          subst (λ n. CountsFailure n (failed c.add_node.new.source) c.add_node.result)
+          (ap failed w.source-is ∙ w.in_ok-add_path-2.ensures.counted) c.add_node.ensures.counted
     ]
 
 pub returns-clause-honest : goal.returns-clause-honest

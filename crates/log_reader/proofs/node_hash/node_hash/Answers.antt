@@ -1,4 +1,4 @@
-use Rattle.std.proofs.Common.{◌≡◌, ℕ, ◌+◌, ◌*◌, ◌<◌, ◌≤◌, ◌^◌, Some, None, drop, length, subst, sym, ap, ◌∙◌, arith}
+use Rattle.std.proofs.Common.{◌≡◌, ℕ, ◌+◌, ◌*◌, ◌<◌, ◌≤◌, ◌^◌, Some, None, drop, length, subst, sym, ap, ◌∙◌, arith, refl}
 use Rattle.std.proofs.Common.{length-drop}
 use Rattle.std.proofs.lemmas.Bool.{false≢true}
 use Rattle.std.proofs.lemmas.List.{take_all}
@@ -8,12 +8,34 @@ use Rattle.tlog_hash.specs.Tree.{mth}
 use Rattle.log_reader.specs.EdgeRows.{RowIsTrue}
 use Rattle.log_reader.specs.Nodes.{IsHashFrom, IsNodeRange}
 use Rattle.log_reader.proofs.NodeNumbers.{end_first, end_start, ends, perfect_aligned}
+use Rattle.log_reader.specs.declared.fault.ReadFault.TheVariants.{OutOfMemory}
+use Rattle.log_reader.proofs.Exits.{failed_exit, memory_exit}
+use Rattle.log_reader.proofs.Kept.{kept_once}
 use Rattle.log_reader.proofs.node_hash.node_hash.Goals as goal
 
 pub perfect_hash-requires-clause-aligned : goal.perfect_hash-requires-clause-aligned
 perfect_hash-requires-clause-aligned g c =
     perfect_aligned c.args.reader.now.edge.size c.args.start c.args.len c.requires
     (c.is_perfect.ensures.0 c.if-is_perfect.true)
+
+pub returns-in_err-hash : goal.returns-in_err-hash
+returns-in_err-hash g c =
+    let failed = g.S.Source.failed in
+    let exit = c.from_residual in
+    record {
+      edge = refl;
+      root = refl;
+      later = record { stays = λ path answer may. may };
+      kept = kept_once (g.S.Source.files c.args.source.now);
+      counted = memory_exit exit.result exit.ensures (failed c.args.source.now) (failed c.args.source.now) refl;
+      honest = λ entries r s. record { reader_is = r; answer = failed_exit exit.result _ OutOfMemory exit.ensures tt };
+    }
+
+pub returns-in-Some-clause-kept : goal.returns-in-Some-clause-kept
+returns-in-Some-clause-kept g c = kept_once (g.S.Source.files c.args.source.now)
+
+pub returns-in-None-clause-kept : goal.returns-in-None-clause-kept
+returns-in-None-clause-kept g c = kept_once (g.S.Source.files c.args.source.now)
 
 pub returns-in-Some-clause-honest : goal.returns-in-Some-clause-honest
 returns-in-Some-clause-honest g c = λ entries r s.

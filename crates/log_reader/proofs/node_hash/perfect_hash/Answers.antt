@@ -7,7 +7,27 @@ use Rattle.log_reader.specs.Ways.{row_of_way}
 use Rattle.log_reader.proofs.NodeHashes.{part_folds, row_count}
 use Rattle.log_reader.proofs.NodeNumbers.{count_is, count_power, count_some, first_aligned, fits, row_fits, start_is}
 use Rattle.log_reader.proofs.TrueReads.{there_true}
+use Rattle.log_reader.proofs.Exits.{counted_exit, failed_exit}
+use Rattle.std.proofs.Math.Nat.{div-mul-le_self}
+use Rattle.std.proofs.lemmas.Nat.{le-div}
+use Rattle.tlog_shape.proofs.Levels.{level_positive}
 use Rattle.log_reader.proofs.node_hash.perfect_hash.Goals as goal
+
+pub go_to-requires-clause-level : goal.go_to-requires-clause-level
+go_to-requires-clause-level g c = c.top_level-level.ensures.within
+
+pub go_to-requires-clause-within : goal.go_to-requires-clause-within
+go_to-requires-clause-within g c =
+    let n = c.args.reader.now.edge.size in
+    let level = c.top_level-level.result in
+    let index = edge_index_of c.args.start level in
+    let width = 256 ^ (level + 1) in
+    let upto : index ≤ edge_index_of n level =
+    le-div index n width (level_positive (level + 1)) (omega (arith, div-mul-le_self c.args.start width, c.requires.within)) in
+    omega (arith, c.edge_index.ensures, upto)
+
+pub edge_width-requires : goal.edge_width-requires
+edge_width-requires g c = c.top_level-level.ensures.within
 
 pub node-requires-clause-power : goal.node-requires-clause-power
 node-requires-clause-power g c =
@@ -27,11 +47,25 @@ node-requires-clause-fits g c =
     c.top_level-level.ensures in
     omega (arith, fits, c.edge_width.ensures, c.edge_width-2.ensures)
 
-pub returns-in_err-go_to-clause-honest : goal.returns-in_err-go_to-clause-honest
-returns-in_err-go_to-clause-honest g c = λ entries r s.
-    let went = c.in_err-go_to.ensures.honest entries r s in
-    let fault = went.answer in
-    record { reader_is = went.reader_is; answer = search (rules, fault) }
+pub returns-in_err-go_to : goal.returns-in_err-go_to
+returns-in_err-go_to g c =
+    let failed = g.S.Source.failed in
+    let exit = c.from_residual in
+    let step = c.in_err-go_to.ensures in
+    record {
+      edge = step.edge;
+      root = step.root;
+      later = step.later;
+      kept = step.kept;
+      counted = counted_exit exit.result c.go_to.result c.in_err-go_to.field-0.0 exit.ensures c.in_err-go_to.was
+          (failed c.args.source.now) (failed c.args.source.now) (failed c.go_to.new.source) refl c.go_to.ensures.counted;
+      honest = λ entries r s.
+          let went = step.honest entries r s in
+          record {
+            reader_is = went.reader_is;
+            answer = failed_exit exit.result _ c.in_err-go_to.field-0.0 exit.ensures went.answer;
+          };
+    }
 
 pub returns-in-Some-clause-honest : goal.returns-in-Some-clause-honest
 returns-in-Some-clause-honest g c = λ entries r s.

@@ -1,9 +1,12 @@
 use Rattle.std.proofs.Common.{◌≡◌, ◌<◌, ℕ, [], ap, get_or, length, refl, rules, subst, take, ◌∙◌, arith}
 use Rattle.log_reader.specs.Holding.{IsEdgeRowOf}
 use Rattle.log_reader.specs.Ways.{IsShownPart}
-use Rattle.log_reader.proofs.Kept.{kept_once, kept_twice}
+use Rattle.log_reader.proofs.Kept.{kept_once, kept_twice, stays_twice}
 use Rattle.log_reader.proofs.RowLists.{count_more, items_of, rows_more}
 use Rattle.log_reader.proofs.TrueReads.{rows_true, tiles_later}
+use Rattle.std.proofs.lemmas.Result.{IfOk-from_err}
+use Rattle.log_reader.specs.declared.fault.ReadFault.TheVariants.{OutOfMemory}
+use Rattle.log_reader.proofs.Exits.{counted_exit, failed_exit, memory_exit}
 use Rattle.log_reader.proofs.prefix.first_edge.Goals as goal
 
 pub loop-level-init : goal.loop-level-init
@@ -18,22 +21,56 @@ loop-level-init g c = record {
   honest = λ entries r s. (r, λ k lt. absurd (omega (arith, lt)));
 }
 
-pub returns-in_err-first_row_if_any-clause-honest : goal.returns-in_err-first_row_if_any-clause-honest
-returns-in_err-first_row_if_any-clause-honest g c = λ entries r s.
+pub returns-in_err-first_row_if_any : goal.returns-in_err-first_row_if_any
+returns-in_err-first_row_if_any g c =
+    let files = g.S.Source.files in
+    let failed = g.S.Source.failed in
+    let exit = c.from_residual in
     let i = c.loop-level.invariant in
-    let went = c.in_err-first_row_if_any.ensures.honest entries (i.honest entries r s).0
-    (tiles_later g.H.TreeHash.digest entries (g.S.Source.may_answer c.args.source.now)
-    (g.S.Source.may_answer c.loop-level.source) i.later s) in
-    let fault = went.answer in
-    record { reader_is = went.reader_is; answer = search (rules, fault) }
+    let step = c.in_err-first_row_if_any.ensures in
+    record {
+      edge = step.edge ∙ i.edge;
+      root = step.root ∙ i.root;
+      size = IfOk-from_err exit.result _ exit.ensures.0;
+      hashes = IfOk-from_err exit.result _ exit.ensures.0;
+      shown = IfOk-from_err exit.result _ exit.ensures.0;
+      later = stays_twice i.later step.later;
+      kept = kept_twice (files c.args.source.now) (files c.loop-level.source) (files c.first_row_if_any.new.source) i.kept
+          step.kept;
+      counted = counted_exit exit.result c.first_row_if_any.result c.in_err-first_row_if_any.field-0.0 exit.ensures
+          c.in_err-first_row_if_any.was (failed c.args.source.now) (failed c.loop-level.source)
+          (failed c.first_row_if_any.new.source) i.counted c.first_row_if_any.ensures.counted;
+      honest = λ entries r s.
+          let went = step.honest entries (i.honest entries r s).0 (tiles_later g.H.TreeHash.digest entries _ _ i.later s) in
+          record {
+            reader_is = went.reader_is;
+            answer = failed_exit exit.result _ c.in_err-first_row_if_any.field-0.0 exit.ensures went.answer;
+          };
+    }
 
-pub returns-in_err-push-clause-honest : goal.returns-in_err-push-clause-honest
-returns-in_err-push-clause-honest g c = λ entries r s.
+pub returns-in_err-push : goal.returns-in_err-push
+returns-in_err-push g c =
+    let files = g.S.Source.files in
+    let failed = g.S.Source.failed in
+    let exit = c.from_residual-in_err-push in
     let i = c.loop-level.invariant in
-    let went = c.in_ok-first_row_if_any.ensures.honest entries (i.honest entries r s).0
-    (tiles_later g.H.TreeHash.digest entries (g.S.Source.may_answer c.args.source.now)
-    (g.S.Source.may_answer c.loop-level.source) i.later s) in
-    record { reader_is = went.reader_is; answer = search rules }
+    let step = c.in_ok-first_row_if_any.ensures in
+    record {
+      edge = step.edge ∙ i.edge;
+      root = step.root ∙ i.root;
+      size = IfOk-from_err exit.result _ exit.ensures.0;
+      hashes = IfOk-from_err exit.result _ exit.ensures.0;
+      shown = IfOk-from_err exit.result _ exit.ensures.0;
+      later = stays_twice i.later step.later;
+      kept = kept_twice (files c.args.source.now) (files c.loop-level.source) (files c.first_row_if_any.new.source) i.kept
+          step.kept;
+      counted = memory_exit exit.result exit.ensures (failed c.args.source.now) (failed c.first_row_if_any.new.source)
+          (step.counted ∙ i.counted);
+      honest = λ entries r s. record {
+        reader_is = (step.honest entries (i.honest entries r s).0 (tiles_later g.H.TreeHash.digest entries _ _ i.later s)).reader_is;
+        answer = failed_exit exit.result _ OutOfMemory exit.ensures tt;
+      };
+    }
 
 pub loop-level-preserved : goal.loop-level-preserved
 loop-level-preserved g c =

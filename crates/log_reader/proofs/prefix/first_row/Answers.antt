@@ -1,7 +1,10 @@
-use Rattle.std.proofs.Common.{◌≤◌, ◌∙◌, ap, arith, length, rules, subst, take}
+use Rattle.std.proofs.Common.{◌≤◌, ◌∙◌, ap, arith, length, rules, subst, take, refl}
 use Rattle.log_reader.specs.Holding.{true_row}
 use Rattle.log_reader.specs.Ways.{IsShownRow}
 use Rattle.log_reader.proofs.TruePrefixes.{start_is_true, start_within}
+use Rattle.std.proofs.lemmas.Result.{IfOk-from_err}
+use Rattle.log_reader.specs.declared.fault.ReadFault.TheVariants.{OutOfMemory}
+use Rattle.log_reader.proofs.Exits.{counted_exit, failed_exit, memory_exit}
 use Rattle.log_reader.proofs.prefix.first_row.Goals as goal
 
 pub returns-clause-shown : goal.returns-clause-shown
@@ -15,11 +18,28 @@ returns-clause-shown g c =
           ∙ (ap (take c.edge_width-width.result) c.deref.ensures.value ∙ ap (λ w. take w row) c.edge_width-width.ensures);
     }
 
-pub returns-in_err-row-clause-honest : goal.returns-in_err-row-clause-honest
-returns-in_err-row-clause-honest g c = λ entries r s.
-    let went = c.in_err-row.ensures.honest entries r s in
-    let fault = went.answer in
-    record { reader_is = went.reader_is; answer = search (rules, fault) }
+pub returns-in_err-row : goal.returns-in_err-row
+returns-in_err-row g c =
+    let failed = g.S.Source.failed in
+    let exit = c.from_residual in
+    let step = c.in_err-row.ensures in
+    record {
+      edge = step.edge;
+      root = step.root;
+      count = IfOk-from_err exit.result _ exit.ensures.0;
+      sizes = IfOk-from_err exit.result _ exit.ensures.0;
+      shown = IfOk-from_err exit.result _ exit.ensures.0;
+      later = step.later;
+      kept = step.kept;
+      counted = counted_exit exit.result c.row.result c.in_err-row.field-0.0 exit.ensures c.in_err-row.was
+          (failed c.args.source.now) (failed c.args.source.now) (failed c.row.new.source) refl c.row.ensures.counted;
+      honest = λ entries r s.
+          let went = step.honest entries r s in
+          record {
+            reader_is = went.reader_is;
+            answer = failed_exit exit.result _ c.in_err-row.field-0.0 exit.ensures went.answer;
+          };
+    }
 
 pub returns-then-len-width-clause-honest : goal.returns-then-len-width-clause-honest
 returns-then-len-width-clause-honest g c = λ entries r s.
@@ -33,11 +53,25 @@ returns-then-len-width-clause-honest g c = λ entries r s.
       answer = absurd (omega (arith, enough, c.len.ensures, c.if-len-width.true, c.edge_width-width.ensures));
     }
 
-pub returns-in_err-copy_start-clause-honest : goal.returns-in_err-copy_start-clause-honest
-returns-in_err-copy_start-clause-honest g c = λ entries r s. record {
-  reader_is = (c.in_ok-row.ensures.honest entries r s).reader_is;
-  answer = search rules;
-}
+pub returns-in_err-copy_start : goal.returns-in_err-copy_start
+returns-in_err-copy_start g c =
+    let failed = g.S.Source.failed in
+    let exit = c.from_residual-in_err-copy_start in
+    let step = c.in_ok-row.ensures in
+    record {
+      edge = step.edge;
+      root = step.root;
+      count = IfOk-from_err exit.result _ exit.ensures.0;
+      sizes = IfOk-from_err exit.result _ exit.ensures.0;
+      shown = IfOk-from_err exit.result _ exit.ensures.0;
+      later = step.later;
+      kept = step.kept;
+      counted = memory_exit exit.result exit.ensures (failed c.args.source.now) (failed c.row.new.source) step.counted;
+      honest = λ entries r s. record {
+        reader_is = (step.honest entries r s).reader_is;
+        answer = failed_exit exit.result _ OutOfMemory exit.ensures tt;
+      };
+    }
 
 pub returns-clause-honest : goal.returns-clause-honest
 returns-clause-honest g c = λ entries r s.

@@ -1,8 +1,12 @@
-use Rattle.std.proofs.Common.{rules, ◌≡◌, sym, subst, ap, ◌∙◌, ◌+◌, ◌/◌, ◌<◌, ◌≤◌, ◌^◌, arith}
+use Rattle.std.proofs.Common.{refl, rules, ◌≡◌, sym, subst, ap, ◌∙◌, ◌+◌, ◌/◌, ◌<◌, ◌≤◌, ◌^◌, arith}
+use Rattle.std.proofs.lemmas.Result.{IfOk-from_err}
 use Rattle.tlog_shape.specs.Edge.{edge_index_of}
 use Rattle.log_reader.specs.Holding.{IsReaderOf}
+use Rattle.log_reader.specs.declared.fault.ReadFault.TheVariants.{OutOfMemory}
 use Rattle.log_reader.proofs.Climbing.{above_full}
-use Rattle.log_reader.proofs.TrueReads.{is_below, row_below, tiles_later, went_down}
+use Rattle.log_reader.proofs.Exits.{counted_exit, failed_exit, memory_exit}
+use Rattle.log_reader.proofs.Kept.{kept_once, kept_twice, stays_twice}
+use Rattle.log_reader.proofs.TrueReads.{is_below, row_below, tiles_later, went_down, went_to_edge}
 use Rattle.log_reader.proofs.walk.+go_to.Goals as goal
 
 pub go_to-requires : goal.go_to-requires
@@ -20,16 +24,101 @@ go_to-requires g t c κs within =
     subst (λ m. c.args.index / 256 ≤ edge_index_of m (level + 1)) (sym same) up.1 in
     search (rules, low, above)
 
-pub returns-in_err-row-clause-honest : goal.returns-in_err-row-clause-honest
-returns-in_err-row-clause-honest g t c = λ entries r s.
-    let digest = g.H.TreeHash.digest in
-    let up = c.in_ok-go_to.ensures.honest entries (c.climb.ensures.honest entries r) s in
-    let b = is_below c.go_to.new.reader c.args.level c.args.index c.edge_index-end.result c.size.result c.requires.level
-    c.in_ok-go_to.ensures.there.0 c.in_ok-go_to.ensures.there.1 c.edge_index-end.ensures
-    (ap (λ e. e.size) c.in_ok-go_to.ensures.edge ∙ sym c.size.ensures) c.if-index-end.false in
-    let fault = c.in_err-row.ensures.honest entries up.reader_is
-    (tiles_later digest entries _ _ c.in_ok-go_to.ensures.later s) b in
-    record { reader_is = up.reader_is; answer = search (rules, fault) }
+pub returns-then-is_at-clause-kept : goal.returns-then-is_at-clause-kept
+returns-then-is_at-clause-kept g t c = kept_once (g.S.Source.files c.args.source.now)
+
+pub returns-then-index-end-clause-kept : goal.returns-then-index-end-clause-kept
+returns-then-index-end-clause-kept g t c = kept_once (g.S.Source.files c.args.source.now)
+
+pub returns-then-index-end-clause-honest : goal.returns-then-index-end-clause-honest
+returns-then-index-end-clause-honest g t c = λ entries r s. record {
+  reader_is = went_to_edge g.H.TreeHash.digest g.met.H.TreeHash.digest_length entries c.climb.new.reader
+      (c.climb.ensures.honest entries r) c.args.level c.to_edge.new.self c.requires.level c.to_edge.ensures;
+  answer = tt;
+}
+
+pub returns-in_err-go_to : goal.returns-in_err-go_to
+returns-in_err-go_to g t c =
+    let failed = g.S.Source.failed in
+    let exit = c.from_residual in
+    let step = c.in_err-go_to.ensures in
+    record {
+      edge = step.edge ∙ c.climb.ensures.edge;
+      root = step.root ∙ c.climb.ensures.root;
+      there = IfOk-from_err exit.result _ exit.ensures.0;
+      later = step.later;
+      kept = step.kept;
+      counted = counted_exit exit.result c.go_to.result c.in_err-go_to.field-0.0 exit.ensures c.in_err-go_to.was
+          (failed c.args.source.now) (failed c.args.source.now) (failed c.go_to.new.source) refl c.go_to.ensures.counted;
+      honest = λ entries r s.
+          let went = step.honest entries (c.climb.ensures.honest entries r) s in
+          record {
+            reader_is = went.reader_is;
+            answer = failed_exit exit.result _ c.in_err-go_to.field-0.0 exit.ensures went.answer;
+          };
+    }
+
+pub returns-in_err-row : goal.returns-in_err-row
+returns-in_err-row g t c =
+    let files = g.S.Source.files in
+    let failed = g.S.Source.failed in
+    let exit = c.from_residual-in_err-row in
+    let up = c.in_ok-go_to.ensures in
+    let step = c.in_err-row.ensures in
+    record {
+      edge = up.edge ∙ c.climb.ensures.edge;
+      root = up.root ∙ c.climb.ensures.root;
+      there = IfOk-from_err exit.result _ exit.ensures.0;
+      later = stays_twice up.later step.later;
+      kept = kept_twice (files c.args.source.now) (files c.go_to.new.source) (files c.read_below.new.source) up.kept step.kept;
+      counted = counted_exit exit.result c.read_below.result c.in_err-row.field-0.0 exit.ensures c.in_err-row.was
+          (failed c.args.source.now) (failed c.go_to.new.source) (failed c.read_below.new.source) up.counted
+          c.read_below.ensures.counted;
+      honest = λ entries r s.
+          let at = up.honest entries (c.climb.ensures.honest entries r) s in
+          let b = is_below c.go_to.new.reader c.args.level c.args.index c.edge_index-end.result c.size.result c.requires.level
+          up.there.0 up.there.1 c.edge_index-end.ensures (ap (λ e. e.size) up.edge ∙ sym c.size.ensures) c.if-index-end.false in
+          record {
+            reader_is = at.reader_is;
+            answer = failed_exit exit.result _ c.in_err-row.field-0.0 exit.ensures
+                (step.honest entries at.reader_is (tiles_later g.H.TreeHash.digest entries _ _ up.later s) b);
+          };
+    }
+
+pub returns-in_err-down : goal.returns-in_err-down
+returns-in_err-down g t c =
+    let files = g.S.Source.files in
+    let failed = g.S.Source.failed in
+    let exit = c.from_residual-in_err-down in
+    let up = c.in_ok-go_to.ensures in
+    let step = c.in_ok-row.ensures in
+    let same = c.in_err-down.ensures.err in
+    record {
+      edge = ap (λ r. r.edge) same ∙ (up.edge ∙ c.climb.ensures.edge);
+      root = ap (λ r. r.root) same ∙ (up.root ∙ c.climb.ensures.root);
+      there = IfOk-from_err exit.result _ exit.ensures.0;
+      later = stays_twice up.later step.later;
+      kept = kept_twice (files c.args.source.now) (files c.go_to.new.source) (files c.read_below.new.source) up.kept step.kept;
+      counted = memory_exit exit.result exit.ensures (failed c.args.source.now) (failed c.read_below.new.source)
+          (step.counted ∙ up.counted);
+      honest = λ entries r s. record {
+        reader_is = subst (IsReaderOf g.H.TreeHash.digest entries) (sym same)
+            (up.honest entries (c.climb.ensures.honest entries r) s).reader_is;
+        answer = failed_exit exit.result _ OutOfMemory exit.ensures tt;
+      };
+    }
+
+pub returns-clause-later : goal.returns-clause-later
+returns-clause-later g t c = stays_twice c.in_ok-go_to.ensures.later c.in_ok-row.ensures.later
+
+pub returns-clause-kept : goal.returns-clause-kept
+returns-clause-kept g t c =
+    let files = g.S.Source.files in
+    kept_twice (files c.args.source.now) (files c.go_to.new.source) (files c.read_below.new.source) c.in_ok-go_to.ensures.kept
+    c.in_ok-row.ensures.kept
+
+pub returns-clause-counted : goal.returns-clause-counted
+returns-clause-counted g t c = c.in_ok-row.ensures.counted ∙ c.in_ok-go_to.ensures.counted
 
 pub returns-clause-honest : goal.returns-clause-honest
 returns-clause-honest g t c = λ entries r s.
@@ -45,12 +134,4 @@ returns-clause-honest g t c = λ entries r s.
       reader_is = went_down digest length_is entries c.go_to.new.reader up.reader_is c.args.level c.args.index b c.down.new.self
           c.in_ok-row.row row c.in_ok-down.ensures.ok;
       answer = tt;
-    }
-
-pub returns-in_err-down-clause-honest : goal.returns-in_err-down-clause-honest
-returns-in_err-down-clause-honest g t c = λ entries r s.
-    let up = c.in_ok-go_to.ensures.honest entries (c.climb.ensures.honest entries r) s in
-    record {
-      reader_is = subst (IsReaderOf g.H.TreeHash.digest entries) (sym c.in_err-down.ensures.err) up.reader_is;
-      answer = search rules;
     }

@@ -1,4 +1,4 @@
-use Rattle.std.proofs.Common.{[], ◌∷◌, Some, IfSome, inl, refl, ap, subst, ◌∙◌, rules, arith}
+use Rattle.std.proofs.Common.{[], ◌∷◌, Some, IfSome, inl, refl, ap, subst, ◌∙◌, arith}
 use Rattle.tlog_tiles.specs.Row.{row_text}
 use Rattle.tlog_tiles.specs.declared.paths.Path.TheVariants.{Tile, Entries}
 use Rattle.log_reader.proofs.Refusing.{leaves_one}
@@ -16,6 +16,8 @@ use Rattle.mirror_audit.specs.Stops.{HasLeavesOf, HasTile, StopsIn}
 use Rattle.mirror_audit.proofs.Orders.{lowest_tile}
 use Rattle.mirror_audit.proofs.ShortLogs.{bundle_verified, short_verifies}
 use Rattle.mirror_audit.proofs.Stops.{lacks_first, on_err, read_one, read_then, stops_here, stops_in}
+use Rattle.mirror_audit.proofs.Exits.{err_exit}
+use Rattle.mirror_audit.specs.Faults.{IsFailure}
 use Rattle.mirror_audit.proofs.bundle.audit_bundle.Goals as goal
 
 pub returns-clause-covers : goal.returns-clause-covers
@@ -41,7 +43,7 @@ pub returns-in_err-bytes-clause-honest : goal.returns-in_err-bytes-clause-honest
 returns-in_err-bytes-clause-honest g c = λ entries s t.
     let fault = c.in_err-bytes.ensures.honest g.H.TreeHash.digest entries s (inl (record { fits = t.fits; width_is = refl }))
     (omega arith) in
-    search (rules, fault)
+    err_exit IsFailure c.from_residual.result c.in_err-bytes.field-0.0 c.from_residual.ensures fault
 
 pub returns-in_default-clause-honest : goal.returns-in_default-clause-honest
 returns-in_default-clause-honest g c = λ entries s t.
@@ -103,7 +105,7 @@ returns-in_err-bytes-clause-first g c =
     (g.S.Source.may_answer c.args.source.now) (g.S.Source.may_answer c.get_file.new.source)
     (g.S.Source.asked c.args.source.now) (g.S.Source.asked c.get_file.new.source) (Entries index 256)
     (Tile 0 index 256 ∷ []) (lowest_tile index) refl _ c.in_err-bytes.ensures.missing in
-    search (rules, stop)
+    err_exit _ c.from_residual.result c.in_err-bytes.field-0.0 c.from_residual.ensures stop
 
 pub returns-in_default-clause-first : goal.returns-in_default-clause-first
 returns-in_default-clause-first g c =

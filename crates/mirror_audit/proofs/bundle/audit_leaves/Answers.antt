@@ -1,4 +1,4 @@
-use Rattle.std.proofs.Common.{[], ◌∷◌, length, refl, sym, ap, ◌∙◌, rules, arith}
+use Rattle.std.proofs.Common.{[], ◌∷◌, length, refl, sym, ap, ◌∙◌, arith}
 use Rattle.std.proofs.lemmas.Bool.{false≢true}
 use Rattle.tlog_tiles.specs.Row.{row_text}
 use Rattle.log_reader.proofs.TrueReads.{full_tile}
@@ -6,13 +6,15 @@ use Rattle.tlog_tiles.specs.declared.paths.Path.TheVariants.{Tile}
 use Rattle.mirror_audit.specs.Found.{Here, IsPresent}
 use Rattle.mirror_audit.specs.Stops.{HasLeavesOf}
 use Rattle.mirror_audit.proofs.Stops.{lacks_first, stops_here}
+use Rattle.mirror_audit.specs.Faults.{IsFailure}
+use Rattle.mirror_audit.proofs.Exits.{err_exit}
 use Rattle.mirror_audit.proofs.bundle.audit_leaves.Goals as goal
 
 pub returns-in_err-bytes-clause-honest : goal.returns-in_err-bytes-clause-honest
 returns-in_err-bytes-clause-honest g c = λ digest entries s fits row.
     let fault = c.in_err-bytes.ensures.honest digest entries s
     (full_tile (length entries) 0 c.args.index (omega arith) fits) (omega arith) in
-    search (rules, fault)
+    err_exit IsFailure c.from_residual.result c.in_err-bytes.field-0.0 c.from_residual.ensures fault
 
 pub returns-clause-honest : goal.returns-clause-honest
 returns-clause-honest g c = λ digest entries s fits row.
@@ -28,7 +30,7 @@ returns-in_err-bytes-clause-first g c = λ digest.
     (g.S.Source.may_answer c.args.source.now) (g.S.Source.may_answer c.get_file.new.source)
     (g.S.Source.asked c.args.source.now) (g.S.Source.asked c.get_file.new.source) path [] refl refl _
     c.in_err-bytes.ensures.missing in
-    search (rules, stop)
+    err_exit _ c.from_residual.result c.in_err-bytes.field-0.0 c.from_residual.ensures stop
 
 pub returns-clause-first : goal.returns-clause-first
 returns-clause-first g c = λ digest.

@@ -9,6 +9,10 @@ use Rattle.mirror_audit.specs.Order.{level_order, levels_order, row_order}
 use Rattle.mirror_audit.specs.Stops.{HasEdge, HasRow}
 use Rattle.mirror_audit.proofs.Orders.{each_none, level_parts, next_level}
 use Rattle.mirror_audit.proofs.Stops.{read_as, read_none, read_then, stops_in}
+use Rattle.std.proofs.lemmas.Result.{IfOk-from_err}
+use Rattle.mirror_audit.specs.Faults.{IsFailure, IsForAbsence}
+use Rattle.mirror_audit.proofs.Exits.{blames_exit, err_exit}
+use Rattle.mirror_audit.proofs.LogStops.{absence_before}
 use Rattle.mirror_audit.proofs.edge.audit_levels.Goals as goal
 
 pub loop-done-init : goal.loop-done-init
@@ -86,6 +90,27 @@ loop-done-preserved g c = record {
       c.in_ok-audit_row.ensures.read);
 }
 
+pub returns-in_err-audit_row-clause-counted : goal.returns-in_err-audit_row-clause-counted
+returns-in_err-audit_row-clause-counted g c =
+    let failed = g.S.Source.failed in
+    let exit = c.from_residual in
+    blames_exit exit.result c.audit_row.result c.in_err-audit_row.field-0.0 exit.ensures c.in_err-audit_row.was (failed c.args.source.now) (failed c.loop-done.source)
+    (failed c.audit_row.new.source) c.loop-done.invariant.counted c.audit_row.ensures.counted
+
+pub returns-in_err-audit_row-clause-absent : goal.returns-in_err-audit_row-clause-absent
+returns-in_err-audit_row-clause-absent g c =
+    let may = g.S.Source.may_answer in
+    let exit = c.from_residual in
+    err_exit (IsForAbsence (may c.args.source.now)) exit.result c.in_err-audit_row.field-0.0 exit.ensures
+    (absence_before (may c.args.source.now) (may c.loop-done.source) c.loop-done.invariant.covers.given.stays _
+    c.in_err-audit_row.ensures.absent)
+
+pub returns-in_err-audit_row-clause-covers : goal.returns-in_err-audit_row-clause-covers
+returns-in_err-audit_row-clause-covers g c = IfOk-from_err c.from_residual.result _ c.from_residual.ensures.0
+
+pub returns-in_err-audit_row-clause-read : goal.returns-in_err-audit_row-clause-read
+returns-in_err-audit_row-clause-read g c = IfOk-from_err c.from_residual.result _ c.from_residual.ensures.0
+
 pub returns-in_err-audit_row-clause-honest : goal.returns-in_err-audit_row-clause-honest
 returns-in_err-audit_row-clause-honest g c = λ entries s size rows.
     let digest = g.H.TreeHash.digest in
@@ -99,7 +124,7 @@ returns-in_err-audit_row-clause-honest g c = λ entries s size rows.
     let fault = c.in_err-audit_row.ensures.honest entries later
     (edge_row_true digest entries edge level c.edge_index-index.result c.row.result.now size (rows level (omega arith))
     c.row.ensures (c.requires.widths level (omega arith)) at) in
-    search (rules, fault)
+    err_exit IsFailure c.from_residual.result c.in_err-audit_row.field-0.0 c.from_residual.ensures fault
 
 pub returns-in_err-audit_row-clause-first : goal.returns-in_err-audit_row-clause-first
 returns-in_err-audit_row-clause-first g c =
@@ -126,4 +151,4 @@ returns-in_err-audit_row-clause-first g c =
           (c.requires.widths level (omega arith)) at;
     })
     parts.levels_are _ c.in_err-audit_row.ensures.first in
-    search (rules, stop)
+    err_exit _ c.from_residual.result c.in_err-audit_row.field-0.0 c.from_residual.ensures stop

@@ -16,6 +16,8 @@ use Rattle.mirror_audit.specs.Stops.{HasEdge, IsPartRead}
 use Rattle.mirror_audit.proofs.Orders.{no_bundle, some_bundle}
 use Rattle.mirror_audit.proofs.ShortLogs.{end_file}
 use Rattle.mirror_audit.proofs.Stops.{part_stops, read_as, read_none, read_one, stops_here}
+use Rattle.mirror_audit.proofs.Exits.{err_exit}
+use Rattle.mirror_audit.specs.Faults.{IsFailure}
 use Rattle.mirror_audit.proofs.edge_bundle.audit_edge_bundle.Goals as goal
 
 pub returns-then-is_empty-clause-covers : goal.returns-then-is_empty-clause-covers
@@ -62,7 +64,7 @@ returns-in_err-bytes-clause-honest g c = λ entries s size true_row.
     let file : IsTreeFile n (Entries index (length row)) =
     inr (record { index_is = at; width_is = wide; some = some }) in
     let fault = c.in_err-bytes.ensures.honest digest entries g.met.H.TreeHash.digest_length s file in
-    search (rules, fault)
+    err_exit IsFailure c.from_residual.result c.in_err-bytes.field-0.0 c.from_residual.ensures fault
 
 pub returns-in-None-clause-honest : goal.returns-in-None-clause-honest
 returns-in-None-clause-honest g c = λ entries s size true_row.
@@ -166,7 +168,7 @@ returns-in_err-bytes-clause-first g c =
     (λ j. bundle_of_width (sym at j) (sym wide j)) ∙ some_bundle index (length row) some in
     let stop = part_stops digest hash (edge_bundle n) [] (HasEdge digest edge) a b x y path is partial
     (λ entries h. (h.short, end_file n entries index (length row) h.size_is at wide some)) _ c.in_err-bytes.ensures.first in
-    search (rules, stop)
+    err_exit _ c.from_residual.result c.in_err-bytes.field-0.0 c.from_residual.ensures stop
 
 pub returns-in-None-clause-first : goal.returns-in-None-clause-first
 returns-in-None-clause-first g c =

@@ -1,14 +1,15 @@
-use Rattle.std.proofs.Common.{inr, ◌<◌, ◌^◌, length, rules, sym, ◌∙◌, arith}
+use Rattle.std.proofs.Common.{inr, ◌<◌, ◌^◌, length, sym, ◌∙◌, arith}
 use Rattle.std.proofs.lemmas.Bool.{false≢true}
 use Rattle.log_reader.proofs.Prefixes.{true_rows_lead}
 use Rattle.mirror_audit.proofs.LogStops.{stops_at_edge}
 use Rattle.mirror_audit.proofs.RowsGiven.{edge_is_true}
+use Rattle.mirror_audit.proofs.Exits.{err_exit, true_exit}
 use Rattle.mirror_audit.proofs.edge_rows.read_edge.Goals as goal
 
 pub returns-in_err-edge-clause-honest : goal.returns-in_err-edge-clause-honest
 returns-in_err-edge-clause-honest g c = λ entries s same root.
     let fault = c.in_err-edge.ensures.honest g.H.TreeHash.digest entries g.met.H.TreeHash.digest_length s same in
-    search (rules, fault)
+    true_exit c.from_residual.result _ c.in_err-edge.field-0.0 c.from_residual.ensures fault
 
 pub returns-then-branch-clause-honest : goal.returns-then-branch-clause-honest
 returns-then-branch-clause-honest g c = λ entries s same root.
@@ -30,7 +31,7 @@ returns-in_err-edge-clause-first g c =
     (g.S.Source.may_answer c.args.source.now) (g.S.Source.may_answer c.rows_of.new.source)
     (g.S.Source.asked c.args.source.now) (g.S.Source.asked c.rows_of.new.source) _
     (c.in_err-edge.ensures.first digest g.met.H.TreeHash.digest_length) in
-    search (rules, stop)
+    err_exit _ c.from_residual.result c.in_err-edge.field-0.0 c.from_residual.ensures stop
 
 pub returns-else-branch-clause-first : goal.returns-else-branch-clause-first
 returns-else-branch-clause-first g c =

@@ -1,4 +1,4 @@
-use Rattle.std.proofs.Common.{◌≡◌, ◌<◌, ℕ, List, [], ◌∷◌, Global, IfSome, Vec, length, refl, sym, subst, ap, ◌∙◌, rules, arith}
+use Rattle.std.proofs.Common.{◌≡◌, ◌<◌, ℕ, List, [], ◌∷◌, Global, IfSome, Vec, length, refl, sym, subst, ap, ◌∙◌, arith}
 use Rattle.std.proofs.lemmas.List.Elements.{All-nil, All-same}
 use Rattle.tlog_shape.specs.Edge.{edge_index_of, width_of}
 use Rattle.tlog_tiles.specs.declared.paths.Path.TheVariants.{Tile}
@@ -18,6 +18,7 @@ use Rattle.mirror_audit.proofs.Given.{given_none}
 use Rattle.mirror_audit.proofs.EdgeFiles.{one_row_file}
 use Rattle.mirror_audit.proofs.Orders.{no_tile, some_tile}
 use Rattle.mirror_audit.proofs.Stops.{given_one_file, part_stops, stops_here}
+use Rattle.mirror_audit.proofs.Exits.{err_exit, true_exit}
 use Rattle.mirror_audit.proofs.edge_rows.row_at_level.Goals as goal
 
 pub returns-then-width-eq0-clause-honest : goal.returns-then-width-eq0-clause-honest
@@ -34,7 +35,7 @@ returns-in_err-bytes-clause-honest g c = λ digest entries hash s same.
     (subst (λ m. IsTreeFile m (Tile level (edge_index_of size level) (width_of size level))) (sym same)
     (edge_tile_file size level c.requires some)) in
     let fault = c.in_err-bytes.ensures.honest digest entries hash s file in
-    search (rules, fault)
+    true_exit c.from_residual.result _ c.in_err-bytes.field-0.0 c.from_residual.ensures fault
 
 pub returns-in-None-clause-honest : goal.returns-in-None-clause-honest
 returns-in-None-clause-honest g c = λ digest entries hash s same.
@@ -113,7 +114,7 @@ returns-in_err-bytes-clause-first g c = λ digest hash.
           (subst (λ m. IsTreeFile m (Tile level index width)) (sym h.size_is) (edge_tile_file size level c.requires some))),
     ))
     _ c.in_err-bytes.ensures.first in
-    search (rules, stop)
+    err_exit _ c.from_residual.result c.in_err-bytes.field-0.0 c.from_residual.ensures stop
 
 pub returns-in-None-clause-first : goal.returns-in-None-clause-first
 returns-in-None-clause-first g c = λ digest hash.

@@ -1,4 +1,4 @@
-use Rattle.std.proofs.Common.{◌≡◌, ◌<◌, ℕ, [], length, get_or, ap, refl, rules, sym, subst, ◌∙◌, arith}
+use Rattle.std.proofs.Common.{◌≡◌, ◌<◌, ℕ, [], length, get_or, ap, refl, sym, subst, ◌∙◌, arith}
 use Rattle.tlog_shape.specs.Edge.{width_of}
 use Rattle.mirror_audit.specs.Edges.{AreRowsGiven}
 use Rattle.log_reader.specs.Holding.{IsEdgeRowOf}
@@ -9,6 +9,10 @@ use Rattle.mirror_audit.specs.Stops.{AreRowsRead, HasSize}
 use Rattle.mirror_audit.proofs.Orders.{file_parts}
 use Rattle.mirror_audit.proofs.RowsGiven.{no_rows, no_rows_read, one_more, one_more_read, rows_paths}
 use Rattle.mirror_audit.proofs.Stops.{stops_in}
+use Rattle.std.proofs.lemmas.Result.{IfOk-from_err}
+use Rattle.mirror_audit.specs.Faults.{IsForAbsence}
+use Rattle.mirror_audit.proofs.Exits.{blames_exit, err_exit, true_exit}
+use Rattle.mirror_audit.proofs.LogStops.{absence_before}
 use Rattle.mirror_audit.proofs.edge_rows.rows_of.Goals as goal
 
 pub loop-level-init : goal.loop-level-init
@@ -51,12 +55,36 @@ loop-level-preserved g c =
           (source_later digest entries (may c.args.source.now) (may c.loop-level.source) i.given.given.stays s) same);
     }
 
+pub returns-in_err-row-clause-counted : goal.returns-in_err-row-clause-counted
+returns-in_err-row-clause-counted g c =
+    let failed = g.S.Source.failed in
+    let exit = c.from_residual in
+    blames_exit exit.result c.row_at_level.result c.in_err-row.field-0.0 exit.ensures c.in_err-row.was (failed c.args.source.now) (failed c.loop-level.source)
+    (failed c.row_at_level.new.source) c.loop-level.invariant.counted c.row_at_level.ensures.counted
+
+pub returns-in_err-row-clause-absent : goal.returns-in_err-row-clause-absent
+returns-in_err-row-clause-absent g c =
+    let may = g.S.Source.may_answer in
+    let exit = c.from_residual in
+    err_exit (IsForAbsence (may c.args.source.now)) exit.result c.in_err-row.field-0.0 exit.ensures
+    (absence_before (may c.args.source.now) (may c.loop-level.source) c.loop-level.invariant.given.given.stays _
+    c.in_err-row.ensures.absent)
+
+pub returns-in_err-row-clause-edge : goal.returns-in_err-row-clause-edge
+returns-in_err-row-clause-edge g c = IfOk-from_err c.from_residual.result _ c.from_residual.ensures.0
+
+pub returns-in_err-row-clause-given : goal.returns-in_err-row-clause-given
+returns-in_err-row-clause-given g c = IfOk-from_err c.from_residual.result _ c.from_residual.ensures.0
+
+pub returns-in_err-row-clause-read : goal.returns-in_err-row-clause-read
+returns-in_err-row-clause-read g c = IfOk-from_err c.from_residual.result _ c.from_residual.ensures.0
+
 pub returns-in_err-row-clause-honest : goal.returns-in_err-row-clause-honest
 returns-in_err-row-clause-honest g c = λ digest entries hash s same.
     let may = g.S.Source.may_answer in
     let fault = c.in_err-row.ensures.honest digest entries hash
     (source_later digest entries (may c.args.source.now) (may c.loop-level.source) c.loop-level.invariant.given.given.stays s) same in
-    search (rules, fault)
+    true_exit c.from_residual.result _ c.in_err-row.field-0.0 c.from_residual.ensures fault
 
 pub returns-clause-honest : goal.returns-clause-honest
 returns-clause-honest g c = λ digest entries hash s same level low.
@@ -95,7 +123,7 @@ returns-in_err-row-clause-first g c = λ digest hash.
     let read = rows_paths digest (HasSize digest size) size (λ k. get_or (items_of c.loop-level.rows.items) k []) n a b x y c.loop-level.invariant.read in
     let stop = stops_in digest (edge_order size n) (edge_file size n) parts.rest (edge_order size 8) (HasSize digest size)
     (HasSize digest size) a b d x y z read (λ entries h t. h) parts.files_are _ (c.in_err-row.ensures.first digest hash) in
-    search (rules, stop)
+    err_exit _ c.from_residual.result c.in_err-row.field-0.0 c.from_residual.ensures stop
 
 pub returns-clause-read : goal.returns-clause-read
 returns-clause-read g c =

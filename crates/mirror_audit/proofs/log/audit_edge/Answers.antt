@@ -1,14 +1,15 @@
-use Rattle.std.proofs.Common.{List, [], ◌++◌, refl, sym, ap, rules, arith}
+use Rattle.std.proofs.Common.{List, [], ◌++◌, refl, sym, ap, arith}
 use Rattle.std.proofs.lemmas.List.{append-nil}
 use Rattle.tlog_tiles.specs.declared.paths.Path.{Path}
 use Rattle.log_reader.proofs.TrueReads.{source_later}
 use Rattle.mirror_audit.proofs.Given.{on_ok}
 use Rattle.mirror_audit.proofs.Levels.{log_covers}
-use Rattle.mirror_audit.specs.Faults.{IsForAbsence}
+use Rattle.mirror_audit.specs.Faults.{IsFailure, IsForAbsence}
 use Rattle.mirror_audit.proofs.LogStops.{absence_before}
 use Rattle.mirror_audit.specs.Order.{below_edge, edge_bundle, levels_order}
 use Rattle.mirror_audit.specs.Stops.{HasEdge, StopsIn}
 use Rattle.mirror_audit.proofs.Stops.{on_err, read_none, read_then, stops_in}
+use Rattle.mirror_audit.proofs.Exits.{err_exit}
 use Rattle.mirror_audit.proofs.log.audit_edge.Goals as goal
 
 pub returns-clause-covers : goal.returns-clause-covers
@@ -23,7 +24,7 @@ returns-clause-covers g c =
 pub returns-in_err-audit_levels-clause-honest : goal.returns-in_err-audit_levels-clause-honest
 returns-in_err-audit_levels-clause-honest g c = λ entries s size rows.
     let fault = c.in_err-audit_levels.ensures.honest entries s size rows in
-    search (rules, fault)
+    err_exit IsFailure c.from_residual.result c.in_err-audit_levels.field-0.0 c.from_residual.ensures fault
 
 pub returns-clause-honest : goal.returns-clause-honest
 returns-clause-honest g c = λ entries s size rows.
@@ -54,7 +55,7 @@ returns-in_err-audit_levels-clause-first g c =
     let has = HasEdge digest c.args.edge.now in
     let stop = stops_in digest [] (levels_order n 7) (edge_bundle n) (below_edge n) has has a a b x x y
     (read_none digest has a x [] refl) (λ entries h t. h) refl _ c.in_err-audit_levels.ensures.first in
-    search (rules, stop)
+    err_exit _ c.from_residual.result c.in_err-audit_levels.field-0.0 c.from_residual.ensures stop
 
 pub returns-clause-first : goal.returns-clause-first
 returns-clause-first g c =

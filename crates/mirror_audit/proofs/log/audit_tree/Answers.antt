@@ -1,4 +1,4 @@
-use Rattle.std.proofs.Common.{◌≡◌, ◌<◌, refl, sym, subst, ◌∙◌, rules, arith}
+use Rattle.std.proofs.Common.{◌≡◌, ◌<◌, refl, sym, subst, ◌∙◌, arith}
 use Rattle.log_reader.specs.EdgeRows.{row_at}
 use Rattle.log_reader.proofs.TrueReads.{source_later}
 use Rattle.mirror_audit.proofs.EdgeFiles.{are_of_edge}
@@ -10,6 +10,8 @@ use Rattle.mirror_audit.specs.Stops.{AreRead, HasEdge, StopsEdge, StopsIn}
 use Rattle.mirror_audit.proofs.LogStops.{stops_below, stops_longer}
 use Rattle.mirror_audit.proofs.RowsGiven.{edge_is_true, rows_paths}
 use Rattle.mirror_audit.proofs.Stops.{on_err, read_then}
+use Rattle.mirror_audit.proofs.Exits.{err_exit}
+use Rattle.mirror_audit.specs.Faults.{IsFailure}
 use Rattle.mirror_audit.proofs.log.audit_tree.Goals as goal
 
 pub returns-clause-given : goal.returns-clause-given
@@ -28,7 +30,7 @@ returns-clause-given g c =
 pub returns-in_err-edge-clause-honest : goal.returns-in_err-edge-clause-honest
 returns-in_err-edge-clause-honest g c = λ entries s same root.
     let fault = c.in_err-edge.ensures.honest entries s same root in
-    search (rules, fault)
+    err_exit IsFailure c.from_residual.result c.in_err-edge.field-0.0 c.from_residual.ensures fault
 
 pub returns-clause-honest : goal.returns-clause-honest
 returns-clause-honest g c = λ entries s same root.
@@ -71,7 +73,7 @@ returns-in_err-edge-clause-first g c =
     let stop = stops_longer g.H.TreeHash.digest size c.args.root.now
     (g.S.Source.may_answer c.args.source.now) (g.S.Source.may_answer c.read_edge.new.source)
     (g.S.Source.asked c.args.source.now) (g.S.Source.asked c.read_edge.new.source) _ c.in_err-edge.ensures.first in
-    search (rules, stop)
+    err_exit _ c.from_residual.result c.in_err-edge.field-0.0 c.from_residual.ensures stop
 
 pub returns-clause-first : goal.returns-clause-first
 returns-clause-first g c =

@@ -16,6 +16,11 @@ use Rattle.mirror_audit.specs.Stops.{AreRead, HasRow, HasTile, StopsIn}
 use Rattle.mirror_audit.proofs.Orders.{each_next, each_none, each_parts, tile_then}
 use Rattle.mirror_audit.proofs.ShortLogs.{row_of_tile, tile_verified}
 use Rattle.mirror_audit.proofs.Stops.{on_err, read_hinted, read_none, read_one, read_then, stops_in}
+use Rattle.std.proofs.lemmas.Result.{IfOk-from_err}
+use Rattle.log_reader.proofs.Kept.{stays_twice}
+use Rattle.mirror_audit.specs.Faults.{BlamesPlace, IsFailure, IsForAbsence}
+use Rattle.mirror_audit.proofs.Exits.{blames_exit, err_exit}
+use Rattle.mirror_audit.proofs.LogStops.{absence_before}
 use Rattle.mirror_audit.proofs.tiles.+tiles.Goals as goal
 
 pub audit_row-loop-i-init : goal.audit_row-loop-i-init
@@ -110,6 +115,27 @@ audit_tile-returns-clause-covers g t c =
     (asked n) c.args.hash.now some c.in_ok-row.ensures.found
     (subst (λ r. CoversRow digest level index r (length r) (may m) (may n) (asked m) (asked n)) c.deref.ensures.value below))
 
+pub audit_row-returns-in_err-audit_tile-clause-counted : goal.audit_row-returns-in_err-audit_tile-clause-counted
+audit_row-returns-in_err-audit_tile-clause-counted g t c =
+    let failed = g.S.Source.failed in
+    let exit = c.from_residual in
+    blames_exit exit.result c.audit_tile.result c.in_err-audit_tile.field-0.0 exit.ensures c.in_err-audit_tile.was (failed c.args.source.now) (failed c.expect_from.new.source)
+    (failed c.audit_tile.new.source) (c.expect_from.ensures.counted ∙ c.loop-i.invariant.counted) c.audit_tile.ensures.counted
+
+pub audit_row-returns-in_err-audit_tile-clause-absent : goal.audit_row-returns-in_err-audit_tile-clause-absent
+audit_row-returns-in_err-audit_tile-clause-absent g t c =
+    let may = g.S.Source.may_answer in
+    let exit = c.from_residual in
+    err_exit (IsForAbsence (may c.args.source.now)) exit.result c.in_err-audit_tile.field-0.0 exit.ensures
+    (absence_before (may c.args.source.now) (may c.expect_from.new.source)
+    (stays_twice c.loop-i.invariant.covers.given.stays c.expect_from.ensures.later) _ c.in_err-audit_tile.ensures.absent)
+
+pub audit_row-returns-in_err-audit_tile-clause-covers : goal.audit_row-returns-in_err-audit_tile-clause-covers
+audit_row-returns-in_err-audit_tile-clause-covers g t c = IfOk-from_err c.from_residual.result _ c.from_residual.ensures.0
+
+pub audit_row-returns-in_err-audit_tile-clause-read : goal.audit_row-returns-in_err-audit_tile-clause-read
+audit_row-returns-in_err-audit_tile-clause-read g t c = IfOk-from_err c.from_residual.result _ c.from_residual.ensures.0
+
 pub audit_row-returns-in_err-audit_tile-clause-honest : goal.audit_row-returns-in_err-audit_tile-clause-honest
 audit_row-returns-in_err-audit_tile-clause-honest g t c = λ entries s row.
     let digest = g.H.TreeHash.digest in
@@ -120,7 +146,7 @@ audit_row-returns-in_err-audit_tile-clause-honest g t c = λ entries s row.
     let fault = c.in_err-audit_tile.ensures.honest entries later
     (child_hash digest entries c.args.level c.args.index c.args.row.now row c.requires.above c.requires.level c.loop-i.i
     c.loop-i-test.true) in
-    search (rules, fault)
+    err_exit IsFailure c.from_residual.result c.in_err-audit_tile.field-0.0 c.from_residual.ensures fault
 
 pub audit_tile-returns-then-level-eq0-clause-honest : goal.audit_tile-returns-then-level-eq0-clause-honest
 audit_tile-returns-then-level-eq0-clause-honest g t c = λ entries s hash.
@@ -128,10 +154,43 @@ audit_tile-returns-then-level-eq0-clause-honest g t c = λ entries s hash.
     c.audit_bundle.ensures.honest entries s
     (subst (λ l. IsTileHash g.H.TreeHash.digest entries l c.args.index c.args.hash.now) zero hash)
 
+pub audit_tile-returns-in_err-row-clause-counted : goal.audit_tile-returns-in_err-row-clause-counted
+audit_tile-returns-in_err-row-clause-counted g t c =
+    let failed = g.S.Source.failed in
+    let exit = c.from_residual in
+    blames_exit exit.result c.row_of.result c.in_err-row.field-0.0 exit.ensures c.in_err-row.was (failed c.args.source.now) (failed c.args.source.now)
+    (failed c.row_of.new.source) refl c.row_of.ensures.counted
+
+pub audit_tile-returns-in_err-row-clause-absent : goal.audit_tile-returns-in_err-row-clause-absent
+audit_tile-returns-in_err-row-clause-absent g t c =
+    let may = g.S.Source.may_answer in
+    let exit = c.from_residual in
+    err_exit (IsForAbsence (may c.args.source.now)) exit.result c.in_err-row.field-0.0 exit.ensures
+    c.in_err-row.ensures.absent
+
+pub audit_tile-returns-in_err-row-clause-covers : goal.audit_tile-returns-in_err-row-clause-covers
+audit_tile-returns-in_err-row-clause-covers g t c = IfOk-from_err c.from_residual.result _ c.from_residual.ensures.0
+
+pub audit_tile-returns-in_err-row-clause-read : goal.audit_tile-returns-in_err-row-clause-read
+audit_tile-returns-in_err-row-clause-read g t c = IfOk-from_err c.from_residual.result _ c.from_residual.ensures.0
+
 pub audit_tile-returns-in_err-row-clause-honest : goal.audit_tile-returns-in_err-row-clause-honest
 audit_tile-returns-in_err-row-clause-honest g t c = λ entries s hash.
     let fault = c.in_err-row.ensures.honest entries c.args.level c.args.index refl s hash in
-    search (rules, fault)
+    err_exit IsFailure c.from_residual.result c.in_err-row.field-0.0 c.from_residual.ensures fault
+
+pub audit_tile-returns-clause-counted : goal.audit_tile-returns-clause-counted
+audit_tile-returns-clause-counted g t c =
+    let failed = g.S.Source.failed in
+    subst (λ n. BlamesPlace n (failed c.audit_row.new.source) c.audit_row.result) c.in_ok-row.ensures.counted
+    c.audit_row.ensures.counted
+
+pub audit_tile-returns-clause-absent : goal.audit_tile-returns-clause-absent
+audit_tile-returns-clause-absent g t c =
+    let a = g.S.Source.may_answer c.args.source.now in
+    let b = g.S.Source.may_answer c.row_of.new.source in
+    on_err (IsForAbsence b) (IsForAbsence a) c.audit_row.result (absence_before a b c.in_ok-row.ensures.found.given.stays)
+    c.audit_row.ensures.absent
 
 pub audit_tile-returns-clause-honest : goal.audit_tile-returns-clause-honest
 audit_tile-returns-clause-honest g t c = λ entries s hash.
@@ -179,7 +238,7 @@ audit_tile-returns-in_err-row-clause-first g t c =
     let has = HasTile digest level index c.args.hash.now in
     let stop = stops_in digest [] (path ∷ []) (row_order level index 256) (tile_order level index) has has a a b x x y
     (read_none digest has a x [] refl) (λ entries h t. h) (tile_then level index some) _ (c.in_err-row.ensures.first level index refl) in
-    search (rules, stop)
+    err_exit _ c.from_residual.result c.in_err-row.field-0.0 c.from_residual.ensures stop
 
 pub audit_tile-returns-clause-read : goal.audit_tile-returns-clause-read
 audit_tile-returns-clause-read g t c =
@@ -265,4 +324,4 @@ audit_row-returns-in_err-audit_tile-clause-first g t c =
       is_hash = child_hash digest entries level index row r.is_row c.requires.above c.requires.level i c.loop-i-test.true;
     })
     parts.parts_are _ c.in_err-audit_tile.ensures.first in
-    search (rules, stop)
+    err_exit _ c.from_residual.result c.in_err-audit_tile.field-0.0 c.from_residual.ensures stop

@@ -1,4 +1,4 @@
-use Rattle.std.proofs.Common.{◌≤◌, [], ◌∷◌, length, refl, sym, ap, subst, ◌∙◌, rules, arith}
+use Rattle.std.proofs.Common.{◌≤◌, [], ◌∷◌, length, refl, sym, ap, subst, ◌∙◌, arith}
 use Rattle.mirror_sources.specs.Files.{width_named}
 use Rattle.mirror_sources.specs.Honest.{true_bytes}
 use Rattle.log_reader.specs.Holding.{IsTreeFile}
@@ -6,6 +6,7 @@ use Rattle.log_reader.proofs.TrueReads.{full_tile, row_is_true, tile_verifies}
 use Rattle.mirror_audit.specs.Found.{Here, IsPresent}
 use Rattle.mirror_audit.specs.Stops.{HasTile}
 use Rattle.mirror_audit.proofs.Stops.{lacks_first, stops_here}
+use Rattle.mirror_audit.proofs.Exits.{err_exit, true_exit}
 use Rattle.mirror_audit.proofs.tiles.row_of.Goals as goal
 
 pub returns-in_err-bytes-clause-honest : goal.returns-in_err-bytes-clause-honest
@@ -13,7 +14,7 @@ returns-in_err-bytes-clause-honest g c = λ entries level index at s t.
     let file = subst (IsTreeFile (length entries)) (sym at) (full_tile (length entries) level index t.low t.fits) in
     let wide = subst (λ p. 256 ≤ width_named p) (sym at) (omega arith) in
     let fault = c.in_err-bytes.ensures.honest g.H.TreeHash.digest entries s file wide in
-    search (rules, fault)
+    true_exit c.from_residual.result _ c.in_err-bytes.field-0.0 c.from_residual.ensures fault
 
 pub returns-in-Some-clause-honest : goal.returns-in-Some-clause-honest
 returns-in-Some-clause-honest g c = λ entries level index at s t.
@@ -40,7 +41,7 @@ returns-in_err-bytes-clause-first g c = λ level index at.
     (g.S.Source.may_answer c.args.source.now) (g.S.Source.may_answer c.get_file.new.source)
     (g.S.Source.asked c.args.source.now) (g.S.Source.asked c.get_file.new.source) c.args.path [] refl c.requires _
     c.in_err-bytes.ensures.missing in
-    search (rules, stop)
+    err_exit _ c.from_residual.result c.in_err-bytes.field-0.0 c.from_residual.ensures stop
 
 pub returns-clause-first : goal.returns-clause-first
 returns-clause-first g c = λ level index at.

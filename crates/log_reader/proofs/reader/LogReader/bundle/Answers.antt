@@ -8,6 +8,10 @@ use Rattle.log_reader.specs.Holding.{IsTileHash, ReadsTrue, row_width, true_row}
 use Rattle.log_reader.proofs.FullTiles.{source_tiles}
 use Rattle.log_reader.proofs.TrueBundles.{end_row}
 use Rattle.log_reader.proofs.TrueReads.{hash_in_row, source_later, there_true, width_at_edge, width_full, within_row}
+use Rattle.std.proofs.lemmas.Result.{IfOk-from_err}
+use Rattle.log_reader.specs.Faults.{CountsFailure}
+use Rattle.log_reader.proofs.Exits.{counted_exit, failed_exit}
+use Rattle.log_reader.proofs.Kept.{kept_twice, stays_twice}
 use Rattle.log_reader.proofs.reader.LogReader.bundle.Goals as goal
 
 pub returns-then-index-edge_index-clause-honest : goal.returns-then-index-edge_index-clause-honest
@@ -32,12 +36,42 @@ returns-then-index-edge_index-clause-honest g c = λ entries r s.
           (c.read_end.ensures.honest entries e s);
     }
 
-pub returns-in_err-go_to-clause-honest : goal.returns-in_err-go_to-clause-honest
-returns-in_err-go_to-clause-honest g c = λ entries r s.
-    let went = c.in_err-go_to.ensures.honest entries r
-    (source_tiles g.H.TreeHash.digest entries (g.S.Source.may_answer c.args.source.now) s) in
-    let fault = went.answer in
-    record { reader_is = went.reader_is; answer = search (rules, fault) }
+pub returns-in_err-go_to : goal.returns-in_err-go_to
+returns-in_err-go_to g c =
+    let failed = g.S.Source.failed in
+    let exit = c.from_residual in
+    let step = c.in_err-go_to.ensures in
+    record {
+      edge = step.edge;
+      root = step.root;
+      shown = IfOk-from_err exit.result _ exit.ensures.0;
+      later = step.later;
+      kept = step.kept;
+      counted = counted_exit exit.result c.go_to.result c.in_err-go_to.field-0.0 exit.ensures c.in_err-go_to.was
+          (failed c.args.source.now) (failed c.args.source.now) (failed c.go_to.new.source) refl c.go_to.ensures.counted;
+      honest = λ entries r s.
+          let went = step.honest entries r
+          (source_tiles g.H.TreeHash.digest entries (g.S.Source.may_answer c.args.source.now) s) in
+          record {
+            reader_is = went.reader_is;
+            answer = failed_exit exit.result _ c.in_err-go_to.field-0.0 exit.ensures went.answer;
+          };
+    }
+
+pub returns-in-Some-clause-later : goal.returns-in-Some-clause-later
+returns-in-Some-clause-later g c = stays_twice c.in_ok-go_to.ensures.later c.read_full.ensures.later
+
+pub returns-in-Some-clause-kept : goal.returns-in-Some-clause-kept
+returns-in-Some-clause-kept g c =
+    let files = g.S.Source.files in
+    kept_twice (files c.args.source.now) (files c.go_to.new.source) (files c.read_full.new.source) c.in_ok-go_to.ensures.kept
+    c.read_full.ensures.kept
+
+pub returns-in-Some-clause-counted : goal.returns-in-Some-clause-counted
+returns-in-Some-clause-counted g c =
+    let failed = g.S.Source.failed in
+    subst (λ n. CountsFailure n (failed c.read_full.new.source) c.read_full.result) c.in_ok-go_to.ensures.counted
+    c.read_full.ensures.counted
 
 pub returns-in-Some-clause-honest : goal.returns-in-Some-clause-honest
 returns-in-Some-clause-honest g c = λ entries r s.

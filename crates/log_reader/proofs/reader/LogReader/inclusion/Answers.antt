@@ -1,4 +1,4 @@
-use Rattle.std.proofs.Common.{◌≡◌, ◌<◌, ◌++◌, length, subst, sym, ap, ◌∙◌, rules, arith}
+use Rattle.std.proofs.Common.{◌≡◌, ◌<◌, ◌++◌, length, subst, sym, ap, ◌∙◌, rules, arith, refl}
 use Rattle.std.proofs.lemmas.Bool.{false≢true}
 use Rattle.std.proofs.lemmas.List.{take_all}
 use Rattle.tlog_hash.specs.Rows.{part}
@@ -7,6 +7,9 @@ use Rattle.log_reader.specs.Nodes.{IsNodeRange}
 use Rattle.log_reader.proofs.Asked.{inclusion_holds, inclusion_is}
 use Rattle.log_reader.proofs.NodeNumbers.{whole_node}
 use Rattle.log_reader.proofs.TrueReads.{tiles_later}
+use Rattle.std.proofs.lemmas.Result.{IfOk-from_err}
+use Rattle.log_reader.proofs.Exits.{counted_exit, failed_exit}
+use Rattle.log_reader.proofs.Kept.{kept_twice, stays_twice}
 use Rattle.log_reader.proofs.reader.LogReader.inclusion.Goals as goal
 
 pub add_path-requires-clause-node : goal.add_path-requires-clause-node
@@ -15,20 +18,65 @@ add_path-requires-clause-node g c =
     let same = c.size-size.ensures ∙ sym (ap (λ e. e.size) c.in_ok-leaf.ensures.edge) in
     subst (λ m. IsNodeRange m 0 size) same (whole_node size (omega arith) c.size-size.type_inv)
 
-pub returns-in_err-leaf-clause-honest : goal.returns-in_err-leaf-clause-honest
-returns-in_err-leaf-clause-honest g c = λ entries r s.
-    let went = c.in_err-leaf.ensures.honest entries r s in
-    let fault = went.answer in
-    record { reader_is = went.reader_is; answer = search (rules, fault) }
+pub returns-in_err-leaf : goal.returns-in_err-leaf
+returns-in_err-leaf g c =
+    let failed = g.S.Source.failed in
+    let exit = c.from_residual in
+    let step = c.in_err-leaf.ensures in
+    record {
+      edge = step.edge;
+      root = step.root;
+      asked = IfOk-from_err exit.result _ exit.ensures.0;
+      holds = IfOk-from_err exit.result _ exit.ensures.0;
+      later = step.later;
+      kept = step.kept;
+      counted = counted_exit exit.result c.leaf.result c.in_err-leaf.field-0.0 exit.ensures c.in_err-leaf.was
+          (failed c.args.source.now) (failed c.args.source.now) (failed c.leaf.new.source) refl c.leaf.ensures.counted;
+      honest = λ entries r s.
+          let went = step.honest entries r s in
+          record {
+            reader_is = went.reader_is;
+            answer = failed_exit exit.result _ c.in_err-leaf.field-0.0 exit.ensures went.answer;
+          };
+    }
 
-pub returns-in_err-add_path-clause-honest : goal.returns-in_err-add_path-clause-honest
-returns-in_err-add_path-clause-honest g c = λ entries r s.
-    let digest = g.H.TreeHash.digest in
-    let at = c.in_ok-leaf.ensures.honest entries r s in
-    let went = c.in_err-add_path.ensures.honest entries at.reader_is
-    (tiles_later digest entries _ _ c.in_ok-leaf.ensures.later s) in
-    let fault = went.answer in
-    record { reader_is = went.reader_is; answer = search (rules, fault) }
+pub returns-in_err-add_path : goal.returns-in_err-add_path
+returns-in_err-add_path g c =
+    let files = g.S.Source.files in
+    let failed = g.S.Source.failed in
+    let exit = c.from_residual-in_err-add_path in
+    let leaf = c.in_ok-leaf.ensures in
+    let step = c.in_err-add_path.ensures in
+    record {
+      edge = step.edge ∙ leaf.edge;
+      root = step.root ∙ leaf.root;
+      asked = IfOk-from_err exit.result _ exit.ensures.0;
+      holds = IfOk-from_err exit.result _ exit.ensures.0;
+      later = stays_twice leaf.later step.later;
+      kept = kept_twice (files c.args.source.now) (files c.leaf.new.source) (files c.add_path.new.source) leaf.kept step.kept;
+      counted = counted_exit exit.result c.add_path.result c.in_err-add_path.field-0.0 exit.ensures c.in_err-add_path.was
+          (failed c.args.source.now) (failed c.leaf.new.source) (failed c.add_path.new.source) leaf.counted
+          c.add_path.ensures.counted;
+      honest = λ entries r s.
+          let at = leaf.honest entries r s in
+          let went = step.honest entries at.reader_is (tiles_later g.H.TreeHash.digest entries _ _ leaf.later s) in
+          record {
+            reader_is = went.reader_is;
+            answer = failed_exit exit.result _ c.in_err-add_path.field-0.0 exit.ensures went.answer;
+          };
+    }
+
+pub returns-then-holds-clause-kept : goal.returns-then-holds-clause-kept
+returns-then-holds-clause-kept g c =
+    let files = g.S.Source.files in
+    kept_twice (files c.args.source.now) (files c.leaf.new.source) (files c.add_path.new.source) c.in_ok-leaf.ensures.kept
+    c.in_ok-add_path.ensures.kept
+
+pub returns-else-holds-clause-kept : goal.returns-else-holds-clause-kept
+returns-else-holds-clause-kept g c =
+    let files = g.S.Source.files in
+    kept_twice (files c.args.source.now) (files c.leaf.new.source) (files c.add_path.new.source) c.in_ok-leaf.ensures.kept
+    c.in_ok-add_path.ensures.kept
 
 pub returns-then-holds-clause-honest : goal.returns-then-holds-clause-honest
 returns-then-holds-clause-honest g c = λ entries r s.

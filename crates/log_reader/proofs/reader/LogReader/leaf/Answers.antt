@@ -5,6 +5,8 @@ use Rattle.log_reader.specs.Holding.{true_row}
 use Rattle.log_reader.proofs.Climbing.{shown_there}
 use Rattle.log_reader.proofs.TruePrefixes.{leaf_is, leaf_within}
 use Rattle.log_reader.proofs.TrueReads.{there_true}
+use Rattle.std.proofs.lemmas.Result.{IfOk-from_err}
+use Rattle.log_reader.proofs.Exits.{counted_exit, failed_exit}
 use Rattle.log_reader.proofs.reader.LogReader.leaf.Goals as goal
 
 pub returns-in-Some-clause-shown : goal.returns-in-Some-clause-shown
@@ -20,11 +22,26 @@ returns-in-Some-clause-shown g c =
       hash_is = get_or_read_under row (index % 256) (length row) c.in-Some.hash.now [] c.in-Some.ensures.lookup.1 within refl;
     }
 
-pub returns-in_err-go_to-clause-honest : goal.returns-in_err-go_to-clause-honest
-returns-in_err-go_to-clause-honest g c = λ entries r s.
-    let went = c.in_err-go_to.ensures.honest entries r s in
-    let fault = went.answer in
-    record { reader_is = went.reader_is; answer = search (rules, fault) }
+pub returns-in_err-go_to : goal.returns-in_err-go_to
+returns-in_err-go_to g c =
+    let failed = g.S.Source.failed in
+    let exit = c.from_residual in
+    let step = c.in_err-go_to.ensures in
+    record {
+      edge = step.edge;
+      root = step.root;
+      shown = IfOk-from_err exit.result _ exit.ensures.0;
+      later = step.later;
+      kept = step.kept;
+      counted = counted_exit exit.result c.go_to.result c.in_err-go_to.field-0.0 exit.ensures c.in_err-go_to.was
+          (failed c.args.source.now) (failed c.args.source.now) (failed c.go_to.new.source) refl c.go_to.ensures.counted;
+      honest = λ entries r s.
+          let went = step.honest entries r s in
+          record {
+            reader_is = went.reader_is;
+            answer = failed_exit exit.result _ c.in_err-go_to.field-0.0 exit.ensures went.answer;
+          };
+    }
 
 pub returns-in-Some-clause-honest : goal.returns-in-Some-clause-honest
 returns-in-Some-clause-honest g c = λ entries r s.

@@ -1,20 +1,52 @@
-use Rattle.std.proofs.Common.{◌≡◌, ◌<◌, ◌≤◌, ◌^◌, length, rules, subst, sym, ap, take, ◌∙◌, arith}
+use Rattle.std.proofs.Common.{◌≡◌, ◌<◌, ◌≤◌, ◌^◌, length, rules, subst, sym, ap, take, ◌∙◌, arith, refl}
 use Rattle.tlog_shape.specs.Edge.{edge_index_of}
 use Rattle.log_reader.specs.EdgeRows.{hash_of_edge}
 use Rattle.log_reader.proofs.TruePrefixes.{reader_made, size_first}
+use Rattle.std.proofs.lemmas.Result.{IfOk-from_err}
+use Rattle.log_reader.specs.declared.fault.ReadFault.TheVariants.{OutOfMemory}
+use Rattle.log_reader.proofs.Exits.{counted_exit, failed_exit, memory_exit}
 use Rattle.log_reader.proofs.reader.LogReader.prefix.Goals as goal
 
-pub returns-in_err-rows-clause-honest : goal.returns-in_err-rows-clause-honest
-returns-in_err-rows-clause-honest g c = λ entries r s.
-    let went = c.in_err-rows.ensures.honest entries r s in
-    let fault = went.answer in
-    record { reader_is = went.reader_is; answer = search (rules, fault) }
+pub returns-in_err-rows : goal.returns-in_err-rows
+returns-in_err-rows g c =
+    let failed = g.S.Source.failed in
+    let exit = c.from_residual in
+    let step = c.in_err-rows.ensures in
+    record {
+      edge = step.edge;
+      root = step.root;
+      size = IfOk-from_err exit.result _ exit.ensures.0;
+      shown = IfOk-from_err exit.result _ exit.ensures.0;
+      later = step.later;
+      kept = step.kept;
+      counted = counted_exit exit.result c.first_edge.result c.in_err-rows.field-0.0 exit.ensures c.in_err-rows.was
+          (failed c.args.source.now) (failed c.args.source.now) (failed c.first_edge.new.source) refl c.first_edge.ensures.counted;
+      honest = λ entries r s.
+          let went = step.honest entries r s in
+          record {
+            reader_is = went.reader_is;
+            answer = failed_exit exit.result _ c.in_err-rows.field-0.0 exit.ensures went.answer;
+          };
+    }
 
-pub returns-in_err-edge-clause-honest : goal.returns-in_err-edge-clause-honest
-returns-in_err-edge-clause-honest g c = λ entries r s. record {
-  reader_is = (c.in_ok-rows.ensures.honest entries r s).reader_is;
-  answer = search rules;
-}
+pub returns-in_err-edge : goal.returns-in_err-edge
+returns-in_err-edge g c =
+    let failed = g.S.Source.failed in
+    let exit = c.from_residual-in_err-edge in
+    let step = c.in_ok-rows.ensures in
+    record {
+      edge = step.edge;
+      root = step.root;
+      size = IfOk-from_err exit.result _ exit.ensures.0;
+      shown = IfOk-from_err exit.result _ exit.ensures.0;
+      later = step.later;
+      kept = step.kept;
+      counted = memory_exit exit.result exit.ensures (failed c.args.source.now) (failed c.first_edge.new.source) step.counted;
+      honest = λ entries r s. record {
+        reader_is = (step.honest entries r s).reader_is;
+        answer = failed_exit exit.result _ OutOfMemory exit.ensures tt;
+      };
+    }
 
 pub returns-clause-honest : goal.returns-clause-honest
 returns-clause-honest g c = λ entries r s.
