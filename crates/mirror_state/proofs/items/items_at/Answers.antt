@@ -1,6 +1,7 @@
 use Rattle.std.proofs.Common.{◌≡◌, suc, ◌-◌, ◌+◌, [], ◌∷◌, ◌++◌, length, map, subst, arith, ap, ◌∙◌}
 use Rattle.std.proofs.lemmas.List.{map_push, length_push}
 use Rattle.std.proofs.lemmas.List.Elements.{All-push, All-same}
+use Rattle.std.proofs.lemmas.Result.{IfOk-from_err}
 use Rattle.mirror_state.specs.Items.{IsItem}
 use Rattle.mirror_state.specs.Stands.{HasItems}
 use Rattle.mirror_state.proofs.ItemLemmas.{items_first, items_rest, items_push}
@@ -33,3 +34,9 @@ loop-preserved c =
           found.0 (subst (λ b. HasItems c.args.form (suc (c.args.count - (c.loop.counter + 1))) b those.0 r) found.1
           (subst (λ n. HasItems c.args.form n c.loop.rest.now those.0 r) left those.1));
     }
+
+pub returns-in_err-push : goal.returns-in_err-push
+returns-in_err-push c = record {
+  found = IfOk-from_err _ _ c.from_residual.ensures.0;
+  none = IfOk-from_err _ _ c.from_residual.ensures.0;
+}

@@ -1,3 +1,4 @@
+use Rattle.std.proofs.lemmas.Result.{IfOk-from_err}
 use Rattle.mirror_state.specs.declared.items.Form.TheVariants.{Short, Long, Hashes}
 use Rattle.mirror_state.proofs.ListLemmas.{parted_notes, next_stands, last_stands, parted_found}
 use Rattle.mirror_state.proofs.lists.parted_at.Goals as goal
@@ -33,3 +34,24 @@ returns-clause-found c =
     let p = rw c.in-Some-3.is at c.in_ok-pairs.ensures.found in
     let e = rw c.in-Some-4.is at c.in_ok-entries.ensures.found in
     parted_found _ _ _ _ _ _ _ _ _ o.0 o.1 n p e
+
+pub returns-in_err-notes : goal.returns-in_err-notes
+returns-in_err-notes c = record {
+  found = IfOk-from_err _ _ c.from_residual.ensures.0;
+  version = IfOk-from_err _ _ c.from_residual.ensures.0;
+  none = IfOk-from_err _ _ c.from_residual.ensures.0;
+}
+
+pub returns-in_err-pairs : goal.returns-in_err-pairs
+returns-in_err-pairs c = record {
+  found = IfOk-from_err _ _ c.from_residual-in_err-pairs.ensures.0;
+  version = IfOk-from_err _ _ c.from_residual-in_err-pairs.ensures.0;
+  none = IfOk-from_err _ _ c.from_residual-in_err-pairs.ensures.0;
+}
+
+pub returns-in_err-entries : goal.returns-in_err-entries
+returns-in_err-entries c = record {
+  found = IfOk-from_err _ _ c.from_residual-in_err-entries.ensures.0;
+  version = IfOk-from_err _ _ c.from_residual-in_err-entries.ensures.0;
+  none = IfOk-from_err _ _ c.from_residual-in_err-entries.ensures.0;
+}

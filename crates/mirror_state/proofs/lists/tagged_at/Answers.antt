@@ -1,3 +1,4 @@
+use Rattle.std.proofs.lemmas.Result.{IfOk-from_err}
 use Rattle.mirror_state.specs.declared.items.Form.TheVariants.{Long}
 use Rattle.mirror_state.proofs.ListLemmas.{tagged_notes, last_stands}
 use Rattle.mirror_state.proofs.lists.tagged_at.Goals as goal
@@ -15,3 +16,17 @@ returns-in_default-3-clause-none c = λ origin notes strings rest h.
     let none = rw c.in_default-3.is at c.in_ok-strings.ensures.none in
     none strings _ (last_stands Long Long _ _ rest _ notes strings n
     (tagged_notes _ _ _ rest origin notes strings o.0 o.1 h) h.are_parts.strings_fit)
+
+pub returns-in_err-notes : goal.returns-in_err-notes
+returns-in_err-notes c = record {
+  found = IfOk-from_err _ _ c.from_residual.ensures.0;
+  version = IfOk-from_err _ _ c.from_residual.ensures.0;
+  none = IfOk-from_err _ _ c.from_residual.ensures.0;
+}
+
+pub returns-in_err-strings : goal.returns-in_err-strings
+returns-in_err-strings c = record {
+  found = IfOk-from_err _ _ c.from_residual-in_err-strings.ensures.0;
+  version = IfOk-from_err _ _ c.from_residual-in_err-strings.ensures.0;
+  none = IfOk-from_err _ _ c.from_residual-in_err-strings.ensures.0;
+}

@@ -1,5 +1,6 @@
 use Rattle.std.proofs.Common.{◌≡◌, length, refl, ap, ◌∙◌, arith, rules, eqb}
 use Rattle.std.specs.Cmp.Lexicographic.{pointwise}
+use Rattle.std.proofs.lemmas.Result.{IfOk-from_err}
 use Rattle.mirror_trees.proofs.Builds.{records_none, records_one, tells_no_pair}
 use Rattle.mirror_trees.proofs.KnownSteps.{known_decides, noted_known, both_built, tells_no_left, tells_no_right}
 use Rattle.mirror_trees.proofs.built.+check_built.Goals as goal
@@ -72,3 +73,20 @@ returns-clause-known g t c =
     c.split-k.ensures.value len c.in-Some.ensures.some c.in_ok-first.first c.in_ok-second.second
     c.if-not-first.false c.in_ok-first.ensures.built c.if-not-second.false c.in_ok-second.ensures.built)
     c.note_built.ensures
+
+pub returns-in_err-first : goal.returns-in_err-first
+returns-in_err-first g t c = record {
+  built = IfOk-from_err _ _ c.from_residual.ensures.0;
+  known = c.check_built.ensures.known;
+  remembered = c.check_built.ensures.remembered;
+}
+
+pub returns-in_err-second : goal.returns-in_err-second
+returns-in_err-second g t c = record {
+  built = IfOk-from_err _ _ c.from_residual-in_err-second.ensures.0;
+  known = c.check_built-2.ensures.known;
+  remembered = c.check_built-2.ensures.remembered ∙ c.check_built.ensures.remembered;
+}
+
+pub returns-in_err-note_built-clause-built : goal.returns-in_err-note_built-clause-built
+returns-in_err-note_built-clause-built g t c = IfOk-from_err _ _ c.from_residual-in_err-note_built.ensures.0

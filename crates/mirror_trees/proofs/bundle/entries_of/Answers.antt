@@ -1,5 +1,6 @@
 use Rattle.std.proofs.Common.{◌∷◌, [], take, map}
 use Rattle.std.proofs.lemmas.List.{map-append, take_more}
+use Rattle.std.proofs.lemmas.Result.{IfOk-from_err}
 use Rattle.mirror_trees.proofs.LeafRows.{leaves_push, leaves_none}
 use Rattle.mirror_trees.proofs.bundle.entries_of.Goals as goal
 
@@ -17,3 +18,15 @@ loop-hash-preserved g c =
     )
     (leaves_push g.H.TreeHash.digest c.args.store.now (take c.loop-hash.hash-index c.args.row.now)
     (map (λ e. e.now) c.loop-hash.lent.items) _ c.in-Some.entry.now c.loop-hash.invariant c.in-Some.ensures.some)
+
+pub returns-in_err-lent : goal.returns-in_err-lent
+returns-in_err-lent g c = record {
+  some = IfOk-from_err _ _ c.from_residual.ensures.0;
+  none = IfOk-from_err _ _ c.from_residual.ensures.0;
+}
+
+pub returns-in_err-push : goal.returns-in_err-push
+returns-in_err-push g c = record {
+  some = IfOk-from_err _ _ c.from_residual-in_err-push.ensures.0;
+  none = IfOk-from_err _ _ c.from_residual-in_err-push.ensures.0;
+}

@@ -1,4 +1,5 @@
 use Rattle.std.proofs.Common.{◌≡◌, ◌≤◌, length, arith, rules}
+use Rattle.std.proofs.lemmas.Result.{IfOk-from_err}
 use Rattle.mirror_model.specs.Complete.{IsBuilt}
 use Rattle.mirror_trees.proofs.KnownSteps.{known_built, noted_built, parts_built, leaf_built}
 use Rattle.mirror_trees.proofs.counting.+count_lost.Goals as goal
@@ -45,3 +46,24 @@ returns-then-count-eq0-clause-found g t c =
     (c.in_ok-second.ensures.whole (c.count_of-count.ensures.second c.if-count-eq0.true)) in
     noted_built g.H.TreeHash.digest c.args.store.now c.count_lost-2.new.found c.note_built.new.built c.args.size
     c.args.root.now c.count_lost-2.ensures.found whole c.note_built.ensures
+
+pub returns-in_err-first : goal.returns-in_err-first
+returns-in_err-first g t c = record {
+  whole = IfOk-from_err _ _ c.from_residual.ensures.0;
+  found = c.count_lost.ensures.found;
+}
+
+pub returns-in_err-second : goal.returns-in_err-second
+returns-in_err-second g t c = record {
+  whole = IfOk-from_err _ _ c.from_residual-in_err-second.ensures.0;
+  found = c.count_lost-2.ensures.found;
+}
+
+pub returns-in_err-note_built-clause-whole : goal.returns-in_err-note_built-clause-whole
+returns-in_err-note_built-clause-whole g t c = IfOk-from_err _ _ c.from_residual-in_err-note_built.ensures.0
+
+pub returns-in_err-keep : goal.returns-in_err-keep
+returns-in_err-keep g t c = record {
+  whole = IfOk-from_err _ _ c.from_residual-in_err-keep.ensures.0;
+  found = c.count_lost-2.ensures.found;
+}

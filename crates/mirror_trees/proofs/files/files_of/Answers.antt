@@ -1,4 +1,5 @@
 use Rattle.std.proofs.Common.{◌≡◌, ◌<◌, ◌^◌, ℕ, List, All, map, length, ap, sym, ◌∙◌, subst}
+use Rattle.std.proofs.lemmas.Result.{IfOk-from_err}
 use Rattle.tlog_hash.specs.Tree.{mth}
 use Rattle.tlog_files.specs.Layout.{full_row, AreFullRows}
 use Rattle.mirror_model.specs.Complete.{IsTreeOf}
@@ -75,3 +76,15 @@ returns g c =
     (at_some c.in_ok-entries.field-0 c.in-Some-3.entries _ c.in-Some-3.is c.in_ok-entries.ensures.some) in
     subst (IsTreeOf digest c.args.store.now c.args.size c.args.root.now)
     (sym (c.in_ok-from_rows.ensures ∙ ap (map (λ e. e.now)) c.as_slice-3.ensures.value ∙ lent)) tree
+
+pub returns-in_err-leaves : goal.returns-in_err-leaves
+returns-in_err-leaves g c = IfOk-from_err _ _ c.from_residual.ensures.0
+
+pub returns-in_err-rows : goal.returns-in_err-rows
+returns-in_err-rows g c = IfOk-from_err _ _ c.from_residual-in_err-rows.ensures.0
+
+pub returns-in_err-entries : goal.returns-in_err-entries
+returns-in_err-entries g c = IfOk-from_err _ _ c.from_residual-in_err-entries.ensures.0
+
+pub returns-in_err-from_rows : goal.returns-in_err-from_rows
+returns-in_err-from_rows g c = IfOk-from_err _ _ c.from_residual-in_err-from_rows.ensures.0

@@ -1,4 +1,5 @@
 use Rattle.std.proofs.Common.{◌≡◌, ◌≤◌, length, arith, rules}
+use Rattle.std.proofs.lemmas.Result.{IfOk-from_err}
 use Rattle.mirror_trees.specs.Levels.{IsClear}
 use Rattle.mirror_trees.proofs.KnownSteps.{known_built}
 use Rattle.mirror_trees.proofs.LevelSteps.{never_both, clear_built, clear_few, clear_leaf, clear_node, clear_parts, noted_clear}
@@ -62,3 +63,24 @@ returns-then-second-clause-clear g t c =
     (c.in_ok-second.ensures.whole c.if-second.true) in
     noted_clear c.args.level g.H.TreeHash.digest c.args.store.now c.note_clear-2.new.clear c.note_built.new.built
     c.args.size c.args.root.now c.note_clear-2.ensures.clear whole c.note_built.ensures
+
+pub returns-in_err-first : goal.returns-in_err-first
+returns-in_err-first g t c = record {
+  whole = IfOk-from_err _ _ c.from_residual.ensures.0;
+  clear = c.note_clear.ensures.clear;
+}
+
+pub returns-in_err-second : goal.returns-in_err-second
+returns-in_err-second g t c = record {
+  whole = IfOk-from_err _ _ c.from_residual-in_err-second.ensures.0;
+  clear = c.note_clear-2.ensures.clear;
+}
+
+pub returns-in_err-note_built-2 : goal.returns-in_err-note_built-2
+returns-in_err-note_built-2 g t c = record {
+  whole = IfOk-from_err _ _ c.from_residual-in_err-note_built-2.ensures.0;
+  clear = c.note_clear-2.ensures.clear;
+}
+
+pub returns-in_err-note_built-clause-whole : goal.returns-in_err-note_built-clause-whole
+returns-in_err-note_built-clause-whole g t c = IfOk-from_err _ _ c.from_residual-in_err-note_built.ensures.0

@@ -1,5 +1,6 @@
 use Rattle.std.proofs.Common.{◌≡◌, ◌≤◌, length, sym, subst, arith, rules}
 use Rattle.std.specs.Prelude.{◌↔◌}
+use Rattle.std.proofs.lemmas.Result.{IfOk-from_err}
 use Rattle.mirror_model.specs.Complete.{IsBuilt}
 use Rattle.mirror_model.specs.Front.{IsPathOf}
 use Rattle.mirror_trees.specs.Lost.{IsLost}
@@ -118,3 +119,37 @@ returns-clause-found g t c =
     (c.in_ok-first.ensures.whole c.if-not-first.false) (c.in_ok-second.ensures.whole c.if-not-second.false) in
     noted_built g.H.TreeHash.digest c.args.store.now c.push_lost-2.new.found c.note_built.new.built c.args.size
     c.args.root.now c.push_lost-2.ensures.found whole c.note_built.ensures
+
+pub returns-in_err-push_path : goal.returns-in_err-push_path
+returns-in_err-push_path g t c = record {
+  adds = IfOk-from_err _ _ c.from_residual.ensures.0;
+  whole = IfOk-from_err _ _ c.from_residual.ensures.0;
+  found = c.requires.found;
+}
+
+pub returns-in_err-push_path-2 : goal.returns-in_err-push_path-2
+returns-in_err-push_path-2 g t c = record {
+  adds = IfOk-from_err _ _ c.from_residual-in_err-push_path-2.ensures.0;
+  whole = IfOk-from_err _ _ c.from_residual-in_err-push_path-2.ensures.0;
+  found = c.requires.found;
+}
+
+pub returns-in_err-first : goal.returns-in_err-first
+returns-in_err-first g t c = record {
+  adds = IfOk-from_err _ _ c.from_residual-in_err-first.ensures.0;
+  whole = IfOk-from_err _ _ c.from_residual-in_err-first.ensures.0;
+  found = c.push_lost.ensures.found;
+}
+
+pub returns-in_err-second : goal.returns-in_err-second
+returns-in_err-second g t c = record {
+  adds = IfOk-from_err _ _ c.from_residual-in_err-second.ensures.0;
+  whole = IfOk-from_err _ _ c.from_residual-in_err-second.ensures.0;
+  found = c.push_lost-2.ensures.found;
+}
+
+pub returns-in_err-note_built-clause-adds : goal.returns-in_err-note_built-clause-adds
+returns-in_err-note_built-clause-adds g t c = IfOk-from_err _ _ c.from_residual-in_err-note_built.ensures.0
+
+pub returns-in_err-note_built-clause-whole : goal.returns-in_err-note_built-clause-whole
+returns-in_err-note_built-clause-whole g t c = IfOk-from_err _ _ c.from_residual-in_err-note_built.ensures.0

@@ -1,5 +1,6 @@
 use Rattle.std.proofs.Common.{◌≡◌, inl, inr, List, [], length, subst, ap, arith}
 use Rattle.std.specs.List.{Contains}
+use Rattle.std.proofs.lemmas.Result.{IfOk-from_err}
 use Rattle.mirror_model.specs.Walk.{IsMissing}
 use Rattle.tlog_tiles.specs.declared.paths.Path.{Path}
 use Rattle.mirror_trees.proofs.EmptySets.{empty_known}
@@ -33,3 +34,12 @@ returns g c = λ path.
 pub count_lost-requires-clause-found : goal.count_lost-requires-clause-found
 count_lost-requires-clause-found g c =
     empty_known g.H.TreeHash.digest c.args.store.now c.new-found.result c.new-found.ensures
+
+pub returns-in_err-count : goal.returns-in_err-count
+returns-in_err-count g c = IfOk-from_err _ _ c.from_residual.ensures.0
+
+pub returns-in_err-paths : goal.returns-in_err-paths
+returns-in_err-paths g c = IfOk-from_err _ _ c.from_residual-in_err-paths.ensures.0
+
+pub returns-in_err-push_lost : goal.returns-in_err-push_lost
+returns-in_err-push_lost g c = IfOk-from_err _ _ c.from_residual-in_err-push_lost.ensures.0

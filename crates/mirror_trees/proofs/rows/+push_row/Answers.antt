@@ -1,7 +1,7 @@
 use Rattle.std.proofs.Common.{◌≡◌, ◌+◌, ◌/◌, ◌++◌, length, take, drop, map, sym, refl, ap, ◌∙◌, arith, rules}
 use Rattle.tlog_hash.specs.Tree.{mth}
 use Rattle.mirror_trees.proofs.Descents.{no-pair, left-tree, right-tree}
-use Rattle.mirror_trees.proofs.RowSteps.{ok_from, whole_row, power_some, two_of, fits_left, cut_whole, right_fits}
+use Rattle.mirror_trees.proofs.RowSteps.{ok_from, whole_row, power_some, two_of, fits_left, cut_whole, right_fits, units_fit}
 use Rattle.mirror_trees.proofs.RowSteps.{rest_fits, ranges-take, row_join, row_right}
 use Rattle.mirror_trees.proofs.rows.+push_row.Goals as goal
 
@@ -129,3 +129,19 @@ returns g t c =
           (omega (arith, c.if-first-cut.false))
           (omega (arith, c.if-first-count.false)) whole a.1 b.1,
     )) c.push_row-3.ensures
+
+pub split-k-requires : goal.split-k-requires
+split-k-requires g t c =
+    two_of c.args.unit c.args.first c.args.count c.args.size c.requires.power c.requires.some c.requires.within
+    c.if-size-unit.false
+
+pub nonzero_div-cut : goal.nonzero_div-cut
+nonzero_div-cut g t c = power_some c.args.unit c.requires.power
+
+pub overflow_add-first : goal.overflow_add-first
+overflow_add-first g t c =
+    units_fit (c.args.first + c.args.count) c.args.unit c.args.size c.requires.power c.requires.within c.ranges.size.fits
+
+pub overflow_add-first-2 : goal.overflow_add-first-2
+overflow_add-first-2 g t c =
+    units_fit (c.args.first + c.args.count) c.args.unit c.args.size c.requires.power c.requires.within c.ranges.size.fits

@@ -1,6 +1,7 @@
 use Rattle.std.proofs.Common.{List, [], subst, sym}
 use Rattle.std.specs.Prelude.{All}
 use Rattle.std.proofs.lemmas.List.Elements.{All-push}
+use Rattle.std.proofs.lemmas.Result.{IfOk-from_err}
 use Rattle.tlog_mirror.specs.Branches.{IsBranch, IsSpelled}
 use Rattle.tlog_mirror.specs.declared.branches.Branch.{Branch}
 use Rattle.tlog_mirror.proofs.BranchSteps.{heads_more, branches_more}
@@ -18,4 +19,25 @@ loop-head-preserved g c = record {
   spelled = subst (All IsSpelled) (sym c.in_ok-push.ensures.items)
       (All-push IsSpelled c.loop-head.branches.items c.in_ok-branch.branch c.loop-head.invariant.spelled
       c.in_ok-branch.ensures.spelled);
+}
+
+pub returns-in_err-branches : goal.returns-in_err-branches
+returns-in_err-branches g c = record {
+  heads = IfOk-from_err _ _ c.from_residual.ensures.0;
+  each = IfOk-from_err _ _ c.from_residual.ensures.0;
+  spelled = IfOk-from_err _ _ c.from_residual.ensures.0;
+}
+
+pub returns-in_err-branch : goal.returns-in_err-branch
+returns-in_err-branch g c = record {
+  heads = IfOk-from_err _ _ c.from_residual-in_err-branch.ensures.0;
+  each = IfOk-from_err _ _ c.from_residual-in_err-branch.ensures.0;
+  spelled = IfOk-from_err _ _ c.from_residual-in_err-branch.ensures.0;
+}
+
+pub returns-in_err-push : goal.returns-in_err-push
+returns-in_err-push g c = record {
+  heads = IfOk-from_err _ _ c.from_residual-in_err-push.ensures.0;
+  each = IfOk-from_err _ _ c.from_residual-in_err-push.ensures.0;
+  spelled = IfOk-from_err _ _ c.from_residual-in_err-push.ensures.0;
 }

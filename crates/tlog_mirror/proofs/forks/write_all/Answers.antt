@@ -1,4 +1,5 @@
 use Rattle.std.proofs.Common.{get_or, ◌∙◌, ◌+◌, [], drop, length, ap, sym, subst, false, inl, inr}
+use Rattle.std.proofs.lemmas.Result.{IfOk-from_err}
 use Rattle.byte_streams.specs.Streams.{AppendsPrefix}
 use Rattle.std.specs.Io.KnownBytes.{Appends}
 use Rattle.tlog_mirror.specs.Branches.{all_forks, forks_from, marks_from}
@@ -91,3 +92,15 @@ returns-clause-any g c =
     all_records fork_line old now [] c.loop-at.held.items false c.loop-at.any forks _
     (all_end all c.args.calm.now c.loop-at.at c.loop-at.marks c.loop-at-test.false) c.loop-at.invariant.writes in
     (λ h. elim (t.0 h) [ inl wrong ↦ absurd (cc wrong) | inr some ↦ some ], λ some. t.1 (inr some))
+
+pub returns-in_err-any-clause-ok : goal.returns-in_err-any-clause-ok
+returns-in_err-any-clause-ok g c = IfOk-from_err _ _ c.from_residual.ensures.0
+
+pub returns-in_err-any-clause-any : goal.returns-in_err-any-clause-any
+returns-in_err-any-clause-any g c = IfOk-from_err _ _ c.from_residual.ensures.0
+
+pub returns-in_err-write_whole-clause-ok : goal.returns-in_err-write_whole-clause-ok
+returns-in_err-write_whole-clause-ok g c = IfOk-from_err _ _ c.from_residual-in_err-write_whole.ensures.0
+
+pub returns-in_err-write_whole-clause-any : goal.returns-in_err-write_whole-clause-any
+returns-in_err-write_whole-clause-any g c = IfOk-from_err _ _ c.from_residual-in_err-write_whole.ensures.0

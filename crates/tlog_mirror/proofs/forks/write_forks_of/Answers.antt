@@ -1,6 +1,7 @@
 use Rattle.std.proofs.Common.{ap, append-nil, inl, inr, ◌++◌, ◌∙◌, ◌+◌, set, drop, refl, sym, subst, true}
 use Rattle.std.specs.Prelude.{◌↔◌, ◌≢◌, ◌⊎◌, IsTrue, []}
 use Rattle.std.proofs.lemmas.List.{length-set}
+use Rattle.std.proofs.lemmas.Result.{IfOk-from_err}
 use Rattle.byte_streams.specs.Streams.{AppendsPrefix}
 use Rattle.mirror_model.specs.Texts.{fork_line, forks_text}
 use Rattle.tlog_mirror.specs.Branches.{fork_of, forks_from, forks_with, marks_from}
@@ -128,3 +129,12 @@ returns-clause-any g c =
     c.loop-next.held.items c.args.before c.loop-next.any _ _
     (with_end all c.args.at small c.loop-next.next c.loop-next.marks c.loop-next-test.false)
     c.loop-next.invariant.writes)
+
+pub returns-in_err-any-clause-ok : goal.returns-in_err-any-clause-ok
+returns-in_err-any-clause-ok g c = IfOk-from_err _ _ c.from_residual.ensures.0
+
+pub returns-in_err-any-clause-marks : goal.returns-in_err-any-clause-marks
+returns-in_err-any-clause-marks g c = IfOk-from_err _ _ c.from_residual.ensures.0
+
+pub returns-in_err-any-clause-any : goal.returns-in_err-any-clause-any
+returns-in_err-any-clause-any g c = IfOk-from_err _ _ c.from_residual.ensures.0

@@ -1,6 +1,7 @@
 use Rattle.std.proofs.Common.{◌≡◌, ℕ, ◌+◌, ◌<◌, List, [], ◌∷◌, ◌++◌, length, map, take, get_or, ap, ap₂, sym, ◌∙◌}
 use Rattle.std.proofs.lemmas.List.{map-append, take_more, take_all}
 use Rattle.std.proofs.lemmas.List.Elements.{All-push, All-same}
+use Rattle.std.proofs.lemmas.Result.{IfOk-from_err}
 use Rattle.mirror_model.specs.Reports.{head_point}
 use Rattle.mirror_trees.specs.Marked.{point_of}
 use Rattle.tlog_mirror.specs.Best.{IsBuiltFlag}
@@ -28,3 +29,15 @@ pub returns-clause-points : goal.returns-clause-points
 returns-clause-points g c =
     c.loop-point.invariant.points ∙
     ap (map point_of) (take_all c.loop-point.point-index c.args.points.now c.loop-point-test.false)
+
+pub returns-in_err-heads : goal.returns-in_err-heads
+returns-in_err-heads g c = record {
+  points = IfOk-from_err _ _ c.from_residual.ensures.0;
+  flags = IfOk-from_err _ _ c.from_residual.ensures.0;
+}
+
+pub returns-in_err-push : goal.returns-in_err-push
+returns-in_err-push g c = record {
+  points = IfOk-from_err _ _ c.from_residual-in_err-push.ensures.0;
+  flags = IfOk-from_err _ _ c.from_residual-in_err-push.ensures.0;
+}

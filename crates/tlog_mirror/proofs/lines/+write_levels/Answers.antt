@@ -1,6 +1,7 @@
 use Rattle.std.proofs.Common.{◌-◌, ℕ, List, [], ◌++◌, ◌∙◌, ◌⊎◌, refl, sym, ap, subst, append-nil}
 use Rattle.std.specs.Prelude.{◌↔◌, ◌≢◌, IsTrue}
 use Rattle.std.proofs.lemmas.Result.{on_ok_weaker, IfOk-weaker}
+use Rattle.std.proofs.lemmas.Result.{IfOk-from_err}
 use Rattle.mirror_model.specs.Texts.{missing_text}
 use Rattle.byte_streams.specs.Streams.{AppendsPrefix}
 use Rattle.byte_streams.specs.declared.fault.StreamFault.TheVariants.{WriteFault}
@@ -91,3 +92,21 @@ returns-clause-err g t c = λ is paths lists.
     (fails_then old mid new had back (missing_text p.above) (missing_text own)
     (c.in_ok-above.ensures.ok p.above p.higher)
     (at_err c.write_level.result WriteFault is c.write_level.ensures.err p.numbers p.own))
+
+pub returns-in_err-clear-clause-ok : goal.returns-in_err-clear-clause-ok
+returns-in_err-clear-clause-ok g t c = IfOk-from_err _ _ c.from_residual.ensures.0
+
+pub returns-in_err-clear-clause-any : goal.returns-in_err-clear-clause-any
+returns-in_err-clear-clause-any g t c = IfOk-from_err _ _ c.from_residual.ensures.0
+
+pub returns-in_err-begin-clause-ok : goal.returns-in_err-begin-clause-ok
+returns-in_err-begin-clause-ok g t c = IfOk-from_err _ _ c.from_residual-in_err-begin.ensures.0
+
+pub returns-in_err-begin-clause-any : goal.returns-in_err-begin-clause-any
+returns-in_err-begin-clause-any g t c = IfOk-from_err _ _ c.from_residual-in_err-begin.ensures.0
+
+pub returns-in_err-above-clause-ok : goal.returns-in_err-above-clause-ok
+returns-in_err-above-clause-ok g t c = IfOk-from_err _ _ c.from_residual-in_err-above.ensures.0
+
+pub returns-in_err-above-clause-any : goal.returns-in_err-above-clause-any
+returns-in_err-above-clause-any g t c = IfOk-from_err _ _ c.from_residual-in_err-above.ensures.0

@@ -1,5 +1,6 @@
 use Rattle.std.proofs.Common.{◌++◌, sym, subst, ◌∙◌}
 use Rattle.std.specs.Io.KnownBytes.{Appends}
+use Rattle.std.proofs.lemmas.Result.{IfOk-from_err}
 use Rattle.byte_streams.specs.Streams.{AppendsPrefix}
 use Rattle.mirror_model.specs.Texts.{missing_text}
 use Rattle.tlog_mirror.specs.Pieces.{Sends}
@@ -33,3 +34,15 @@ returns-clause-ok g c = λ paths lists.
     (subst (λ h. Sends old now c.write_levels.new.held.items (h ++ missing_text paths)) c.new-held.ensures.items
     (c.in_ok-any.ensures.ok paths lists))
     (subst (Appends now new) c.as_slice.ensures.value c.in_ok-write_whole.ensures.ok)
+
+pub returns-in_err-any-clause-ok : goal.returns-in_err-any-clause-ok
+returns-in_err-any-clause-ok g c = IfOk-from_err _ _ c.from_residual.ensures.0
+
+pub returns-in_err-any-clause-any : goal.returns-in_err-any-clause-any
+returns-in_err-any-clause-any g c = IfOk-from_err _ _ c.from_residual.ensures.0
+
+pub returns-in_err-write_whole-clause-ok : goal.returns-in_err-write_whole-clause-ok
+returns-in_err-write_whole-clause-ok g c = IfOk-from_err _ _ c.from_residual-in_err-write_whole.ensures.0
+
+pub returns-in_err-write_whole-clause-any : goal.returns-in_err-write_whole-clause-any
+returns-in_err-write_whole-clause-any g c = IfOk-from_err _ _ c.from_residual-in_err-write_whole.ensures.0
