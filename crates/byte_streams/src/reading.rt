@@ -1,5 +1,5 @@
 //! Reads a stream into one piece of memory.
-ghost use Rattle.std.specs.Prelude.{◌≡◌, ◌≢◌, ◌≤◌, IfErr, IfOk, IfSome, take, vec_len};
+ghost use Rattle.std.specs.Prelude.{◌≡◌, ◌≢◌, ◌≤◌, ◌-◌, ◌++◌, IfErr, IfOk, IfSome, drop, take, vec_len};
 ghost use Rattle.std.specs.Io.KnownBytes.{Consumes};
 ghost use Rattle.byte_streams.specs.Streams.{TakesAtMost};
 
@@ -10,8 +10,8 @@ use std::io::{ErrorKind, Read};
 /// The greatest number of bytes that one read asks for.
 pub const CHUNK: usize = 65_536;
 
-/// Reads the bytes of the reader to its end, or until there are `most` of them. It takes no more bytes.
-/// It reads at most `reads` times, and asks for at most `CHUNK` bytes each time.
+/// Reads on behind the bytes that are there, to the end of the reader, or until there are `most` bytes with them. It
+/// takes no more bytes. It reads at most `reads` times, and asks for at most `CHUNK` bytes each time.
 ///
 /// # Errors
 ///
@@ -19,22 +19,25 @@ pub const CHUNK: usize = 65_536;
 /// `ReadFault` also if `reads` reads gave fewer than `most` bytes and the reader has not ended.
 /// `OutOfMemory` if there is no memory for the bytes. `WriteFault` never. After a fault the bytes that
 /// were read are lost.
-pub fn read_all<R: Read>(
+pub fn read_on<R: Read>(
     alloc: Global,
     reader: &mut R,
+    begun: Vec<u8>,
     most: usize,
     reads: u64,
 ) -> Result<Vec<u8>, StreamFault>
-    ensures bytes { IfOk result (λ v. IfSome (R.remaining reader.old) (λ input. v.items
-        ≡ take most input)) }
+    requires { vec_len begun ≤ most }
+    ensures bytes { IfOk result (λ v. IfSome (R.remaining reader.old)
+        (λ more. v.items ≡ take most (begun.items ++ more))) }
     ensures bound { IfOk result (λ v. vec_len v ≤ most) }
     ensures taken { IfOk result (λ v. Consumes (R.remaining reader.old) (R.remaining reader.new)
-        v.items) }
-    ensures limit { TakesAtMost most (R.remaining reader.old) (R.remaining reader.new) }
+        (drop (vec_len begun) v.items)) }
+    ensures limit { TakesAtMost (most - vec_len begun) (R.remaining reader.old)
+        (R.remaining reader.new) }
     ensures fault { IfErr result (λ e. e ≢ StreamFault.WriteFault) }
 {
-    let mut all = Vec::new(alloc);
-    let mut space = vec![in alloc; 0u8; CHUNK.min(most)]?;
+    let mut all = begun;
+    let mut space = vec![in alloc; 0u8; CHUNK.min(most - all.len())]?;
     let chunk = space.as_mut_slice();
     for _ in 0..reads {
         let room = chunk.len().min(most - all.len());
@@ -56,4 +59,27 @@ pub fn read_all<R: Read>(
     } else {
         Err(StreamFault::ReadFault)
     }
+}
+
+/// Reads the bytes of the reader to its end, or until there are `most` of them. It takes no more bytes.
+/// It reads at most `reads` times, and asks for at most `CHUNK` bytes each time.
+///
+/// # Errors
+///
+/// Those of `read_on`.
+pub fn read_all<R: Read>(
+    alloc: Global,
+    reader: &mut R,
+    most: usize,
+    reads: u64,
+) -> Result<Vec<u8>, StreamFault>
+    ensures bytes { IfOk result (λ v. IfSome (R.remaining reader.old) (λ input. v.items
+        ≡ take most input)) }
+    ensures bound { IfOk result (λ v. vec_len v ≤ most) }
+    ensures taken { IfOk result (λ v. Consumes (R.remaining reader.old) (R.remaining reader.new)
+        v.items) }
+    ensures limit { TakesAtMost most (R.remaining reader.old) (R.remaining reader.new) }
+    ensures fault { IfErr result (λ e. e ≢ StreamFault.WriteFault) }
+{
+    read_on(alloc, reader, Vec::new(alloc), most, reads)
 }

@@ -11,7 +11,7 @@ use tlog_tiles::Path;
 ///     println!(rt; "{}: {}", failed.path, failed.reason)?; // tile/entries/059: status 503
 /// }
 /// ```
-#[derive(Debug, Drop, Clone, Copy)]
+#[derive(Drop, Clone, Copy)]
 pub struct FailedGet {
     /// The path.
     pub path: Path,
@@ -20,7 +20,7 @@ pub struct FailedGet {
 }
 
 /// Why a get failed. It prints the reason, as `status 503`.
-#[derive(Debug, Drop, Clone, Copy)]
+#[derive(Drop, Clone, Copy)]
 pub enum Reason {
     /// There was no connection.
     Connection(io::Error),

@@ -6,9 +6,8 @@ ghost use Rattle.mirror_client.specs.Received.{IsReceived, IsShort};
 ghost use Rattle.mirror_client.specs.declared.limits.TheConstants.{FRONT_LEN, MAX_REPLY_LEN, MOST_TAKEN};
 
 use crate::limits::{FRONT_LEN, MOST_TAKEN};
-use crate::reading::read_on;
 use crate::reply::plain_head;
-use byte_streams::StreamFault;
+use byte_streams::{StreamFault, read_all, read_on};
 use std::alloc::Global;
 use std::io::Read;
 
@@ -22,7 +21,7 @@ pub(crate) enum Received {
     Body(Vec<u8>, usize),
 }
 
-// The first n + 1 bytes of these and the reader's. Those of the reader are read straight into the memory that it returns.
+// The first n + 1 bytes of these and the reader's.
 fn read_body<R: Read>(
     alloc: Global,
     reader: &mut R,
@@ -38,7 +37,7 @@ fn read_body<R: Read>(
     let most = n + 1;
     let mut body = Vec::with_capacity(alloc, most)?;
     body.extend_from_slice(&begun[..begun.len().min(most)])?;
-    read_on(reader, body, most)
+    read_on(alloc, reader, body, most, u64::MAX)
 }
 
 // Reads on after the first bytes of the reply. If these have the head of a success with a length, the body is read apart.
@@ -55,7 +54,7 @@ fn receive_after<R: Read>(
         (R.remaining reader.new) }
 {
     let Some((len, n)) = plain_head(&front) else {
-        return Ok(Received::All(read_on(reader, front, MOST_TAKEN)?));
+        return Ok(Received::All(read_on(alloc, reader, front, MOST_TAKEN, u64::MAX)?));
     };
     Ok(Received::Body(read_body(alloc, reader, &front[len..], n)?, n))
 }
@@ -67,11 +66,11 @@ fn receive_front<R: Read>(alloc: Global, reader: &mut R) -> Result<Vec<u8>, Stre
         v.items) }
     ensures limit { TakesAtMost FRONT_LEN (R.remaining reader.old) (R.remaining reader.new) }
 {
-    read_on(reader, Vec::new(alloc), FRONT_LEN)
+    read_all(alloc, reader, FRONT_LEN, u64::MAX)
 }
 
 /// Reads the reply to the end of the reader. If its first 1,024 bytes have the head of a success with a length, then the
-/// bytes of the body behind these are read straight into the memory of the body.
+/// bytes of the body behind these are read into memory of that length.
 pub(crate) fn receive<R: Read>(alloc: Global, reader: &mut R) -> Result<Received, StreamFault>
     ensures read { IfOk result (λ r. IfSome (R.remaining reader.old)
         (λ bytes. IsReceived bytes r)) }

@@ -1,6 +1,6 @@
 //! A folder as a shelf.
 ghost use Rattle.std.specs.Prelude.{◌≡◌};
-ghost use Rattle.mirror_folders.specs.Shelf.{CountsError};
+ghost use Rattle.mirror_folders.specs.Shelf.{CountsFailures};
 
 use crate::failed::FailedFile;
 use crate::flush::flush_folder;
@@ -88,13 +88,17 @@ impl Recent {
         alloc: Global,
         folder: &str,
     ) -> Result<(), AllocError> {
-        if !self.left.is_of(folder) {
-            mem::swap(&mut self.left, &mut self.before);
+        if self.left.folder.as_str() == folder {
+            return Ok(());
         }
-        self.left.turn_to(files, alloc, folder)
+        mem::swap(&mut self.left, &mut self.before);
+        if self.left.folder.as_str() != folder {
+            self.left = Leftovers::of(files, alloc, folder)?;
+        }
+        Ok(())
     }
 
-    // Replaces the file of a path.
+    // Replaces the file of a path. The checkpoint is replaced after all that was put before it is on the device.
     fn write<R: Files>(
         &mut self,
         files: &R,
@@ -107,27 +111,17 @@ impl Recent {
         let inner = folder_of(place.as_str());
         fs::create_dir_all(files, inner)?;
         self.turn_to(files, alloc, inner)?;
-        if *path == Path::Checkpoint {
-            self.write_last(files, alloc, folder, place.as_str(), bytes)
+        let last = *path == Path::Checkpoint;
+        if last {
+            self.unflushed.flush_all(files, alloc, folder)?;
         } else {
             self.unflushed.add(files, alloc, folder, path)?;
-            put_whole(files, alloc, place.as_str(), bytes, &self.left, false)
         }
-    }
-
-    // Replaces the checkpoint, after all that was put before it is on the device.
-    fn write_last<R: Files>(
-        &mut self,
-        files: &R,
-        alloc: Global,
-        folder: &str,
-        place: &str,
-        bytes: &[u8],
-    ) -> io::Result<()> {
-        self.unflushed.flush_all(files, alloc, folder)?;
-        put_whole(files, alloc, place, bytes, &self.left, true)?;
-        // The checkpoint is in the folder: an error of the system about the folder changes nothing.
-        let _flushed = flush_folder(files, folder_of(place));
+        put_whole(files, alloc, place.as_str(), bytes, &self.left, last)?;
+        if last {
+            // The checkpoint is in the folder: an error of the system about the folder changes nothing.
+            let _flushed = flush_folder(files, inner);
+        }
         Ok(())
     }
 }
@@ -168,22 +162,29 @@ impl<'a, R: Files> DirShelf<'a, R> {
     // Whether something is at the path.
     fn find(&self, path: &Path) -> io::Result<bool> {
         let place = file_path(self.alloc, self.folder.text(), path)?;
-        match fs::metadata(self.files, place.as_str()) {
+        let about = self.files.metadata(place.as_str());
+        drop(place);
+        match about {
             Ok(_) => Ok(true),
             Err(e) => { if is_missing(&e) { Ok(false) } else { Err(e) } }
         }
     }
 
-    // The shelf's error for an error of the system at that file; it counts and keeps a failure.
-    fn fault(&mut self, path: &Path, error: io::Error) -> ShelfError
-        ensures { CountsError self.old self.new result }
+    // The shelf's answer for an answer of the system about that file; it counts and keeps a failure.
+    fn answer<T>(&mut self, path: &Path, answer: io::Result<T>) -> Result<T, ShelfError>
+        ensures { CountsFailures self.old self.new result }
     {
-        if error.kind() == ErrorKind::OutOfMemory {
-            return ShelfError::OutOfMemory;
+        match answer {
+            Ok(found) => Ok(found),
+            Err(error) => {
+                if error.kind() == ErrorKind::OutOfMemory {
+                    return Err(ShelfError::OutOfMemory);
+                }
+                self.last_failed = Some(FailedFile { path: *path, error });
+                self.failures = count_failure(self.failures);
+                Err(ShelfError::Failed)
+            }
         }
-        self.last_failed = Some(FailedFile { path: *path, error });
-        self.failures = count_failure(self.failures);
-        ShelfError::Failed
     }
 }
 
@@ -191,33 +192,25 @@ impl<'a, R: Files> Shelf for DirShelf<'a, R> {
     ghost failed = { λ s. s };
 
     fn has(&mut self, path: &Path) -> Result<bool, ShelfError> {
-        match self.find(path) {
-            Ok(found) => Ok(found),
-            Err(e) => Err(self.fault(path, e)),
-        }
+        let found = self.find(path);
+        self.answer(path, found)
     }
 
     fn put(&mut self, path: &Path, bytes: &[u8]) -> Result<(), ShelfError> {
         let folder = self.folder.text();
-        match self
+        let put = self
             .recent
-            .write(self.files, self.alloc, folder, path, bytes)
-        {
-            Ok(()) => Ok(()),
-            Err(e) => Err(self.fault(path, e)),
-        }
+            .write(self.files, self.alloc, folder, path, bytes);
+        self.answer(path, put)
     }
 
     fn flush_before_checkpoint(&mut self, path: &Path) -> Result<(), ShelfError> {
         let folder = self.folder.text();
-        match self
+        let noted = self
             .recent
             .unflushed
-            .add(self.files, self.alloc, folder, path)
-        {
-            Ok(()) => Ok(()),
-            Err(e) => Err(self.fault(path, e)),
-        }
+            .add(self.files, self.alloc, folder, path);
+        self.answer(path, noted)
     }
 
     fn failures(&self) -> u64 {
@@ -229,10 +222,8 @@ impl<'a, R: Files> Shelf for DirShelf<'a, R> {
 
 impl<'a, R: Files> ReadableShelf for DirShelf<'a, R> {
     fn read(&mut self, path: &Path) -> Result<Option<Vec<u8>>, ShelfError> {
-        match read_file(self.files, self.alloc, self.folder.text(), path) {
-            Ok(found) => Ok(found),
-            Err(e) => Err(self.fault(path, e)),
-        }
+        let found = read_file(self.files, self.alloc, self.folder.text(), path);
+        self.answer(path, found)
     }
 }
 

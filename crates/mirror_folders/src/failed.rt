@@ -9,7 +9,7 @@ use tlog_tiles::Path;
 ///     println!(rt; "log/{}: {}", failed.path, failed.error)?; // log/tile/0/000: No space left on device (os error 28)
 /// }
 /// ```
-#[derive(Debug, Drop, Clone, Copy)]
+#[derive(Drop, Clone, Copy)]
 pub struct FailedFile {
     /// The path.
     pub path: Path,

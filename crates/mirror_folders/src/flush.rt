@@ -77,9 +77,10 @@ pub(crate) fn flush_above<R: Files>(files: &R, folder: &str) {
     let mut above = folder;
     for _ in 0..folder.len() {
         let _flushed = flush_folder(files, above);
-        if above == "/" || above == "." {
+        let next = folder_of(above);
+        if next == above {
             break;
         }
-        above = folder_of(above);
+        above = next;
     }
 }

@@ -23,7 +23,6 @@ pub struct FolderFiles<'a, R: Files> {
     files: &'a R,
     alloc: Global,
     left: Leftovers,
-    folder: String,
     unflushed: Vec<String>,
 }
 
@@ -38,7 +37,6 @@ impl<'a, R: Files> FolderFiles<'a, R> {
             files,
             alloc,
             left: Leftovers::of(files, alloc, folder)?,
-            folder: String::from_str(alloc, folder)?,
             unflushed: Vec::new(alloc),
         })
     }
@@ -66,6 +64,6 @@ impl<'a, R: Files> FolderFiles<'a, R> {
             flush_file(self.files, path.as_str())?;
         }
         self.unflushed.clear();
-        flush_folder(self.files, self.folder.as_str())
+        flush_folder(self.files, self.left.folder.as_str())
     }
 }

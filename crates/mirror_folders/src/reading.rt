@@ -42,7 +42,7 @@ fn read_opened<F: io::Read + Drop>(
 
 // The plain file at a path. Anything else is not opened: to open it could block.
 fn open_plain<R: Files>(files: &R, place: &str) -> io::Result<R::File> {
-    let about = fs::metadata(files, place)?;
+    let about = files.metadata(place)?;
     if !about.is_file() {
         return Err(io::Error::new(ErrorKind::InvalidInput, "it is no plain file"));
     }

@@ -7,9 +7,9 @@ use crate::place::folder_of;
 use crate::temporary::temporary_path;
 use std::alloc::Global;
 use std::fs::{Files, OpenFile, OpenOptions, Permissions};
+use std::io;
 use std::io::{ErrorKind, Write};
 use std::os::unix::fs::OpenOptionsExt;
-use std::{fs, io};
 
 /// Replaces a file as a whole. It makes a temporary file beside it (`.NAME.tlogmirror-0.tmp`, or a higher number),
 /// writes it, flushes it to the device, and renames it to the path. Then it flushes the folder, if the system allows
@@ -56,13 +56,13 @@ pub(crate) fn put_whole<R: Files>(
     }
     let had = permissions_of(files, path);
     let (beside, mut file) = create_beside(files, alloc, path, had.is_some())?;
-    let cleared = take_away_old(files, alloc, path, left, &file);
+    let cleared = take_away_old(files, path, left, &file);
     let written = fill(&mut file, cleared, had, bytes, flushed);
     drop(file);
     match moved(files, written, beside.as_str(), path) {
         Ok(()) => Ok(()),
         Err(e) => {
-            let _left = fs::remove_file(files, beside.as_str());
+            let _left = files.remove_file(beside.as_str());
             Err(e)
         }
     }
@@ -71,12 +71,12 @@ pub(crate) fn put_whole<R: Files>(
 // Renames a file that was written.
 fn moved<R: Files>(files: &R, written: io::Result<()>, from: &str, to: &str) -> io::Result<()> {
     written?;
-    fs::rename(files, from, to)
+    files.rename(from, to)
 }
 
 // The permissions of the file at a path; `None` if there is no plain file.
 fn permissions_of<R: Files>(files: &R, path: &str) -> Option<Permissions> {
-    match fs::metadata(files, path) {
+    match files.metadata(path) {
         Ok(about) if about.is_file() => Some(about.permissions()),
         _ => None,
     }
@@ -85,13 +85,12 @@ fn permissions_of<R: Files>(files: &R, path: &str) -> Option<Permissions> {
 // Removes leftovers of a file that are more than a day older than its new temporary file.
 fn take_away_old<R: Files>(
     files: &R,
-    alloc: Global,
     path: &str,
     left: &Leftovers,
     file: &R::File,
 ) -> io::Result<()> {
     let now = file.metadata()?.modified()?;
-    left.take_away(files, alloc, path, now)?;
+    left.take_away(files, path, now);
     Ok(())
 }
 

@@ -29,13 +29,9 @@ fn temporary_name(alloc: Global, stem: &str, number: u64) -> Result<String, Allo
 // The path of a temporary file for the file at a path, in the same folder.
 pub(crate) fn temporary_path(alloc: Global, path: &str, number: u64) -> Result<String, AllocError> {
     let name = temporary_name(alloc, stem_of(path), number)?;
-    match path.rsplit_once('/') {
-        Some((folder, _)) => {
-            let place = format!(in alloc; "{folder}/{name}")?;
-            Ok(place)
-        }
-        None => Ok(name),
-    }
+    let folder = path.strip_suffix(name_of(path)).unwrap_or("");
+    let place = format!(in alloc; "{folder}{name}")?;
+    Ok(place)
 }
 
 // The part of a temporary file's name that comes from the name of its file.

@@ -20,7 +20,7 @@ use tlog_hash::Hash;
 use tlog_proof::Proof;
 
 /// Two checkpoints that no log has both made. The one with the lesser size, then root, is first.
-#[derive(Debug, Drop, PartialEq, Eq)]
+#[derive(Drop, PartialEq, Eq)]
 pub struct ForkLine {
     /// The smaller checkpoint.
     pub small: Candidate,

@@ -16,7 +16,7 @@ enum Kind<'a, R: Files, D: Dial + Drop> {
 }
 
 /// The reason why a get from a place failed.
-#[derive(Debug, Drop, Clone, Copy)]
+#[derive(Drop, Clone, Copy)]
 pub(crate) enum FailedAt {
     File(FailedFile),
     Get(FailedGet),

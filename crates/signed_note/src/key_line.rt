@@ -4,7 +4,7 @@ use crate::mac_key::HmacKey;
 use crate::pinned::PinnedTexts;
 
 /// The key of a line of a key file.
-#[derive(Debug, Drop)]
+#[derive(Drop)]
 pub enum KeyLine {
     /// `hmac NAME ID SECRET`: a key with a shared secret.
     Hmac(HmacKey),

@@ -15,7 +15,7 @@ use std::alloc::{AllocError, Global};
 use std::marker::Model;
 
 /// One line of the signature part of a note: the name and id of a key, and its signature (C2SP signed-note, "Format").
-#[derive(Debug, Drop)]
+#[derive(Drop)]
 pub struct SignatureLine {
     name: String,
     id: u32,

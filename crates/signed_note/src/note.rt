@@ -22,7 +22,7 @@ use std::marker::Model;
 ///
 /// A note is the line `a`, an empty line, and a line of an em dash, `x` and `AQIDBAU=`. Its text is `a\n`. Its only
 /// signature line has the name `x`, the id 16909060 and the signature of one byte 5.
-#[derive(Debug, Drop)]
+#[derive(Drop)]
 pub struct Note {
     whole: String,
     // The length of the text, which begins the note, in bytes.

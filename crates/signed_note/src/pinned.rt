@@ -26,7 +26,7 @@ use std::marker::Model;
 /// signature.
 ///
 /// The digests are sorted. A text is hashed once, for any number of pins.
-#[derive(Debug, Drop)]
+#[derive(Drop)]
 pub struct PinnedTexts {
     pub(crate) name: String,
     pub(crate) id: u32,

@@ -9,7 +9,7 @@ use tlog_hash::Hash;
 
 /// The hashes of a proof, with the hash nearest to the root last. Contracts see it as a list. For example, the path of the
 /// last of three entries is one hash: the tree hash of the first two.
-#[derive(Debug, Drop)]
+#[derive(Drop)]
 pub struct HashPath {
     hashes: Vec<Hash>,
 }

@@ -13,3 +13,12 @@ returns-clause-read g c =
     received_body (g.R.Read.remaining c.args.reader.now) front.items _ _ len n (omega (arith, count, c.requires))
     (subst (λ (l : List ℕ). HasPlainHead l len n) c.deref.ensures.value c.in-Some.ensures)
     (take_rest c.deref-2.result.now len ∙ ap (drop len) c.deref-2.ensures.value) c.in_ok-read_body.ensures.bytes
+
+pub returns-in_default-clause-read : goal.returns-in_default-clause-read
+returns-in_default-clause-read g c = c.in_ok-read_on.ensures.bytes
+
+pub returns-in_default-clause-limit : goal.returns-in_default-clause-limit
+returns-in_default-clause-limit g c = c.read_on.ensures.limit
+
+pub returns-in_err-read_on-clause-limit : goal.returns-in_err-read_on-clause-limit
+returns-in_err-read_on-clause-limit g c = c.read_on.ensures.limit
