@@ -4,6 +4,7 @@ use Rattle.tlog_tiles.specs.declared.paths.Path.TheVariants.{Checkpoint}
 use Rattle.mirror_sources.specs.Recorded.{KeepsRecord}
 use Rattle.mirror_folders.specs.Shelf.{Put, RecordsRead}
 use Rattle.mirror_copy.specs.AskedForCopy.{IsInUse}
+use Rattle.mirror_copy.specs.Conflicts.{IsNoConflict}
 use Rattle.mirror_copy.specs.Faults.{BlamesFrom, BlamesPlaces, BlamesRun, IsOfNoPlace, IsOtherFound, IsOtherThen}
 use Rattle.mirror_copy.specs.Found.{IsTipRead}
 use Rattle.mirror_copy.specs.Growing.{IsCutShort, IsKnown, Tip}
@@ -28,6 +29,17 @@ of_no_place places Source h = absurd h
 of_no_place places CopyInUse h = absurd h
 of_no_place places ShelfFault h = tt
 of_no_place places OutOfMemory h = tt
+
+-- the same for an answer
+pub blames_answer : {T S : Type 0} (places : Places S) (r : Result T BringFault) → IfErr r IsOfNoPlace →
+    IfErr r (BlamesPlaces places)
+blames_answer places (Ok x) h = tt
+blames_answer places (Err e) h = of_no_place places e h
+
+-- an answer without a conflict, under a premise
+pub empty_answer : {T : Type 0} (P : Type 0) (r : Result T BringFault) → IfErr r IsNoConflict → IfErr r (λ e. P → IsNoConflict e)
+empty_answer P (Ok x) h = tt
+empty_answer P (Err e) h = λ known. h
 
 module _ (digest : List ℕ → List ℕ) {S : Type 0} (places : Places S) (tip : Tip) where
   -- a fault of the last step, after only new files were put
