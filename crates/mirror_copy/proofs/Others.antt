@@ -65,6 +65,13 @@ module _ (digest : List ℕ → List ℕ) {S : Type 0} (places : Places S) (tip 
   later_blames x y (Err e) kept (inl h) = inl (h.0, then_kept x y kept h.1)
   later_blames x y (Err e) kept (inr h) = inr h
 
+  -- a fault of the only step of a call to a checkpoint without entries
+  pub empty_blames : (n : ℕ) (x : Option (List Put)) {T : Type 0} (r : Result T BringFault) →
+      IfErr r (λ e. ((e ≡ CopyInUse) × IsOtherThen digest tip x) ⊎ IsOfNoPlace e) → IfErr r (BlamesFrom digest places n tip x)
+  empty_blames n x (Ok a) h = tt
+  empty_blames n x (Err e) (inl h) = inr (inl h)
+  empty_blames n x (Err e) (inr h) = inr (inr (of_no_place places e h))
+
 -- the last step of a call to a checkpoint without entries
 pub last_empty : (digest : List ℕ → List ℕ) (tip : Tip) (x w : Option (List Put)) {T : Type 0} (r : Result T BringFault) →
     ((known : List (List ℕ)) → IsKnown digest tip 0 known → IsCutShort digest tip.size known x w) →
