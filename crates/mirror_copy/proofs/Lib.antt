@@ -21,6 +21,7 @@ pub mod WholeMoments
 pub mod PrunedMoments
 pub mod SameCopies
 pub mod Stays
+pub mod ShelfFaults
 pub mod Suffices
 pub mod Others
 pub mod TrueRows
