@@ -41,7 +41,7 @@ pub fn export<H: TreeHash, S: Shelf>(
 
     ensures blamed { CountsExport (S.failed shelf.old) (S.failed shelf.new) result }
 {
-    let Some(top) = mirror.top_ranges() else {
+    let Some(top) = mirror.top_leaves(alloc) else {
         return Err(ExportFault::NothingComplete);
     };
     let in_use = shelf.has(&Path::Checkpoint)?;

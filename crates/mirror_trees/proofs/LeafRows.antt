@@ -62,7 +62,7 @@ module _ (digest : List ℕ → List ℕ) (held : Strings) where
   all-drop (suc n) (x ∷ xs) h = all-drop n xs h.1
 
   -- ranges of one entry
-  leaf_row : (first n : ℕ) (es : List (List ℕ)) → first + n ≤ length es →
+  pub leaf_row : (first n : ℕ) (es : List (List ℕ)) → first + n ≤ length es →
       map (mth digest) (ranges 1 first n es) ≡ map (leaf_hash digest) (take n (drop first es))
   leaf_row first zero es fits = refl
   leaf_row first (suc n) es fits = at (leaf_row (first + 1) n es (omega (arith, fits))) (drop first es) refl

@@ -19,3 +19,4 @@ pub mod Settles
 pub mod KnownSteps
 pub mod EdgeSteps
 pub mod EmptySets
+pub mod LeafSteps

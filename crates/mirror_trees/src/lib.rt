@@ -5,6 +5,7 @@
 //! - `is_built` says whether a tree is held;
 //! - `missing_of` names the files of a log that have the missing strings (C2SP tlog-tiles);
 //! - `row_at` and `entries_at` give the hashes of a tile and the entries of a bundle;
+//! - `leaves_of` gives all leaf hashes and entries in one walk;
 //! - `range_hash` gives the hash of a range;
 //! - `is_prefix` says whether one tree is a prefix of another;
 //! - `settle` remembers a held tree, so that no later walk enters it.
@@ -25,6 +26,7 @@ mod edge;
 mod files;
 mod known;
 mod laws;
+mod leaves;
 mod levels;
 mod mark_key;
 mod marks;
@@ -41,6 +43,7 @@ pub use edge::holds_edge;
 pub use files::files_of;
 pub use known::HeldTrees;
 pub use laws::{forks_go_on_law, known_law, prefix_of_prefix_law, settled_law, slices_law};
+pub use leaves::{Leaves, leaves_of, part_at};
 pub use levels::{clear_of, next_missing};
 pub use marks::Marks;
 pub use missing::missing_of;

@@ -67,7 +67,7 @@ pub(crate) fn unit_of(level: u32) -> u64
 }
 
 // The number of a tile's first hash in its level, if the tile is within a tree of that size.
-fn first_of(size: u64, level: u32, index: u64, width: u32) -> Option<u64>
+pub(crate) fn first_of(size: u64, level: u32, index: u64, width: u32) -> Option<u64>
     ensures some { IfSome result (λ first. (first ≡ 256 * index) × IsTileWithin size level index
         width) }
     ensures none { IfNone result (¬ IsTileWithin size level index width) }

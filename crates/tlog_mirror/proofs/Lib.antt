@@ -27,3 +27,4 @@ pub mod RestoredMirrors
 pub mod ComparedHeads
 pub mod AnswerLines
 pub mod LaidOut
+pub mod HeldLeaves

@@ -1,7 +1,7 @@
 -- The kept note that is served: its tree is held. It has the greatest size, then the least root, then the least bytes.
 -- Only the contracts of private functions cite these words.
 use Rattle.std.specs.Prelude.{◌≡◌, ℕ, ◌<◌, List, length, slice_index_or, Option, Some, None, false}
-use Rattle.std.specs.Prelude.{IsTrue, ◌↔◌, ⊤}
+use Rattle.std.specs.Prelude.{IsTrue, ◌↔◌, ⊤, IfSome}
 use Rattle.std.specs.Ordering.{nat_cmp, ordering_then, is_gt}
 use Rattle.std.specs.declared.cmp.Ordering.{Ordering}
 use Rattle.std.specs.declared.cmp.Ordering.TheVariants.{Less}
@@ -11,7 +11,9 @@ use Rattle.node_store.specs.Strings.{Strings}
 use Rattle.mirror_model.specs.Complete.{IsBuilt}
 use Rattle.mirror_model.specs.Forks.{Point, point_cmp}
 use Rattle.mirror_model.specs.declared.reports.Head.{Head}
+use Rattle.mirror_trees.specs.HeldLeaves.{HasLeaves}
 use Rattle.mirror_trees.specs.Marked.{point_of}
+use Rattle.mirror_trees.specs.declared.leaves.Leaves.{Leaves}
 use Rattle.tlog_mirror.specs.declared.kept.HeldNote.{HeldNote}
 
 -- the size and root of a kept note
@@ -58,6 +60,11 @@ module _ (digest : List ℕ → List ℕ) (held : Strings) where
   abbrev pub IsBestOf : List HeldNote → Option (ℕ × List ℕ) → Type 0
   IsBestOf kept None = (other : HeldNote) → Contains kept other → ¬ IsBuiltAt (kept_point other)
   IsBestOf kept (Some found) = IsBest kept (point_of found)
+
+  -- the leaves, if there are any, are those of the tree that was found
+  abbrev pub AreLeavesOf : Option (ℕ × List ℕ) → Option Leaves → Type 0
+  AreLeavesOf found leaves =
+      IfSome found (λ point. IfSome leaves (HasLeaves digest held point.0 point.1))
 
 -- the note is the first kept note with that size and root
 pub record IsFirstWith (kept : List HeldNote) (point : Point) (one : HeldNote) : Type 0 where

@@ -1,11 +1,12 @@
 //! The kept note that is served.
-ghost use Rattle.std.specs.Prelude.{◌↔◌, IsTrue, IfSome, IfNone};
+ghost use Rattle.std.specs.Prelude.{◌↔◌, IsTrue, IfOk, IfSome, IfNone};
 ghost use Rattle.mirror_trees.specs.HeldTrees.{AreKnown};
-ghost use Rattle.tlog_mirror.specs.Best.{HasKept, IsAhead, IsBestOf, IsFirstWith};
+ghost use Rattle.tlog_mirror.specs.Best.{AreLeavesOf, HasKept, IsAhead, IsBestOf, IsFirstWith};
 
 use crate::kept::HeldNote;
-use mirror_trees::{HeldTrees, is_built};
+use mirror_trees::{HeldTrees, Leaves, is_built, leaves_of};
 use node_store::Store;
+use std::alloc::{AllocError, Global};
 use std::cmp::Ordering;
 use tlog_hash::{Hash, TreeHash};
 
@@ -28,6 +29,32 @@ pub(crate) fn best_of<H: TreeHash>(
         }
     }
     best
+}
+
+// Finds the size and root that are served, like `best_of`, with the leaves of the tree. Each walk through a tree gathers
+// its leaves, and they are dropped if it is not held.
+pub(crate) fn best_leaves<'a, H: TreeHash>(
+    alloc: Global,
+    store: &'a Store<H>,
+    known: &HeldTrees,
+    kept: &[HeldNote],
+) -> Result<(Option<(u64, Hash)>, Option<Leaves<'a>>), AllocError>
+    requires { AreKnown H.digest store.now known.now }
+    ensures best { IfOk result (λ found. IsBestOf H.digest store.now kept.now found.0) }
+    ensures leaves { IfOk result (λ found. AreLeavesOf H.digest store.now found.0 found.1) }
+{
+    let mut best = None;
+    let mut leaves = None;
+    for at in (0..kept.len()).rev() {
+        let one = &kept[at];
+        if is_ahead(one.size, &one.root, &best) {
+            if let Some(found) = leaves_of(alloc, store, known, one.size, &one.root)? {
+                best = Some((one.size, one.root));
+                leaves = Some(found);
+            }
+        }
+    }
+    Ok((best, leaves))
 }
 
 // Whether a size and root are served before the best one so far.

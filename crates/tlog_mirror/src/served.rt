@@ -6,7 +6,7 @@ ghost use Rattle.std.specs.Option.{option_map};
 ghost use Rattle.mirror_trees.specs.Marked.{point_of};
 ghost use Rattle.tlog_mirror.specs.Tops.{IsServedAs, IsServedTop};
 
-use crate::best::{best_of, first_with};
+use crate::best::{best_leaves, best_of, first_with};
 use crate::kept::HeldNote;
 use crate::laid::{laid_bundle, laid_tile};
 use crate::mirror::Mirror;
@@ -33,6 +33,36 @@ impl<H: TreeHash> Mirror<H> {
             size: kept.size,
             root,
             strings: &self.strings,
+            leaves: None,
+        })
+    }
+
+    /// The same as `top_ranges`, for a caller that wants all tiles and bundles. The walk that finds the entries gathers
+    /// them with their leaf hashes, in 48 bytes for each. Then no tile of level 0 and no bundle takes a look-up.
+    ///
+    /// If memory is refused, it is `top_ranges`. So it is if that would take more than 48 bytes for each held string, as
+    /// for 2^62 entries with few different nodes.
+    pub fn top_leaves(&self, alloc: Global) -> Option<TopRanges<'_, H>>
+        ensures some { IfSome result (λ top. IsServedTop H.digest self.now.view top) }
+        ensures none { IfNone result (SaysServed H.digest self.now.view None) }
+    {
+        let kept = self.kept.as_slice();
+        let Ok((best, leaves)) = best_leaves(alloc, &self.strings, &self.known, kept) else {
+            return self.top_ranges();
+        };
+        let Some(point) = best else {
+            return None;
+        };
+        let root = point.1;
+        let Some(first) = first_with(kept, point.0, &root) else {
+            return None;
+        };
+        Some(TopRanges {
+            note: &first.note,
+            size: point.0,
+            root,
+            strings: &self.strings,
+            leaves,
         })
     }
 

@@ -3,7 +3,7 @@ ghost use Rattle.std.specs.Prelude.{◌≡◌, ℕ, List, IfOk, IfSome, IfNone};
 ghost use Rattle.tlog_tiles.specs.Tiles.{IsTileWithin, tile_bytes, bundle_bytes};
 ghost use Rattle.tlog_mirror.specs.Tops.{IsListOf};
 
-use mirror_trees::{entries_at, range_hash, row_at};
+use mirror_trees::{Leaves, entries_at, part_at, range_hash, row_at};
 use node_store::Store;
 use signed_note::Note;
 use std::alloc::{AllocError, Global};
@@ -28,9 +28,13 @@ pub struct TopRanges<'a, H: TreeHash> {
     pub(crate) size: u64,
     pub(crate) root: Hash,
     pub(crate) strings: &'a Store<H>,
+    // The leaves of the entries, if the walk that found them gathered these.
+    pub(crate) leaves: Option<Leaves<'a>>,
 }
 
 impl<'a, H: TreeHash> Model for TopRanges<'a, H> {
+    ghost use Rattle.std.specs.Prelude.{IfSome};
+    ghost use Rattle.mirror_trees.specs.HeldLeaves.{HasLeaves};
     ghost use Rattle.tlog_mirror.specs.Tops.{Top, top_code, IsWhole};
 
     ghost Value = { Top };
@@ -39,7 +43,7 @@ impl<'a, H: TreeHash> Model for TopRanges<'a, H> {
 
     ghost view = { λ a. record { note = a.note.now.bytes; size = a.size; root = a.root; strings = a.strings.now } };
 
-    ghost invariant = { λ a. IsWhole H.digest (record { note = a.note.now.bytes; size = a.size; root = a.root; strings = a.strings.now }) };
+    ghost invariant = { λ a. IsWhole H.digest (record { note = a.note.now.bytes; size = a.size; root = a.root; strings = a.strings.now }) × IfSome a.leaves (HasLeaves H.digest a.strings.now a.size a.root) };
 }
 
 impl<'a, H: TreeHash> TopRanges<'a, H> {
@@ -72,6 +76,14 @@ impl<'a, H: TreeHash> TopRanges<'a, H> {
         ensures none { IfOk result
             (λ o. IfNone o (¬ IsTileWithin self.now.size level index width)) }
     {
+        if level == 0 {
+            if let Some(leaves) = &self.leaves {
+                let Some(row) = part_at(leaves.hashes.as_slice(), index, width) else {
+                    return Ok(None);
+                };
+                return Ok(Some(write_row(alloc, row)?));
+            }
+        }
         let Some(row) = row_at(
             alloc,
             self.strings,
@@ -106,6 +118,12 @@ impl<'a, H: TreeHash> TopRanges<'a, H> {
             (λ o. IfSome o (λ bytes. IsTileWithin self.now.size 0 index width)) }
         ensures none { IfOk result (λ o. IfNone o (¬ IsTileWithin self.now.size 0 index width)) }
     {
+        if let Some(leaves) = &self.leaves {
+            let Some(entries) = part_at(leaves.entries.as_slice(), index, width) else {
+                return Ok(None);
+            };
+            return Ok(Some(write_bundle(alloc, entries)?));
+        }
         let Some(entries) = entries_at(alloc, self.strings, self.size, &self.root, index, width)?
         else {
             return Ok(None);
