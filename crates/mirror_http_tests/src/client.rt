@@ -1,6 +1,5 @@
-//! The client: the replies that it reads, and its source over connections in memory.
+//! The client: its source over connections in memory.
 mod ahead;
 mod bundle_server;
 mod canned;
-mod replies;
 mod sources;

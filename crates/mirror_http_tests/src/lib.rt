@@ -1,5 +1,4 @@
-//! Tests of crates that read and write streams: `byte_streams`, the client and the server of `mirror_http`, and
-//! `copy_server`.
+//! Tests of crates that read and write streams: `byte_streams`, and the client and the server of `mirror_http`.
 //!
 //! They are in a crate of their own, since the tests of a crate are checked together with the crate again. The crate has no
 //! other code.
@@ -7,8 +6,6 @@
 
 #[cfg(test)]
 mod client;
-#[cfg(test)]
-mod copies;
 #[cfg(test)]
 mod served;
 #[cfg(test)]

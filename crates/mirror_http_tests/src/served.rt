@@ -1,5 +1,4 @@
 //! Mirrors over HTTP.
-mod heads;
 mod memory;
 mod streams;
 
@@ -17,9 +16,6 @@ use tlog_mirror::Mirror;
 // The note of the log of three entries: the empty one, and 00 and 10 in hexadecimal.
 const NOTE: &str =
     "ex\n3\nrra8/idLcKFPsGel5VeCZNsPqbUa9eC6FZFY8yngbnc=\n\n\u{2014} good AQIDBAU=\n";
-
-const BAD_REQUEST: &str =
-    "HTTP/1.1 400 Bad Request\r\nContent-Length: 0\r\nConnection: close\r\n\r\n";
 
 // The request for a bundle of two entries, and its reply.
 const BUNDLE_REQUEST: &[u8] = b"GET /tile/entries/000.p/2 HTTP/1.1\r\n\r\n";

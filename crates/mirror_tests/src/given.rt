@@ -116,14 +116,6 @@ pub(crate) fn tile_of_3<H: TreeHash>(alloc: Global) -> Result<Vec<u8>, AllocErro
     Ok(row)
 }
 
-// The number of tree heads that a mirror lists.
-pub(crate) fn count_of_heads<H: TreeHash>(
-    alloc: Global,
-    mirror: &Mirror<H>,
-) -> Result<usize, AllocError> {
-    Ok(mirror.heads(alloc)?.len())
-}
-
 // The value, if everything was done to it; otherwise it is dropped. It is dropped here and by `drop`, since a drop in place
 // has a step for each field of a mirror or a source, and is expensive to check.
 pub(crate) fn kept<T: Drop>(made: T, answer: Result<(), Fail>) -> Result<T, Fail> {

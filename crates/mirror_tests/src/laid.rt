@@ -1,6 +1,5 @@
 //! A log that is laid out in memory, with a second call if memory was refused.
-use crate::given::tile_of_3;
-use crate::served::{mirror_of_3, serves_3};
+use crate::given::{BUNDLE_OF_3, HEAD_OF_3, kept, take_note, tile_of_3};
 use std::alloc::Global;
 use std::process::Abort;
 use std::test::Fail;
@@ -16,6 +15,20 @@ fn lays_out_again_after_want_of_memory(rt: HostRuntime) -> Result<(), Fail> {
     answer
 }
 
+// A mirror that took the tree head of the three entries, whose leaf hashes are that row, and then their bundle.
+fn mirror_of_3<H: TreeHash>(alloc: Global, row: &[u8]) -> Result<Mirror<H>, Fail> {
+    let mut mirror = Mirror::<H>::new(alloc, "ex")?;
+    let answer = take_3(alloc, &mut mirror, row);
+    kept(mirror, answer)
+}
+
+// Takes that tree head, and then the bundle.
+fn take_3<H: TreeHash>(alloc: Global, mirror: &mut Mirror<H>, row: &[u8]) -> Result<(), Fail> {
+    take_note(alloc, mirror, HEAD_OF_3.as_bytes(), &[row])?;
+    mirror.take_bundle(alloc, 3, BUNDLE_OF_3)?;
+    Ok(())
+}
+
 // Lays out the log of the three entries, whose leaf hashes are that row. The mirror serves it all the time.
 fn lays_out_at_last<H: TreeHash>(
     rt: &impl Abort,
@@ -28,4 +41,16 @@ fn lays_out_at_last<H: TreeHash>(
         mirror.lay_out(alloc)?;
     }
     serves_3(rt, alloc, mirror, row)
+}
+
+// The mirror serves the row of the three entries.
+fn serves_3<H: TreeHash>(
+    rt: &impl Abort,
+    alloc: Global,
+    mirror: &Mirror<H>,
+    row: &[u8],
+) -> Result<(), Fail> {
+    let tile = mirror.tile(alloc, 0, 0, 3)?;
+    assert!(rt; tile.as_deref() == Some(row));
+    Ok(())
 }

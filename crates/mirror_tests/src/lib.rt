@@ -1,7 +1,7 @@
 //! Tests of the mirror and of pulls. They are in a crate of their own, since the tests of a crate are checked together with
 //! the crate again.
 //!
-//! It has tests of `tlog_mirror` and `mirror_pull`, and two of `mirror_state`, for behavior that the program cannot show.
+//! It has tests of `tlog_mirror`, `mirror_pull` and `mirror_state`, for behavior that the program cannot show.
 //! The transcripts of `tests/` show the rest.
 #![tactic(auto)]
 
@@ -18,13 +18,9 @@ mod loads;
 #[cfg(test)]
 mod memory;
 #[cfg(test)]
-mod missing;
-#[cfg(test)]
 mod plays;
 #[cfg(test)]
 mod pulls;
-#[cfg(test)]
-mod served;
 #[cfg(test)]
 mod settle;
 #[cfg(test)]

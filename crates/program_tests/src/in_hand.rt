@@ -30,8 +30,6 @@ fn status_of(
 fn commands_with_keys_in_hand(rt: HostRuntime) -> Result<(), Fail> {
     let text = b"size 1\nroot bjQLnP+zepicpUTmu3gKLHiQHT+zNzh2hRGjBhevoB0=\n";
     assert_ends(&rt, &rt, "root --width 1", Some(0), text)?;
-    assert_ends(&rt, &rt, "root --width 2", None, b"")?;
-    assert_ends(&rt, &rt, "check", None, b"")?;
     Ok(())
 }
 

@@ -1,13 +1,13 @@
 //! The tests of the parts of the program, from states and files to the words of the command line. They are a crate of their
 //! own, because a crate's tests are checked together with the whole crate.
 //!
-//! It holds what no run of the program can show about `mirror_state`, `mirror_folders`, `mirror_progress`, `tlog_build`,
-//! `program_files`, `program_commands` and `program_library`:
+//! It holds what no run of the program can show about `mirror_state`, `mirror_folders`, `mirror_export` and
+//! `program_library`:
 //!
 //! - readers, writers and shelves that fail;
-//! - refused memory and colliding digests;
-//! - files in memory, and states with one byte changed;
-//! - commands with given keys, and a run that ends with a fault that no other run reaches.
+//! - refused memory;
+//! - states that are cut;
+//! - commands with given keys.
 //!
 //! All else is shown by transcripts (`tests/` at the top of the repository).
 //!
@@ -16,8 +16,6 @@
 //! ```
 #![tactic(auto)]
 
-#[cfg(test)]
-mod commands;
 #[cfg(test)]
 mod exports;
 #[cfg(test)]
@@ -28,10 +26,6 @@ mod in_hand;
 mod loads;
 #[cfg(test)]
 mod memory;
-#[cfg(test)]
-mod piped;
-#[cfg(test)]
-mod progress;
 #[cfg(test)]
 mod states;
 #[cfg(test)]

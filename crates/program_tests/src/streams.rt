@@ -24,32 +24,6 @@ impl Read for Strange {
     }
 }
 
-// Gives these bytes, one for each read. Then it ends, or fails if it is asked to.
-#[derive(Drop)]
-pub(crate) struct Slow<'a> {
-    pub(crate) bytes: &'a [u8],
-    pub(crate) fails: bool,
-}
-
-impl Read for Slow<'_> {
-    fn read(&mut self, buf: &mut [u8]) -> io::Result<usize> {
-        match (self.bytes.split_first(), buf.first_mut()) {
-            (Some((first, rest)), Some(cell)) => {
-                *cell = *first;
-                self.bytes = rest;
-                Ok(1)
-            }
-            _ => {
-                if self.fails {
-                    Err(io::Error::from(ErrorKind::Other))
-                } else {
-                    Ok(0)
-                }
-            }
-        }
-    }
-}
-
 // Takes `room` bytes, one for each write, and then fails.
 #[derive(Drop)]
 pub(crate) struct FailingWriter {

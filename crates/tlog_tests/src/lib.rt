@@ -7,8 +7,6 @@
 #[cfg(test)]
 mod climbs;
 #[cfg(test)]
-mod given;
-#[cfg(test)]
 mod hashes;
 #[cfg(test)]
 mod keys;
@@ -18,8 +16,6 @@ mod macs;
 mod opening;
 #[cfg(test)]
 mod paths;
-#[cfg(test)]
-mod proof_texts;
 #[cfg(test)]
 mod shapes;
 #[cfg(test)]

@@ -3,9 +3,9 @@
 ghost use Rattle.std.specs.Prelude.{codes, ◌∷◌, []};
 ghost use Rattle.std.specs.Str.{bytes_eq};
 
-use crate::keys::{key_of, note_of};
-use signed_note::{OpenFault, PinnedTexts, Verifier, open_note};
-use std::alloc::Global;
+use crate::keys::note_of;
+use signed_note::{OpenFault, Verifier, open_note};
+use std::alloc::{AllocError, Global};
 use std::process::Abort;
 use std::test::Fail;
 
@@ -43,9 +43,8 @@ fn fault_of(
     Ok(open_note(&read, keys).err())
 }
 
-// The text, an empty line and these signature lines, and whether they open. The keys are a pin of no text, the key of the
-// second vector of RFC 4231, and the key above. The last line is one of the second key, which was made elsewhere.
-const OPENS: [(&str, bool); 7] = [
+// Signature lines, and whether the text opens with them under the key above. The last ones have its id or its name alone.
+const OPENS: [(&str, bool); 6] = [
     ("\u{2014} far /////wA=\n\u{2014} good AQIDBAU=\n", true),
     (
         "\u{2014} far /////wA=\n\u{2014} good AQIDBAY=\n\u{2014} good AQIDBAU=\n",
@@ -57,21 +56,11 @@ const OPENS: [(&str, bool); 7] = [
         "\u{2014} good AQIDBAU=\n\u{2014} good AQIDBAU=\n\u{2014} good AQIDBAY=\n",
         true,
     ),
-    (
-        "\u{2014} pin AAAABwU=\n\u{2014} ex AAAAAQU=\n\u{2014} good AQIDBQU=\n",
-        false,
-    ),
-    (
-        "\u{2014} ex AAAAAT+4ycjKGJ3Jb8W05gzVEzWtMISyts5Bwr8/saahDvMf\n",
-        true,
-    ),
+    ("\u{2014} far AQIDBAU=\n\u{2014} good AQIDBQU=\n", false),
 ];
 
-fn keys(alloc: Global) -> Result<Vec<Box<dyn Verifier>>, Fail> {
+fn keys(alloc: Global) -> Result<Vec<Box<dyn Verifier>>, AllocError> {
     let mut keys: Vec<Box<dyn Verifier>> = Vec::new(alloc);
-    let pins = PinnedTexts::new(alloc, "pin", 7, Vec::new(alloc))?;
-    keys.push(Box::new(alloc, pins)?)?;
-    keys.push(Box::new(alloc, key_of(alloc, "ex", 1, b"Jefe")?)?)?;
     keys.push(Box::new(alloc, Five)?)?;
     Ok(keys)
 }

@@ -1,6 +1,5 @@
 //! The store of hashed strings (`node_store`), if memory is refused.
 
-use crate::given::{LEAF_OF_10, hash};
 use node_store::{AddFault, Store, Tagged};
 use std::alloc::Global;
 use std::process::Abort;
@@ -41,7 +40,7 @@ fn add_at_last<H: TreeHash>(rt: &impl Abort, store: &mut Store<H>, string: Tagge
 
 #[test]
 fn refused_growth_changes_nothing(rt: HostRuntime) {
-    let ten = hash(&rt, LEAF_OF_10);
+    let ten = [10u8; 32];
     let mut store: Store<Sha256Tree> = empty(rt.alloc());
     for byte in 0..10u8 {
         add_at_last(&rt, &mut store, Tagged::Leaf(&[byte; 40]));
