@@ -1,0 +1,139 @@
+//! A run with given keys.
+ghost use Rattle.std.specs.Prelude.{IfErr, IfOk, List, map, string_bytes, ℕ};
+ghost use Rattle.std.specs.Io.KnownBytes.{Keeps};
+ghost use Rattle.sha2.specs.Sha256.{sha256};
+ghost use Rattle.program_words.specs.Lines.{IsLine};
+ghost use Rattle.program_env.specs.Done.{IsDoable, IsWriteFault};
+ghost use Rattle.program_env.specs.Envs.{IsSameEnv, moment};
+ghost use Rattle.program_env.specs.Moment.{on_system, seen_of};
+ghost use Rattle.program_env.specs.Performing.{Ends};
+ghost use Rattle.program_library.specs.Runs.{Runs};
+ghost use Rattle.program_env.specs.Works.{IsStatus};
+
+use crate::answers::{printed, refused};
+use crate::commands::run_command;
+use crate::keys::Keys;
+use crate::system::system_folders;
+use program_env::why::FailedStreams;
+use program_env::{Env, Error, RunFault, RunFiles, RunFolders};
+use program_files::SystemFiles;
+use program_words::{Line, read_line};
+use signed_note::Verifier;
+use std::alloc::Global;
+use std::fs::Files;
+use std::io::{Read, Write};
+use std::net::{Net, TcpListener, TcpStream};
+use std::rt::Clock;
+
+/// Runs the command of the words with given keys: the bytes of the key file, and its keys, which the caller has boxed. Both
+/// are empty if the command has no keys. It returns 0, or 3 for the other answer. The files and folders are those of the
+/// system. `serve` writes to `errors`. With `--why`, one line on `errors` names the thing that a fault is about.
+///
+/// ```text
+/// run_words(&rt, alloc, &words, &key_bytes, &keys, &mut input, &mut output, &mut errors)   // Ok(0)
+/// ```
+///
+/// # Errors
+///
+/// `Command` if the words are those of no command. The others are those of the command's own call.
+#[allow(clippy::too_many_arguments)]
+pub fn run_words<R, I: Read, O: Write, E: Write>(
+    rt: &R,
+    alloc: Global,
+    words: &[String],
+    key_bytes: &[u8],
+    keys: &[Box<dyn Verifier>],
+    input: &mut I,
+    output: &mut O,
+    errors: &mut E,
+) -> Result<u8, RunFault>
+where
+    R: Files + Clock + Eprint + Net<Stream = TcpStream, Listener = TcpListener>,
+    ensures answer { Runs sha256 (map (λ k. key k) keys.now) key_bytes.now
+        (map string_bytes words.now)
+        (on_system (I.remaining input.old) (O.contents output.old))
+        (on_system (I.remaining input.new) (O.contents output.new)) result }
+    ensures status { IfOk result IsStatus }
+    ensures quiet { IfErr result (λ fault. (¬ IsWriteFault fault) → Keeps (O.contents output.old)
+        (O.contents output.new)) }
+{
+    let files = SystemFiles::new(rt, alloc);
+    let folders = system_folders(rt, alloc);
+    let keys = Keys {
+        bytes: key_bytes,
+        verifiers: keys,
+    };
+    run_words_on(
+        rt, alloc, files, folders, &keys, words, input, output, errors,
+    )
+}
+
+// Runs the same over these files and folders, and drops them.
+#[allow(clippy::too_many_arguments)]
+fn run_words_on<R, F: RunFiles + Drop, D: RunFolders + Drop, I: Read, O: Write, E: Write>(
+    rt: &R,
+    alloc: Global,
+    files: F,
+    folders: D,
+    keys: &Keys<'_>,
+    words: &[String],
+    input: &mut I,
+    output: &mut O,
+    errors: &mut E,
+) -> Result<u8, RunFault>
+where
+    R: Files + Clock + Eprint + Net<Stream = TcpStream, Listener = TcpListener>,
+    ensures answer { (left : F) × (left_folders : D) × Runs sha256
+        (map (λ k. key k) keys.now.verifiers.now) keys.now.bytes.now (map string_bytes words.now)
+        (seen_of F.puts D.held D.puts files folders (I.remaining input.old)
+        (O.contents output.old))
+        (seen_of F.puts D.held D.puts left left_folders (I.remaining input.new)
+        (O.contents output.new)) result }
+    ensures status { IfOk result IsStatus }
+    ensures quiet { IfErr result (λ fault. (¬ IsWriteFault fault) → Keeps (O.contents output.old)
+        (O.contents output.new)) }
+{
+    match read_line(alloc, words) {
+        Ok(line) => {
+            let asked = line.why;
+            let mut env = Env {
+                rt,
+                alloc,
+                files,
+                folders,
+                input,
+                output,
+                errors,
+            };
+            let answer = obey(&mut env, keys, line);
+            let answer = printed(alloc, asked, answer, FailedStreams::none(), env.errors);
+            env.let_go();
+            answer
+        }
+        Err(fault) => Err(RunFault::Command(fault)),
+    }
+}
+
+// Runs the command of the line.
+fn obey<R, F: RunFiles, D: RunFolders, I: Read, O: Write, E: Write>(
+    env: &mut Env<'_, '_, '_, '_, R, F, D, I, O, E>,
+    keys: &Keys<'_>,
+    line: Line<'_>,
+) -> Result<u8, Error>
+where
+    R: Files + Clock + Eprint + Net<Stream = TcpStream, Listener = TcpListener>,
+    requires { IfOk line.command IsDoable }
+    ensures same { IsSameEnv env.old env.new }
+    ensures runs { (words : List (List ℕ)) → IsLine words line.entry → Runs sha256
+        (map (λ k. key k) keys.now.verifiers.now) keys.now.bytes.now words
+        (moment F.puts D.held D.puts I.remaining O.contents env.old)
+        (moment F.puts D.held D.puts I.remaining O.contents env.new) result }
+    ensures ends { Ends (O.contents env.old.output.now) (O.contents env.new.output.now) result }
+{
+    let bad = line.bad;
+    let asked = line.command;
+    match asked {
+        Ok(command) => run_command(env, keys, &command),
+        Err(fault) => Err(refused(env.alloc, bad, fault)),
+    }
+}
