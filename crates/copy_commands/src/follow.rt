@@ -59,15 +59,7 @@ where
 }
 
 // Follows these places.
-fn follow_among<
-    R,
-    F: RunFiles,
-    D: RunFolders,
-    I: Read,
-    O: Write,
-    E: Write,
-    S: WatchedPlace + Drop,
->(
+fn follow_among<R, F: RunFiles, D: RunFolders, I: Read, O: Write, E: Write, S: WatchedPlace + Drop>(
     env: &mut Env<'_, '_, '_, '_, R, F, D, I, O, E>,
     key_bytes: &[u8],
     keys: &[Box<dyn Verifier>],

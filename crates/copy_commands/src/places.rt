@@ -1,11 +1,11 @@
 //! The places that a command names, as sources.
 ghost use Rattle.std.specs.Prelude.{◌≡◌, IfOk};
 
-use mirror_client::{HttpSource, Site, TcpDial};
+use mirror_client::TcpDial;
 use mirror_copy::Places;
 use mirror_folders::DirSource;
 use mirror_sources::Source;
-use program_env::places::place_name;
+use program_env::places::{place_name, server_of};
 use program_follow::PlaceSource;
 use program_words::Place;
 use std::alloc::{AllocError, Global};
@@ -15,22 +15,6 @@ use std::rt::Clock;
 
 /// A place of the system: a folder, or a server over TCP.
 pub(crate) type SystemPlace<'a, R> = PlaceSource<'a, R, TcpDial<&'a R>>;
-
-// The source at a server, which gets at most `ahead` requests ahead of the one that is read. `Site` has already accepted these
-// words, so only memory can be lacking.
-fn server_of<'a, R: Clock + Net<Stream = TcpStream>>(
-    rt: &'a R,
-    alloc: Global,
-    site: (&str, &str),
-    address: (&str, u16),
-    ahead: usize,
-) -> Result<HttpSource<TcpDial<&'a R>>, AllocError> {
-    let Ok(site) = Site::new(alloc, site.0, site.1) else {
-        return Err(AllocError);
-    };
-    let dial = TcpDial::new(rt, alloc, address.0, address.1)?;
-    Ok(HttpSource::new(alloc, site, dial, ahead))
-}
 
 /// The source at a place. A server gets at most `ahead` requests ahead.
 pub(crate) fn source_of<'a, R: Files + Clock + Net<Stream = TcpStream>>(

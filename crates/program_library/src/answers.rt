@@ -1,27 +1,29 @@
 //! The answers of a run.
 ghost use Rattle.std.specs.Prelude.{◌≡◌};
 
-use program_env::why::{FailedStreams, Why, print_why};
+use crate::run_env::RunEnv;
+use program_env::why::{FailedStreams, Why};
 use program_env::{Error, RunFault};
 use program_words::{BadWord, CommandFault};
 use std::alloc::Global;
-use std::io::Write;
 
 /// The answer of a run. It also writes a line on the fault if the words ask for it.
-pub(crate) fn printed<E: Write>(
-    alloc: Global,
+pub(crate) fn printed<C: RunEnv>(
+    env: &mut C,
     asked: bool,
     answer: Result<u8, Error>,
     streams: FailedStreams,
-    errors: &mut E,
 ) -> Result<u8, RunFault>
-    ensures { result ≡ answer }
+    ensures answer { result ≡ answer }
+    ensures same { (C.input env.new ≡ C.input env.old) × (C.output env.new ≡ C.output env.old)
+        × (C.errors env.new ≡ C.errors env.old) }
+    ensures moment { C.moment env.new ≡ C.moment env.old }
 {
     match answer {
         Ok(status) => Ok(status),
         Err(error) => {
             let (fault, why) = error.into_parts();
-            print_why(alloc, asked, why, streams, errors);
+            env.print_why(asked, why, streams);
             Err(fault)
         }
     }

@@ -1,18 +1,17 @@
 //! A run with given keys.
-ghost use Rattle.std.specs.Prelude.{IfErr, IfOk, List, map, string_bytes, ℕ};
+ghost use Rattle.std.specs.Prelude.{◌≡◌, IfErr, IfOk, List, map, string_bytes, ℕ};
 ghost use Rattle.std.specs.Io.KnownBytes.{Keeps};
 ghost use Rattle.sha2.specs.Sha256.{sha256};
 ghost use Rattle.program_words.specs.Lines.{IsLine};
 ghost use Rattle.program_env.specs.Done.{IsDoable, IsWriteFault};
-ghost use Rattle.program_env.specs.Envs.{IsSameEnv, moment};
 ghost use Rattle.program_env.specs.Moment.{on_system, seen_of};
 ghost use Rattle.program_env.specs.Performing.{Ends};
 ghost use Rattle.program_library.specs.Runs.{Runs};
 ghost use Rattle.program_env.specs.Works.{IsStatus};
 
 use crate::answers::{printed, refused};
-use crate::commands::run_command;
 use crate::keys::Keys;
+use crate::run_env::RunEnv;
 use crate::system::system_folders;
 use program_env::why::FailedStreams;
 use program_env::{Env, Error, RunFault, RunFiles, RunFolders};
@@ -93,47 +92,54 @@ where
     ensures quiet { IfErr result (λ fault. (¬ IsWriteFault fault) → Keeps (O.contents output.old)
         (O.contents output.new)) }
 {
-    match read_line(alloc, words) {
+    let mut env = Env {
+        rt,
+        alloc,
+        files,
+        folders,
+        input,
+        output,
+        errors,
+    };
+    let answer = run_given(&mut env, keys, words);
+    env.let_go();
+    answer
+}
+
+// Runs the same over any environment.
+fn run_given<C: RunEnv>(env: &mut C, keys: &Keys<'_>, words: &[String]) -> Result<u8, RunFault>
+    ensures same { (C.input env.new ≡ C.input env.old) × (C.output env.new ≡ C.output env.old)
+        × (C.errors env.new ≡ C.errors env.old) }
+    ensures answer { Runs sha256 (map (λ k. key k) keys.now.verifiers.now) keys.now.bytes.now
+        (map string_bytes words.now) (C.moment env.old) (C.moment env.new) result }
+    ensures status { IfOk result IsStatus }
+    ensures quiet { IfErr result (λ fault. (¬ IsWriteFault fault)
+        → Keeps (C.moment env.old).output (C.moment env.new).output) }
+{
+    match read_line(env.alloc(), words) {
         Ok(line) => {
             let asked = line.why;
-            let mut env = Env {
-                rt,
-                alloc,
-                files,
-                folders,
-                input,
-                output,
-                errors,
-            };
-            let answer = obey(&mut env, keys, line);
-            let answer = printed(alloc, asked, answer, FailedStreams::none(), env.errors);
-            env.let_go();
-            answer
+            let answer = obey(env, keys, line);
+            printed(env, asked, answer, FailedStreams::none())
         }
         Err(fault) => Err(RunFault::Command(fault)),
     }
 }
 
 // Runs the command of the line.
-fn obey<R, F: RunFiles, D: RunFolders, I: Read, O: Write, E: Write>(
-    env: &mut Env<'_, '_, '_, '_, R, F, D, I, O, E>,
-    keys: &Keys<'_>,
-    line: Line<'_>,
-) -> Result<u8, Error>
-where
-    R: Files + Clock + Eprint + Net<Stream = TcpStream, Listener = TcpListener>,
+fn obey<C: RunEnv>(env: &mut C, keys: &Keys<'_>, line: Line<'_>) -> Result<u8, Error>
     requires { IfOk line.command IsDoable }
-    ensures same { IsSameEnv env.old env.new }
+    ensures same { (C.input env.new ≡ C.input env.old) × (C.output env.new ≡ C.output env.old)
+        × (C.errors env.new ≡ C.errors env.old) }
     ensures runs { (words : List (List ℕ)) → IsLine words line.entry → Runs sha256
-        (map (λ k. key k) keys.now.verifiers.now) keys.now.bytes.now words
-        (moment F.puts D.held D.puts I.remaining O.contents env.old)
-        (moment F.puts D.held D.puts I.remaining O.contents env.new) result }
-    ensures ends { Ends (O.contents env.old.output.now) (O.contents env.new.output.now) result }
+        (map (λ k. key k) keys.now.verifiers.now) keys.now.bytes.now words (C.moment env.old)
+        (C.moment env.new) result }
+    ensures ends { Ends (C.moment env.old).output (C.moment env.new).output result }
 {
     let bad = line.bad;
     let asked = line.command;
     match asked {
-        Ok(command) => run_command(env, keys, &command),
-        Err(fault) => Err(refused(env.alloc, bad, fault)),
+        Ok(command) => env.run_command(keys, &command),
+        Err(fault) => Err(refused(env.alloc(), bad, fault)),
     }
 }

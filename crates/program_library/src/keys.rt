@@ -10,8 +10,12 @@ use signed_note::{KeyFileFault, KeyLine, Verifier, join_pins, read_keys};
 use std::alloc::Global;
 
 /// The keys of a run: the bytes of the key file, and its keys. Both are empty if the command has no keys.
+///
+/// ```text
+/// let keys = Keys { bytes: &key_bytes, verifiers: &keys };
+/// ```
 #[derive(Drop)]
-pub(crate) struct Keys<'a> {
+pub struct Keys<'a> {
     /// The bytes of the key file. `build` reads its signing key from them.
     pub bytes: &'a [u8],
     /// Its keys.

@@ -5,22 +5,16 @@ ghost use Rattle.sha2.specs.Sha256.{sha256};
 ghost use Rattle.program_words.specs.Commands.{AsksFor};
 ghost use Rattle.program_words.specs.Lines.{IsLine};
 ghost use Rattle.program_env.specs.Done.{IsDoable, IsWriteFault};
-ghost use Rattle.program_env.specs.Envs.{IsSameEnv, moment};
 ghost use Rattle.program_env.specs.Performing.{Ends};
 ghost use Rattle.program_library.specs.Runs.{AreKeyBytes, JoinsLines, RunsKeyed};
 ghost use Rattle.program_env.specs.Works.{IsStatus};
 
 use crate::answers::{printed, refused};
-use crate::commands::run_command;
-use crate::keys::{Keys, key_lines};
-use program_env::why::FailedStreams;
-use program_env::{Env, Error, Failing, RunFault, RunFiles, RunFolders};
+use crate::keys::Keys;
+use crate::run_env::{RunEnv, WatchedEnv};
+use program_env::{Error, RunFault};
 use program_words::{Command, Line, read_line};
 use signed_note::{KeyFileFault, KeyLine, Verifier};
-use std::fs::Files;
-use std::io::{Read, Write};
-use std::net::{Net, TcpListener, TcpStream};
-use std::rt::Clock;
 
 /// Runs the command of the words over any files and folders that have names, with the keys of the key file that the words name. It
 /// returns the exit status: 0 for success, and 3 for the other answer, such as no.
@@ -34,82 +28,67 @@ use std::rt::Clock;
 /// evidence last.
 ///
 /// With `--why`, one line on `errors` names the thing that the fault is about. It includes what the system said of a stream.
-pub fn run<R, F: RunFiles, D: RunFolders, I: Read + Failing, O: Write + Failing, E: Write>(
-    env: &mut Env<'_, '_, '_, '_, R, F, D, I, O, E>,
-    words: &[String],
-) -> Result<u8, RunFault>
-where
-    R: Files + Clock + Eprint + Net<Stream = TcpStream, Listener = TcpListener>,
-    ensures same { IsSameEnv env.old env.new }
+pub fn run<C: WatchedEnv>(env: &mut C, words: &[String]) -> Result<u8, RunFault>
+    ensures same { (C.input env.new ≡ C.input env.old) × (C.output env.new ≡ C.output env.old)
+        × (C.errors env.new ≡ C.errors env.old) }
     ensures answer { RunsKeyed sha256 (map string_bytes words.now)
-        (moment F.puts D.held D.puts I.remaining O.contents env.old)
-        (moment F.puts D.held D.puts I.remaining O.contents env.new) result }
+        (C.moment env.old) (C.moment env.new) result }
     ensures status { IfOk result IsStatus }
     ensures quiet { IfErr result (λ fault. (¬ IsWriteFault fault)
-        → Keeps (O.contents env.old.output.now) (O.contents env.new.output.now)) }
+        → Keeps (C.moment env.old).output (C.moment env.new).output) }
 {
-    match read_line(env.alloc, words) {
+    match read_line(env.alloc(), words) {
         Ok(line) => {
             let asked = line.why;
             let answer = run_line(env, line);
-            let streams = FailedStreams {
-                input: env.input.last_failed(),
-                output: env.output.last_failed(),
-            };
-            printed(env.alloc, asked, answer, streams, env.errors)
+            let streams = env.failed_streams();
+            printed(env, asked, answer, streams)
         }
         Err(fault) => Err(RunFault::Command(fault)),
     }
 }
 
 // Runs the command of the line, with the keys of the key file that it names.
-fn run_line<R, F: RunFiles, D: RunFolders, I: Read, O: Write, E: Write>(
-    env: &mut Env<'_, '_, '_, '_, R, F, D, I, O, E>,
-    line: Line<'_>,
-) -> Result<u8, Error>
-where
-    R: Files + Clock + Eprint + Net<Stream = TcpStream, Listener = TcpListener>,
+fn run_line<C: RunEnv>(env: &mut C, line: Line<'_>) -> Result<u8, Error>
     requires { IfOk line.command IsDoable }
-    ensures same { IsSameEnv env.old env.new }
+    ensures same { (C.input env.new ≡ C.input env.old) × (C.output env.new ≡ C.output env.old)
+        × (C.errors env.new ≡ C.errors env.old) }
     ensures runs { (words : List (List ℕ)) → IsLine words line.entry → RunsKeyed sha256 words
-        (moment F.puts D.held D.puts I.remaining O.contents env.old)
-        (moment F.puts D.held D.puts I.remaining O.contents env.new) result }
-    ensures ends { Ends (O.contents env.old.output.now) (O.contents env.new.output.now) result }
+        (C.moment env.old) (C.moment env.new) result }
+    ensures ends { Ends (C.moment env.old).output (C.moment env.new).output result }
 {
     let bad = line.bad;
     let asked = line.command;
-    match key_lines(&env.files, env.alloc, line.keys) {
+    match env.key_lines(line.keys) {
         Ok((bytes, lines)) => match asked {
             Ok(command) => run_keyed(env, &bytes, lines, &command),
-            Err(fault) => Err(refused(env.alloc, bad, fault)),
+            Err(fault) => Err(refused(env.alloc(), bad, fault)),
         },
         Err(error) => Err(error),
     }
 }
 
 // Runs the command with the keys of these lines.
-fn run_keyed<R, F: RunFiles, D: RunFolders, I: Read, O: Write, E: Write>(
-    env: &mut Env<'_, '_, '_, '_, R, F, D, I, O, E>,
+fn run_keyed<C: RunEnv>(
+    env: &mut C,
     key_bytes: &[u8],
     lines: Vec<KeyLine>,
     command: &Command<'_>,
 ) -> Result<u8, Error>
-where
-    R: Files + Clock + Eprint + Net<Stream = TcpStream, Listener = TcpListener>,
     requires { IsDoable command.now }
-    ensures same { IsSameEnv env.old env.new }
+    ensures same { (C.input env.new ≡ C.input env.old) × (C.output env.new ≡ C.output env.old)
+        × (C.errors env.new ≡ C.errors env.old) }
     ensures runs { (words : List (List ℕ)) → AsksFor words command.now
-        → AreKeyBytes (F.puts env.old.files) words key_bytes.now
+        → AreKeyBytes (C.moment env.old).files words key_bytes.now
         → JoinsLines key_bytes.now lines.items → RunsKeyed sha256 words
-        (moment F.puts D.held D.puts I.remaining O.contents env.old)
-        (moment F.puts D.held D.puts I.remaining O.contents env.new) result }
-    ensures ends { Ends (O.contents env.old.output.now) (O.contents env.new.output.now) result }
+        (C.moment env.old) (C.moment env.new) result }
+    ensures ends { Ends (C.moment env.old).output (C.moment env.new).output result }
 {
-    let mut keys: Vec<Box<dyn Verifier>> = Vec::new(env.alloc);
+    let mut keys: Vec<Box<dyn Verifier>> = Vec::new(env.alloc());
     for line in lines {
         match line {
             KeyLine::Hmac(key) => {
-                let Ok(key) = Box::new(env.alloc, key) else {
+                let Ok(key) = Box::new(env.alloc(), key) else {
                     return Err(no_memory());
                 };
                 let Ok(()) = keys.push(key) else {
@@ -117,7 +96,7 @@ where
                 };
             }
             KeyLine::Pin(texts) => {
-                let Ok(texts) = Box::new(env.alloc, texts) else {
+                let Ok(texts) = Box::new(env.alloc(), texts) else {
                     return Err(no_memory());
                 };
                 let Ok(()) = keys.push(texts) else {
@@ -130,7 +109,7 @@ where
         bytes: key_bytes,
         verifiers: &keys,
     };
-    run_command(env, &keys, command)
+    env.run_command(&keys, command)
 }
 
 // The error if memory is refused for the keys.
