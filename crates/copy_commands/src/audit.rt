@@ -6,9 +6,8 @@ ghost use Rattle.program_env.specs.Envs.{IsSameEnv, moment};
 ghost use Rattle.program_env.specs.Performing.{Performs};
 ghost use Rattle.program_monitor.specs.Audits.{RunsAudit};
 
-use crate::places::server_of;
+use crate::places::source_of;
 use mirror_audit::AuditFault;
-use mirror_folders::DirSource;
 use mirror_progress::{CountingSource, Progress, StandardError, Task};
 use mirror_sources::Source;
 use program_commands::check_origin;
@@ -47,56 +46,19 @@ where
         (Command.Audit audit.now) result }
 {
     match check_origin(env.alloc, audit.log.origin) {
-        Ok(()) => audit_place(env, key_bytes, keys, audit),
+        Ok(()) => {}
         Err(fault) => {
             let why = of_origin(env.alloc, fault);
-            Err(Error::new(RunFault::Origin(fault), why))
+            return Err(Error::new(RunFault::Origin(fault), why));
         }
+    }
+    match source_of(env.rt, env.alloc, &audit.place, audit.ahead as usize) {
+        Ok(source) => audit_any(env, key_bytes, keys, audit, source),
+        Err(_) => Err(Error::no_memory()),
     }
 }
 
-// The same after the origin was checked.
-fn audit_place<R, F: RunFiles, D: RunFolders, I: Read, O: Write, E: Write>(
-    env: &mut Env<'_, '_, '_, '_, R, F, D, I, O, E>,
-    key_bytes: &[u8],
-    keys: &[Box<dyn Verifier>],
-    audit: &Audit<'_>,
-) -> Result<u8, Error>
-where
-    R: Files + Clock + Eprint + Net<Stream = TcpStream>,
-    ensures same { IsSameEnv env.old env.new }
-    ensures does { Performs sha256 (map (λ k. key k) keys.now) key_bytes.now
-        (moment F.puts D.held D.puts I.remaining O.contents env.old)
-        (moment F.puts D.held D.puts I.remaining O.contents env.new)
-        (Command.Audit audit.now) result }
-{
-    match &audit.place {
-        Place::Folder(folder) => {
-            let source = DirSource::new(env.rt, env.alloc, folder);
-            audit_any(env, key_bytes, keys, audit, source)
-        }
-        Place::Server {
-            host,
-            prefix,
-            address,
-            port,
-        } => {
-            let site = (*host, *prefix);
-            match server_of(
-                env.rt,
-                env.alloc,
-                site,
-                (*address, *port),
-                audit.ahead as usize,
-            ) {
-                Ok(source) => audit_any(env, key_bytes, keys, audit, source),
-                Err(_) => Err(Error::no_memory()),
-            }
-        }
-    }
-}
-
-// The same for this source.
+// Audits this source.
 fn audit_any<
     R,
     F: RunFiles,

@@ -5,7 +5,7 @@ ghost use Rattle.sha2.specs.Sha256.{sha256};
 ghost use Rattle.program_env.specs.Envs.{IsSameEnv, moment};
 ghost use Rattle.program_env.specs.Performing.{Performs};
 
-use crate::places::{SystemPlace, places_of};
+use crate::places::places_of;
 use mirror_copy::Places;
 use mirror_follow::FollowFault;
 use mirror_sources::Source;
@@ -13,7 +13,7 @@ use program_commands::check_origin;
 use program_env::served::of_note;
 use program_env::why::{Why, of_folder, of_named, of_origin};
 use program_env::{Env, Error, RunFault, RunFiles, RunFolders, write_front};
-use program_follow::{FollowRunFault, Following, places_why, run_follow};
+use program_follow::{FollowRunFault, Following, WatchedPlace, places_why, run_follow};
 use program_words::Command;
 use program_words::commands::follow::Follow;
 use signed_note::Verifier;
@@ -46,32 +46,32 @@ where
         (Command.Follow follow.now) result }
 {
     match check_origin(env.alloc, follow.copy.log.origin) {
-        Ok(()) => follow_places(env, key_bytes, keys, follow),
+        Ok(()) => {}
         Err(fault) => {
             let why = of_origin(env.alloc, fault);
-            Err(Error::new(RunFault::Origin(fault), why))
+            return Err(Error::new(RunFault::Origin(fault), why));
         }
+    }
+    match places_of(env.rt, env.alloc, &follow.places, follow.ahead as usize) {
+        Ok(places) => follow_among(env, key_bytes, keys, follow, places),
+        Err(_) => Err(Error::no_memory()),
     }
 }
 
-// The same after the origin was checked.
-fn follow_places<R, F: RunFiles, D: RunFolders, I: Read, O: Write, E: Write>(
+// Follows these places.
+fn follow_among<R, F: RunFiles, D: RunFolders, I: Read, O: Write, E: Write, S: WatchedPlace + Drop>(
     env: &mut Env<'_, '_, '_, '_, R, F, D, I, O, E>,
     key_bytes: &[u8],
     keys: &[Box<dyn Verifier>],
     follow: &Follow<'_>,
+    mut places: Places<S>,
 ) -> Result<u8, Error>
-where
-    R: Files + Clock + Net<Stream = TcpStream>,
     ensures same { IsSameEnv env.old env.new }
     ensures does { Performs sha256 (map (λ k. key k) keys.now) key_bytes.now
         (moment F.puts D.held D.puts I.remaining O.contents env.old)
         (moment F.puts D.held D.puts I.remaining O.contents env.new)
         (Command.Follow follow.now) result }
 {
-    let Ok(mut places) = places_of(env.rt, env.alloc, &follow.places, follow.ahead as usize) else {
-        return Err(Error::no_memory());
-    };
     let following = Following {
         origin: follow.copy.log.origin,
         folder: follow.copy.folder,
@@ -79,7 +79,7 @@ where
         forks: follow.forks,
         progress: follow.progress,
     };
-    let answer = run_follow::<Sha256Tree, F, D, SystemPlace<'_, R>, O>(
+    let answer = run_follow::<Sha256Tree, F, D, S, O>(
         &mut env.files,
         &mut env.folders,
         env.alloc,
@@ -171,12 +171,12 @@ fn why_of_copy<R, F: RunFiles, D: RunFolders, I, O, E>(
 }
 
 // Writes the fault of each place if the words ask for it, or a prefix of that text if the stream fails.
-fn write_places<R: Files + Clock + Net<Stream = TcpStream>, E: Write>(
+fn write_places<S: WatchedPlace + Drop, E: Write>(
     asked: bool,
     alloc: Global,
     origin: &str,
     keys: &[Box<dyn Verifier>],
-    places: &Places<SystemPlace<'_, R>>,
+    places: &Places<S>,
     errors: &mut E,
 ) {
     if asked {

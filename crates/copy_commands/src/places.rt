@@ -1,10 +1,11 @@
 //! The places that a command names, as sources.
 ghost use Rattle.std.specs.Prelude.{◌≡◌, IfOk};
 
-use mirror_client::{HttpSource, Site, TcpDial};
+use mirror_client::TcpDial;
 use mirror_copy::Places;
 use mirror_folders::DirSource;
-use program_env::places::place_name;
+use mirror_sources::Source;
+use program_env::places::{place_name, server_of};
 use program_follow::PlaceSource;
 use program_words::Place;
 use std::alloc::{AllocError, Global};
@@ -15,24 +16,8 @@ use std::rt::Clock;
 /// A place of the system: a folder, or a server over TCP.
 pub(crate) type SystemPlace<'a, R> = PlaceSource<'a, R, TcpDial<&'a R>>;
 
-/// The source at a server, which gets at most `ahead` requests ahead of the one that is read. `Site` has already accepted these
-/// words, so only memory can be lacking.
-pub(crate) fn server_of<'a, R: Clock + Net<Stream = TcpStream>>(
-    rt: &'a R,
-    alloc: Global,
-    site: (&str, &str),
-    address: (&str, u16),
-    ahead: usize,
-) -> Result<HttpSource<TcpDial<&'a R>>, AllocError> {
-    let Ok(site) = Site::new(alloc, site.0, site.1) else {
-        return Err(AllocError);
-    };
-    let dial = TcpDial::new(rt, alloc, address.0, address.1)?;
-    Ok(HttpSource::new(alloc, site, dial, ahead))
-}
-
-// The source at a place. A server gets at most `ahead` requests ahead.
-fn source_of<'a, R: Files + Clock + Net<Stream = TcpStream>>(
+/// The source at a place. A server gets at most `ahead` requests ahead.
+pub(crate) fn source_of<'a, R: Files + Clock + Net<Stream = TcpStream>>(
     rt: &'a R,
     alloc: Global,
     place: &'a Place<'a>,
@@ -56,6 +41,16 @@ fn source_of<'a, R: Files + Clock + Net<Stream = TcpStream>>(
     }
 }
 
+// The places with one more, unless something failed.
+fn with_place<S: Source + Drop>(
+    places: Result<Places<S>, AllocError>,
+    place: Result<S, AllocError>,
+) -> Result<Places<S>, AllocError> {
+    let mut places = places?;
+    places.add(place?)?;
+    Ok(places)
+}
+
 /// The places, in order.
 pub(crate) fn places_of<'a, R: Files + Clock + Net<Stream = TcpStream>>(
     rt: &'a R,
@@ -63,9 +58,9 @@ pub(crate) fn places_of<'a, R: Files + Clock + Net<Stream = TcpStream>>(
     words: &'a [Place<'a>],
     ahead: usize,
 ) -> Result<Places<SystemPlace<'a, R>>, AllocError> {
-    let mut places = Places::new(alloc);
+    let mut places = Ok(Places::new(alloc));
     for place in words {
-        places.add(source_of(rt, alloc, place, ahead)?)?;
+        places = with_place(places, source_of(rt, alloc, place, ahead));
     }
-    Ok(places)
+    places
 }

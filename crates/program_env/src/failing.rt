@@ -4,6 +4,7 @@ use mirror_client::{Dial, FailedGet, HttpSource};
 use mirror_folders::{DirShelf, DirSource, FailedFile, MemShelf};
 use mirror_progress::{CountedFolders, CountingShelf};
 use program_files::{FailedName, MemoryFiles, NamedFiles, SystemFiles};
+use program_follow::{FailedAt, PlaceSource};
 use std::fs::Files;
 use std::io;
 use std::io::Write;
@@ -46,6 +47,16 @@ impl<D: Dial + Drop> Failing for HttpSource<D> {
     fn last_failed(&self) -> Option<Failed> {
         match HttpSource::last_failed(self) {
             Some(failed) => Some(Failed::Get(failed)),
+            None => None,
+        }
+    }
+}
+
+impl<'a, R: Files, D: Dial + Drop> Failing for PlaceSource<'a, R, D> {
+    fn last_failed(&self) -> Option<Failed> {
+        match PlaceSource::last_failed(self) {
+            Some(FailedAt::File(failed)) => Some(Failed::File(failed)),
+            Some(FailedAt::Get(failed)) => Some(Failed::Get(failed)),
             None => None,
         }
     }

@@ -11,12 +11,13 @@ use program_monitor::{AuditRunFault, CopyEntriesFault, StateEntriesFault};
 use program_reports::AskFault;
 use program_words::CommandFault;
 use signed_note::KeyFileFault;
+use std::fmt;
 use thiserror::Error;
 use tlog_build::{BuildFault, EntriesFault};
 use tlog_mirror::NewFault;
 
 /// Why a command was not done. It prints the name of the innermost variant.
-#[derive(Debug, Drop, Error)]
+#[derive(Drop, Error)]
 pub enum RunFault {
     /// The words are not those of a command.
     #[error(transparent)]
@@ -99,4 +100,11 @@ pub enum RunFault {
     /// Memory was refused.
     #[error("OutOfMemory")]
     OutOfMemory,
+}
+
+/// Prints what `Display` prints: a derived one of so many variants takes the checker ten seconds.
+impl fmt::Debug for RunFault {
+    fn fmt<W: fmt::Write>(&self, f: &mut fmt::Formatter<W>) -> fmt::Result {
+        fmt::Display::fmt(self, f)
+    }
 }

@@ -1,12 +1,31 @@
-//! The lines of `--why` about a place of a log.
+//! A place of a log: the source at a server, and the lines of `--why` about the place.
 use crate::failing::Failing;
 use crate::served::of_origin_in;
 use crate::watched::WatchedSource;
 use crate::why::Why;
+use mirror_client::{HttpSource, Site, TcpDial};
 use mirror_model::TakeFault;
 use program_words::Place;
 use std::alloc::{AllocError, Global};
+use std::net::{Net, TcpStream};
+use std::rt::Clock;
 use tlog_tiles::Path;
+
+/// The source at a server, which gets at most `ahead` requests ahead of the one that is read. `Site` has already accepted these
+/// words, so only memory can be lacking.
+pub fn server_of<'a, R: Clock + Net<Stream = TcpStream>>(
+    rt: &'a R,
+    alloc: Global,
+    site: (&str, &str),
+    address: (&str, u16),
+    ahead: usize,
+) -> Result<HttpSource<TcpDial<&'a R>>, AllocError> {
+    let Ok(site) = Site::new(alloc, site.0, site.1) else {
+        return Err(AllocError);
+    };
+    let dial = TcpDial::new(rt, alloc, address.0, address.1)?;
+    Ok(HttpSource::new(alloc, site, dial, ahead))
+}
 
 /// The name of a place, as in the words of the command.
 pub fn place_name(alloc: Global, place: &Place<'_>) -> Result<String, AllocError> {

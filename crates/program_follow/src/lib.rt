@@ -17,6 +17,6 @@ mod why;
 
 pub use fault::FollowRunFault;
 pub use following::{Following, run_follow};
-pub use place::PlaceSource;
+pub use place::{Answered, FailedAt, PlaceSource, WatchedPlace};
 pub use text::{followed_status, followed_text};
 pub use why::places_why;

@@ -17,20 +17,35 @@ enum Kind<'a, R: Files, D: Dial + Drop> {
 
 /// The reason why a get from a place failed.
 #[derive(Drop, Clone, Copy)]
-pub(crate) enum FailedAt {
+pub enum FailedAt {
+    /// A file of a folder.
     File(FailedFile),
+    /// A file of a server.
     Get(FailedGet),
 }
 
 /// The answer of a place to the request for its checkpoint.
 #[derive(Drop)]
-pub(crate) enum Answered {
+pub enum Answered {
     /// There was no request, or the get failed.
     Nothing,
     /// The place lacks a checkpoint.
     NotFound,
     /// The checkpoint's bytes.
     Note(Vec<u8>),
+}
+
+/// A place that keeps what `places_why` reports about it. Functions over any such place are checked much faster than those over the
+/// places of the system.
+pub trait WatchedPlace: Source {
+    /// The name of the place.
+    fn name(&self) -> &str;
+
+    /// The reason why its first get failed.
+    fn first_failed(&self) -> Option<FailedAt>;
+
+    /// Its first answer for the checkpoint.
+    fn answered(&self) -> &Answered;
 }
 
 /// A place of a run: a folder, or a server. It keeps its name, the reason why its first get failed, and its answer for the checkpoint.
@@ -86,21 +101,6 @@ impl<'a, R: Files, D: Dial + Drop> PlaceSource<'a, R, D> {
         PlaceSource::new(alloc, name, Kind::Server(source))
     }
 
-    /// The name of the place.
-    pub fn name(&self) -> &str {
-        self.name.as_str()
-    }
-
-    /// The reason why its first get failed.
-    pub(crate) fn first_failed(&self) -> Option<FailedAt> {
-        self.first_failed
-    }
-
-    /// Its first answer for the checkpoint.
-    pub(crate) fn answered(&self) -> &Answered {
-        &self.answered
-    }
-
     // Gets the file from the folder or the server.
     fn fetch(&mut self, path: &Path) -> Result<Option<Vec<u8>>, SourceFault>
         ensures { self.new.failures ≡ self.old.failures }
@@ -111,8 +111,8 @@ impl<'a, R: Files, D: Dial + Drop> PlaceSource<'a, R, D> {
         }
     }
 
-    // The reason why the last get failed.
-    fn last_failed(&self) -> Option<FailedAt> {
+    /// The reason why the last get failed; None if none failed, or if it was not kept.
+    pub fn last_failed(&self) -> Option<FailedAt> {
         match &self.kind {
             Kind::Folder(source) => match source.last_failed() {
                 Some(failed) => Some(FailedAt::File(failed)),
@@ -173,5 +173,19 @@ impl<'a, R: Files, D: Dial + Drop> Source for PlaceSource<'a, R, D> {
 
     fn failures(&self) -> u64 {
         self.failures
+    }
+}
+
+impl<'a, R: Files, D: Dial + Drop> WatchedPlace for PlaceSource<'a, R, D> {
+    fn name(&self) -> &str {
+        self.name.as_str()
+    }
+
+    fn first_failed(&self) -> Option<FailedAt> {
+        self.first_failed
+    }
+
+    fn answered(&self) -> &Answered {
+        &self.answered
     }
 }

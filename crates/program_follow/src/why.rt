@@ -3,15 +3,14 @@ ghost use Rattle.std.specs.Prelude.{IfOk, OnOk, string_bytes};
 ghost use Rattle.program_files.specs.Why.{IsWhyLine};
 ghost use Rattle.program_follow.specs.Whys.{AreWhyLines};
 
-use crate::place::{Answered, FailedAt, PlaceSource};
+use crate::place::{Answered, FailedAt, WatchedPlace};
 use log_reader::open_head;
-use mirror_client::{Dial, Reason};
+use mirror_client::Reason;
 use mirror_copy::{Place, Places, Wrong, WrongFile};
 use mirror_model::TakeFault;
 use program_files::{system_reason, why_line};
 use signed_note::Verifier;
 use std::alloc::{AllocError, Global};
-use std::fs::Files;
 use tlog_tiles::Path;
 
 // The reason why a file is wrong.
@@ -32,9 +31,9 @@ fn reason_of_failed(alloc: Global, failed: Option<FailedAt>) -> Result<String, A
 }
 
 // The reason why the first wrong file of a place is wrong.
-fn reason_of_file<'a, R: Files, D: Dial + Drop>(
+fn reason_of_file<S: WatchedPlace>(
     alloc: Global,
-    source: &PlaceSource<'a, R, D>,
+    source: &S,
     wrong: Wrong,
 ) -> Result<String, AllocError> {
     match wrong {
@@ -45,11 +44,11 @@ fn reason_of_file<'a, R: Files, D: Dial + Drop>(
 }
 
 // The reason why a place's checkpoint is wrong, if it is: it is missing, or its note is no candidate.
-fn reason_of_note<'a, R: Files, D: Dial + Drop>(
+fn reason_of_note<S: WatchedPlace>(
     alloc: Global,
     origin: &str,
     keys: &[Box<dyn Verifier>],
-    source: &PlaceSource<'a, R, D>,
+    source: &S,
 ) -> Result<Option<String>, AllocError> {
     match source.answered() {
         Answered::Nothing => Ok(None),
@@ -72,12 +71,12 @@ fn line_of(alloc: Global, name: &str, path: &Path, reason: &str) -> Result<Strin
 
 // Adds the line about the first thing that was wrong at a place, if anything was.
 #[tactic(auto, using(crate::proofs::Whys::whys_more))]
-fn push_place<'a, R: Files, D: Dial + Drop>(
+fn push_place<S: WatchedPlace + Drop>(
     alloc: Global,
     text: &mut String,
     origin: &str,
     keys: &[Box<dyn Verifier>],
-    place: &Place<PlaceSource<'a, R, D>>,
+    place: &Place<S>,
 ) -> Result<(), AllocError>
     requires { AreWhyLines (string_bytes text.old) }
     ensures { OnOk result (AreWhyLines (string_bytes text.new)) }
@@ -111,11 +110,11 @@ fn push_place<'a, R: Files, D: Dial + Drop>(
 ///
 /// `AllocError`: memory was refused.
 #[tactic(auto, using(crate::proofs::Whys::no_whys))]
-pub fn places_why<'a, R: Files, D: Dial + Drop>(
+pub fn places_why<S: WatchedPlace + Drop>(
     alloc: Global,
     origin: &str,
     keys: &[Box<dyn Verifier>],
-    places: &Places<PlaceSource<'a, R, D>>,
+    places: &Places<S>,
 ) -> Result<String, AllocError>
     ensures { IfOk result (λ text. AreWhyLines (string_bytes text)) }
 {

@@ -3,20 +3,27 @@
 //! ```text
 //! let (files, folders) = (MemoryFiles::new(alloc), MemShelf::new(alloc));
 //! let mut env = Env { rt: &rt, alloc, files, folders, input, output, errors };
-//! run_over(&mut env, &words)? // 0, or 3 for no
+//! run(&mut env, &words)? // 0, or 3 for no
 //! ```
 #![tactic(auto)]
 
+mod answers;
 mod commands;
 mod ending;
+mod given;
 mod keys;
 mod laws;
+mod run_env;
 mod running;
+mod system;
 
 pub use ending::{Message, ProgramEnd, Stream, ending_of, print_ending};
+pub use given::run_words;
 pub use keys::{Keys, key_file};
 pub use laws::{pulled_state_law, signing_key_law};
 pub use program_commands::{CheckFault, RootFault, run_check, run_root};
 pub use program_env::{Env, RunFault, RunFiles, RunFolders};
-pub use running::{run, run_over, run_with_keys, run_words};
+pub use run_env::{RunEnv, WatchedEnv};
+pub use running::run;
+pub use system::system_folders;
 pub use tlog_build::{EntriesFault, read_entries};

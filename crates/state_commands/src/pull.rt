@@ -17,12 +17,12 @@ ghost use Rattle.program_env.specs.Works.{IsStatus};
 
 use crate::pulling::pull_from;
 use byte_streams::write_whole;
-use mirror_client::{HttpSource, Site, TcpDial};
+use mirror_client::{HttpSource, TcpDial};
 use mirror_folders::DirSource;
 use mirror_pull::{PullFault, Pulled};
 use mirror_sources::Source;
 use program_commands::{HeldCounts, has_gained, holding_of, open_to_save, write_state};
-use program_env::places::{of_edge, of_file, of_place, of_refused, of_source};
+use program_env::places::{of_edge, of_file, of_place, of_refused, of_source, server_of};
 use program_env::why::{Why, of_named};
 use program_env::{Env, Error, Failing, RunFault, RunFiles, RunFolders, WatchedSource};
 use program_files::NamedFault;
@@ -317,15 +317,11 @@ fn from_place<'a, H: TreeHash, R: Files + Clock + Eprint + Net<Stream = TcpStrea
             address,
             port,
         } => {
-            // `Site` has already accepted these words, so only memory can be lacking.
-            let Ok(site) = Site::new(alloc, host, prefix) else {
-                return (Err(PullFault::OutOfMemory), None);
-            };
-            let Ok(dial) = TcpDial::new(rt, alloc, address, *port) else {
-                return (Err(PullFault::OutOfMemory), None);
-            };
-            let source = HttpSource::new(alloc, site, dial, words.ahead as usize);
-            from_server(rt, alloc, mirror, keys, source, words)
+            let site = (*host, *prefix);
+            match server_of(rt, alloc, site, (*address, *port), words.ahead as usize) {
+                Ok(source) => from_server(rt, alloc, mirror, keys, source, words),
+                Err(_) => (Err(PullFault::OutOfMemory), None),
+            }
         }
     }
 }

@@ -6,7 +6,8 @@
 #![tactic(auto)]
 
 use byte_streams::WatchedStream;
-use program_library::{RunFault, ending_of, print_ending, run};
+use program_files::SystemFiles;
+use program_library::{Env, RunFault, ending_of, print_ending, run, system_folders};
 use program_words::CommandFault;
 use std::fs::File;
 use std::io::ErrorKind;
@@ -15,19 +16,20 @@ use std::{env, io};
 
 fn main(rt: HostRuntime) -> ExitCode {
     let streams = [directory(&rt), directory(&rt), directory(&rt)];
-    let mut input = WatchedStream::new(rt.reader());
-    let mut output = WatchedStream::new(io::writer(&rt));
+    let mut env = Env {
+        rt: &rt,
+        alloc: rt.alloc(),
+        files: SystemFiles::new(&rt, rt.alloc()),
+        folders: system_folders(&rt, rt.alloc()),
+        input: &mut WatchedStream::new(rt.reader()),
+        output: &mut WatchedStream::new(io::writer(&rt)),
+        errors: &mut rt.stderr(),
+    };
     let answer = match words_of(&rt) {
-        Ok(words) => run(
-            &rt,
-            rt.alloc(),
-            &words,
-            &mut input,
-            &mut output,
-            &mut rt.stderr(),
-        ),
+        Ok(words) => run(&mut env, &words),
         Err(fault) => Err(RunFault::Command(fault)),
     };
+    drop(env);
     let ending = ending_of(rt.alloc(), answer);
     let status = print_ending(&ending, &mut rt.stdout(), &mut rt.stderr());
     drop(streams);

@@ -1,6 +1,6 @@
 use Rattle.program_follow.proofs.Noted.{follows_weaker}
 use Rattle.copy_commands.proofs.Performing.{follows, may_follow}
-use Rattle.copy_commands.proofs.follow.follow_places.Goals as goal
+use Rattle.copy_commands.proofs.follow.follow_among.Goals as goal
 
 pub returns-clause-does : goal.returns-clause-does
 returns-clause-does g c =
