@@ -17,7 +17,7 @@ use tlog_proof::{MAX_TEXT_LEN, TextFault, holds, read_text};
 pub const MAX_READ_LEN: usize = MAX_TEXT_LEN + 1;
 
 /// Why `check` printed no verdict.
-#[derive(Debug, Drop, PartialEq, Eq, Clone, Copy, Error)]
+#[derive(Debug, Drop, Clone, Copy, Error)]
 pub enum CheckFault {
     /// The input is not the text of a proof.
     #[error("BadProofText")]

@@ -6,7 +6,7 @@ use thiserror::Error;
 use tlog_mirror::{MergeFault, NewFault, TakeFault};
 
 /// Why a state file gave no mirror. It prints the name of the innermost variant.
-#[derive(Debug, Drop, PartialEq, Eq, Clone, Copy, Error)]
+#[derive(Debug, Drop, Clone, Copy, Error)]
 pub enum StateFault {
     /// The origin is invalid.
     #[error(transparent)]
@@ -20,7 +20,7 @@ pub enum StateFault {
 }
 
 /// Why no item was taken. The variants are in the order of the checks. It prints the name of the innermost variant.
-#[derive(Debug, Drop, PartialEq, Eq, Clone, Copy, Error)]
+#[derive(Debug, Drop, Clone, Copy, Error)]
 pub enum TakeFilesFault {
     /// There is no mirror to begin with.
     #[error(transparent)]
@@ -38,7 +38,7 @@ pub enum TakeFilesFault {
 
 /// Why no checkpoints were read from files. The variants are in the order of the checks. It prints the name of the innermost
 /// variant.
-#[derive(Debug, Drop, PartialEq, Eq, Clone, Copy, Error)]
+#[derive(Debug, Drop, Clone, Copy, Error)]
 pub enum HeadFilesFault {
     /// A file was not read.
     #[error(transparent)]
@@ -49,7 +49,7 @@ pub enum HeadFilesFault {
 }
 
 /// Why two states were not merged. The variants are in the order of the checks. It prints the name of the innermost variant.
-#[derive(Debug, Drop, PartialEq, Eq, Clone, Copy, Error)]
+#[derive(Debug, Drop, Clone, Copy, Error)]
 pub enum MergeFilesFault {
     /// The first file gave no mirror.
     #[error(transparent)]
@@ -66,7 +66,7 @@ pub enum MergeFilesFault {
 }
 
 /// Why a state file was not exported. The variants are in the order of the checks. It prints the name of the innermost variant.
-#[derive(Debug, Drop, PartialEq, Eq, Clone, Copy, Error)]
+#[derive(Debug, Drop, Clone, Copy, Error)]
 pub enum ExportFileFault {
     /// The file gave no mirror.
     #[error(transparent)]
@@ -80,7 +80,7 @@ pub enum ExportFileFault {
 }
 
 /// Why a folder was not updated. The variants are in the order of the checks. It prints the name of the innermost variant.
-#[derive(Debug, Drop, PartialEq, Eq, Clone, Copy, Error)]
+#[derive(Debug, Drop, Clone, Copy, Error)]
 pub enum UpdateFileFault {
     /// The file gave no mirror.
     #[error(transparent)]
@@ -94,7 +94,7 @@ pub enum UpdateFileFault {
 }
 
 /// Why not all notes were written. The variants are in the order of the checks. It prints the name of the innermost variant.
-#[derive(Debug, Drop, PartialEq, Eq, Clone, Copy, Error)]
+#[derive(Debug, Drop, Clone, Copy, Error)]
 pub enum NotesFault {
     /// The state file gave no mirror.
     #[error(transparent)]

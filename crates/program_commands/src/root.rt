@@ -20,7 +20,7 @@ use tlog_tiles::{BundleFault, MAX_BUNDLE_LEN, read_bundle};
 pub const MAX_READ_LEN: usize = MAX_BUNDLE_LEN + 1;
 
 /// Why `root` printed no root.
-#[derive(Debug, Drop, PartialEq, Eq, Clone, Copy, Error)]
+#[derive(Debug, Drop, Clone, Copy, Error)]
 pub enum RootFault {
     /// No prefix of the input is a bundle of that width.
     #[error("BundleShort")]

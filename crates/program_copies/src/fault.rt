@@ -8,7 +8,7 @@ use program_reports::AskFault;
 use thiserror::Error;
 
 /// The reason why a copy gives no report, in the order of the steps. It prints as the name of the innermost variant.
-#[derive(Debug, Drop, PartialEq, Eq, Clone, Copy, Error)]
+#[derive(Debug, Drop, Clone, Copy, Error)]
 pub enum CopyAskFault {
     /// The copy could not be read.
     #[error(transparent)]

@@ -4,7 +4,7 @@ use program_files::NamedFault;
 use thiserror::Error;
 
 /// The reason why a run of `follow` ended early, in the order of its steps. It prints as the name of the innermost variant.
-#[derive(Debug, Drop, PartialEq, Eq, Clone, Copy, Error)]
+#[derive(Debug, Drop, Clone, Copy, Error)]
 pub enum FollowRunFault {
     /// The file of the given note was not read.
     #[error(transparent)]

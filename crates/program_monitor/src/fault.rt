@@ -9,7 +9,7 @@ use thiserror::Error;
 use tlog_tiles::Path;
 
 /// The reason why an audit printed no line. It prints as the name of the innermost variant, for example `FalseFile`.
-#[derive(Debug, Drop, PartialEq, Eq, Clone, Copy, Error)]
+#[derive(Debug, Drop, Clone, Copy, Error)]
 pub enum AuditRunFault {
     /// The log is not whole, or the audit could not continue. `NoFile` and `FalseFile` carry the path.
     #[error(transparent)]
@@ -21,7 +21,7 @@ pub enum AuditRunFault {
 
 /// The reason why some entries of a mirror were not written. It prints as its variant's name.
 /// For example, the entries up to 601 of a log of 600 are `NoSuchSize`.
-#[derive(Debug, Drop, PartialEq, Eq, Clone, Copy, Error)]
+#[derive(Debug, Drop, Clone, Copy, Error)]
 pub enum StateEntriesFault {
     /// No tree head is complete, so nothing is served.
     #[error("NothingComplete")]
@@ -43,7 +43,7 @@ pub enum StateEntriesFault {
 /// The reason why some entries of a copy were not written. It prints as its variant's name, or, for a checkpoint that does not open, as
 /// that of the innermost variant. A copy without `tile/entries/001` gives `CopyDamaged` with that path, after the entries before it are
 /// written.
-#[derive(Debug, Drop, PartialEq, Eq, Clone, Copy, Error)]
+#[derive(Debug, Drop, Clone, Copy, Error)]
 pub enum CopyEntriesFault {
     /// The folder has no checkpoint: the copy is empty.
     #[error("NothingComplete")]

@@ -8,7 +8,7 @@ use tlog_proof::ProofFault;
 
 /// Why there is no report. It prints the name of the innermost variant.
 /// For example, a proof for a size that is not served prints `NoSuchSize`.
-#[derive(Debug, Drop, PartialEq, Eq, Clone, Copy, Error)]
+#[derive(Debug, Drop, Clone, Copy, Error)]
 pub enum ReportFault {
     /// No head is complete, so no entries are served for a proof or a comparison.
     #[error("NothingComplete")]
@@ -46,7 +46,7 @@ impl From<ProofFault> for ReportFault {
 }
 
 /// Why no report is printed. It prints the name of the innermost variant.
-#[derive(Debug, Drop, PartialEq, Eq, Clone, Copy, Error)]
+#[derive(Debug, Drop, Clone, Copy, Error)]
 pub enum AskFault {
     /// The mirror gave no report.
     #[error(transparent)]

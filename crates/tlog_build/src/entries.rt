@@ -19,7 +19,7 @@ pub const MAX_READ_LEN: usize = usize::MAX;
 pub const MOST_READS: u64 = 16_777_216;
 
 /// Why no entries were read. For example, `00 02 61` ends within an entry of two bytes.
-#[derive(Debug, Drop, PartialEq, Eq, Clone, Copy, Error)]
+#[derive(Debug, Drop, Clone, Copy, Error)]
 pub enum EntriesFault {
     /// The input ends within an entry, or within its length.
     #[error("BundleShort")]

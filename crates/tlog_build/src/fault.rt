@@ -11,7 +11,7 @@ use tlog_mirror::NewFault;
 
 /// Why a log was not built. It prints the name of the innermost variant. For example, it prints `ShelfInUse` if the shelf
 /// has a checkpoint already.
-#[derive(Debug, Drop, PartialEq, Eq, Clone, Copy, Error)]
+#[derive(Debug, Drop, Clone, Copy, Error)]
 pub enum BuildFault {
     /// No mirror may have that origin: it is empty, has more than 65,535 bytes, or has a character below U+0020.
     #[error("BadOrigin")]
