@@ -32,7 +32,7 @@ returns-in_err-open g c =
       same = search (rules, one, kept);
       counted = search (rules, one, counted);
       honest = log_err {T = Reader} g.H.TreeHash.digest c.new-files.result.shelf.ghost_name (g.D.Shelf.puts c.new-files.result.shelf.now)
-          (g.D.Shelf.puts c.args.shelf.now) (ap g.D.Shelf.puts c.new-files.ensures.now) 
+          (g.D.Shelf.puts c.args.shelf.now) (ap g.D.Shelf.puts c.new-files.ensures.now)
           (λ entries reader. IsReaderOf g.H.TreeHash.digest entries reader) c.args.size c.args.root.now c.in_err-open.field-0.0
           c.from_residual.result c.from_residual.ensures c.in_err-open.ensures.honest;
     }

@@ -1,4 +1,4 @@
-use Rattle.std.proofs.Common.{rules, sym, ◌∙◌, refl}
+use Rattle.std.proofs.Common.{sym, ◌∙◌, refl}
 use Rattle.std.proofs.lemmas.Bool.{false≢true}
 use Rattle.log_reader.proofs.TrueBundles.{end_leaves}
 use Rattle.std.proofs.lemmas.Result.{IfOk-from_err}

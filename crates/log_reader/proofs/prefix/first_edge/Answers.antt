@@ -1,4 +1,4 @@
-use Rattle.std.proofs.Common.{◌≡◌, ◌<◌, ℕ, [], ap, get_or, length, refl, rules, subst, take, ◌∙◌, arith}
+use Rattle.std.proofs.Common.{◌≡◌, ◌<◌, ℕ, [], ap, get_or, length, refl, subst, take, ◌∙◌, arith}
 use Rattle.log_reader.specs.Holding.{IsEdgeRowOf}
 use Rattle.log_reader.specs.Ways.{IsShownPart}
 use Rattle.log_reader.proofs.Kept.{kept_once, kept_twice, stays_twice}

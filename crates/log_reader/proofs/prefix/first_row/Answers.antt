@@ -1,4 +1,4 @@
-use Rattle.std.proofs.Common.{◌≤◌, ◌∙◌, ap, arith, length, rules, subst, take, refl}
+use Rattle.std.proofs.Common.{◌≤◌, ◌∙◌, ap, arith, length, subst, take, refl}
 use Rattle.log_reader.specs.Holding.{true_row}
 use Rattle.log_reader.specs.Ways.{IsShownRow}
 use Rattle.log_reader.proofs.TruePrefixes.{start_is_true, start_within}

@@ -1,4 +1,4 @@
-use Rattle.std.proofs.Common.{◌≡◌, ◌+◌, ◌-◌, ◌*◌, ◌^◌, ◌<◌, ℕ, List, length, refl, subst, sym, ap, ◌∙◌, rules, arith}
+use Rattle.std.proofs.Common.{◌≡◌, ◌+◌, ◌-◌, ◌*◌, ◌^◌, ◌<◌, ℕ, List, length, refl, subst, sym, ap, ◌∙◌, arith}
 use Rattle.tlog_shape.specs.Edge.{edge_index_of, width_of}
 use Rattle.mirror_audit.specs.Covering.{CoversRow}
 use Rattle.mirror_audit.specs.Edges.{CoversLevels}

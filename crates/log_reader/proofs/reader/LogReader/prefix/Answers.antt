@@ -1,4 +1,4 @@
-use Rattle.std.proofs.Common.{◌≡◌, ◌<◌, ◌≤◌, ◌^◌, length, rules, subst, sym, ap, take, ◌∙◌, arith, refl}
+use Rattle.std.proofs.Common.{◌≡◌, ◌<◌, ◌≤◌, ◌^◌, length, subst, sym, ap, take, ◌∙◌, arith, refl}
 use Rattle.tlog_shape.specs.Edge.{edge_index_of}
 use Rattle.log_reader.specs.EdgeRows.{hash_of_edge}
 use Rattle.log_reader.proofs.TruePrefixes.{reader_made, size_first}
