@@ -32,7 +32,7 @@ pub struct ForkLine {
 }
 
 /// The result of a call of `follow`.
-#[derive(Debug, Drop, PartialEq, Eq)]
+#[derive(Drop, PartialEq, Eq)]
 pub struct Followed {
     /// The copy's number of entries.
     pub size: u64,

@@ -13,7 +13,7 @@ use tlog_text::read_number;
 use tlog_tiles::Path;
 
 /// A resource that a client may request from a mirror.
-#[derive(Debug, PartialEq, Eq, Clone, Copy)]
+#[derive(Clone, Copy)]
 pub enum Resource {
     /// `/` and a path: a file of the log.
     File(Path),
