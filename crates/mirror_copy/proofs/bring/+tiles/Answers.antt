@@ -426,11 +426,10 @@ bring_tile-returns-then-level-eq0-clause-once g t c =
 -- ---- a conflict puts nothing, and the faults of putting
 
 pub bring_row-returns-in_default-clause-early : goal.bring_row-returns-in_default-clause-early
-bring_row-returns-in_default-clause-early g t c =
-    (
-      edge_start c.args.tip.now.size c.args.level c.args.index (rw c.in_default.is at c.first_new.ensures.none),
-      kept_same (g.D.Shelf.puts c.args.shelf.now),
-    )
+bring_row-returns-in_default-clause-early g t c = (
+  edge_start c.args.tip.now.size c.args.level c.args.index (rw c.in_default.is at c.first_new.ensures.none),
+  kept_same (g.D.Shelf.puts c.args.shelf.now),
+)
 
 pub bring_tile-returns-in_err-found-clause-early : goal.bring_tile-returns-in_err-found-clause-early
 bring_tile-returns-in_err-found-clause-early g t c =

@@ -242,8 +242,7 @@ pub returns-then-is_none-clause-early : goal.returns-then-is_none-clause-early
 returns-then-is_none-clause-early g c =
     let none : IsNone c.first_new.result = search rules in
     let at : c.edge_index-index.result ≡ edge_index_of c.args.edge.now.size 0 =
-    c.edge_index-index.ensures ∙ ap (λ n. edge_index_of n 0) c.size.ensures in
-    (
+    c.edge_index-index.ensures ∙ ap (λ n. edge_index_of n 0) c.size.ensures in (
       edge_start c.args.tip.now.size 0 (edge_index_of c.args.edge.now.size 0)
           (sym at ∙ of_none c.first_new.result none c.first_new.ensures.none),
       kept_same (g.D.Shelf.puts c.args.shelf.now),
@@ -260,8 +259,7 @@ pub returns-then-not-goes_on-clause-early : goal.returns-then-not-goes_on-clause
 returns-then-not-goes_on-clause-early g c =
     let no : IsFalse c.goes_on.result = search rules in
     let at : c.edge_index-index.result ≡ edge_index_of c.args.edge.now.size 0 =
-    c.edge_index-index.ensures ∙ ap (λ n. edge_index_of n 0) c.size.ensures in
-    (
+    c.edge_index-index.ensures ∙ ap (λ n. edge_index_of n 0) c.size.ensures in (
       edge_start c.args.tip.now.size 0 (edge_index_of c.args.edge.now.size 0) (sym at ∙ c.goes_on.ensures.other no),
       c.find_edge_bundle.ensures.same,
     )
