@@ -35,7 +35,7 @@ pub fn status_report<H: TreeHash>(alloc: Global, mirror: &Mirror<H>) -> Result<R
 fn served_status<H: TreeHash>(mirror: &Mirror<H>) -> u8
     ensures { IsServedPrint H.digest mirror.now.view result }
 {
-    match mirror.top_ranges() {
+    match mirror.top() {
         Some(_) => 0,
         None => 3,
     }

@@ -2,8 +2,8 @@ use Rattle.std.proofs.Common.{sym, ◌∙◌}
 use Rattle.mirror_server.proofs.ServedProofs.{listed_by_top}
 use Rattle.mirror_server.proofs.body.proof_bytes.Goals as goal
 
-pub returns-in_ok-check_memory-in-Err-clause-none : goal.returns-in_ok-check_memory-in-Err-clause-none
-returns-in_ok-check_memory-in-Err-clause-none g c = λ bytes is.
+pub returns-clause-none : goal.returns-clause-none
+returns-clause-none g c = λ bytes is.
     let listed = listed_by_top g.H.TreeHash.digest c.args.mirror.now.view c.in-Some.top c.in-Some.ensures.some
     is.entries is.served in
     let err = c.in-Err.ensures.answer is.entries listed c.in_ok-check_memory-in-Err.ensures in
