@@ -145,7 +145,7 @@ fn named_parser<'a>(alloc: Global) -> Result<clap::Command<'a>, AllocError>
 {
     clap::Command::new(alloc, "tlogmirror")
         .override_help(PROGRAM)
-        .version("0.5.5")
+        .version("0.5.6")
         .bin_name("tlogmirror")
 }
 
