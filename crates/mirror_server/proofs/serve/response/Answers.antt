@@ -1,5 +1,3 @@
-use Rattle.std.proofs.Common.{List, ℕ}
-use Rattle.std.specs.Option.{option_map}
 use Rattle.mirror_server.specs.Response.{IsBody}
 use Rattle.mirror_server.proofs.Replying.{responds_to}
 use Rattle.mirror_server.proofs.serve.response.Goals as goal
