@@ -186,12 +186,6 @@ pub counts_shelf : (old new : ℕ) (e : ShelfError) → CountsError old new e �
 counts_shelf old new shelf.Failed h = h
 counts_shelf old new shelf.OutOfMemory h = h
 
-pub no_shelf_fault : (e : CandidateFault) → of_candidates e ≡ fault.ShelfFault → ⊥
-no_shelf_fault none.NoCheckpoint is = cc
-no_shelf_fault (none.Head h) is = cc
-no_shelf_fault none.Source is = cc
-no_shelf_fault none.OutOfMemory is = cc
-
 -- a fact of a turn that is the answer, if there is one
 pub if_same : {T E : Type 0} (P : T → Type 0) (r : Result T E) (t : T) → IfOk r (λ now. now ≡ t) → P t → IfOk r P
 if_same P (Ok now) t same h = subst P (sym same) h
