@@ -1,6 +1,5 @@
 //! Streams that give and take one byte for each call, are interrupted, and fail.
 mod scripted;
-mod timed;
 
 use crate::streams::scripted::Turn::{Failed, Interrupted, Pass};
 use crate::streams::scripted::{EndlessReader, ScriptedReader, ScriptedWriter, Turn};

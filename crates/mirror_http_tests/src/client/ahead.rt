@@ -32,22 +32,6 @@ fn assert_asked(rt: &impl Abort, server: &BundleServer, want: &[u64]) {
     }
 }
 
-#[test]
-fn hints_are_sent_at_once(rt: HostRuntime) -> Result<(), Fail> {
-    let server = BundleServer::new(rt.alloc())?;
-    let mut source = source_to(rt.alloc(), &server, 3)?;
-    source.expect(bundles_from(0));
-    assert_asked(&rt, &server, &[1, 1, 1, 0, 0]);
-    source.expect(bundles_from(0));
-    assert_asked(&rt, &server, &[1, 1, 1, 0, 0]);
-    let answer = assert_got(&rt, &mut source, 0);
-    source.expect(bundles_from(1));
-    assert_asked(&rt, &server, &[1, 1, 1, 1, 0]);
-    drop(source);
-    answer?;
-    Ok(())
-}
-
 // A request that was sent ahead stays open until a hint leaves it out.
 #[test]
 fn a_hint_replaces_the_one_before(rt: HostRuntime) -> Result<(), Fail> {
