@@ -21,7 +21,6 @@ pub mod WholeMoments
 pub mod PrunedMoments
 pub mod SameCopies
 pub mod Stays
-pub mod ShelfFaults
 pub mod Suffices
 pub mod Others
 pub mod TrueRows

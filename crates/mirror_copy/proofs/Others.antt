@@ -4,7 +4,6 @@ use Rattle.tlog_tiles.specs.declared.paths.Path.TheVariants.{Checkpoint}
 use Rattle.mirror_sources.specs.Recorded.{KeepsRecord}
 use Rattle.mirror_folders.specs.Shelf.{Put, RecordsRead}
 use Rattle.mirror_copy.specs.AskedForCopy.{IsInUse}
-use Rattle.mirror_copy.specs.Conflicts.{IsNoConflict}
 use Rattle.mirror_copy.specs.Faults.{BlamesFrom, BlamesPlaces, BlamesRun, IsOfNoPlace, IsOtherFound, IsOtherThen}
 use Rattle.mirror_copy.specs.Found.{IsTipRead}
 use Rattle.mirror_copy.specs.Growing.{IsCutShort, IsKnown, Tip}
@@ -30,17 +29,6 @@ of_no_place places CopyInUse h = absurd h
 of_no_place places ShelfFault h = tt
 of_no_place places OutOfMemory h = tt
 
--- the same for an answer
-pub blames_answer : {T S : Type 0} (places : Places S) (r : Result T BringFault) → IfErr r IsOfNoPlace →
-    IfErr r (BlamesPlaces places)
-blames_answer places (Ok x) h = tt
-blames_answer places (Err e) h = of_no_place places e h
-
--- an answer without a conflict, under a premise
-pub empty_answer : {T : Type 0} (P : Type 0) (r : Result T BringFault) → IfErr r IsNoConflict → IfErr r (λ e. P → IsNoConflict e)
-empty_answer P (Ok x) h = tt
-empty_answer P (Err e) h = λ known. h
-
 module _ (digest : List ℕ → List ℕ) {S : Type 0} (places : Places S) (tip : Tip) where
   -- a fault of the last step, after only new files were put
   pub last_blames : (x w : Option (List Put)) {T : Type 0} (r : Result T BringFault) →
@@ -64,13 +52,6 @@ module _ (digest : List ℕ → List ℕ) {S : Type 0} (places : Places S) (tip 
   later_blames x y (Ok a) kept h = tt
   later_blames x y (Err e) kept (inl h) = inl (h.0, then_kept x y kept h.1)
   later_blames x y (Err e) kept (inr h) = inr h
-
-  -- a fault of the only step of a call to a checkpoint without entries
-  pub empty_blames : (n : ℕ) (x : Option (List Put)) {T : Type 0} (r : Result T BringFault) →
-      IfErr r (λ e. ((e ≡ CopyInUse) × IsOtherThen digest tip x) ⊎ IsOfNoPlace e) → IfErr r (BlamesFrom digest places n tip x)
-  empty_blames n x (Ok a) h = tt
-  empty_blames n x (Err e) (inl h) = inr (inl h)
-  empty_blames n x (Err e) (inr h) = inr (inr (of_no_place places e h))
 
 -- the last step of a call to a checkpoint without entries
 pub last_empty : (digest : List ℕ → List ℕ) (tip : Tip) (x w : Option (List Put)) {T : Type 0} (r : Result T BringFault) →

@@ -1,6 +1,5 @@
 -- Reads of a shelf, before and after calls that put nothing.
-use Rattle.std.proofs.Common.{◌≡◌, ℕ, List, length, Option, Some, None, inl, inr, sym, subst, ◌∙◌, Vec, Global}
-use Rattle.std.specs.Prelude.{IfSome, option_map}
+use Rattle.std.proofs.Common.{◌≡◌, ℕ, List, length, Option, Some, None, inl, inr, sym, subst, ◌∙◌}
 use Rattle.tlog_tiles.specs.declared.paths.Path.{Path}
 use Rattle.mirror_sources.specs.Recorded.{KeepsRecord}
 use Rattle.mirror_folders.specs.Shelf.{Put, Stands, HasPut, RecordsRead}
@@ -87,12 +86,6 @@ pub part_weaker : (take also : Path → List ℕ → Type 0) → ((path : Path) 
     (path : Path) (bytes : List ℕ) → PartOf take path bytes → PartOf also path bytes
 part_weaker take also f path bytes (inl h) = inl (f path bytes h)
 part_weaker take also f path bytes (inr h) = inr (h.0, f (full_of path) h.0 h.1, h.2)
-
--- bytes that were given may be taken, if what was given may be
-pub given_taken : (take : Path → List ℕ → Type 0) (path : Path) (given : Option (Vec ℕ Global)) (bytes : List ℕ) →
-    option_map (λ v. v.items) given ≡ Some bytes → IfSome given (λ v. PartOf take path v.items) → PartOf take path bytes
-given_taken take path None bytes is taken = cc
-given_taken take path (Some v) bytes is taken = let same : v.items ≡ bytes = cc in subst (λ b. PartOf take path b) same taken
 
 -- the bytes that were read were put there, or a longer file that was put begins with them
 pub part_put : (x : Option (List Put)) (path : Path) (bytes : List ℕ) → RecordsRead x path (Some bytes) → PartOf (WasPut x) path bytes

@@ -8,7 +8,7 @@ use Rattle.tlog_tiles.specs.declared.paths.Path.{Path}
 use Rattle.tlog_tiles.specs.declared.paths.Path.TheVariants.{Checkpoint}
 use Rattle.mirror_model.specs.Heads.{IsHead}
 use Rattle.mirror_model.proofs.HeadNotes.{head_once}
-use Rattle.mirror_folders.specs.Shelf.{CountsError, Put, RecordsRead}
+use Rattle.mirror_folders.specs.Shelf.{Put, RecordsRead}
 use Rattle.mirror_folders.specs.declared.shelf.ShelfError.{ShelfError}
 use Rattle.mirror_folders.specs.declared.shelf.ShelfError.TheVariants as shelf
 use Rattle.mirror_copy.proofs.PrunedFiles.{copies_are_pruned}
@@ -181,15 +181,6 @@ module _ (digest : List ℕ → List ℕ) where
 pub ends_shelf : (A B : Type 0) (e : ShelfError) → EndsRun A B (by_shelf e)
 ends_shelf A B shelf.Failed = tt
 ends_shelf A B shelf.OutOfMemory = tt
-
-pub counts_shelf : (old new : ℕ) (e : ShelfError) → CountsError old new e → CountsFollowFault old new (by_shelf e)
-counts_shelf old new shelf.Failed h = h
-counts_shelf old new shelf.OutOfMemory h = h
-
--- a fact of a turn that is the answer, if there is one
-pub if_same : {T E : Type 0} (P : T → Type 0) (r : Result T E) (t : T) → IfOk r (λ now. now ≡ t) → P t → IfOk r P
-if_same P (Ok now) t same h = subst P (sym same) h
-if_same P (Err e) t same h = tt
 
 -- a call that ends by CopyDamaged states that its shelf has no copy
 pub brought_damaged : (digest : List ℕ → List ℕ) (origin : List ℕ) (x : Option (List Put)) (e : BringFault) →

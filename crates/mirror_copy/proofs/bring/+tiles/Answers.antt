@@ -4,11 +4,10 @@ use Rattle.std.proofs.lemmas.Result.{err_from_is_err_and}
 use Rattle.tlog_tiles.specs.Row.{IsRow}
 use Rattle.tlog_tiles.specs.declared.paths.Path.TheVariants.{Tile, Entries}
 use Rattle.mirror_copy.specs.Standing.{RecordsStands}
-use Rattle.mirror_copy.specs.Growing.{IsKnown, IsRowBrought}
+use Rattle.mirror_copy.specs.Growing.{IsRowBrought}
 use Rattle.mirror_copy.proofs.Growth.{left_none, left_then, brings_ok, kept_same}
 use Rattle.mirror_sources.specs.Recorded.{KeepsRecord}
-use Rattle.mirror_copy.proofs.Earlier.{early_later, early_other, early_result, edge_start}
-use Rattle.mirror_copy.proofs.Others.{blames_answer, empty_answer}
+use Rattle.mirror_copy.proofs.Earlier.{early_later}
 use Rattle.mirror_copy.proofs.Asking.{asks_same, asks_then, asks_weaker}
 use Rattle.mirror_copy.specs.Suffices.{IsTileHash, IsTileRow}
 use Rattle.mirror_copy.specs.Taken.{MayTake}
@@ -422,38 +421,3 @@ bring_tile-returns-then-level-eq0-clause-once g t c =
     once_weaker g.S.Source.asked (λ k p. p ≡ Entries c.args.index 256) (λ k. IsFullBetween (c.args.level + 1) (c.args.index * 256 ^ (c.args.level + 1)) ((c.args.index + 1) * 256 ^ (c.args.level + 1)))
     (λ k path is. bundle_between c.args.level c.args.index zero path is) c.args.places.now c.bring_bundle.new.places
     c.bring_bundle.ensures.once
-
--- ---- a conflict puts nothing, and the faults of putting
-
-pub bring_row-returns-in_default-clause-early : goal.bring_row-returns-in_default-clause-early
-bring_row-returns-in_default-clause-early g t c = (
-  edge_start c.args.tip.now.size c.args.level c.args.index (rw c.in_default.is at c.first_new.ensures.none),
-  kept_same (g.D.Shelf.puts c.args.shelf.now),
-)
-
-pub bring_tile-returns-in_err-found-clause-early : goal.bring_tile-returns-in_err-found-clause-early
-bring_tile-returns-in_err-found-clause-early g t c =
-    let p = err_from_is_err_and c.from_residual.result c.from_residual.ensures.1 in
-    rw (p.1, p.2) (early_other (Unit {0}) (c.args.index * 256 ^ (c.args.level + 1)) c.args.tip.now.size
-    (g.D.Shelf.puts c.args.shelf.now) (g.D.Shelf.puts c.find.new.shelf) c.in_err-found.field-0.0 c.in_err-found.ensures.fault)
-
-pub bring_tile-returns-in_err-bring_row-clause-early : goal.bring_tile-returns-in_err-bring_row-clause-early
-bring_tile-returns-in_err-bring_row-clause-early g t c =
-    let p = err_from_is_err_and c.from_residual-in_err-bring_row.result c.from_residual-in_err-bring_row.ensures.1 in
-    let start = c.args.index * 256 ^ (c.args.level + 1) in
-    rw (p.1, p.2) (early_later (Unit {0}) (Unit {0}) start start c.args.tip.now.size (g.D.Shelf.puts c.args.shelf.now)
-    (g.D.Shelf.puts c.find.new.shelf) (g.D.Shelf.puts c.bring_row.new.shelf) c.in_err-bring_row.field-0.0
-    (λ within. (within, c.find.ensures.same)) c.in_err-bring_row.ensures.early)
-
-pub bring_tile-returns-clause-early : goal.bring_tile-returns-clause-early
-bring_tile-returns-clause-early g t c =
-    early_result (c.args.index * 256 ^ (c.args.level + 1)) c.args.tip.now.size (g.D.Shelf.puts c.args.shelf.now)
-    (g.D.Shelf.puts c.keep.new.shelf) c.keep.result c.keep.ensures.fault
-
-pub bring_tile-returns-clause-blames : goal.bring_tile-returns-clause-blames
-bring_tile-returns-clause-blames g t c =
-    blames_answer c.bring_row.new.places c.keep.result c.keep.ensures.places
-
-pub bring_tile-returns-clause-empty : goal.bring_tile-returns-clause-empty
-bring_tile-returns-clause-empty g t c =
-    empty_answer (IsKnown g.H.TreeHash.digest c.args.tip.now 0 []) c.keep.result c.keep.ensures.fault

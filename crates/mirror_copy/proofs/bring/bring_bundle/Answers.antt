@@ -1,4 +1,4 @@
-use Rattle.std.proofs.Common.{rules, ◌≡◌, ◌*◌, ◌⊎◌, inl, inr, ◌∷◌, [], ℕ, List, IsFalse, length, take, subst, refl, sym, ap, ◌∙◌, arith}
+use Rattle.std.proofs.Common.{rules, ◌≡◌, ◌⊎◌, inl, inr, ◌∷◌, [], ℕ, List, IsFalse, length, take, subst, refl, sym, ap, ◌∙◌, arith}
 use Rattle.std.proofs.lemmas.Result.{err_from_is_err_and}
 use Rattle.tlog_shape.specs.Edge.{edge_index_of}
 use Rattle.tlog_tiles.specs.Row.{row_text}
@@ -15,9 +15,6 @@ use Rattle.mirror_copy.proofs.TipTruth.{bundle_begins, row_begins}
 use Rattle.mirror_copy.proofs.NewFulls.{bundle_asked}
 use Rattle.mirror_copy.proofs.Growth.{left_none, brings_ok}
 use Rattle.mirror_copy.proofs.Bundles.{bundle_left, bundle_brought, tile_left}
-use Rattle.mirror_copy.proofs.Earlier.{early_other, early_result, edge_start}
-use Rattle.mirror_copy.proofs.Others.{blames_answer, empty_answer, of_no_place}
-use Rattle.mirror_copy.specs.Growing.{IsKnown}
 use Rattle.mirror_copy.proofs.EmptyTips.{bundle_after, row_after}
 use Rattle.mirror_copy.proofs.bring.bring_bundle.Goals as goal
 
@@ -227,46 +224,3 @@ pub returns-then-not-goes_on-clause-empty : goal.returns-then-not-goes_on-clause
 returns-then-not-goes_on-clause-empty g c = λ k.
     let no : IsFalse c.goes_on.result = search rules in
     bundle_after g.H.TreeHash.digest c.args.tip.now k c.deref-2.result.now ⊥ (c.goes_on.ensures.differs no)
-
--- ---- a conflict puts nothing
-
-pub returns-in_err-found-clause-early : goal.returns-in_err-found-clause-early
-returns-in_err-found-clause-early g c =
-    let p = err_from_is_err_and c.from_residual.result c.from_residual.ensures.1 in
-    rw (p.1, p.2) (early_other (Unit {0}) (c.args.index * 256) c.args.tip.now.size (g.D.Shelf.puts c.args.shelf.now)
-    (g.D.Shelf.puts c.find.new.shelf) c.in_err-found.field-0.0 c.in_err-found.ensures.fault)
-
-pub returns-in_default-clause-early : goal.returns-in_default-clause-early
-returns-in_default-clause-early g c =
-    (edge_start c.args.tip.now.size 0 c.args.index (rw c.in_default.is at c.first_new.ensures.none), c.find.ensures.same)
-
-pub returns-then-not-goes_on-clause-early : goal.returns-then-not-goes_on-clause-early
-returns-then-not-goes_on-clause-early g c =
-    let no : IsFalse c.goes_on.result = search rules in
-    (edge_start c.args.tip.now.size 0 c.args.index (c.goes_on.ensures.other no), c.find.ensures.same)
-
-pub returns-in_err-keep-clause-early : goal.returns-in_err-keep-clause-early
-returns-in_err-keep-clause-early g c =
-    let p = err_from_is_err_and c.from_residual-in_err-keep.result c.from_residual-in_err-keep.ensures.1 in
-    rw (p.1, p.2) (early_other (Unit {0}) (c.args.index * 256) c.args.tip.now.size (g.D.Shelf.puts c.args.shelf.now)
-    (g.D.Shelf.puts c.keep.new.shelf) c.in_err-keep.field-0.0 c.in_err-keep.ensures.fault)
-
-pub returns-clause-early : goal.returns-clause-early
-returns-clause-early g c =
-    early_result (c.args.index * 256) c.args.tip.now.size (g.D.Shelf.puts c.args.shelf.now)
-    (g.D.Shelf.puts c.keep-2.new.shelf) c.keep-2.result c.keep-2.ensures.fault
-
--- ---- the faults of putting
-
-pub returns-in_err-keep-clause-blames : goal.returns-in_err-keep-clause-blames
-returns-in_err-keep-clause-blames g c =
-    let p = err_from_is_err_and c.from_residual-in_err-keep.result c.from_residual-in_err-keep.ensures.1 in
-    rw (p.1, p.2) (of_no_place c.find.new.places c.in_err-keep.field-0.0 c.in_err-keep.ensures.places)
-
-pub returns-clause-blames : goal.returns-clause-blames
-returns-clause-blames g c =
-    blames_answer c.find.new.places c.keep-2.result c.keep-2.ensures.places
-
-pub returns-clause-empty : goal.returns-clause-empty
-returns-clause-empty g c =
-    empty_answer (IsKnown g.H.TreeHash.digest c.args.tip.now 0 []) c.keep-2.result c.keep-2.ensures.fault

@@ -13,8 +13,7 @@ use Rattle.mirror_copy.proofs.Stays.{stays_same}
 use Rattle.mirror_copy.specs.declared.fault.BringFault.TheVariants.{BadCheckpoint}
 use Rattle.mirror_copy.proofs.PrunedMoments.{had_pruned, leaves_err, leaves_ok, leaves_same}
 use Rattle.mirror_copy.proofs.WholeMoments.{had_size, whole_same}
-use Rattle.mirror_copy.proofs.Earlier.{kept_then, no_conflict}
-use Rattle.mirror_copy.specs.Faults.{CountsFault}
+use Rattle.mirror_copy.proofs.Earlier.{no_conflict}
 use Rattle.mirror_copy.proofs.EmptyTips.{has_conflict}
 use Rattle.mirror_copy.proofs.AskingOnce.{begun_once, once_begun}
 use Rattle.std.specs.Prelude.{⊤}
@@ -264,32 +263,3 @@ returns-in_err-done-clause-ends g c =
       had_is = had;
       is_head = rw c.in-Some.is at c.in_ok-head.ensures.found;
     }))
-
-pub returns-in_err-done-clause-counted : goal.returns-in_err-done-clause-counted
-returns-in_err-done-clause-counted g c =
-    let p = err_from_is_err_and c.from_residual-in_err-done.result c.from_residual-in_err-done.ensures.1 in
-    rw (p.1, p.2) (subst (λ n. CountsFault n (g.D.Shelf.failed c.bring_from-done.new.shelf) c.in_err-done.field-0.0)
-    c.in_ok-tip.ensures.counted c.in_err-done.ensures.counted)
-
-pub returns-in_err-done-clause-conflict : goal.returns-in_err-done-clause-conflict
-returns-in_err-done-clause-conflict g c =
-    let p = err_from_is_err_and c.from_residual-in_err-done.result c.from_residual-in_err-done.ensures.1 in
-    rw (p.1, p.2) (λ conflict. kept_then (g.D.Shelf.puts c.args.shelf.now) (g.D.Shelf.puts c.read_tip.new.shelf)
-    (g.D.Shelf.puts c.bring_from-done.new.shelf) c.read_tip.ensures.same (c.in_err-done.ensures.conflict conflict))
-
-pub returns-in_err-done-clause-whole : goal.returns-in_err-done-clause-whole
-returns-in_err-done-clause-whole g c =
-    (c.in_err-done.ensures.brings (g.D.Shelf.puts c.args.shelf.now) c.read_tip.ensures.same c.in_ok-tip.ensures.tip).0
-
-pub returns-clause-whole : goal.returns-clause-whole
-returns-clause-whole g c =
-    (c.in_ok-done.ensures.brings (g.D.Shelf.puts c.args.shelf.now) c.read_tip.ensures.same c.in_ok-tip.ensures.tip).0
-
-pub returns-in_err-done-clause-stays : goal.returns-in_err-done-clause-stays
-returns-in_err-done-clause-stays g c =
-    let p = err_from_is_err_and c.from_residual-in_err-done.result c.from_residual-in_err-done.ensures.1 in
-    rw p.1 (c.in_err-done.ensures.brings (g.D.Shelf.puts c.args.shelf.now) c.read_tip.ensures.same c.in_ok-tip.ensures.tip).2
-
-pub returns-clause-brought : goal.returns-clause-brought
-returns-clause-brought g c =
-    (c.in_ok-done.ensures.brings (g.D.Shelf.puts c.args.shelf.now) c.read_tip.ensures.same c.in_ok-tip.ensures.tip).1

@@ -1,10 +1,8 @@
 use Rattle.mirror_copy.specs.Asked.{MayBeAsked}
-use Rattle.std.proofs.Common.{◌≡◌, take, inr, ap, ◌∙◌, arith}
-use Rattle.mirror_copy.specs.Faults.{BlamesFrom, BlamesRun}
+use Rattle.std.proofs.Common.{◌≡◌, take, ap, ◌∙◌, arith}
 use Rattle.tlog_hash.specs.Tree.{mth}
 use Rattle.mirror_copy.proofs.Spared.{err_weaker}
 use Rattle.mirror_copy.proofs.Asking.{asks_same}
-use Rattle.mirror_copy.proofs.Others.{empty_blames}
 use Rattle.mirror_copy.proofs.Stays.{stays_same}
 use Rattle.mirror_copy.specs.declared.fault.BringFault.TheVariants.{NotLarger}
 use Rattle.mirror_copy.proofs.PrunedMoments.{leaves_same}
@@ -53,17 +51,3 @@ returns-then-is_none-clause-once g c =
 pub returns-clause-once : goal.returns-clause-once
 returns-clause-once g c =
     once_same g.S.Source.asked (λ k path. ⊤) c.args.places.now
-
-pub returns-then-is_none-clause-blames : goal.returns-then-is_none-clause-blames
-returns-then-is_none-clause-blames g c =
-    empty_blames g.H.TreeHash.digest c.args.places.now c.args.tip.now c.args.candidate.now.size (g.D.Shelf.puts c.args.shelf.now)
-    c.put_empty.result c.put_empty.ensures.blames
-
-pub returns-then-size-candidate-clause-blames : goal.returns-then-size-candidate-clause-blames
-returns-then-size-candidate-clause-blames g c =
-    let digest = g.H.TreeHash.digest in
-    let tip = c.args.tip.now in
-    let x = g.D.Shelf.puts c.args.shelf.now in
-    let places = c.bring_larger.new.places in
-    err_weaker c.bring_larger.result (BlamesRun digest places tip x) (BlamesFrom digest places c.args.candidate.now.size tip x)
-    (λ e h. inr h) c.bring_larger.ensures.blames

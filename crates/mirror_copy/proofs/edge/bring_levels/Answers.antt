@@ -11,7 +11,7 @@ use Rattle.mirror_copy.specs.Growing.{IsKnown, IsRowBrought}
 use Rattle.log_reader.specs.EdgeRows.{row_at}
 use Rattle.mirror_copy.specs.Edges.{IsEdgeBrought}
 use Rattle.mirror_copy.proofs.EdgeRows.{edge_first, edge_known, edge_left, edge_step, floor_mono, row_beyond, row_end, row_fits}
-use Rattle.mirror_copy.proofs.Earlier.{early_later, kept_then}
+use Rattle.mirror_copy.proofs.Earlier.{kept_then}
 use Rattle.mirror_copy.proofs.AskingOnce.{once_same}
 use Rattle.mirror_copy.proofs.Between.{once_longer, once_row}
 use Rattle.mirror_copy.specs.AskedOnce.{AsksOnce, IsFullBetween}
@@ -205,20 +205,3 @@ returns-clause-once g c =
     let l = 7 - c.loop-done.done + 1 in
     once_longer g.S.Source.asked 7 0 (c.args.edge.now.size / 256 ^ l * 256 ^ l) c.args.edge.now.size
     (div-mul-le_self c.args.edge.now.size (256 ^ l)) c.args.places.now c.loop-done.places c.loop-done.invariant.once
-
-pub returns-in_err-bring_row-clause-early : goal.returns-in_err-bring_row-clause-early
-returns-in_err-bring_row-clause-early g c =
-    let p = err_from_is_err_and c.from_residual.result c.from_residual.ensures.1 in
-    let level = 7 - c.loop-done.done in
-    let n = c.args.edge.now.size in
-    let m = c.args.tip.now.size in
-    let at : c.edge_index-index.result ≡ edge_index_of n level =
-    c.edge_index-index.ensures ∙ ap (λ k. edge_index_of k level) c.size.ensures in
-    let same : level ≡ 8 - c.loop-done.done - 1 = omega arith in
-    rw (p.1, p.2) (early_later (Unit {0}) (Unit {0}) 0 (c.edge_index-index.result * 256 ^ (level + 1)) m
-    (g.D.Shelf.puts c.args.shelf.now) (g.D.Shelf.puts c.loop-done.shelf) (g.D.Shelf.puts c.bring_row.new.shelf)
-    c.in_err-bring_row.field-0.0 (λ within. (
-      omega arith,
-      c.loop-done.invariant.early (subst (λ l. edge_index_of n l * 256 ^ (l + 1) ≤ m) same
-          (subst (λ k. k * 256 ^ (level + 1) ≤ m) at within)),
-    )) c.in_err-bring_row.ensures.early)

@@ -18,9 +18,6 @@ use Rattle.mirror_copy.proofs.Asking.{asks_same, asks_weaker}
 use Rattle.mirror_copy.proofs.NewFulls.{edge_bundle_asked}
 use Rattle.mirror_copy.proofs.Growth.{kept_same, left_none}
 use Rattle.mirror_copy.proofs.Finishing.{brings_last, last_left, last_none, last_some}
-use Rattle.mirror_copy.specs.Growing.{IsKnown}
-use Rattle.mirror_copy.proofs.Earlier.{early_other, early_result, edge_start}
-use Rattle.mirror_copy.proofs.Others.{blames_answer, empty_answer}
 use Rattle.mirror_copy.proofs.EmptyTips.{bundle_after, row_after}
 use Rattle.mirror_copy.proofs.AskingOnce.{once_same, once_weaker}
 use Rattle.mirror_copy.proofs.Between.{bundle_partial}
@@ -235,44 +232,3 @@ returns-clause-once g c =
     (λ k. edge_bundle_asked c.args.edge.now.size c.edge_index-index.result (length c.row-row.result.now) at wide some)
     c.args.places.now c.find_edge_bundle.new.places (c.find_edge_bundle.ensures.once
     (bundle_partial c.edge_index-index.result (length c.row-row.result.now) c.args.edge.now.size wide))
-
--- ---- a conflict puts nothing, and the faults of putting
-
-pub returns-then-is_none-clause-early : goal.returns-then-is_none-clause-early
-returns-then-is_none-clause-early g c =
-    let none : IsNone c.first_new.result = search rules in
-    let at : c.edge_index-index.result ≡ edge_index_of c.args.edge.now.size 0 =
-    c.edge_index-index.ensures ∙ ap (λ n. edge_index_of n 0) c.size.ensures in (
-      edge_start c.args.tip.now.size 0 (edge_index_of c.args.edge.now.size 0)
-          (sym at ∙ of_none c.first_new.result none c.first_new.ensures.none),
-      kept_same (g.D.Shelf.puts c.args.shelf.now),
-    )
-
-pub returns-in_err-bytes-clause-early : goal.returns-in_err-bytes-clause-early
-returns-in_err-bytes-clause-early g c =
-    let p = err_from_is_err_and c.from_residual.result c.from_residual.ensures.1 in
-    rw (p.1, p.2) (early_other (Unit {0}) (edge_index_of c.args.edge.now.size 0 * 256) c.args.tip.now.size
-    (g.D.Shelf.puts c.args.shelf.now) (g.D.Shelf.puts c.find_edge_bundle.new.shelf) c.in_err-bytes.field-0.0
-    c.in_err-bytes.ensures.fault)
-
-pub returns-then-not-goes_on-clause-early : goal.returns-then-not-goes_on-clause-early
-returns-then-not-goes_on-clause-early g c =
-    let no : IsFalse c.goes_on.result = search rules in
-    let at : c.edge_index-index.result ≡ edge_index_of c.args.edge.now.size 0 =
-    c.edge_index-index.ensures ∙ ap (λ n. edge_index_of n 0) c.size.ensures in (
-      edge_start c.args.tip.now.size 0 (edge_index_of c.args.edge.now.size 0) (sym at ∙ c.goes_on.ensures.other no),
-      c.find_edge_bundle.ensures.same,
-    )
-
-pub returns-clause-early : goal.returns-clause-early
-returns-clause-early g c =
-    early_result (edge_index_of c.args.edge.now.size 0 * 256) c.args.tip.now.size (g.D.Shelf.puts c.args.shelf.now)
-    (g.D.Shelf.puts c.keep.new.shelf) c.keep.result c.keep.ensures.fault
-
-pub returns-clause-blames : goal.returns-clause-blames
-returns-clause-blames g c =
-    blames_answer c.find_edge_bundle.new.places c.keep.result c.keep.ensures.places
-
-pub returns-clause-empty : goal.returns-clause-empty
-returns-clause-empty g c =
-    empty_answer (IsKnown g.H.TreeHash.digest c.args.tip.now 0 []) c.keep.result c.keep.ensures.fault

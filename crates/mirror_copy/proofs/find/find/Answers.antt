@@ -1,5 +1,4 @@
 use Rattle.std.proofs.Common.{◌≡◌, inl, inr, ℕ, List, subst, sym}
-use Rattle.std.proofs.lemmas.Result.{err_from_is_err_and}
 use Rattle.tlog_tiles.specs.declared.paths.Path.{Path}
 use Rattle.mirror_copy.specs.Faults.{CountsFault}
 use Rattle.mirror_copy.specs.Taken.{WasPut}
@@ -7,9 +6,6 @@ use Rattle.mirror_copy.proofs.Asking.{asks_noted, asks_same, noted_asks}
 use Rattle.mirror_copy.proofs.OnePlace.{given_before, place_between, put_read}
 use Rattle.mirror_copy.proofs.Suffices.{lacks_none}
 use Rattle.mirror_copy.proofs.AskingOnce.{noted_once, once_noted}
-use Rattle.mirror_copy.proofs.Others.{of_no_place}
-use Rattle.mirror_copy.proofs.ShelfFaults.{shelf_conflict, shelf_counts, shelf_place}
-use Rattle.mirror_copy.proofs.Spared.{no_lack}
 use Rattle.mirror_copy.proofs.find.find.Goals as goal
 
 pub returns-in-None-clause-counted : goal.returns-in-None-clause-counted
@@ -86,24 +82,3 @@ returns-in-Some-3-clause-taken g c =
     inr (given_before g.S.Source.may_answer g.S.Source.failed g.S.Source.asked (λ p. ⊥) c.args.places.now
     c.expect_from.new.places c.args.path.now c.in-Some-3.found.bytes.items c.expect_from.ensures
     (rw c.in-Some-3.is at c.in_ok-found-2.ensures.given))
-
-pub returns-in_err-bytes-clause-fault : goal.returns-in_err-bytes-clause-fault
-returns-in_err-bytes-clause-fault g c =
-    let p = err_from_is_err_and c.from_residual.result c.from_residual.ensures.1 in
-    rw (p.1, p.2) (shelf_conflict c.in_err-bytes.field-0.0)
-
-pub returns-in_err-bytes-clause-counted : goal.returns-in_err-bytes-clause-counted
-returns-in_err-bytes-clause-counted g c =
-    let p = err_from_is_err_and c.from_residual.result c.from_residual.ensures.1 in
-    rw (p.1, p.2) (shelf_counts (g.D.Shelf.failed c.args.shelf.now) (g.D.Shelf.failed c.read.new.self)
-    c.in_err-bytes.field-0.0 c.in_err-bytes.ensures.counted)
-
-pub returns-in_err-bytes-clause-blames : goal.returns-in_err-bytes-clause-blames
-returns-in_err-bytes-clause-blames g c =
-    let p = err_from_is_err_and c.from_residual.result c.from_residual.ensures.1 in
-    rw (p.1, p.2) (of_no_place c.args.places.now _ (shelf_place c.in_err-bytes.field-0.0))
-
-pub returns-in_err-bytes-clause-suffices : goal.returns-in_err-bytes-clause-suffices
-returns-in_err-bytes-clause-suffices g c =
-    let p = err_from_is_err_and c.from_residual.result c.from_residual.ensures.1 in
-    rw (p.1, p.2) (λ entries short is t. no_lack _ (shelf_place c.in_err-bytes.field-0.0))

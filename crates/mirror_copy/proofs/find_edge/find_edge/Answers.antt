@@ -1,10 +1,9 @@
-use Rattle.std.proofs.Common.{inl, inr, subst}
+use Rattle.std.proofs.Common.{inr, subst}
 use Rattle.mirror_copy.specs.Asked.{IsEdgeTile}
 use Rattle.mirror_copy.specs.Faults.{CountsFault}
 use Rattle.mirror_copy.proofs.Asking.{asks_noted}
-use Rattle.mirror_copy.specs.Taken.{MayGive, MayTake, WasPut}
-use Rattle.mirror_copy.proofs.TrueEdges.{edge_put, edge_weaker}
-use Rattle.mirror_copy.proofs.Suffices.{place_noted}
+use Rattle.mirror_copy.specs.Taken.{MayGive, MayTake}
+use Rattle.mirror_copy.proofs.TrueEdges.{edge_weaker}
 use Rattle.mirror_copy.proofs.AskingOnce.{once_noted}
 use Rattle.mirror_copy.proofs.find_edge.find_edge.Goals as goal
 
@@ -29,16 +28,3 @@ pub returns-in-None-clause-once : goal.returns-in-None-clause-once
 returns-in-None-clause-once g c =
     once_noted g.S.Source.asked g.S.Source.may_answer g.S.Source.failed (λ k. IsEdgeTile c.args.size) c.args.places.now
     c.edge_at_places.new.places c.lacks.new.self c.edge_at_places.ensures.once c.lacks.ensures.asks
-
-pub returns-in-Some-clause-taken : goal.returns-in-Some-clause-taken
-returns-in-Some-clause-taken g c =
-    let puts = g.D.Shelf.puts c.args.shelf.now in
-    let edge = c.in-Some.edge in
-    edge_weaker (WasPut puts) (MayTake g.S.Source.may_answer c.args.places.now puts) (λ path bytes put. inl put) c.args.size edge
-    (edge_put puts c.args.size edge (rw c.in-Some.is at c.in_ok-edge.ensures.read))
-
-pub returns-in-None-clause-suffices : goal.returns-in-None-clause-suffices
-returns-in-None-clause-suffices g c = λ entries is t.
-    absurd ((rw c.in-None.is at c.in_ok-edge-2.ensures.honest) entries is
-    (place_noted g.H.TreeHash.digest entries g.S.Source.may_answer c.args.places.now c.edge_at_places.new.places
-    c.lacks.new.self c.lacks.ensures.list t))

@@ -2,7 +2,6 @@ use Rattle.std.proofs.Common.{ℕ, List, [], get_or, sym, subst, ◌∙◌, arit
 use Rattle.mirror_copy.specs.Found.{IsRowRead}
 use Rattle.mirror_copy.proofs.Earlier.{kept_then}
 use Rattle.log_reader.proofs.RowLists.{count_more, rows_more}
-use Rattle.mirror_copy.proofs.Damages.{row_wrong_before}
 use Rattle.mirror_copy.proofs.ShelfReads.{row_before}
 use Rattle.mirror_copy.proofs.find_edge.rows_on_shelf.Goals as goal
 
@@ -31,26 +30,3 @@ returns-clause-edge g c = record {
       subst (λ (rs : List (List (List ℕ))). IsRowRead (g.D.Shelf.puts c.args.shelf.now) c.args.size level (get_or rs level []))
       (sym c.new.ensures.rows) (c.loop-level.invariant.rows level (omega arith));
 }
-
-pub returns-in_err-row-clause-same : goal.returns-in_err-row-clause-same
-returns-in_err-row-clause-same g c =
-    kept_then (g.D.Shelf.puts c.args.shelf.now) (g.D.Shelf.puts c.loop-level.shelf) (g.D.Shelf.puts c.row_on_shelf.new.shelf)
-    c.loop-level.invariant.same c.row_on_shelf.ensures.same
-
-pub returns-in-None-clause-same : goal.returns-in-None-clause-same
-returns-in-None-clause-same g c =
-    kept_then (g.D.Shelf.puts c.args.shelf.now) (g.D.Shelf.puts c.loop-level.shelf) (g.D.Shelf.puts c.row_on_shelf.new.shelf)
-    c.loop-level.invariant.same c.row_on_shelf.ensures.same
-
-pub returns-in_err-push-in-Some-clause-same : goal.returns-in_err-push-in-Some-clause-same
-returns-in_err-push-in-Some-clause-same g c =
-    kept_then (g.D.Shelf.puts c.args.shelf.now) (g.D.Shelf.puts c.loop-level.shelf) (g.D.Shelf.puts c.row_on_shelf.new.shelf)
-    c.loop-level.invariant.same c.row_on_shelf.ensures.same
-
-pub returns-in-None-clause-none : goal.returns-in-None-clause-none
-returns-in-None-clause-none g c =
-    let level = c.loop-level.level in (
-      level,
-      row_wrong_before (g.D.Shelf.puts c.args.shelf.now) (g.D.Shelf.puts c.loop-level.shelf) c.args.size level
-          c.loop-level.invariant.same (rw c.in-None.is at c.in_ok-row.ensures.none),
-    )

@@ -1,10 +1,8 @@
-use Rattle.std.proofs.Common.{inl, inr, refl, subst, sym}
+use Rattle.std.proofs.Common.{inl, refl, subst, sym}
 use Rattle.mirror_model.specs.Heads.{IsHead}
 use Rattle.std.proofs.lemmas.Result.{err_from_is_err_and}
 use Rattle.mirror_copy.proofs.Damages.{damaged_bundle, damaged_edge, damaged_head}
 use Rattle.mirror_copy.proofs.WholeMoments.{empty_read, tip_made}
-use Rattle.mirror_copy.proofs.Earlier.{kept_then}
-use Rattle.mirror_copy.proofs.ShelfFaults.{shelf_conflict, shelf_counts, shelf_place}
 use Rattle.mirror_copy.proofs.read_tip.read_tip.Goals as goal
 
 pub returns-in_default-clause-tip : goal.returns-in_default-clause-tip
@@ -65,45 +63,3 @@ returns-in_default-3-clause-damaged g c =
           (rw c.in-Some.is at c.in_ok-checkpoint.ensures.answer) head.0 head.1 is_head
           (rw c.in_default-3.is at c.in_ok-edge.ensures.none),
     )
-
-pub returns-in_err-edge-clause-same : goal.returns-in_err-edge-clause-same
-returns-in_err-edge-clause-same g c =
-    kept_then (g.D.Shelf.puts c.args.shelf.now) (g.D.Shelf.puts c.read.new.self) (g.D.Shelf.puts c.edge_on_shelf.new.shelf)
-    c.read.ensures.same c.edge_on_shelf.ensures.same
-
-pub returns-in_default-3-clause-same : goal.returns-in_default-3-clause-same
-returns-in_default-3-clause-same g c =
-    kept_then (g.D.Shelf.puts c.args.shelf.now) (g.D.Shelf.puts c.read.new.self) (g.D.Shelf.puts c.edge_on_shelf.new.shelf)
-    c.read.ensures.same c.edge_on_shelf.ensures.same
-
-pub returns-in_err-bundle-clause-same : goal.returns-in_err-bundle-clause-same
-returns-in_err-bundle-clause-same g c =
-    let x = g.D.Shelf.puts c.args.shelf.now in
-    let y = g.D.Shelf.puts c.read.new.self in
-    let z = g.D.Shelf.puts c.edge_on_shelf.new.shelf in
-    kept_then x z (g.D.Shelf.puts c.bundle_on_shelf.new.shelf) (kept_then x y z c.read.ensures.same c.edge_on_shelf.ensures.same)
-    c.bundle_on_shelf.ensures.same
-
-pub returns-clause-same : goal.returns-clause-same
-returns-clause-same g c =
-    let x = g.D.Shelf.puts c.args.shelf.now in
-    let y = g.D.Shelf.puts c.read.new.self in
-    let z = g.D.Shelf.puts c.edge_on_shelf.new.shelf in
-    kept_then x z (g.D.Shelf.puts c.bundle_on_shelf.new.shelf) (kept_then x y z c.read.ensures.same c.edge_on_shelf.ensures.same)
-    c.bundle_on_shelf.ensures.same
-
-pub returns-in_err-checkpoint-clause-fault : goal.returns-in_err-checkpoint-clause-fault
-returns-in_err-checkpoint-clause-fault g c =
-    let p = err_from_is_err_and c.from_residual.result c.from_residual.ensures.1 in
-    rw (p.1, p.2) (shelf_conflict c.in_err-checkpoint.field-0.0)
-
-pub returns-in_err-checkpoint-clause-counted : goal.returns-in_err-checkpoint-clause-counted
-returns-in_err-checkpoint-clause-counted g c =
-    let p = err_from_is_err_and c.from_residual.result c.from_residual.ensures.1 in
-    rw (p.1, p.2) (shelf_counts (g.D.Shelf.failed c.args.shelf.now) (g.D.Shelf.failed c.read.new.self)
-    c.in_err-checkpoint.field-0.0 c.in_err-checkpoint.ensures.counted)
-
-pub returns-in_err-checkpoint-clause-damaged : goal.returns-in_err-checkpoint-clause-damaged
-returns-in_err-checkpoint-clause-damaged g c =
-    let p = err_from_is_err_and c.from_residual.result c.from_residual.ensures.1 in
-    rw (p.1, p.2) (inr (shelf_place c.in_err-checkpoint.field-0.0))

@@ -1,11 +1,8 @@
 use Rattle.std.proofs.Common.{ℕ, List, None, Some, ap, sym, subst, ◌∙◌}
-use Rattle.std.proofs.lemmas.Result.{err_from_is_err_and}
 use Rattle.mirror_folders.specs.Shelf.{RecordsRead}
-use Rattle.mirror_copy.specs.Faults.{CountsFault, by_shelf}
 use Rattle.mirror_sources.specs.Honest.{true_bytes}
 use Rattle.mirror_copy.specs.Taken.{IsFirstOf}
 use Rattle.mirror_copy.proofs.ShelfReads.{part_cut, part_put, partial_cut, partial_none, partial_read}
-use Rattle.mirror_copy.proofs.ShelfFaults.{shelf_conflict, shelf_counts, shelf_place}
 use Rattle.mirror_copy.proofs.shelf_files.read_partial.Goals as goal
 
 pub returns-in-Some-clause-taken : goal.returns-in-Some-clause-taken
@@ -62,35 +59,3 @@ returns-clause-answer g c =
     (subst (λ p. RecordsRead y p (Some full)) c.full_of.ensures read) (λ digest hash entries short within first.
     c.in-None-part_of.ensures.cut digest hash entries short within
     (subst (λ (f : List ℕ). IsFirstOf f (true_bytes digest entries c.args.path.now)) (sym c.deref.ensures.value) first))
-
-pub returns-in_err-bytes-clause-fault : goal.returns-in_err-bytes-clause-fault
-returns-in_err-bytes-clause-fault g c =
-    let p = err_from_is_err_and c.from_residual.result c.from_residual.ensures.1 in
-    rw (p.1, p.2) (shelf_conflict c.in_err-bytes.field-0.0)
-
-pub returns-in_err-bytes-clause-places : goal.returns-in_err-bytes-clause-places
-returns-in_err-bytes-clause-places g c =
-    let p = err_from_is_err_and c.from_residual.result c.from_residual.ensures.1 in
-    rw (p.1, p.2) (shelf_place c.in_err-bytes.field-0.0)
-
-pub returns-in_err-bytes-clause-counted : goal.returns-in_err-bytes-clause-counted
-returns-in_err-bytes-clause-counted g c =
-    let p = err_from_is_err_and c.from_residual.result c.from_residual.ensures.1 in
-    rw (p.1, p.2) (shelf_counts (g.D.Shelf.failed c.args.shelf.now) (g.D.Shelf.failed c.read.new.self) c.in_err-bytes.field-0.0
-    c.in_err-bytes.ensures.counted)
-
-pub returns-in_err-full-clause-fault : goal.returns-in_err-full-clause-fault
-returns-in_err-full-clause-fault g c =
-    let p = err_from_is_err_and c.from_residual-in_err-full.result c.from_residual-in_err-full.ensures.1 in
-    rw (p.1, p.2) (shelf_conflict c.in_err-full.field-0.0)
-
-pub returns-in_err-full-clause-places : goal.returns-in_err-full-clause-places
-returns-in_err-full-clause-places g c =
-    let p = err_from_is_err_and c.from_residual-in_err-full.result c.from_residual-in_err-full.ensures.1 in
-    rw (p.1, p.2) (shelf_place c.in_err-full.field-0.0)
-
-pub returns-in_err-full-clause-counted : goal.returns-in_err-full-clause-counted
-returns-in_err-full-clause-counted g c =
-    let p = err_from_is_err_and c.from_residual-in_err-full.result c.from_residual-in_err-full.ensures.1 in
-    rw (p.1, p.2) (subst (λ n. CountsFault n (g.D.Shelf.failed c.read-2.new.self) (by_shelf c.in_err-full.field-0.0)) c.in_ok-bytes.ensures.counted
-    (shelf_counts (g.D.Shelf.failed c.read.new.self) (g.D.Shelf.failed c.read-2.new.self) c.in_err-full.field-0.0 c.in_err-full.ensures.counted))

@@ -1,8 +1,4 @@
-use Rattle.std.proofs.Common.{◌*◌, [], inr, refl, subst, ◌∙◌, arith}
-use Rattle.tlog_shape.specs.Edge.{edge_index_of}
-use Rattle.mirror_copy.specs.Faults.{CountsFault, CountsShelf}
-use Rattle.mirror_copy.specs.Growing.{IsKnown}
-use Rattle.mirror_copy.proofs.Earlier.{early_later, early_other, early_result}
+use Rattle.std.proofs.Common.{inr, refl}
 use Rattle.std.proofs.lemmas.Result.{err_from_is_err_and}
 use Rattle.mirror_copy.specs.Asked.{IsEdgeBundle, IsEdgeBundleOrNew, IsNewFull}
 use Rattle.mirror_copy.proofs.OnePlace.{honest_between}
@@ -10,7 +6,7 @@ use Rattle.mirror_copy.proofs.Spared.{spared_last, spared_shelf}
 use Rattle.mirror_copy.proofs.EdgeRows.{edge_known, edge_left}
 use Rattle.mirror_copy.proofs.Growth.{kept_same}
 use Rattle.mirror_copy.proofs.Asking.{asks_same, asks_weaker, to_edge_asks}
-use Rattle.mirror_copy.proofs.Others.{empty_answer, last_blames, of_no_place}
+use Rattle.mirror_copy.proofs.Others.{last_blames}
 use Rattle.mirror_copy.proofs.Finishing.{copy_brought, ends_brought, left_put, true_rows}
 use Rattle.mirror_copy.proofs.Between.{once_below, once_to_edge}
 use Rattle.mirror_copy.proofs.to_edge.bring_to_edge.Goals as goal
@@ -147,55 +143,3 @@ returns-in_err-bring_levels-clause-asks g c =
     asks_weaker g.S.Source.may_answer g.S.Source.failed g.S.Source.asked (IsNewFull c.args.tip.now.size)
     (IsEdgeBundleOrNew c.args.edge.now.size c.args.tip.now.size) (λ path h. inr h) c.args.places.now c.bring_levels.new.places
     c.bring_levels.ensures.asks
-
--- ---- a conflict puts nothing, and the faults of the later steps
-
-pub returns-in_err-bring_edge_bundle-clause-early : goal.returns-in_err-bring_edge_bundle-clause-early
-returns-in_err-bring_edge_bundle-clause-early g c =
-    let p = err_from_is_err_and c.from_residual-in_err-bring_edge_bundle.result c.from_residual-in_err-bring_edge_bundle.ensures.1 in
-    let x = g.D.Shelf.puts c.args.shelf.now in
-    let m = c.args.tip.now.size in
-    rw (p.1, p.2) (early_later (Unit {0}) (Unit {0}) 0 (edge_index_of c.args.edge.now.size 0 * 256) m x
-    (g.D.Shelf.puts c.bring_levels.new.shelf) (g.D.Shelf.puts c.bring_edge_bundle.new.shelf) c.in_err-bring_edge_bundle.field-0.0
-    (λ within. (omega arith, c.in_ok-bring_levels.ensures.none within)) c.in_err-bring_edge_bundle.ensures.early)
-
-pub returns-in_err-put_edge_tiles-clause-early : goal.returns-in_err-put_edge_tiles-clause-early
-returns-in_err-put_edge_tiles-clause-early g c =
-    let p = err_from_is_err_and c.from_residual-in_err-put_edge_tiles.result c.from_residual-in_err-put_edge_tiles.ensures.1 in
-    let x = g.D.Shelf.puts c.args.shelf.now in
-    let m = c.args.tip.now.size in
-    rw (p.1, p.2) (early_other (Unit {0}) 0 m x (g.D.Shelf.puts c.put_edge_tiles.new.shelf) c.in_err-put_edge_tiles.field-0.0
-    c.in_err-put_edge_tiles.ensures.fault)
-
-pub returns-clause-early : goal.returns-clause-early
-returns-clause-early g c =
-    early_result 0 c.args.tip.now.size (g.D.Shelf.puts c.args.shelf.now) (g.D.Shelf.puts c.put_last.new.shelf) c.put_last.result
-    c.put_last.ensures.fault
-
-pub returns-in_err-put_edge_tiles-clause-blames : goal.returns-in_err-put_edge_tiles-clause-blames
-returns-in_err-put_edge_tiles-clause-blames g c =
-    let p = err_from_is_err_and c.from_residual-in_err-put_edge_tiles.result c.from_residual-in_err-put_edge_tiles.ensures.1 in
-    rw (p.1, p.2) (inr (of_no_place c.bring_edge_bundle.new.places c.in_err-put_edge_tiles.field-0.0
-    c.in_err-put_edge_tiles.ensures.places))
-
-pub returns-clause-empty : goal.returns-clause-empty
-returns-clause-empty g c =
-    empty_answer (IsKnown g.H.TreeHash.digest c.args.tip.now 0 []) c.put_last.result c.put_last.ensures.fault
-
-pub returns-in_err-bring_edge_bundle-clause-counted : goal.returns-in_err-bring_edge_bundle-clause-counted
-returns-in_err-bring_edge_bundle-clause-counted g c =
-    let p = err_from_is_err_and c.from_residual-in_err-bring_edge_bundle.result c.from_residual-in_err-bring_edge_bundle.ensures.1 in
-    rw (p.1, p.2) (subst (λ n. CountsFault n (g.D.Shelf.failed c.bring_edge_bundle.new.shelf) c.in_err-bring_edge_bundle.field-0.0)
-    c.in_ok-bring_levels.ensures.counted c.in_err-bring_edge_bundle.ensures.counted)
-
-pub returns-in_err-put_edge_tiles-clause-counted : goal.returns-in_err-put_edge_tiles-clause-counted
-returns-in_err-put_edge_tiles-clause-counted g c =
-    let p = err_from_is_err_and c.from_residual-in_err-put_edge_tiles.result c.from_residual-in_err-put_edge_tiles.ensures.1 in
-    rw (p.1, p.2) (subst (λ n. CountsFault n (g.D.Shelf.failed c.put_edge_tiles.new.shelf) c.in_err-put_edge_tiles.field-0.0)
-    (c.in_ok-bring_edge_bundle.ensures.counted ∙ c.in_ok-bring_levels.ensures.counted) c.in_err-put_edge_tiles.ensures.counted)
-
-pub returns-clause-counted : goal.returns-clause-counted
-returns-clause-counted g c =
-    subst (λ n. CountsShelf n (g.D.Shelf.failed c.put_last.new.shelf) c.put_last.result)
-    (c.in_ok-put_edge_tiles.ensures.counted
-    ∙ (c.in_ok-bring_edge_bundle.ensures.counted ∙ c.in_ok-bring_levels.ensures.counted)) c.put_last.ensures.counted

@@ -1,7 +1,5 @@
 use Rattle.std.proofs.Common.{subst, sym}
 use Rattle.std.specs.Prelude.{⊤}
-use Rattle.std.proofs.lemmas.Result.{err_from_is_err_and}
-use Rattle.mirror_follow.proofs.Ending.{counts_shelf, ends_shelf}
 use Rattle.mirror_model.specs.Heads.{IsHead}
 use Rattle.mirror_follow.specs.Blame.{CountsFollow}
 use Rattle.mirror_follow.specs.Standing.{HoldsNoCopy}
@@ -58,15 +56,3 @@ pub returns-in_err-judge_files-clause-some : goal.returns-in_err-judge_files-cla
 returns-in_err-judge_files-clause-some g c =
     some_any c.from_residual-in_err-judge_files.result (g.D.Shelf.puts c.args.shelf.now) CopyDamaged
     (read_some (g.D.Shelf.puts c.args.shelf.now) c.in-Some.note.items (rw c.in-Some.is at c.in_ok-note.ensures.answer))
-
-pub returns-in_err-note-clause-counted : goal.returns-in_err-note-clause-counted
-returns-in_err-note-clause-counted g c =
-    let p = err_from_is_err_and c.from_residual.result c.from_residual.ensures.1 in
-    rw (p.1, p.2) (counts_shelf (g.D.Shelf.failed c.args.shelf.now) (g.D.Shelf.failed c.read.new.self) c.in_err-note.field-0.0
-    c.in_err-note.ensures.counted)
-
-pub returns-in_err-note-clause-ends : goal.returns-in_err-note-clause-ends
-returns-in_err-note-clause-ends g c =
-    let p = err_from_is_err_and c.from_residual.result c.from_residual.ensures.1 in
-    rw (p.1, p.2) (ends_shelf (HoldsNoCopy g.H.TreeHash.digest c.args.origin.now (g.D.Shelf.puts c.args.shelf.now)) ⊥
-    c.in_err-note.field-0.0)

@@ -3,12 +3,9 @@ use Rattle.mirror_follow.proofs.Runs.{each_none}
 use Rattle.mirror_follow.proofs.Blame.{any_same}
 use Rattle.std.proofs.lemmas.Result.{err_from_is_err_and}
 use Rattle.mirror_follow.proofs.OneHonest.{no_false_root}
-use Rattle.std.proofs.Common.{◌≡◌, None, sym, true≢false, ◌∙◌}
-use Rattle.mirror_follow.specs.Standing.{HasStanding, HoldsNoCopy, HoldsNoSmaller, StandsAfter}
-use Rattle.mirror_follow.specs.Blame.{PlaceFails}
-use Rattle.mirror_follow.specs.declared.fault.FollowFault.TheVariants as fault
-use Rattle.mirror_follow.specs.declared.report.Outcome.TheVariants as turn
-use Rattle.mirror_follow.proofs.Ending.{ends_so, first_ends, if_same}
+use Rattle.std.proofs.Common.{None, sym, true≢false, ◌∙◌}
+use Rattle.mirror_follow.specs.Standing.{HasStanding, HoldsNoCopy, HoldsNoSmaller}
+use Rattle.mirror_follow.proofs.Ending.{ends_so, first_ends}
 use Rattle.mirror_follow.proofs.Standing.{each_same}
 use Rattle.mirror_follow.proofs.Sparing.{same_spares}
 use Rattle.mirror_follow.proofs.turns.take_first.Goals as goal
@@ -61,13 +58,3 @@ returns-clause-suffices g c = λ h. c.over_none.ensures.suffices (c.in_ok-turn.e
 pub returns-clause-spares : goal.returns-clause-spares
 returns-clause-spares g c =
     same_spares c.over_none.result c.in_ok-turn.turn _ c.over_none.ensures.same c.in_ok-turn.ensures.spares
-
-pub returns-clause-after : goal.returns-clause-after
-returns-clause-after g c =
-    if_same (StandsAfter g.H.TreeHash.digest c.args.origin.now c.args.candidate.now (g.D.Shelf.puts c.args.shelf.now)
-    (g.D.Shelf.puts c.bring.new.shelf)) c.over_none.result c.in_ok-turn.turn c.over_none.ensures.same c.in_ok-turn.ensures.after
-
-pub returns-clause-source : goal.returns-clause-source
-returns-clause-source g c =
-    if_same (λ t. t ≡ turn.NotHad fault.Source → PlaceFails c.args.places.now c.bring.new.places) c.over_none.result
-    c.in_ok-turn.turn c.over_none.ensures.same c.in_ok-turn.ensures.source

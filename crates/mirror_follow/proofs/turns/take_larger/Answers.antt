@@ -71,8 +71,3 @@ pub returns-in_default-clause-once : goal.returns-in_default-clause-once
 returns-in_default-clause-once g c =
     each_weaker g.S.Source.asked (IsKept c.bring.new.places) (λ k path. ⊤) (λ k path h. tt) c.args.places.now c.bring.new.places
     c.bring.ensures.once
-
-pub returns-in_ok-contradict-in-Contradicts-clause-after : goal.returns-in_ok-contradict-in-Contradicts-clause-after
-returns-in_ok-contradict-in-Contradicts-clause-after g c =
-    c.in_ok-contradict-in-Contradicts.ensures.after g.H.TreeHash.digest c.args.origin.now (g.D.Shelf.puts c.args.shelf.now)
-    (g.D.Shelf.puts c.bring.new.shelf) (rw c.in-Contradicts.is at c.in_ok-turn.ensures.after)

@@ -1,7 +1,5 @@
 use Rattle.mirror_follow.proofs.Blame.{any_same}
-use Rattle.std.proofs.Common.{IfErr, IfOk, subst, sym}
-use Rattle.mirror_follow.specs.Ending.{EndsAt}
-use Rattle.mirror_follow.specs.Standing.{HasStanding}
+use Rattle.std.proofs.Common.{IfOk, subst, sym}
 use Rattle.mirror_follow.specs.Shown.{ShowsTurn}
 use Rattle.mirror_follow.specs.Taken.{SaysTurn}
 use Rattle.mirror_follow.proofs.Ending.{empty_says, empty_shows}
@@ -42,73 +40,3 @@ pub returns-clause-says : goal.returns-clause-says
 returns-clause-says g c =
     says_held g.H.TreeHash.digest c.take_larger.result c.args.run.now.copy c.args.candidate.now c.in-Some.copy c.in-Some.is
     c.take_larger.ensures.says
-
-pub returns-then-has_lesser_note-clause-shows : goal.returns-then-has_lesser_note-clause-shows
-returns-then-has_lesser_note-clause-shows g c =
-    let digest = g.H.TreeHash.digest in
-    let candidate = c.args.candidate.now in
-    subst (λ o. IfOk c.renote.result (ShowsTurn digest o candidate)) (sym c.in-Some.is) c.renote.ensures.shows
-
-pub returns-then-has_lesser_note-clause-ends : goal.returns-then-has_lesser_note-clause-ends
-returns-then-has_lesser_note-clause-ends g c =
-    let digest = g.H.TreeHash.digest in
-    let origin = c.args.origin.now in
-    let x = g.D.Shelf.puts c.args.shelf.now in
-    subst (λ o. IfErr c.renote.result (EndsAt (HasStanding digest origin o x → ⊥))) (sym c.in-Some.is) c.renote.ensures.ends
-
-pub returns-then-has_lesser_note-clause-empty : goal.returns-then-has_lesser_note-clause-empty
-returns-then-has_lesser_note-clause-empty g c =
-    λ none. let is = c.in-Some.is in absurd cc
-
-pub returns-then-has_lesser_note-clause-spares : goal.returns-then-has_lesser_note-clause-spares
-returns-then-has_lesser_note-clause-spares g c =
-    λ none. let is = c.in-Some.is in absurd cc
-
-pub returns-then-candidate-copy-clause-shows : goal.returns-then-candidate-copy-clause-shows
-returns-then-candidate-copy-clause-shows g c =
-    let digest = g.H.TreeHash.digest in
-    let candidate = c.args.candidate.now in
-    subst (λ o. IfOk c.compare.result (ShowsTurn digest o candidate)) (sym c.in-Some.is) c.compare.ensures.shows
-
-pub returns-then-candidate-copy-clause-ends : goal.returns-then-candidate-copy-clause-ends
-returns-then-candidate-copy-clause-ends g c =
-    let digest = g.H.TreeHash.digest in
-    let origin = c.args.origin.now in
-    let x = g.D.Shelf.puts c.args.shelf.now in
-    subst (λ o. IfErr c.compare.result (EndsAt (HasStanding digest origin o x → ⊥))) (sym c.in-Some.is) c.compare.ensures.ends
-
-pub returns-then-candidate-copy-clause-empty : goal.returns-then-candidate-copy-clause-empty
-returns-then-candidate-copy-clause-empty g c =
-    λ none. let is = c.in-Some.is in absurd cc
-
-pub returns-then-candidate-copy-clause-spares : goal.returns-then-candidate-copy-clause-spares
-returns-then-candidate-copy-clause-spares g c =
-    λ none. let is = c.in-Some.is in absurd cc
-
-pub returns-clause-shows : goal.returns-clause-shows
-returns-clause-shows g c =
-    let digest = g.H.TreeHash.digest in
-    let candidate = c.args.candidate.now in
-    subst (λ o. IfOk c.take_larger.result (ShowsTurn digest o candidate)) (sym c.in-Some.is) c.take_larger.ensures.shows
-
-pub returns-clause-ends : goal.returns-clause-ends
-returns-clause-ends g c =
-    let digest = g.H.TreeHash.digest in
-    let origin = c.args.origin.now in
-    let x = g.D.Shelf.puts c.args.shelf.now in
-    subst (λ o. IfErr c.take_larger.result (EndsAt (HasStanding digest origin o x → ⊥))) (sym c.in-Some.is) c.take_larger.ensures.ends
-
-pub returns-clause-empty : goal.returns-clause-empty
-returns-clause-empty g c =
-    λ none. let is = c.in-Some.is in absurd cc
-
-pub returns-clause-spares : goal.returns-clause-spares
-returns-clause-spares g c =
-    λ none. let is = c.in-Some.is in absurd cc
-
-pub returns-in_default-clause-ends : goal.returns-in_default-clause-ends
-returns-in_default-clause-ends g c =
-    let digest = g.H.TreeHash.digest in
-    let origin = c.args.origin.now in
-    let x = g.D.Shelf.puts c.args.shelf.now in
-    subst (λ o. IfErr c.take_first.result (EndsAt (HasStanding digest origin o x → ⊥))) (sym c.in_default.is) c.take_first.ensures.ends
