@@ -7,6 +7,8 @@
 #[cfg(test)]
 mod climbs;
 #[cfg(test)]
+mod given;
+#[cfg(test)]
 mod hashes;
 #[cfg(test)]
 mod keys;
