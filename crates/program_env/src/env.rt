@@ -8,7 +8,7 @@ use std::alloc::Global;
 ///
 /// ```text
 /// let mut env = Env { rt: &rt, alloc, files, folders, input, output, errors };
-/// run_over(&mut env, &words)? // 0, or 3 for no
+/// run(&mut env, &words)? // 0, or 3 for no
 /// env.files                   // as the command left them
 /// ```
 #[derive(Drop)]

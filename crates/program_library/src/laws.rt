@@ -2,7 +2,7 @@
 ghost use Rattle.program_library.specs.RunLaws.{PulledStatesAreLoaded, SignersAreKeys};
 
 /// The key that `build` signs with is among the keys of the run, because both come from one key file. So this premise of
-/// `BuildsFrom` holds in a run by `run` or `run_over`.
+/// `BuildsFrom` holds in a run by `run`.
 pub fn signing_key_law()
     ensures { SignersAreKeys }
 {}
