@@ -22,9 +22,10 @@ use Rattle.tlog_checkpoint.specs.Lines.{is_newline, ended, text_of}
 use Rattle.tlog_checkpoint.specs.Grammar.{IsFullLine, IsCheckpoint}
 use Rattle.signed_note.specs.Keys.{Key}
 use Rattle.signed_note.specs.Names.{newline, is_note_char, IsNoteText}
-use Rattle.signed_note.specs.Notes.{IsLawfulText, SignatureParts, Opens, IsAcceptedBy}
+use Rattle.signed_note.specs.Notes.{SignatureParts, Opens, IsAcceptedBy}
+use Rattle.note_keys.specs.Signing.{IsLawfulText}
 use Rattle.signed_note.proofs.Payloads.{Passing, base64_passes, base64_is_ascii}
-use Rattle.signed_note.proofs.Signed.{text_append, ascii_text, newline_text}
+use Rattle.note_keys.proofs.Signed.{text_append, ascii_text, newline_text}
 use Rattle.mirror_model.specs.Origin.{IsOrigin}
 
 -- ---- the origin

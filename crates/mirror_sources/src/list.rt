@@ -1,13 +1,13 @@
 //! A source over a list of entries.
 ghost use Rattle.std.specs.Prelude.{◌≡◌, [], map, IfOk, option_map};
-ghost use Rattle.signed_note.specs.Keys.{secret_key};
+ghost use Rattle.note_keys.specs.Keys.{secret_key};
 ghost use Rattle.mirror_model.specs.Origin.{IsOrigin};
 ghost use Rattle.mirror_model.specs.TrueLaws.{AreShort};
 ghost use Rattle.mirror_sources.specs.ListSource.{IsListAnswer, IsHonestAnywhere};
 
 use crate::head::head_note;
 use crate::source::{Source, SourceFault};
-use signed_note::HmacKey;
+use note_keys::HmacKey;
 use std::alloc::{AllocError, Global};
 use std::marker::Model;
 use tlog_files::LogFiles;

@@ -7,7 +7,8 @@ ghost use Rattle.mirror_model.specs.TrueLaws.{AreShort};
 
 use mirror_pull::{PullFault, Pulled, pull};
 use mirror_sources::{ListSource, Source};
-use signed_note::{HmacKey, KeyFault, Verifier};
+use note_keys::{HmacKey, KeyFault};
+use signed_note::Verifier;
 use std::alloc::{AllocError, Global};
 use std::process::Abort;
 use std::test::Fail;

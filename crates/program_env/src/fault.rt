@@ -10,7 +10,7 @@ use program_follow::FollowRunFault;
 use program_monitor::{AuditRunFault, CopyEntriesFault, StateEntriesFault};
 use program_reports::AskFault;
 use program_words::CommandFault;
-use signed_note::KeyFileFault;
+use note_keys::KeyFileFault;
 use std::fmt;
 use thiserror::Error;
 use tlog_build::{BuildFault, EntriesFault};

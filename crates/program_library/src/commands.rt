@@ -5,7 +5,7 @@ use copy_commands::{audit, follow};
 use program_env::why::{FailedStreams, Why, print_why};
 use program_env::{Env, Error, Failing, RunFiles, RunFolders};
 use program_words::Command;
-use signed_note::KeyLine;
+use note_keys::KeyLine;
 use state_commands::{
     build, check, compare, entries, export, forks, merge, missing, notes, prove, pull, root, serve,
     status, take,

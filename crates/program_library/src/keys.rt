@@ -6,7 +6,8 @@ ghost use Rattle.program_library.specs.Runs.{FindsKeys, NamesKeyFile, ReadsJoine
 use program_env::why::{Why, of_named};
 use program_env::{Error, RunFault, RunFiles};
 use program_words::read_line;
-use signed_note::{KeyFileFault, KeyLine, Verifier, join_pins, read_keys};
+use note_keys::{KeyFileFault, KeyLine, join_pins, read_keys};
+use signed_note::Verifier;
 use std::alloc::Global;
 
 /// The keys of a run: the bytes of the key file, and its keys. Both are empty if the command has no keys.

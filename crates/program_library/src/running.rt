@@ -14,7 +14,8 @@ use crate::keys::Keys;
 use crate::run_env::{RunEnv, WatchedEnv};
 use program_env::{Error, RunFault};
 use program_words::{Command, Line, read_line};
-use signed_note::{KeyFileFault, KeyLine, Verifier};
+use note_keys::{KeyFileFault, KeyLine};
+use signed_note::Verifier;
 
 /// Runs the command of the words over any files and folders that have names, with the keys of the key file that the words name. It
 /// returns the exit status: 0 for success, and 3 for the other answer, such as no.

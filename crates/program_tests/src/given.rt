@@ -2,7 +2,8 @@
 use crate::states::COMPLETE;
 use mirror_state::{LoadFault, SaveFault, load, save};
 use program_commands::check_origin;
-use signed_note::{HmacKey, KeyFault, Verifier};
+use note_keys::{HmacKey, KeyFault};
+use signed_note::Verifier;
 use std::alloc::Global;
 use std::io::{Read, Write};
 use std::test::Fail;

@@ -1,8 +1,4 @@
-pub mod MaskedBlocks
 pub mod Trust
-pub mod Digests
-pub mod PinnedSearch
-pub mod OnePin
 pub mod Lacking
 pub mod NameBytes
 pub mod Payloads
@@ -12,8 +8,3 @@ pub mod LineLists
 pub mod LineCounts
 pub mod Readings
 pub mod OneReading
-pub mod Signed
-pub mod KeyWords
-pub mod KeyLines
-pub mod OneKeyFile
-pub mod JoinedPins

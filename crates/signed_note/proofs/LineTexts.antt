@@ -10,11 +10,10 @@ use Rattle.signed_note.specs.Reading.{ReadsBase64, ReadsLine}
 use Rattle.signed_note.specs.declared.fault.NoteFault.{NoteFault}
 use Rattle.signed_note.specs.declared.fault.NoteFault.TheVariants.{NoteTooLong, NotText, NoSignatures}
 use Rattle.signed_note.specs.declared.fault.NoteFault.TheVariants.{TooManySignatures, BadSignatureLine, OutOfMemory}
-use Rattle.signed_note.proofs.Digests.{IsBytes-append, four_bytes}
 use Rattle.signed_note.proofs.Lacking.{Lacks, Lacks-append, Lacks-from_reads, cut_once, no_cut}
 use Rattle.signed_note.proofs.NameBytes.{name_lacks_space, name_lacks_newline}
 use Rattle.tlog_text.proofs.Hashes.{base64_of-same}
-use Rattle.signed_note.proofs.Payloads.{base64_lacks_newline}
+use Rattle.signed_note.proofs.Payloads.{base64_lacks_newline, four_bytes, IsBytes-append}
 
 -- the em dash and two words
 abbrev pub words : List ℕ → List ℕ → List ℕ

@@ -1,8 +1,8 @@
 -- The bytes of a signature line's base64: the id and the signature.
 use Rattle.std.proofs.Common.{◌≡◌, ◌≢◌, ℕ, zero, suc, ◌+◌, ◌*◌, ◌/◌, ◌%◌, ◌<◌, ◌^◌, Bool, true, List, [], ◌∷◌, ◌++◌}
-use Rattle.std.proofs.Common.{length, replicate, refl, ◌∙◌, arith}
+use Rattle.std.proofs.Common.{length, replicate, refl, ◌∙◌, arith, lit<}
 use Rattle.std.specs.Prelude.{slice_index}
-use Rattle.std.specs.Int.{w32, from_be_bytes}
+use Rattle.std.specs.Int.{w32, from_be_bytes, to_be_bytes}
 use Rattle.std.proofs.lemmas.Nat.{be_bytes_4, from_be_bytes-to_be_bytes_4}
 use Rattle.std.specs.Str.{IsAscii}
 use Rattle.std.proofs.lemmas.List.Sums.{AllPass-from_list_all}
@@ -97,3 +97,27 @@ id_bytes bytes four small = be_bytes_4 bytes (big_number 4 bytes) four small (nu
 
 pub bytes_id : (id : ℕ) → id < 2 ^ 32 → big_number 4 (big_bytes 4 id) ≡ id
 bytes_id id small = number_is (big_bytes 4 id) ∙ from_be_bytes-to_be_bytes_4 id small
+
+pub IsBytes-nil : IsBytes []
+IsBytes-nil i = lit< tt
+
+pub IsBytes-cons : (x : ℕ) (xs : List ℕ) → x < 256 → IsBytes xs → IsBytes (x ∷ xs)
+IsBytes-cons x xs h p zero = h
+IsBytes-cons x xs h p (suc i) = p i
+
+pub IsBytes-append : (xs ys : List ℕ) → IsBytes xs → IsBytes ys → IsBytes (xs ++ ys)
+IsBytes-append [] ys p q = q
+IsBytes-append (x ∷ xs) ys p q = IsBytes-cons x (xs ++ ys) (p zero) (IsBytes-append xs ys (λ i. p (suc i)) q)
+
+byte : (n : ℕ) → n % 256 < 256
+byte n = omega arith
+
+-- the four bytes of a number of 32 bits are bytes
+pub four_bytes : (n : ℕ) → IsBytes (to_be_bytes w32 n)
+four_bytes n =
+    let d : List ℕ = n % 256 ∷ [] in
+    let c : List ℕ = n / 256 % 256 ∷ d in
+    let b : List ℕ = n / 65536 % 256 ∷ c in
+    IsBytes-cons (n / 16777216 % 256) b (byte (n / 16777216))
+    (IsBytes-cons (n / 65536 % 256) c (byte (n / 65536))
+    (IsBytes-cons (n / 256 % 256) d (byte (n / 256)) (IsBytes-cons (n % 256) [] (byte n) IsBytes-nil)))

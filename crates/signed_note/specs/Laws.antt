@@ -3,11 +3,8 @@ use Rattle.std.specs.Prelude.{◌≡◌, ℕ, List}
 use Rattle.tlog_text.specs.Answers.{HasOneAnswer}
 use Rattle.signed_note.specs.Notes.{SignatureParts, IsNote}
 use Rattle.signed_note.specs.Reading.{ReadsNote}
-use Rattle.signed_note.specs.KeyFiles.{ReadsKeys}
-use Rattle.signed_note.specs.declared.limits.TheConstants.{MAX_NOTE_LEN, MAX_LINES, MAX_TEXT_LEN}
-use Rattle.signed_note.specs.declared.limits.TheConstants.{MAX_NAME_LEN, MAX_SECRET_LEN}
+use Rattle.signed_note.specs.declared.limits.TheConstants.{MAX_NOTE_LEN, MAX_LINES}
 use Rattle.signed_note.specs.declared.fault.NoteFault.TheVariants as note
-use Rattle.signed_note.specs.declared.fault.KeyFileFault.TheVariants as key_file
 
 -- bytes are a note with at most one text and one list of lines
 abbrev pub NoteHasOneReading : Type 0
@@ -19,15 +16,7 @@ NoteHasOneReading =
 abbrev pub OneNoteAnswer : Type 0
 OneNoteAnswer = HasOneAnswer note.OutOfMemory ReadsNote
 
--- reading bytes as a key file has one answer, apart from OutOfMemory
-abbrev pub OneKeyAnswer : Type 0
-OneKeyAnswer = HasOneAnswer key_file.OutOfMemory ReadsKeys
-
--- the limits of this crate: the lengths of a note, of a text to sign, of a key's name and of a
--- secret in bytes, and the number of signature lines
+-- the limits of this crate: the length of a note in bytes, and the number of signature lines
 pub record HasNoteLimits : Type 0 where
   pub note : MAX_NOTE_LEN ≡ 1000000
   pub lines : MAX_LINES ≡ 100
-  pub text : MAX_TEXT_LEN ≡ 900000
-  pub name : MAX_NAME_LEN ≡ 255
-  pub secret : MAX_SECRET_LEN ≡ 64

@@ -1,9 +1,5 @@
 pub mod Keys
-pub mod Hmac
 pub mod Names
 pub mod Notes
-pub mod Signing
 pub mod Reading
-pub mod KeyFiles
-pub mod Verifiers
 pub mod Laws

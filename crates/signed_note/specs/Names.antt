@@ -1,11 +1,10 @@
 -- The characters that a note and the name of a key may have (C2SP signed-note, "Format" and
 -- "Signatures").
-use Rattle.std.specs.Prelude.{◌≡◌, ℕ, ◌<◌, ◌≤◌, Bool, not, ◌||◌, ◌==◌, nat_le, List, [], ◌∷◌, ◌++◌}
+use Rattle.std.specs.Prelude.{◌≡◌, ℕ, ◌<◌, Bool, not, ◌||◌, ◌==◌, nat_le, List, [], ◌∷◌, ◌++◌}
 use Rattle.std.specs.Prelude.{length}
 use Rattle.std.specs.List.{AllPass}
 use Rattle.std.specs.Char.{is_whitespace}
 use Rattle.std.specs.Str.{IsUtf8, chars}
-use Rattle.signed_note.specs.declared.limits.TheConstants.{MAX_NAME_LEN, MAX_SECRET_LEN}
 
 -- the line feed, U+000A
 abbrev pub newline : ℕ
@@ -37,15 +36,3 @@ pub record IsKeyName (name : List ℕ) : Type 0 where
   pub utf8 : IsUtf8 name
   pub some : 0 < length name
   pub characters : AllPass is_name_char (chars name)
-
--- the name of a key of this crate: it may occur in a note, so it has no character below U+0020, and
--- it has at most 255 bytes
-pub record IsOwnName (name : List ℕ) : Type 0 where
-  pub key_name : IsKeyName name
-  pub printed : AllPass (nat_le space) (chars name)
-  pub short : length name ≤ MAX_NAME_LEN
-
--- a shared secret has 1 to 64 bytes
-pub record IsSecret (secret : List ℕ) : Type 0 where
-  pub some : 1 ≤ length secret
-  pub short : length secret ≤ MAX_SECRET_LEN

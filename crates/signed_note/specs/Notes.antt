@@ -8,9 +8,8 @@ use Rattle.base64.specs.GeneralPurpose.{IsBytes}
 use Rattle.byteorder.specs.Endian.{big_bytes}
 use Rattle.tlog_text.specs.Hash.{base64_of}
 use Rattle.signed_note.specs.Names.{newline, space, IsNoteText, EndsInNewline, IsKeyName}
-use Rattle.signed_note.specs.Hmac.{hmac}
-use Rattle.signed_note.specs.Keys.{Key, Secret}
-use Rattle.signed_note.specs.declared.limits.TheConstants.{MAX_LINES, MAX_NOTE_LEN, MAX_TEXT_LEN}
+use Rattle.signed_note.specs.Keys.{Key}
+use Rattle.signed_note.specs.declared.limits.TheConstants.{MAX_LINES, MAX_NOTE_LEN}
 
 -- a signature line: the name of its key, its key id, and its signature
 pub record SignatureParts : Type 0 where
@@ -84,14 +83,3 @@ Opens text lines keys = Any (λ line. Any (λ key. IsAcceptedBy text line key) k
 abbrev pub is_accepted_by : List ℕ → SignatureParts → Key → Bool
 is_accepted_by text line key =
     bytes_eq key.name line.name && (key.id == line.id && key.accepts text line.signature)
-
--- the text may be signed: it may occur in a note, ends in a newline, and leaves room for a
--- signature line
-pub record IsLawfulText (text : List ℕ) : Type 0 where
-  pub readable : IsNoteText text
-  pub ended : EndsInNewline text
-  pub short : length text ≤ MAX_TEXT_LEN
-
--- the signature line of a shared key for a text: its name, its id and its MAC of the text
-abbrev pub signed_line : List ℕ → Secret → SignatureParts
-signed_line text k = record { name = k.name; id = k.id; signature = hmac k.secret text }

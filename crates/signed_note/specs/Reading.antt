@@ -6,16 +6,13 @@ use Rattle.std.specs.Prelude.{length, slice_index, All, Result, Ok, Err, count_b
 use Rattle.std.specs.List.{flat_map}
 use Rattle.base64.specs.GeneralPurpose.{IsBytes}
 use Rattle.tlog_text.specs.Hash.{base64_of}
-use Rattle.signed_note.specs.Names.{newline, IsNoteText, IsOwnName, IsSecret}
-use Rattle.signed_note.specs.Keys.{Secret, Pins, ArePins}
+use Rattle.signed_note.specs.Names.{newline, IsNoteText}
 use Rattle.signed_note.specs.Notes.{SignatureParts, NoteParts, line_text, line_body}
 use Rattle.signed_note.specs.Notes.{IsSignatureLine}
 use Rattle.signed_note.specs.Notes.{IsNoteSplit, IsNote}
 use Rattle.signed_note.specs.declared.limits.TheConstants.{MAX_LINES, MAX_NOTE_LEN}
 use Rattle.signed_note.specs.declared.fault.NoteFault.{NoteFault}
 use Rattle.signed_note.specs.declared.fault.NoteFault.TheVariants as note
-use Rattle.signed_note.specs.declared.fault.KeyFault.{KeyFault}
-use Rattle.signed_note.specs.declared.fault.KeyFault.TheVariants as key
 
 -- the number of lines of a signature part; a last line without its newline counts
 abbrev pub line_count : List ℕ → ℕ
@@ -90,18 +87,3 @@ ReadsNote bytes (Err note.BadSignatureLine) =
     × (line_count signed ≤ MAX_LINES)
     × ((lines : List SignatureParts) → ¬ AreSignatureLines signed lines)
 ReadsNote bytes (Err note.OutOfMemory) = ⊤
-
--- when the constructor of a shared key may return each answer
-abbrev pub MakesSecret : List ℕ → ℕ → List ℕ → Result Secret KeyFault → Type 0
-MakesSecret name id secret (Ok k) =
-    IsOwnName name × IsSecret secret × (k ≡ record { name = name; id = id; secret = secret })
-MakesSecret name id secret (Err key.BadName) = ¬ IsOwnName name
-MakesSecret name id secret (Err key.BadSecret) = IsOwnName name × (¬ IsSecret secret)
-MakesSecret name id secret (Err key.OutOfMemory) = ⊤
-
--- when the constructor of pinned texts may return each answer
-abbrev pub MakesPins : List ℕ → ℕ → List (List ℕ) → Result Pins KeyFault → Type 0
-MakesPins name id digests (Ok k) = IsOwnName name × ArePins name id digests k
-MakesPins name id digests (Err key.BadName) = ¬ IsOwnName name
-MakesPins name id digests (Err key.BadSecret) = ⊥
-MakesPins name id digests (Err key.OutOfMemory) = ⊤

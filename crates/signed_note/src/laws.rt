@@ -1,7 +1,7 @@
 //! Laws of the grammars, for the definitions that the contracts cite.
 //!
 //! A law is a function with an empty body: only its contract counts.
-ghost use Rattle.signed_note.specs.Laws.{NoteHasOneReading, OneNoteAnswer, OneKeyAnswer, HasNoteLimits};
+ghost use Rattle.signed_note.specs.Laws.{NoteHasOneReading, OneNoteAnswer, HasNoteLimits};
 
 /// Bytes are a note with at most one text and one list of signature lines.
 pub fn notes_law()
@@ -14,14 +14,7 @@ pub fn one_answer_law()
     ensures { OneNoteAnswer }
 {}
 
-/// `read_keys` has one answer for bytes, apart from `OutOfMemory`. The bytes are a key file with only one list of keys, or
-/// one line is the first bad one.
-pub fn one_key_answer_law()
-    ensures { OneKeyAnswer }
-{}
-
-/// A note has at most 1,000,000 bytes and 100 signature lines. A text to sign has at most 900,000 bytes, the name of a key
-/// of this crate 255, and a shared secret 64.
+/// A note has at most 1,000,000 bytes and 100 signature lines.
 pub fn limits_law()
     ensures { HasNoteLimits }
 {}

@@ -1,7 +1,8 @@
 -- A log that was built from an input.
 use Rattle.std.proofs.Common.{◌≡◌, ℕ, List, Option, Some, Result, subst}
 use Rattle.std.specs.Prelude.{IfSome}
-use Rattle.signed_note.specs.Keys.{Key, Secret, secret_key}
+use Rattle.signed_note.specs.Keys.{Key}
+use Rattle.note_keys.specs.Keys.{Secret, secret_key}
 use Rattle.mirror_model.specs.Origin.{IsOrigin}
 use Rattle.mirror_folders.specs.Shelf.{Put}
 use Rattle.tlog_build.specs.Building.{BuildsLogUnder}

@@ -1,6 +1,7 @@
-//! Keys and notes that the tests of `signed_note` share.
+//! Keys and notes that the tests of `signed_note` and `note_keys` share.
 
-use signed_note::{HmacKey, KeyFault, Note, NoteFault};
+use note_keys::{HmacKey, KeyFault};
+use signed_note::{Note, NoteFault};
 use std::alloc::Global;
 
 // The result of reading the bytes. The tests need no clause of it, or of the key below.

@@ -1,7 +1,7 @@
 use Rattle.std.proofs.Common.{◌≡◌, [], map, string_bytes, ap, ◌∙◌, subst}
 use Rattle.tlog_checkpoint.specs.Grammar.{IsCheckpoint}
-use Rattle.signed_note.specs.Keys.{secret_key}
-use Rattle.signed_note.specs.Notes.{signed_line}
+use Rattle.note_keys.specs.Keys.{secret_key}
+use Rattle.note_keys.specs.Signing.{signed_line}
 use Rattle.mirror_sources.proofs.Texts.{origin_line, checkpoint_text, opens_more}
 use Rattle.mirror_sources.proofs.head.head_note.Goals as goal
 

@@ -1,0 +1,18 @@
+use Rattle.std.proofs.Common.{◌∙◌, sym}
+use Rattle.note_keys.proofs.JoinedPins.{all_joined, joins_pins}
+use Rattle.note_keys.proofs.gathering.join_pins.Goals as goal
+
+pub loop-one-preserved : goal.loop-one-preserved
+loop-one-preserved c = (
+  tt,
+  tt,
+  joins_pins c.loop-one.keys.items c.add_pins.new.keys.items c.loop-one.one-iterator.rest.items c.next.new.self.rest.items
+      c.in_ok-keys.keys.items c.into_iter-one-iterator.result.rest.items c.in-Some.one c.in-Some.ensures.steps.0
+      c.in_ok-add_pins.ensures c.loop-one.invariant.2,
+)
+
+pub returns : goal.returns
+returns c =
+    all_joined c.loop-one.keys.items c.loop-one.one-iterator.rest.items c.in_ok-keys.keys.items
+    c.in_ok-keys.pins.items c.args.lines.items (sym c.loop-one.one-iterator.rest.ok.0 ∙ c.in-None.ensures.steps.0)
+    c.in_ok-keys.ensures (rw c.into_iter-one-iterator.ensures.into_iter_gives.0 at c.loop-one.invariant.2)
