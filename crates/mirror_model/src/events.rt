@@ -9,7 +9,7 @@ use crate::items::Item;
 /// ```
 /// let event = Event::Merge { target: 1, source: 0 };
 /// ```
-#[derive(Debug, Drop)]
+#[derive(Drop)]
 pub enum Event {
     /// The mirror `target` takes the item.
     Take { target: usize, item: Item },

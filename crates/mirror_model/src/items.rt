@@ -6,7 +6,7 @@ ghost use Rattle.std.specs.declared.vec.Vec.{Vec};
 use std::marker::Model;
 
 /// Bytes as they were received. Contracts see them as a list.
-#[derive(Debug, Drop)]
+#[derive(Drop)]
 pub struct Bytes {
     bytes: Vec<u8>,
 }
@@ -44,7 +44,7 @@ impl Bytes {
 }
 
 /// The bytes of rows of hashes. Contracts see them as a list.
-#[derive(Debug, Drop)]
+#[derive(Drop)]
 pub struct Rows {
     rows: Vec<Vec<u8>>,
 }
@@ -89,7 +89,7 @@ impl Rows {
 /// ```
 /// let item = Item::Tile { width: 1, bytes: Bytes::new(hash) };
 /// ```
-#[derive(Debug, Drop)]
+#[derive(Drop)]
 pub enum Item {
     /// A signed note, and the rows of the right edge for the size of its checkpoint, lowest level first.
     Head { note: Bytes, edge: Rows },

@@ -5,7 +5,7 @@ ghost use Rattle.node_store.specs.Strings.{string_of};
 use tlog_hash::{Hash, TreeHash};
 
 /// A string that a tree hashes (RFC 6962, section 2.1), borrowed.
-#[derive(Debug, Clone, Copy, PartialEq, Eq)]
+#[derive(Clone, Copy)]
 pub enum Tagged<'a> {
     /// `0x00 || entry`.
     Leaf(&'a [u8]),

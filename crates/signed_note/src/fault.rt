@@ -3,30 +3,34 @@
 //! A call returns the first fault that applies, in the order below. `OutOfMemory` may come before any of them.
 
 use std::alloc::{AllocError, AllocFailed};
+use std::fmt;
 use thiserror::Error;
 
 /// Why bytes were refused as a note.
-#[derive(Debug, Drop, PartialEq, Eq, Clone, Copy, Error)]
+#[derive(Debug, Drop, PartialEq, Eq, Clone, Copy)]
 pub enum NoteFault {
     /// There are more than 1,000,000 bytes.
-    #[error("NoteTooLong")]
     NoteTooLong,
     /// The bytes are not UTF-8, or have a character below U+0020 other than newline.
-    #[error("NotText")]
     NotText,
     /// There is no blank line, or nothing after the last one.
-    #[error("NoSignatures")]
     NoSignatures,
     /// The signature part has more than 100 lines. A last line without its newline counts.
-    #[error("TooManySignatures")]
     TooManySignatures,
     /// A line of the signature part has no newline, or is not an em dash, the name of a key and base64.
-    #[error("BadSignatureLine")]
     BadSignatureLine,
     /// Memory was refused.
-    #[error("OutOfMemory")]
     OutOfMemory,
 }
+
+/// Prints the name of the variant. A derived one takes the checker seconds more.
+impl fmt::Display for NoteFault {
+    fn fmt<W: fmt::Write>(&self, f: &mut fmt::Formatter<W>) -> fmt::Result {
+        fmt::Debug::fmt(self, f)
+    }
+}
+
+impl std::error::Error for NoteFault {}
 
 impl From<AllocError> for NoteFault {
     ghost use Rattle.std.specs.Prelude.{◌≡◌};

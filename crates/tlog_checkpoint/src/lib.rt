@@ -36,7 +36,7 @@ use tlog_hash::Hash;
 pub use writing::write;
 
 /// A checkpoint: the size and root of a log's tree.
-#[derive(Debug, Drop, PartialEq, Eq)]
+#[derive(Drop, PartialEq, Eq)]
 pub struct Checkpoint {
     /// The name of the log: one line, without its newline.
     pub origin: Line,

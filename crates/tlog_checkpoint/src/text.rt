@@ -9,7 +9,7 @@ ghost use Rattle.std.proofs.Common.{rules};
 use std::marker::Model;
 
 /// A line, without its newline. Contracts see its bytes.
-#[derive(Debug, Drop)]
+#[derive(Drop)]
 pub struct Line {
     text: String,
 }
@@ -68,7 +68,7 @@ impl Eq for Line {
 }
 
 /// Lines in order, each without its newline. Contracts see the list of their bytes.
-#[derive(Debug, Drop)]
+#[derive(Drop)]
 pub struct Lines {
     lines: Vec<String>,
 }

@@ -9,30 +9,35 @@ ghost use Rattle.tlog_proof.specs.declared.make.ProofFault.TheVariants.{OutOfMem
 
 use crate::ranges::Ranges;
 use std::alloc::{AllocFailed, Global};
-use thiserror::Error;
+use std::error::Error;
+use std::fmt;
 use tlog_hash::Hash;
 use tlog_shape::split;
 
 /// Why no proof was made, in the order in which the faults are found. For three entries,
 /// `Ask::Inclusion { size: 4, index: 0 }` is `NoSuchSize`, and `{ size: 3, index: 3 }` is `NoSuchIndex`.
-#[derive(Debug, Drop, PartialEq, Eq, Clone, Copy, Error)]
+#[derive(Debug, Drop, PartialEq, Eq, Clone, Copy)]
 pub enum ProofFault {
     /// The list has fewer entries than the requested size, or second size.
-    #[error("NoSuchSize")]
     NoSuchSize,
     /// The index is not below the size.
-    #[error("NoSuchIndex")]
     NoSuchIndex,
     /// The first tree is empty, and no consistency proof begins with it.
-    #[error("FirstIsZero")]
     FirstIsZero,
     /// The first size is greater than the second.
-    #[error("Backwards")]
     Backwards,
     /// Memory was refused.
-    #[error("OutOfMemory")]
     OutOfMemory,
 }
+
+/// Prints the name of the variant. A derived one takes the checker seconds more.
+impl fmt::Display for ProofFault {
+    fn fmt<W: fmt::Write>(&self, f: &mut fmt::Formatter<W>) -> fmt::Result {
+        fmt::Debug::fmt(self, f)
+    }
+}
+
+impl Error for ProofFault {}
 
 impl<T: Drop> From<AllocFailed<T>> for ProofFault {
     ghost from_gives = { λ _ e. e ≡ OutOfMemory };

@@ -18,14 +18,11 @@ pub(crate) const MAX_INDEX: u64 = 36028797018963967;
 /// A lawful path has a level of at most 7, an index of at most 2^55 - 1 and a width of 1 to 256. The width is 256 for a full
 /// tile or bundle. `Path::parse` and `FromStr` read only lawful paths; `Path::text` and `Display` print any path.
 ///
-/// Paths are ordered as they are declared: the checkpoint, then tiles by level, index and width, then bundles by index and
-/// width. This order is for sets of paths. A mirror lists missing paths in another order.
-///
 /// # Examples
 ///
 /// `Path::parse("tile/0/x001/x234/067.p/5")` is `Path::Tile { level: 0, index: 1234067, width: 5 }`, which prints as the
 /// same text.
-#[derive(Debug, PartialEq, Eq, PartialOrd, Ord, Hash, Clone, Copy)]
+#[derive(Debug, PartialEq, Eq, Hash, Clone, Copy)]
 pub enum Path {
     /// `checkpoint`: the newest checkpoint of the log.
     Checkpoint,
