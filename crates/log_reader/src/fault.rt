@@ -5,12 +5,13 @@ ghost use Rattle.log_reader.specs.declared.fault.ReadFault.TheVariants.{OutOfMem
 
 use mirror_sources::SourceFault;
 use std::alloc::{AllocError, AllocFailed};
+use std::fmt;
 use thiserror::Error;
 use tlog_tiles::Path;
 
 /// The reason why a read gave nothing. It prints as its variant's name.
 /// For example, `NoFile(Path::Entries { index: 1, width: 256 })` means that the source lacks `tile/entries/001`.
-#[derive(Debug, Drop, PartialEq, Eq, Clone, Copy, Error)]
+#[derive(Drop, Clone, Copy, Error)]
 pub enum ReadFault {
     /// The source lacks the file. If it is a partial file, the source lacks its full file too.
     #[error("NoFile")]
@@ -28,6 +29,13 @@ pub enum ReadFault {
     /// Memory was refused.
     #[error("OutOfMemory")]
     OutOfMemory,
+}
+
+/// Prints what `Display` prints.
+impl fmt::Debug for ReadFault {
+    fn fmt<W: fmt::Write>(&self, f: &mut fmt::Formatter<W>) -> fmt::Result {
+        fmt::Display::fmt(self, f)
+    }
 }
 
 impl From<SourceFault> for ReadFault {

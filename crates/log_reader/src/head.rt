@@ -2,33 +2,15 @@
 ghost use Rattle.std.specs.Prelude.{◌≡◌, ◌↔◌, ℕ, IfNone, IfOk, IfSome, IsTrue, List};
 ghost use Rattle.mirror_model.specs.Heads.{IsHead};
 
-use signed_note::{Note, NoteFault};
+use mirror_model::checkpoint_of;
 use std::alloc::{AllocError, Global};
-use tlog_checkpoint::{Checkpoint, CheckpointFault, read};
+use tlog_checkpoint::Checkpoint;
 use tlog_hash::Hash;
 
 fn is_of(checkpoint: &Checkpoint, origin: &str) -> bool
     ensures { IsTrue result ↔ (checkpoint.now.origin ≡ origin.now) }
 {
     checkpoint.origin.as_str() == origin
-}
-
-// The checkpoint in a note's text. None: the bytes are not a note of a checkpoint.
-fn checkpoint_of(alloc: Global, bytes: &[u8]) -> Result<Option<Checkpoint>, AllocError>
-    ensures found { IfOk result (λ o. IfSome o (λ c. IsHead bytes.now c.origin c.size c.root)) }
-    ensures none { IfOk result (λ o. IfNone o ((origin : List ℕ) (size : ℕ) (root : List ℕ)
-        → ¬ IsHead bytes.now origin size root)) }
-{
-    let note = match Note::read(alloc, bytes) {
-        Ok(note) => note,
-        Err(NoteFault::OutOfMemory) => return Err(AllocError),
-        Err(_) => return Ok(None),
-    };
-    match read(alloc, note.text()) {
-        Ok(checkpoint) => Ok(Some(checkpoint)),
-        Err(CheckpointFault::OutOfMemory) => Err(AllocError),
-        Err(_) => Ok(None),
-    }
 }
 
 /// The size and root of a checkpoint of that origin. None: the bytes are not a note whose text is one. This call verifies no signature.

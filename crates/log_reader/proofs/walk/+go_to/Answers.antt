@@ -24,8 +24,16 @@ go_to-requires g t c κs within =
     subst (λ m. c.args.index / 256 ≤ edge_index_of m (level + 1)) (sym same) up.1 in
     search (rules, low, above)
 
-pub returns-then-is_at-clause-kept : goal.returns-then-is_at-clause-kept
-returns-then-is_at-clause-kept g t c = kept_once (g.S.Source.files c.args.source.now)
+pub returns-then-is_at : goal.returns-then-is_at
+returns-then-is_at g t c = record {
+  edge = c.climb.ensures.edge;
+  root = c.climb.ensures.root;
+  there = c.is_at.ensures.0 c.if-is_at.true;
+  later = record { stays = λ path answer may. may };
+  kept = kept_once (g.S.Source.files c.args.source.now);
+  counted = refl;
+  honest = λ entries r s. record { reader_is = c.climb.ensures.honest entries r; answer = tt };
+}
 
 pub returns-then-index-end-clause-kept : goal.returns-then-index-end-clause-kept
 returns-then-index-end-clause-kept g t c = kept_once (g.S.Source.files c.args.source.now)

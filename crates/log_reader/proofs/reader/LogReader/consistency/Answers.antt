@@ -1,10 +1,12 @@
-use Rattle.std.proofs.Common.{◌≡◌, ◌<◌, ◌≤◌, ◌++◌, true, length, take, subst, sym, ap, ◌∙◌, rules, arith}
+use Rattle.std.proofs.Common.{◌≡◌, ◌<◌, ◌≤◌, ◌++◌, true, length, take, refl, subst, sym, ap, ◌∙◌, arith}
 use Rattle.std.proofs.lemmas.Bool.{false≢true}
 use Rattle.std.proofs.lemmas.List.{take_all}
 use Rattle.tlog_hash.specs.Rows.{part}
 use Rattle.tlog_hash.specs.Tree.{mth}
 use Rattle.tlog_proof.specs.Consistency.{proof_of, subproof_of}
 use Rattle.log_reader.specs.Nodes.{IsNodeRange}
+use Rattle.std.proofs.lemmas.Result.{IfOk-from_err}
+use Rattle.log_reader.proofs.Exits.{counted_exit, failed_exit}
 use Rattle.log_reader.proofs.Asked.{consistency_holds, consistency_is}
 use Rattle.log_reader.proofs.NodeNumbers.{whole_node}
 use Rattle.log_reader.proofs.reader.LogReader.consistency.Goals as goal
@@ -15,11 +17,28 @@ add_subproof-requires-clause-node g c =
     let some : 0 < size = omega (arith, c.requires.some, c.requires.within, c.size-second.ensures) in
     subst (λ m. IsNodeRange m 0 size) c.size-second.ensures (whole_node size some c.size-second.type_inv)
 
-pub returns-in_err-first_root-clause-honest : goal.returns-in_err-first_root-clause-honest
-returns-in_err-first_root-clause-honest g c = λ entries r s.
-    let went = c.in_err-first_root.ensures.honest entries r s in
-    let fault = went.answer in
-    record { reader_is = went.reader_is; answer = search (rules, fault) }
+pub returns-in_err-first_root : goal.returns-in_err-first_root
+returns-in_err-first_root g c =
+    let failed = g.S.Source.failed in
+    let exit = c.from_residual in
+    let step = c.in_err-first_root.ensures in
+    record {
+      edge = step.edge;
+      root = step.root;
+      asked = IfOk-from_err exit.result _ exit.ensures.0;
+      holds = IfOk-from_err exit.result _ exit.ensures.0;
+      later = step.later;
+      kept = step.kept;
+      counted = counted_exit exit.result c.add_subproof.result c.in_err-first_root.field-0.0 exit.ensures
+          c.in_err-first_root.was (failed c.args.source.now) (failed c.args.source.now)
+          (failed c.add_subproof.new.source) refl c.add_subproof.ensures.counted;
+      honest = λ entries r s.
+          let went = step.honest entries r s in
+          record {
+            reader_is = went.reader_is;
+            answer = failed_exit exit.result _ c.in_err-first_root.field-0.0 exit.ensures went.answer;
+          };
+    }
 
 pub returns-then-holds-clause-honest : goal.returns-then-holds-clause-honest
 returns-then-holds-clause-honest g c = λ entries r s.

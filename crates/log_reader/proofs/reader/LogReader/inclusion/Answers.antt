@@ -66,11 +66,35 @@ returns-in_err-add_path g c =
           };
     }
 
+pub returns-then-holds-clause-edge : goal.returns-then-holds-clause-edge
+returns-then-holds-clause-edge g c = c.in_ok-add_path.ensures.edge ∙ c.in_ok-leaf.ensures.edge
+
+pub returns-then-holds-clause-root : goal.returns-then-holds-clause-root
+returns-then-holds-clause-root g c = c.in_ok-add_path.ensures.root ∙ c.in_ok-leaf.ensures.root
+
+pub returns-then-holds-clause-later : goal.returns-then-holds-clause-later
+returns-then-holds-clause-later g c = stays_twice c.in_ok-leaf.ensures.later c.in_ok-add_path.ensures.later
+
+pub returns-then-holds-clause-counted : goal.returns-then-holds-clause-counted
+returns-then-holds-clause-counted g c = c.in_ok-add_path.ensures.counted ∙ c.in_ok-leaf.ensures.counted
+
 pub returns-then-holds-clause-kept : goal.returns-then-holds-clause-kept
 returns-then-holds-clause-kept g c =
     let files = g.S.Source.files in
     kept_twice (files c.args.source.now) (files c.leaf.new.source) (files c.add_path.new.source) c.in_ok-leaf.ensures.kept
     c.in_ok-add_path.ensures.kept
+
+pub returns-else-holds-clause-edge : goal.returns-else-holds-clause-edge
+returns-else-holds-clause-edge g c = c.in_ok-add_path.ensures.edge ∙ c.in_ok-leaf.ensures.edge
+
+pub returns-else-holds-clause-root : goal.returns-else-holds-clause-root
+returns-else-holds-clause-root g c = c.in_ok-add_path.ensures.root ∙ c.in_ok-leaf.ensures.root
+
+pub returns-else-holds-clause-later : goal.returns-else-holds-clause-later
+returns-else-holds-clause-later g c = stays_twice c.in_ok-leaf.ensures.later c.in_ok-add_path.ensures.later
+
+pub returns-else-holds-clause-counted : goal.returns-else-holds-clause-counted
+returns-else-holds-clause-counted g c = c.in_ok-add_path.ensures.counted ∙ c.in_ok-leaf.ensures.counted
 
 pub returns-else-holds-clause-kept : goal.returns-else-holds-clause-kept
 returns-else-holds-clause-kept g c =
