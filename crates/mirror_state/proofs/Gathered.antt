@@ -28,7 +28,7 @@ use Rattle.std.proofs.lemmas.List.Kept.{Any-dedup, Contains-from_dedup}
 use Rattle.std.proofs.lemmas.List.Sorted.{Contains-permutation, IsPermutation-sym}
 use Rattle.node_store.specs.Strings.{Strings, Has}
 use Rattle.mirror_model.proofs.StringSets.{listed_from_has, has_from_listed}
-use Rattle.mirror_state.specs.Listing.{HoldsEach}
+use Rattle.mirror_state.specs.Listing.{HoldsEach, ListsEach}
 use Rattle.mirror_state.specs.Loading.{Rises}
 use Rattle.mirror_state.specs.Putting.{KeyedPair, pair_bytes, with_bytes, IsKeyed}
 use Rattle.mirror_state.proofs.Listed.{nothing_in, mapped, from_mapped}
@@ -110,6 +110,14 @@ module _ (tag : ℕ) (strings : Strings) where
             (subst (λ (l : List (List ℕ)). Contains l (tag ∷ e)) (sym is) (cons_later other after (tag ∷ e) later)))
       ],
     )
+
+-- the items, sorted
+pub sorted_each : (tag : ℕ) (strings : Strings) (items sorted : List (List ℕ)) → HoldsEach tag strings items →
+    Rises sorted → ((e : List ℕ) → Contains sorted e ↔ Contains items e) → ListsEach tag strings sorted
+sorted_each tag strings items sorted holds rises same = record {
+  rises = rises;
+  exact = λ e. (λ h. (holds e).0 ((same e).0 h), λ h. (same e).1 ((holds e).1 h));
+}
 
 -- ---- items in order, each once
 

@@ -31,8 +31,9 @@ pub(crate) fn sort_all<H: TreeHash>(
     ensures { IfOk result (λ held. ListsView mirror.now.view held) }
 {
     let notes = notes_of(alloc, mirror)?;
-    let pairs = pairs_of(alloc, mirror.strings())?;
-    let entries = entries_of(alloc, mirror.strings())?;
+    let (mut pairs, mut entries) = strings_of(alloc, mirror.strings())?;
+    sort_pairs(&mut pairs)?;
+    sort_entries(&mut entries)?;
     Ok(Sorted {
         notes,
         pairs,
@@ -55,27 +56,24 @@ fn notes_of<H: TreeHash>(alloc: Global, mirror: &Mirror<H>) -> Result<Vec<&[u8]>
     Err(AllocError)
 }
 
-// The entries of a store, in order.
-fn entries_of<H: TreeHash>(alloc: Global, store: &Store<H>) -> Result<Vec<&[u8]>, AllocError>
-    ensures { IfOk result (λ entries. ListsEach 0 store.now (map (λ e. e.now) entries.items)) }
+// The pairs and the entries of a store, in any order.
+fn strings_of<H: TreeHash>(
+    alloc: Global,
+    store: &Store<H>,
+) -> Result<(Vec<KeyedPair<'_>>, Vec<&[u8]>), AllocError>
+    ensures pairs { IfOk result (λ both. HoldsEach 1 store.now (map pair_bytes both.0.items)) }
+    ensures keyed { IfOk result (λ both. All IsKeyed both.0.items) }
+    ensures entries { IfOk result (λ both. HoldsEach 0 store.now (map (λ e. e.now) both.1.items)) }
 {
-    let mut entries = all_entries(alloc, store)?;
-    sort_entries(&mut entries)?;
-    Ok(entries)
-}
-
-// The entries of a store, in any order.
-fn all_entries<H: TreeHash>(alloc: Global, store: &Store<H>) -> Result<Vec<&[u8]>, AllocError>
-    ensures { IfOk result (λ entries. HoldsEach 0 store.now (map (λ e. e.now) entries.items)) }
-{
+    let mut pairs = Vec::new(alloc);
     let mut entries = Vec::new(alloc);
     for string in store.iter() {
         match string {
             Tagged::Leaf(entry) => entries.push(entry)?,
-            Tagged::Pair(_, _) => {}
+            Tagged::Pair(left, right) => pairs.push(pair_of(left, right))?,
         }
     }
-    Ok(entries)
+    Ok((pairs, entries))
 }
 
 // Sorts entries and removes duplicates. A store that was loaded gives them in order, apart from those that came later.
@@ -88,30 +86,6 @@ fn sort_entries(entries: &mut Vec<&[u8]>) -> Result<(), AllocError>
     entries.sort()?;
     entries.dedup();
     Ok(())
-}
-
-// The pairs of a store, in order.
-fn pairs_of<H: TreeHash>(alloc: Global, store: &Store<H>) -> Result<Vec<KeyedPair<'_>>, AllocError>
-    ensures { IfOk result (λ pairs. ListsEach 1 store.now (map pair_bytes pairs.items)) }
-{
-    let mut pairs = all_pairs(alloc, store)?;
-    sort_pairs(&mut pairs)?;
-    Ok(pairs)
-}
-
-// The pairs of a store, in any order.
-fn all_pairs<H: TreeHash>(alloc: Global, store: &Store<H>) -> Result<Vec<KeyedPair<'_>>, AllocError>
-    ensures each { IfOk result (λ pairs. HoldsEach 1 store.now (map pair_bytes pairs.items)) }
-    ensures keyed { IfOk result (λ pairs. All IsKeyed pairs.items) }
-{
-    let mut pairs = Vec::new(alloc);
-    for string in store.iter() {
-        match string {
-            Tagged::Leaf(_) => {}
-            Tagged::Pair(left, right) => pairs.push(pair_of(left, right))?,
-        }
-    }
-    Ok(pairs)
 }
 
 // The two hashes, after the first eight bytes of the left one.

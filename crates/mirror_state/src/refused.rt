@@ -24,7 +24,7 @@ use tlog_mirror::{Mirror, RestoreFault, TakeFault};
 const FRONT_LEN: usize = 3;
 
 /// A note of a state text, for which the text is not loaded.
-#[derive(Debug, Drop, PartialEq, Eq, Clone, Copy)]
+#[derive(Drop)]
 pub enum RefusedNote {
     /// A checkpoint of this size and root; its signer and its log do not matter.
     Checkpoint(u64, Hash),

@@ -2,7 +2,7 @@ use Rattle.std.proofs.Common.{rules, ◌≢◌}
 use Rattle.std.proofs.lemmas.List.Elements.{All-nil}
 use Rattle.mirror_model.specs.Complete.{HasEdge}
 use Rattle.tlog_mirror.specs.declared.fault.RestoreFault.TheVariants as restoring
-use Rattle.mirror_state.proofs.ListedItems.{noted_none, kept_view, kept_edges}
+use Rattle.mirror_state.proofs.ListedItems.{all_passes, noted_none, kept_view, kept_edges}
 use Rattle.mirror_state.proofs.RefusedNotes.{first_here, stays_unheld}
 use Rattle.mirror_state.proofs.refused.first_unheld.Goals as goal
 
@@ -32,3 +32,8 @@ loop-i-preserved g c = record {
       c.args.notes.now c.loop-i.i _ c.loop-i-test.true c.loop-i.invariant.view c.in-Ok.ensures.keeps
       c.loop-i.invariant.edges;
 }
+
+pub returns-clause-none : goal.returns-clause-none
+returns-clause-none g c =
+    all_passes (HasEdge g.H.TreeHash.digest c.args.mirror.now.view) c.args.notes.now c.loop-i.i c.loop-i-test.false
+    c.loop-i.invariant.edges
