@@ -5,9 +5,6 @@ pub mod KeptNotes
 mod KnownTrees
 pub mod ListedNotes
 pub mod MergedMirrors
-pub mod PlayedEvents
-pub mod JudgedEvents
-pub mod PlayedMerges
 pub mod TakenHeads
 pub mod OpenHeads
 pub mod BestNotes

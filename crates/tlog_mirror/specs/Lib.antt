@@ -8,7 +8,7 @@ pub mod NoteLists
 pub mod Branches
 pub mod Settled
 pub mod Restored
-pub mod Plays
+pub mod Judged
 pub mod Compared
 pub mod Pieces
 pub mod ForksWritten

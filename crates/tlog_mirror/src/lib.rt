@@ -28,7 +28,6 @@ mod merge;
 mod mirror;
 mod missing;
 mod pieces;
-mod plays;
 mod restored;
 mod room;
 mod rows;
@@ -49,5 +48,4 @@ pub use mirror_model::{
     keeping_law, lists_law, part_law, plays_law, reports_law, retry_example, retry_law, run_law,
     served_law,
 };
-pub use plays::{fits, play, play_again};
 pub use top_ranges::TopRanges;

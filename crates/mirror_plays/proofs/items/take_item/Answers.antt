@@ -1,7 +1,7 @@
 use Rattle.std.proofs.Common.{map}
 use Rattle.mirror_model.specs.Answered.{answer_of}
-use Rattle.tlog_mirror.proofs.PlayedEvents.{bundle_taken, tile_taken}
-use Rattle.tlog_mirror.proofs.mirror.Mirror.take.Goals as goal
+use Rattle.mirror_plays.proofs.PlayedEvents.{bundle_taken, tile_taken}
+use Rattle.mirror_plays.proofs.items.take_item.Goals as goal
 
 pub returns-in-Tile-clause-takes : goal.returns-in-Tile-clause-takes
 returns-in-Tile-clause-takes g c =
@@ -9,7 +9,7 @@ returns-in-Tile-clause-takes g c =
     (map (λ b. (goal.Verifier-dyn g (
       b.vtable,
       b.value,
-    )).key b.value) c.args.keys.now) c.args.self.now.view c.take_tile.new.self.view c.args.item.now c.in-Tile.width
+    )).key b.value) c.args.keys.now) c.args.mirror.now.view c.take_tile.new.self.view c.args.item.now c.in-Tile.width
     c.in-Tile.bytes c.as_slice-in-Tile.result.now (answer_of c.take_tile.result) c.as_slice-in-Tile.ensures
     c.in-Tile.is c.take_tile.ensures.takes
 
@@ -19,6 +19,6 @@ returns-in-Bundle-clause-takes g c =
     (map (λ b. (goal.Verifier-dyn g (
       b.vtable,
       b.value,
-    )).key b.value) c.args.keys.now) c.args.self.now.view c.take_bundle.new.self.view c.args.item.now c.in-Bundle.width
+    )).key b.value) c.args.keys.now) c.args.mirror.now.view c.take_bundle.new.self.view c.args.item.now c.in-Bundle.width
     c.in-Bundle.bytes c.as_slice-in-Bundle.result.now (answer_of c.take_bundle.result) c.as_slice-in-Bundle.ensures
     c.in-Bundle.is c.take_bundle.ensures.takes

@@ -12,8 +12,8 @@ use Rattle.mirror_model.specs.declared.items.Item.{Item}
 use Rattle.mirror_model.specs.declared.items.Item.TheVariants.{Head, Tile, Bundle}
 use Rattle.mirror_model.specs.Answered.{take_fault_of}
 use Rattle.mirror_model.specs.Item.{IsWidth}
-use Rattle.mirror_model.specs.Refusals.{JudgesHead, JudgesTile, JudgesBundle}
 use Rattle.mirror_model.specs.Steps.{Answer, Exhausted, Happens}
+use Rattle.tlog_mirror.specs.Judged.{JudgesItem}
 
 -- the views of mirrors
 abbrev pub views_of : List State → List View
@@ -33,17 +33,12 @@ IsMergeAnswer (Ok done) = ⊤
 IsMergeAnswer (Err fault) = (merging : MergeFault) × (fault ≡ take_fault_of merging)
 
 module _ (digest : List ℕ → List ℕ) (keys : List Key) where
-  -- the answer of a take is the first refusal that applies, as from the call for its kind of item
-  abbrev pub JudgesItem : List ℕ → Item → Result (Unit {0}) TakeFault → Type 0
-  JudgesItem origin (Head note edge) answer = JudgesHead digest origin keys note edge answer
-  JudgesItem origin (Tile width bytes) answer = JudgesTile width bytes answer
-  JudgesItem origin (Bundle width bytes) answer = JudgesBundle width bytes answer
-
   -- the answer to an event on mirrors of these origins is possible. For a take the item decides; a merge has an answer
   -- of merges; a merge of a mirror with itself has Ok
   abbrev pub JudgesEvent : List (List ℕ) → Event → Result (Unit {0}) TakeFault → Type 0
   JudgesEvent origins (Take target item) answer =
-      (origin : List ℕ) → slice_get origins target ≡ Some origin → JudgesItem origin item answer
+      (origin : List ℕ) → slice_get origins target ≡ Some origin →
+      JudgesItem digest keys origin item answer
   JudgesEvent origins (Merge target source) answer =
       IsMergeAnswer answer × (target ≡ source → answer ≡ Ok tt)
 

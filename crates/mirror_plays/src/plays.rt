@@ -3,16 +3,17 @@ ghost use Rattle.std.specs.Prelude.{◌≡◌, ◌≤◌, ◌<◌, ◌↔◌, Li
 ghost use Rattle.mirror_model.specs.Answered.{answer_of, merge_answer_of, take_fault_of};
 ghost use Rattle.mirror_model.specs.Events.{Fits, IsFitting};
 ghost use Rattle.mirror_model.specs.Item.{IsWidth};
-ghost use Rattle.mirror_model.specs.Steps.{Happens, Merges, MergesAt, Run, Takes, TakesAt};
+ghost use Rattle.mirror_model.specs.Steps.{Happens, Merges, MergesAt, Run, TakesAt};
 ghost use Rattle.mirror_model.specs.declared.events.Event.TheVariants.{Take};
 ghost use Rattle.signed_note.specs.Keys.{Key};
-ghost use Rattle.tlog_mirror.specs.Plays.{HappensWithin, HasWidth, IsMergeAnswer, JudgesEvent, JudgesEvents, JudgesItem, RunsWithin, all_remembered, origins_of, views_of};
+ghost use Rattle.mirror_plays.specs.Plays.{HappensWithin, HasWidth, IsMergeAnswer, JudgesEvent, JudgesEvents, RunsWithin, all_remembered, origins_of, views_of};
 
-use crate::mirror::Mirror;
+use crate::items::take_item;
 use mirror_model::{Event, Item, MergeFault, TakeFault};
 use signed_note::Verifier;
 use std::alloc::{AllocError, Global};
 use tlog_hash::TreeHash;
+use tlog_mirror::Mirror;
 
 /// Whether the events are on mirrors below that count, and their items have widths from 1 to 256. It takes no memory.
 pub fn fits(events: &[Event], count: usize) -> bool
@@ -179,7 +180,7 @@ fn take_at<H: TreeHash>(
     ensures origins { origins_of world.new ≡ origins_of world.old }
     ensures remembered { all_remembered world.new ≡ all_remembered world.old }
 {
-    world[target].take(alloc, keys, item)
+    take_item(&mut world[target], alloc, keys, item)
 }
 
 // One mirror is merged with another, or with itself.
@@ -199,7 +200,7 @@ fn merge_at<H: TreeHash>(
     ensures remembered { all_remembered world.new ≡ all_remembered world.old }
 {
     if target == source {
-        return world[target].merge_itself();
+        return merge_itself(&world[target]);
     }
     if target < source {
         let (front, back) = world.split_at_mut(source);
@@ -221,36 +222,12 @@ fn answer_of_merge(answer: Result<(), MergeFault>) -> Result<(), TakeFault>
     }
 }
 
-impl<H: TreeHash> Mirror<H> {
-    // The answer of a merge with itself, which changes nothing: a mirror's strings do not collide.
-    fn merge_itself(&self) -> Result<(), TakeFault>
-        ensures merges { Merges H.digest self.now.view self.now.view (answer_of result)
-            self.now.view }
-        ensures done { result ≡ Ok tt }
-    {
-        let _held = self.strings.len();
-        Ok(())
-    }
-
-    fn take(
-        &mut self,
-        alloc: Global,
-        keys: &[Box<dyn Verifier>],
-        item: &Item,
-    ) -> Result<(), TakeFault>
-        requires { HasWidth item.now }
-        ensures takes { Takes H.digest (map (λ k. key k) keys.now) self.old.view item.now
-            (answer_of result) self.new.view }
-        ensures judged { JudgesItem H.digest (map (λ k. key k) keys.now) self.old.view.origin
-            item.now result }
-        ensures remembered { self.new.remembered ≡ self.old.remembered }
-    {
-        match item {
-            Item::Head { note, edge } => {
-                self.take_head_rows(alloc, keys, note.as_slice(), edge.as_slice())
-            }
-            Item::Tile { width, bytes } => self.take_tile(alloc, *width, bytes.as_slice()),
-            Item::Bundle { width, bytes } => self.take_bundle(alloc, *width, bytes.as_slice()),
-        }
-    }
+// The answer of a merge with itself, which changes nothing: a mirror's strings do not collide.
+fn merge_itself<H: TreeHash>(mirror: &Mirror<H>) -> Result<(), TakeFault>
+    ensures merges { Merges H.digest mirror.now.view mirror.now.view (answer_of result)
+        mirror.now.view }
+    ensures done { result ≡ Ok tt }
+{
+    let _held = mirror.strings();
+    Ok(())
 }

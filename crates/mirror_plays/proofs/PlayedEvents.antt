@@ -16,7 +16,7 @@ use Rattle.mirror_model.specs.declared.events.Event.TheVariants.{Take}
 use Rattle.mirror_model.specs.declared.items.Item.{Item}
 use Rattle.mirror_model.specs.declared.items.Item.TheVariants.{Head, Tile, Bundle}
 use Rattle.mirror_model.proofs.Happening.{event_again}
-use Rattle.tlog_mirror.specs.Plays.{HappensWithin, HasWidth, RunsOut, RunsWithin, all_remembered, views_of}
+use Rattle.mirror_plays.specs.Plays.{HappensWithin, HasWidth, RunsOut, RunsWithin, all_remembered, views_of}
 
 -- ---- which events fit
 
@@ -96,16 +96,6 @@ module _ (digest : List ℕ → List ℕ) (keys : List Key) (old new : View) (it
   pub bundle_taken : item ≡ Bundle width bytes →
       ((ks : List Key) → Takes digest ks old (Bundle width read) answer new) → Takes digest keys old item answer new
   bundle_taken is takes = subst (λ x. Takes digest keys old x answer new) (ap (Bundle width) same ∙ sym is) (takes keys)
-
--- the values of a list of slices, with one more
-pub slices_more :
-    {A B C : Type 0} (f : A → C) (g : B → C) (xs ys : List A) (a : A) (bs : List B) (i : ℕ) (b : B) →
-    ys ≡ xs ++ a ∷ [] →
-    f a ≡ g b → i < length bs → b ≡ get_or bs i b → map f xs ≡ map g (take i bs) → map f ys ≡ map g (take (i + 1) bs)
-slices_more f g xs ys a bs i b grown same lt at before =
-    ap (map f) grown ∙ map-append f xs (a ∷ []) ∙ (λ t. before t ++ same t ∷ [])
-    ∙ sym (ap (map g) (take_more bs i b lt ∙ ap (λ x. take i bs ++ x ∷ []) (sym at)) ∙
-    map-append g (take i bs) (b ∷ []))
 
 -- a list in two parts
 module _ (world front back : List State) (parts : world ≡ front ++ back) (target source : ℕ) (d e w : State) where
