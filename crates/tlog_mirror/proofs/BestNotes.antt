@@ -17,6 +17,7 @@ use Rattle.mirror_model.specs.Forks.{Point}
 use Rattle.mirror_trees.specs.Marked.{point_of}
 use Rattle.tlog_mirror.specs.Best.{served_cmp, kept_point, IsAhead, HasKept, IsBuiltAt, IsBestOf}
 use Rattle.tlog_mirror.specs.Best.{IsFirstWith}
+use Rattle.mirror_reports.proofs.PointLists.{any_default}
 use Rattle.tlog_mirror.specs.declared.kept.HeldNote.{HeldNote}
 use Rattle.mirror_model.proofs.Listing.{head_or, later, here}
 
@@ -24,13 +25,6 @@ pub served_total : IsTotalOrder served_cmp
 served_total =
     then_total (on_total (λ (p : Point). p.size) (back_total nat_cmp_total))
     (on_total (λ (p : Point). p.root) nat_list_cmp_total)
-
-module _ {X : Type 0} where
-  -- within a list the default is not read
-  pub any_default : (xs : List X) (k : ℕ) (d e : X) → k < length xs → get_or xs k d ≡ get_or xs k e
-  any_default [] k d e lt = absurd (omega (arith, lt))
-  any_default (x ∷ xs) zero d e lt = refl
-  any_default (x ∷ xs) (suc k) d e lt = any_default xs k d e (omega (arith, lt))
 
 -- ---- the best so far
 

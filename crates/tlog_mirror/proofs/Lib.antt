@@ -12,16 +12,8 @@ pub mod ServedNotes
 pub mod ServedParts
 pub mod HeadLists
 pub mod SettledHeads
-pub mod BranchSteps
-pub mod AllForks
-pub mod CalmHeads
-pub mod SentPieces
-pub mod WrittenLines
-pub mod MissingSteps
-pub mod ForkSteps
+pub mod WrittenMissing
 pub mod FoundForks
 pub mod RestoredMirrors
-pub mod ComparedHeads
-pub mod AnswerLines
 pub mod LaidOut
 pub mod HeldLeaves

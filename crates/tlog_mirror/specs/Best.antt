@@ -1,7 +1,7 @@
 -- The kept note that is served: its tree is held. It has the greatest size, then the least root, then the least bytes.
 -- Only the contracts of private functions cite these words.
 use Rattle.std.specs.Prelude.{◌≡◌, ℕ, ◌<◌, List, length, slice_index_or, Option, Some, None, false}
-use Rattle.std.specs.Prelude.{IsTrue, ◌↔◌, ⊤, IfSome}
+use Rattle.std.specs.Prelude.{⊤, IfSome}
 use Rattle.std.specs.Ordering.{nat_cmp, ordering_then, is_gt}
 use Rattle.std.specs.declared.cmp.Ordering.{Ordering}
 use Rattle.std.specs.declared.cmp.Ordering.TheVariants.{Less}
@@ -9,8 +9,7 @@ use Rattle.std.specs.Cmp.Lexicographic.{slice_cmp}
 use Rattle.std.specs.List.{Contains}
 use Rattle.node_store.specs.Strings.{Strings}
 use Rattle.mirror_model.specs.Complete.{IsBuilt}
-use Rattle.mirror_model.specs.Forks.{Point, point_cmp}
-use Rattle.mirror_model.specs.declared.reports.Head.{Head}
+use Rattle.mirror_model.specs.Forks.{Point}
 use Rattle.mirror_trees.specs.HeldLeaves.{HasLeaves}
 use Rattle.mirror_trees.specs.Marked.{point_of}
 use Rattle.mirror_trees.specs.declared.leaves.Leaves.{Leaves}
@@ -19,10 +18,6 @@ use Rattle.tlog_mirror.specs.declared.kept.HeldNote.{HeldNote}
 -- the size and root of a kept note
 abbrev pub kept_point : HeldNote → Point
 kept_point kept = record { size = kept.size; root = kept.root }
-
--- the order of pairs of a size and a root: by size, then by root
-abbrev pub by_point : ℕ × List ℕ → ℕ × List ℕ → Ordering
-by_point a b = point_cmp (point_of a) (point_of b)
 
 -- the order in which complete tree heads are served: the greater size first, then the lesser root
 abbrev pub served_cmp : Point → Point → Ordering
@@ -43,10 +38,6 @@ module _ (digest : List ℕ → List ℕ) (held : Strings) where
   -- the tree of that size and root is held
   abbrev pub IsBuiltAt : Point → Type 0
   IsBuiltAt point = IsBuilt digest held point.size point.root
-
-  -- the flag of a tree head is true exactly if its tree is held
-  abbrev pub IsBuiltFlag : Head → Type 0
-  IsBuiltFlag head = IsTrue head.complete ↔ IsBuilt digest held head.size head.root
 
   -- a kept note has that size and root, its tree is held, and no kept note whose tree is held is served before it
   pub record IsBest (kept : List HeldNote) (point : Point) : Type 0 where

@@ -5,13 +5,9 @@ pub mod Edges
 pub mod Tops
 pub mod Best
 pub mod NoteLists
-pub mod Branches
 pub mod Settled
 pub mod Restored
 pub mod Judged
-pub mod Compared
-pub mod Pieces
 pub mod ForksWritten
 pub mod MissingWritten
-pub mod MissingLines
 pub mod Opened

@@ -1,7 +1,6 @@
 //! Laws of the definitions that the contracts cite.
 //!
 //! A law is the contract of a function with an empty body: it consists of its proof.
-ghost use Rattle.tlog_mirror.specs.Compared.{ComparesLarge, ForkIsNoPrefix, HeadsAreComparedOnce, SameIsPrefix};
 ghost use Rattle.tlog_mirror.specs.Tops.{ProofsAreServed, TopHasServed};
 
 /// The result of `top_ranges` has exactly the served entries. A proof that `tlog_proof::prove` makes over it is a proof
@@ -9,19 +8,4 @@ ghost use Rattle.tlog_mirror.specs.Tops.{ProofsAreServed, TopHasServed};
 pub fn served_list_law()
     ensures list { TopHasServed }
     ensures proofs { ProofsAreServed }
-{}
-
-/// The evidence that a line of `compare` gives. A list with the size and root of a fork is no prefix of the served
-/// entries, whatever collides. Take a list with the size and root of a `same` line. It is a prefix of the served
-/// entries, if the strings of its tree and of that prefix do not collide together. And a lawful view has one answer for
-/// the same tree heads.
-pub fn compare_law()
-    ensures fork { ForkIsNoPrefix }
-    ensures same { SameIsPrefix }
-    ensures one { HeadsAreComparedOnce }
-{}
-
-/// Tree heads compared with four entries, under a digest that is a sum.
-pub fn compare_example()
-    ensures { ComparesLarge }
 {}

@@ -13,8 +13,6 @@
 #![tactic(auto)]
 
 mod best;
-mod branches;
-mod calm;
 mod compare;
 mod edge;
 mod fault;
@@ -23,11 +21,9 @@ mod heads;
 mod kept;
 mod laid;
 mod laws;
-mod lines;
 mod merge;
 mod mirror;
 mod missing;
-mod pieces;
 mod restored;
 mod room;
 mod rows;
@@ -38,9 +34,8 @@ mod takes;
 mod texts;
 mod top_ranges;
 
-pub use compare::{Compared, comparison_text};
 pub use fault::{NewFault, RestoreFault};
-pub use laws::{compare_example, compare_law, served_list_law};
+pub use laws::served_list_law;
 pub use mirror::Mirror;
 pub use mirror_model::{
     Bytes, Event, Fork, Head, HeadNote, Item, MergeFault, Rows, TakeFault, again_law, bundles_law,
