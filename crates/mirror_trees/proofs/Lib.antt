@@ -17,6 +17,5 @@ pub mod PrefixSteps
 pub mod SliceSteps
 pub mod Settles
 pub mod KnownSteps
-pub mod EdgeSteps
 pub mod EmptySets
 pub mod LeafSteps

@@ -1,6 +1,5 @@
 pub mod NewMirrors
 pub mod TakenItems
-pub mod EdgeRows
 pub mod KeptNotes
 mod KnownTrees
 pub mod ListedNotes

@@ -14,7 +14,6 @@
 
 mod best;
 mod compare;
-mod edge;
 mod fault;
 mod forks;
 mod heads;
