@@ -8,11 +8,9 @@ pub mod TakenHeads
 pub mod OpenHeads
 pub mod BestNotes
 pub mod ServedNotes
-pub mod ServedParts
 pub mod HeadLists
 pub mod SettledHeads
 pub mod WrittenMissing
 pub mod FoundForks
 pub mod RestoredMirrors
 pub mod LaidOut
-pub mod HeldLeaves

@@ -32,7 +32,7 @@ use Rattle.mirror_trees.specs.Marked.{point_of}
 use Rattle.tlog_mirror.specs.Best.{served_cmp, kept_point, HasKept, IsBuiltAt, IsBest, IsBestOf}
 use Rattle.tlog_mirror.specs.Best.{IsFirstWith}
 use Rattle.mirror_model.specs.Reports.{SaysServed}
-use Rattle.tlog_mirror.specs.Tops.{IsServedAs}
+use Rattle.mirror_served.specs.Tops.{IsServedAs}
 use Rattle.tlog_mirror.specs.declared.kept.HeldNote.{HeldNote}
 use Rattle.mirror_reports.proofs.PointLists.{any_default, size_at_most, unmapped}
 

@@ -10,9 +10,9 @@ use Rattle.std.specs.List.{Contains}
 use Rattle.node_store.specs.Strings.{Strings}
 use Rattle.mirror_model.specs.Complete.{IsBuilt}
 use Rattle.mirror_model.specs.Forks.{Point}
-use Rattle.mirror_trees.specs.HeldLeaves.{HasLeaves}
+use Rattle.mirror_served.specs.HeldLeaves.{HasLeaves}
 use Rattle.mirror_trees.specs.Marked.{point_of}
-use Rattle.mirror_trees.specs.declared.leaves.Leaves.{Leaves}
+use Rattle.mirror_served.specs.declared.leaves.Leaves.{Leaves}
 use Rattle.tlog_mirror.specs.declared.kept.HeldNote.{HeldNote}
 
 -- the size and root of a kept note

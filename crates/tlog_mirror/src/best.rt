@@ -4,7 +4,8 @@ ghost use Rattle.mirror_trees.specs.HeldTrees.{AreKnown};
 ghost use Rattle.tlog_mirror.specs.Best.{AreLeavesOf, HasKept, IsAhead, IsBestOf, IsFirstWith};
 
 use crate::kept::HeldNote;
-use mirror_trees::{HeldTrees, Leaves, is_built, leaves_of};
+use mirror_served::{Leaves, leaves_of};
+use mirror_trees::{HeldTrees, is_built};
 use node_store::Store;
 use std::alloc::{AllocError, Global};
 use std::cmp::Ordering;

@@ -19,22 +19,18 @@ mod forks;
 mod heads;
 mod kept;
 mod laid;
-mod laws;
 mod merge;
 mod mirror;
 mod missing;
 mod restored;
-mod room;
 mod rows;
 mod served;
 mod settle;
 mod take_head;
 mod takes;
 mod texts;
-mod top_ranges;
 
 pub use fault::{NewFault, RestoreFault};
-pub use laws::served_list_law;
 pub use mirror::Mirror;
 pub use mirror_model::{
     Bytes, Event, Fork, Head, HeadNote, Item, MergeFault, Rows, TakeFault, again_law, bundles_law,
@@ -42,4 +38,3 @@ pub use mirror_model::{
     keeping_law, lists_law, part_law, plays_law, reports_law, retry_example, retry_law, run_law,
     served_law,
 };
-pub use top_ranges::TopRanges;

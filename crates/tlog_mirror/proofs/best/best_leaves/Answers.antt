@@ -1,7 +1,7 @@
 use Rattle.std.proofs.Common.{◌≡◌, true, inl, inr}
-use Rattle.mirror_trees.proofs.FileSteps.{at_none}
-use Rattle.mirror_trees.proofs.LeafRows.{at_some}
-use Rattle.mirror_trees.specs.HeldLeaves.{HasLeaves, entries_of}
+use Rattle.mirror_served.proofs.FileSteps.{at_none}
+use Rattle.mirror_served.proofs.LeafRows.{at_some}
+use Rattle.mirror_served.specs.HeldLeaves.{HasLeaves, entries_of}
 use Rattle.tlog_mirror.proofs.BestNotes.{better_at, no_better_at, best_of_all}
 use Rattle.tlog_mirror.proofs.best.best_leaves.Goals as goal
 
