@@ -1,4 +1,5 @@
--- Answers about the edge rows of a tree head. Only the contracts of private functions cite these words.
+-- Answers about the edge rows of a tree head. Only the contracts of private functions cite these words, apart from
+-- `JudgesEdge`.
 use Rattle.std.specs.Prelude.{◌≡◌, ◌≢◌, ℕ, ◌*◌, List, length, map, Result, Ok, Err, ⊤}
 use Rattle.mirror_model.specs.Edge.{edge_root}
 use Rattle.mirror_model.specs.Item.{row_of, HasEdgeRows}

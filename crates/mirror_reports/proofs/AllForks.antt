@@ -23,7 +23,7 @@ use Rattle.mirror_reports.specs.Branches.{IsBranch, AreBranches, under_of, apart
 use Rattle.mirror_reports.specs.Forks.{Departs, Conflicts, IsForkOf}
 use Rattle.mirror_reports.specs.Branches.{fork_of, marked, forks_with, forks_from, marks_from, all_forks}
 use Rattle.mirror_reports.specs.declared.branches.Branch.{Branch}
-use Rattle.mirror_reports.proofs.PointLists.{any_default}
+use Rattle.std.proofs.lemmas.List.{get_or_default}
 use Rattle.mirror_reports.proofs.PointLists.{pairs_total, source_of}
 use Rattle.mirror_reports.proofs.BranchSteps.{head_of, not_both, less_size, rising, goes_on, goes_back}
 
@@ -139,7 +139,7 @@ module _ (digest : List ℕ → List ℕ) (held : Strings) (branches : List Bran
   own k one p = each k one p.0 p.1
 
   same_at : (k : ℕ) (a b : Branch) → At k a → At k b → a ≡ b
-  same_at k a b p q = sym p.1 ∙ any_default branches k a b p.0 ∙ q.1
+  same_at k a b p q = sym p.1 ∙ get_or_default branches k a b p.0 ∙ q.1
 
   short : (k l : ℕ) (a b : Branch) → k ≤ l → At k a → At l b → a.head.0 ≤ b.head.0
   short k l a b le p q = elim (cases_lt k l) [
@@ -191,7 +191,7 @@ module _ (digest : List ℕ → List ℕ) (held : Strings) (branches : List Bran
       is_one : At g (get_or branches g b)
       is_one =
           let lt : g < length branches = omega (arith, fits, is_b.0) in
-          (lt, any_default branches g (get_or branches g b) b lt)
+          (lt, get_or_default branches g (get_or branches g b) b lt)
 
       last : ((get_or branches g b).whole ≡ true) × Precedes digest held (get_or branches g b).head b.head
       last =
@@ -398,7 +398,7 @@ module _ (digest : List ℕ → List ℕ) (held : Strings) (branches : List Bran
         let fits : b.after - 1 < k = omega (arith, mine.fits, len, past) in
         let g_lt : b.after - 1 < length branches = omega (arith, fits, p.0) in
         let is_g : At (b.after - 1) (get_or branches (b.after - 1) b) =
-        (g_lt, any_default branches (b.after - 1) (get_or branches (b.after - 1) b) b g_lt) in
+        (g_lt, get_or_default branches (b.after - 1) (get_or branches (b.after - 1) b) b g_lt) in
         let last =
         mine.last (get_or branches (b.after - 1) b) b_whole (omega (arith, past))
         (get_or-take k branches (b.after - 1) (get_or branches (b.after - 1) b) fits ∙ is_g.1) in

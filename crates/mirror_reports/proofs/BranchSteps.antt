@@ -17,7 +17,7 @@ use Rattle.mirror_reports.specs.Points.{by_point}
 use Rattle.mirror_reports.specs.Branches.{Precedes, IsBranch, AreBranches}
 use Rattle.mirror_reports.specs.Forks.{Departs}
 use Rattle.mirror_reports.specs.declared.branches.Branch.{Branch}
-use Rattle.mirror_reports.proofs.PointLists.{any_default}
+use Rattle.std.proofs.lemmas.List.{get_or_default}
 use Rattle.mirror_reports.proofs.PointLists.{pairs_total}
 use Rattle.mirror_reports.proofs.PointLists.{size_at_most}
 
@@ -126,7 +126,7 @@ module _ (digest : List ℕ → List ℕ) (held : Strings) where
           | inl less ↦
               let place : k ≡ at - 1 = omega (arith, less, from) in
               let same : one ≡ other =
-              is ∙ any_default before (at - 1) one other (omega (arith, some, fits)) ∙
+              is ∙ get_or_default before (at - 1) one other (omega (arith, some, fits)) ∙
               ap (λ n. get_or before n other) (sym place) ∙ there in
               subst (λ (b : Branch). Departs digest held b.head head) same
               (this (ap (λ (b : Branch). b.whole) same ∙ whole))
@@ -143,7 +143,7 @@ module _ (digest : List ℕ → List ℕ) (held : Strings) where
         (other.whole ≡ true) × Precedes digest held other.head head
     last_is b tells recorded_yes whole n place other there =
         let same : one ≡ other =
-        is ∙ any_default before (at - 1) one other (omega (arith, some, fits)) ∙
+        is ∙ get_or_default before (at - 1) one other (omega (arith, some, fits)) ∙
         ap (λ m. get_or before m other) (sym place) ∙ there in
         subst (λ (o : Branch). (o.whole ≡ true) × Precedes digest held o.head head) same
         (whole, λ first second p q. (tells first second p q).0 recorded_yes)
@@ -152,7 +152,7 @@ module _ (digest : List ℕ → List ℕ) (held : Strings) where
   pub fits_all : (branches : List Branch) → AreBranches digest held branches →
       All (λ b. b.after ≤ length branches) branches
   fits_all branches each k d lt =
-      let own = each k (get_or branches k d) lt (any_default branches k (get_or branches k d) d lt) in
+      let own = each k (get_or branches k d) lt (get_or_default branches k (get_or branches k d) d lt) in
       omega (arith, own.fits, length-take k branches)
 
   -- ---- all tree heads, in order

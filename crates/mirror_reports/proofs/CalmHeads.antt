@@ -7,7 +7,7 @@ use Rattle.std.proofs.lemmas.Bool.{cases_lt}
 use Rattle.mirror_reports.specs.Points.{by_point}
 use Rattle.mirror_reports.specs.Branches.{AreCalmTwo}
 use Rattle.mirror_reports.specs.declared.branches.Branch.{Branch}
-use Rattle.mirror_reports.proofs.PointLists.{any_default}
+use Rattle.std.proofs.lemmas.List.{get_or_default}
 use Rattle.mirror_reports.proofs.BranchSteps.{head_of, less_size, rising}
 
 module _ (branches : List Branch) where
@@ -31,7 +31,7 @@ module _ (branches : List Branch) where
           | inl before ↦
               let place : k ≡ at - 1 = omega (arith, before, from) in
               let same : one ≡ b =
-              is ∙ any_default branches (at - 1) one b (omega (arith, some, fits)) ∙
+              is ∙ get_or_default branches (at - 1) one b (omega (arith, some, fits)) ∙
               ap (λ n. get_or branches n b) (sym place) ∙ there in
               subst (λ (o : Branch). less ≤ o.after) same (mine (ap (λ (o : Branch). o.whole) same ∙ whole))
           | inr behind ↦ let old = is_least k b behind lt there whole in omega (arith, old, le)
@@ -47,7 +47,7 @@ module _ (branches : List Branch) where
             let next_lt : at - 1 + 1 < length branches = omega (arith, lt, fits_k) in
             let n : Branch = get_or branches (at - 1 + 1) b in
             let is_n : get_or branches (at - 1 + 1) (get_or branches (at - 1 + 1) b) ≡ get_or branches (at - 1 + 1) b =
-            any_default branches (at - 1 + 1) (get_or branches (at - 1 + 1) b) b next_lt in
+            get_or_default branches (at - 1 + 1) (get_or branches (at - 1 + 1) b) b next_lt in
             let other : a.head.0 ≢ (get_or branches (at - 1 + 1) b).head.0 =
             sizes a (get_or branches (at - 1 + 1) b) yes_calm next_lt p is_n in
             let up : a.head.0 ≤ (get_or branches (at - 1 + 1) b).head.0 =

@@ -16,13 +16,6 @@ use Rattle.mirror_trees.proofs.Orders.{equal_is}
 use Rattle.mirror_trees.specs.Marked.{point_of}
 use Rattle.mirror_reports.specs.Points.{by_point}
 
-module _ {X : Type 0} where
-  -- within a list the default is not read
-  pub any_default : (xs : List X) (k : ℕ) (d e : X) → k < length xs → get_or xs k d ≡ get_or xs k e
-  any_default [] k d e lt = absurd (omega (arith, lt))
-  any_default (x ∷ xs) zero d e lt = refl
-  any_default (x ∷ xs) (suc k) d e lt = any_default xs k d e (omega (arith, lt))
-
 -- an item of a mapped list, with the item before the map
 pub record Unmapped {X Y : Type 0} (f : X → Y) (xs : List X) (k : ℕ) (y : Y) : Type 0 where
   pub one : X

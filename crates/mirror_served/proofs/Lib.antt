@@ -4,3 +4,4 @@ pub mod FileSteps
 pub mod LeafSteps
 pub mod HeldLeaves
 pub mod ServedParts
+pub mod BestNotes

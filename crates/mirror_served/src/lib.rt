@@ -8,8 +8,10 @@
 //! ```
 #![tactic(auto)]
 
+mod best;
 mod bundle;
 mod files;
+mod held_note;
 mod laws;
 mod leaves;
 mod ranges;
@@ -17,8 +19,10 @@ mod room;
 mod rows;
 mod top_ranges;
 
+pub use best::{best_leaves, best_of, first_with};
 pub use bundle::entries_at;
 pub use files::files_of;
+pub use held_note::HeldNote;
 pub use laws::served_list_law;
 pub use leaves::{Leaves, leaves_of, part_at};
 pub use ranges::range_hash;

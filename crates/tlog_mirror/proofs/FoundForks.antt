@@ -23,10 +23,10 @@ use Rattle.mirror_reports.specs.Forks.{AreForksOf, Departs, IsForkOf, IsPairOf, 
 use Rattle.mirror_reports.specs.Points.{by_point}
 use Rattle.mirror_reports.proofs.BranchSteps.{not_both, less_size}
 use Rattle.mirror_reports.proofs.PointLists.{mapped, source_of}
-use Rattle.tlog_mirror.specs.Best.{HasKept}
+use Rattle.mirror_served.specs.Best.{HasKept}
 use Rattle.tlog_mirror.specs.ForksWritten.{WritesForks}
 use Rattle.tlog_mirror.specs.Kept.{state_of, IsKeptWell}
-use Rattle.tlog_mirror.specs.declared.kept.HeldNote.{HeldNote}
+use Rattle.mirror_served.specs.declared.held_note.HeldNote.{HeldNote}
 use Rattle.tlog_mirror.proofs.ServedNotes.{head_from_kept, kept_head}
 
 -- ---- the forks of the view

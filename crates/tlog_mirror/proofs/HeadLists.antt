@@ -16,8 +16,8 @@ use Rattle.tlog_mirror.specs.Kept.{state_of, IsKeptWell}
 use Rattle.mirror_trees.specs.Marked.{point_of}
 use Rattle.mirror_reports.specs.Points.{by_point, IsBuiltFlag}
 use Rattle.mirror_reports.proofs.PointLists.{mapped, source_of, sorted_out}
-use Rattle.tlog_mirror.specs.Best.{HasKept}
-use Rattle.tlog_mirror.specs.declared.kept.HeldNote.{HeldNote}
+use Rattle.mirror_served.specs.Best.{HasKept}
+use Rattle.mirror_served.specs.declared.held_note.HeldNote.{HeldNote}
 use Rattle.tlog_mirror.proofs.ServedNotes.{head_from_kept, kept_head, with_head}
 
 -- the sizes and roots of the kept notes

@@ -6,7 +6,6 @@ pub mod ListedNotes
 pub mod MergedMirrors
 pub mod TakenHeads
 pub mod OpenHeads
-pub mod BestNotes
 pub mod ServedNotes
 pub mod HeadLists
 pub mod SettledHeads

@@ -29,12 +29,13 @@ use Rattle.mirror_model.proofs.StringSets.{listed_from_has, has_from_listed}
 use Rattle.mirror_model.proofs.HeadNotes.{head_once}
 use Rattle.tlog_mirror.specs.Kept.{state_of, note_bytes, IsKeptWell}
 use Rattle.mirror_trees.specs.Marked.{point_of}
-use Rattle.tlog_mirror.specs.Best.{served_cmp, kept_point, HasKept, IsBuiltAt, IsBest, IsBestOf}
-use Rattle.tlog_mirror.specs.Best.{IsFirstWith}
+use Rattle.mirror_served.specs.Best.{served_cmp, kept_point, HasKept, IsBuiltAt, IsBest, IsBestOf}
+use Rattle.mirror_served.specs.Best.{IsFirstWith}
 use Rattle.mirror_model.specs.Reports.{SaysServed}
 use Rattle.mirror_served.specs.Tops.{IsServedAs}
-use Rattle.tlog_mirror.specs.declared.kept.HeldNote.{HeldNote}
-use Rattle.mirror_reports.proofs.PointLists.{any_default, size_at_most, unmapped}
+use Rattle.mirror_served.specs.declared.held_note.HeldNote.{HeldNote}
+use Rattle.std.proofs.lemmas.List.{get_or_default}
+use Rattle.mirror_reports.proofs.PointLists.{size_at_most, unmapped}
 
 -- ---- lists and orders
 
@@ -141,7 +142,7 @@ module _ (digest : List ℕ → List ℕ) (origin : List ℕ) (kept : List HeldN
         | inr ge ↦
             let same : i ≡ j = omega (arith, upto, ge) in
             let read : slice_index_or kept j a ≡ a = subst (λ n. slice_index_or kept n a ≡ a) same at_a in
-            same_at_most (note_bytes a) (note_bytes b) (ap note_bytes (sym read ∙ any_default kept j a b fits ∙ at_b))
+            same_at_most (note_bytes a) (note_bytes b) (ap note_bytes (sym read ∙ get_or_default kept j a b fits ∙ at_b))
       ]
 
   -- ---- the served note

@@ -1,7 +1,6 @@
 pub mod Kept
 pub mod LaidOut
 pub mod Adding
-pub mod Best
 pub mod NoteLists
 pub mod Settled
 pub mod Restored

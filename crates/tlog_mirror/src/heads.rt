@@ -6,13 +6,12 @@ ghost use Rattle.mirror_model.specs.Complete.{IsComplete};
 ghost use Rattle.mirror_model.specs.Reports.{ReportsHeads};
 ghost use Rattle.mirror_trees.specs.Marked.{point_of};
 ghost use Rattle.mirror_reports.specs.Points.{by_point};
-ghost use Rattle.tlog_mirror.specs.Best.{HasKept};
+ghost use Rattle.mirror_served.specs.Best.{HasKept};
 
-use crate::best::first_with;
-use crate::kept::HeldNote;
 use crate::mirror::Mirror;
 use mirror_model::Head;
 use mirror_reports::flag_heads;
+use mirror_served::{HeldNote, first_with};
 use mirror_trees::is_built;
 use std::alloc::{AllocError, Global};
 use tlog_hash::{Hash, TreeHash};

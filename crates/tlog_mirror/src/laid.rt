@@ -3,9 +3,8 @@ ghost use Rattle.std.specs.Prelude.{◌≡◌, length, IfOk, IfSome, IfNone};
 ghost use Rattle.tlog_tiles.specs.Tiles.{IsTileWithin, tile_bytes, bundle_bytes};
 ghost use Rattle.tlog_mirror.specs.LaidOut.{IsLaidOut};
 
-use crate::kept::HeldNote;
 use crate::mirror::Mirror;
-use mirror_served::files_of;
+use mirror_served::{HeldNote, files_of};
 use std::alloc::{AllocError, Global};
 use tlog_files::LogFiles;
 use tlog_hash::TreeHash;

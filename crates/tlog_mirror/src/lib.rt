@@ -12,7 +12,6 @@
 //! ```
 #![tactic(auto)]
 
-mod best;
 mod compare;
 mod fault;
 mod forks;

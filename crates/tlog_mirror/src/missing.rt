@@ -4,10 +4,10 @@ ghost use Rattle.mirror_model.specs.Heads.{HasHead};
 ghost use Rattle.mirror_model.specs.Listed.{ListsMissing};
 ghost use Rattle.tlog_mirror.specs.MissingWritten.{WritesMissing};
 
-use crate::best::first_with;
 use crate::mirror::Mirror;
 use byte_streams::StreamFault;
 use mirror_reports::write_missing;
+use mirror_served::first_with;
 use mirror_trees::missing_of;
 use std::alloc::{AllocError, Global};
 use std::io::Write;

@@ -1,8 +1,8 @@
 use Rattle.std.proofs.Common.{◌≡◌, true, inl, inr}
-use Rattle.tlog_mirror.proofs.BestNotes.{better_at, no_better_at, best_of_all}
-use Rattle.tlog_mirror.proofs.best.best_of.Goals as goal
-use Rattle.tlog_mirror.proofs.best.best_of.Goals.{else-is_ahead-via-then-is_ahead+else-is_built}
-use Rattle.tlog_mirror.proofs.best.best_of.Goals.{else-is_ahead-via-else-is_ahead}
+use Rattle.mirror_served.proofs.BestNotes.{better_at, no_better_at, best_of_all}
+use Rattle.mirror_served.proofs.best.best_of.Goals as goal
+use Rattle.mirror_served.proofs.best.best_of.Goals.{else-is_ahead-via-then-is_ahead+else-is_built}
+use Rattle.mirror_served.proofs.best.best_of.Goals.{else-is_ahead-via-else-is_ahead}
 
 pub loop-at-preserved-then-is_built : goal.loop-at-preserved-then-is_built
 loop-at-preserved-then-is_built g c =

@@ -15,10 +15,10 @@ use Rattle.std.proofs.lemmas.Bool.Decides.{Decides-eqb}
 use Rattle.node_store.specs.Strings.{Strings}
 use Rattle.mirror_model.specs.Forks.{Point}
 use Rattle.mirror_trees.specs.Marked.{point_of}
-use Rattle.tlog_mirror.specs.Best.{served_cmp, kept_point, IsAhead, HasKept, IsBuiltAt, IsBestOf}
-use Rattle.tlog_mirror.specs.Best.{IsFirstWith}
-use Rattle.mirror_reports.proofs.PointLists.{any_default}
-use Rattle.tlog_mirror.specs.declared.kept.HeldNote.{HeldNote}
+use Rattle.mirror_served.specs.Best.{served_cmp, kept_point, IsAhead, HasKept, IsBuiltAt, IsBestOf}
+use Rattle.mirror_served.specs.Best.{IsFirstWith}
+use Rattle.std.proofs.lemmas.List.{get_or_default}
+use Rattle.mirror_served.specs.declared.held_note.HeldNote.{HeldNote}
 use Rattle.mirror_model.proofs.Listing.{head_or, later, here}
 
 pub served_total : IsTotalOrder served_cmp
@@ -132,7 +132,7 @@ module _ (kept : List HeldNote) (size : ℕ) (root : List ℕ) where
             let k_is : k ≡ at = omega (arith, lt, more) in
             let read : slice_index_or kept at other ≡ other =
             subst (λ n. slice_index_or kept n other ≡ other) k_is there in
-            let one_is : one ≡ other = is ∙ any_default kept at one other fits ∙ read in
+            let one_is : one ≡ other = is ∙ get_or_default kept at one other fits ∙ read in
             differ (ap kept_point one_is ∙ same)
       ]
 

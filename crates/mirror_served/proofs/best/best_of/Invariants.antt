@@ -1,6 +1,6 @@
 use Rattle.std.proofs.Common.{drop}
-use Rattle.tlog_mirror.specs.Best.{IsBestOf}
-use Rattle.tlog_mirror.proofs.best.best_of.Given as goal
+use Rattle.mirror_served.specs.Best.{IsBestOf}
+use Rattle.mirror_served.proofs.best.best_of.Given as goal
 
 -- the best so far is the best of those from here on
 abbrev pub invariant-loop-at : goal.invariant-loop-at

@@ -1,7 +1,7 @@
-use Rattle.tlog_mirror.proofs.BestNotes.{first_at, none_more, none_at_all, other_size, other_root, same_root}
-use Rattle.tlog_mirror.proofs.best.first_with.Goals as goal
-use Rattle.tlog_mirror.proofs.best.first_with.Goals.{else-one-size-via-then-one-size+else-eq}
-use Rattle.tlog_mirror.proofs.best.first_with.Goals.{else-one-size-via-else-one-size}
+use Rattle.mirror_served.proofs.BestNotes.{first_at, none_more, none_at_all, other_size, other_root, same_root}
+use Rattle.mirror_served.proofs.best.first_with.Goals as goal
+use Rattle.mirror_served.proofs.best.first_with.Goals.{else-one-size-via-then-one-size+else-eq}
+use Rattle.mirror_served.proofs.best.first_with.Goals.{else-one-size-via-else-one-size}
 
 pub returns-then-eq-clause-some : goal.returns-then-eq-clause-some
 returns-then-eq-clause-some c =

@@ -1,20 +1,25 @@
 //! The kept note that is served.
 ghost use Rattle.std.specs.Prelude.{◌↔◌, IsTrue, IfOk, IfSome, IfNone};
 ghost use Rattle.mirror_trees.specs.HeldTrees.{AreKnown};
-ghost use Rattle.tlog_mirror.specs.Best.{AreLeavesOf, HasKept, IsAhead, IsBestOf, IsFirstWith};
+ghost use Rattle.mirror_served.specs.Best.{AreLeavesOf, HasKept, IsAhead, IsBestOf, IsFirstWith};
 
-use crate::kept::HeldNote;
-use mirror_served::{Leaves, leaves_of};
+use crate::held_note::HeldNote;
+use crate::leaves::{Leaves, leaves_of};
 use mirror_trees::{HeldTrees, is_built};
 use node_store::Store;
 use std::alloc::{AllocError, Global};
 use std::cmp::Ordering;
 use tlog_hash::{Hash, TreeHash};
 
-// Finds the size and root that are served, among the complete tree heads.
-//
-// The notes rise by their bytes, so from the back the larger sizes mostly come first, and few trees are walked.
-pub(crate) fn best_of<H: TreeHash>(
+/// Finds the size and root that are served, among the kept notes whose trees are held: the greatest size, then the least
+/// root. `None` exactly if no tree is held. It takes no memory.
+///
+/// Where notes rise by their bytes, from the back the larger sizes mostly come first, and few trees are walked.
+///
+/// ```text
+/// best_of(&store, &known, &kept)   // Some((3, root))
+/// ```
+pub fn best_of<H: TreeHash>(
     store: &Store<H>,
     known: &HeldTrees,
     kept: &[HeldNote],
@@ -32,9 +37,17 @@ pub(crate) fn best_of<H: TreeHash>(
     best
 }
 
-// Finds the size and root that are served, like `best_of`, with the leaves of the tree. Each walk through a tree gathers
-// its leaves, and they are dropped if it is not held.
-pub(crate) fn best_leaves<'a, H: TreeHash>(
+/// Finds the size and root that are served, like `best_of`, with the leaves of the tree. Each walk through a tree gathers
+/// its leaves, and they are dropped if it is not held.
+///
+/// ```text
+/// let (best, leaves) = best_leaves(alloc, &store, &known, &kept)?;
+/// ```
+///
+/// # Errors
+///
+/// Memory was refused, as by `leaves_of`.
+pub fn best_leaves<'a, H: TreeHash>(
     alloc: Global,
     store: &'a Store<H>,
     known: &HeldTrees,
@@ -68,8 +81,12 @@ fn is_ahead(size: u64, root: &Hash, best: &Option<(u64, Hash)>) -> bool
     }
 }
 
-// The first kept note with that size and root.
-pub(crate) fn first_with<'a>(kept: &'a [HeldNote], size: u64, root: &Hash) -> Option<&'a HeldNote>
+/// The first kept note with that size and root. It takes no memory.
+///
+/// ```text
+/// first_with(&kept, 3, &root)   // Some of a note
+/// ```
+pub fn first_with<'a>(kept: &'a [HeldNote], size: u64, root: &Hash) -> Option<&'a HeldNote>
     ensures some { IfSome result (λ one. IsFirstWith kept.now
         (record { size = size; root = root.now }) one.now) }
     ensures none { IfNone result (¬ HasKept kept.now (record { size = size; root = root.now })) }

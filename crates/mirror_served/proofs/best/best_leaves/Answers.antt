@@ -2,8 +2,8 @@ use Rattle.std.proofs.Common.{◌≡◌, true, inl, inr}
 use Rattle.mirror_served.proofs.FileSteps.{at_none}
 use Rattle.mirror_served.proofs.LeafRows.{at_some}
 use Rattle.mirror_served.specs.HeldLeaves.{HasLeaves, entries_of}
-use Rattle.tlog_mirror.proofs.BestNotes.{better_at, no_better_at, best_of_all}
-use Rattle.tlog_mirror.proofs.best.best_leaves.Goals as goal
+use Rattle.mirror_served.proofs.BestNotes.{better_at, no_better_at, best_of_all}
+use Rattle.mirror_served.proofs.best.best_leaves.Goals as goal
 
 pub loop-at-preserved-in-Some : goal.loop-at-preserved-in-Some
 loop-at-preserved-in-Some g c =

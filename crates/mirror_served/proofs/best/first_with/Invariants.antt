@@ -1,7 +1,7 @@
 use Rattle.std.proofs.Common.{◌≡◌, ◌<◌, ℕ, slice_index_or}
-use Rattle.tlog_mirror.specs.Best.{kept_point}
-use Rattle.tlog_mirror.specs.declared.kept.HeldNote.{HeldNote}
-use Rattle.tlog_mirror.proofs.best.first_with.Given as goal
+use Rattle.mirror_served.specs.Best.{kept_point}
+use Rattle.mirror_served.specs.declared.held_note.HeldNote.{HeldNote}
+use Rattle.mirror_served.proofs.best.first_with.Given as goal
 
 -- no earlier note has that size and root
 abbrev pub invariant-loop-one : goal.invariant-loop-one

@@ -1,5 +1,4 @@
 -- The kept note that is served: its tree is held. It has the greatest size, then the least root, then the least bytes.
--- Only the contracts of private functions cite these words.
 use Rattle.std.specs.Prelude.{◌≡◌, ℕ, ◌<◌, List, length, slice_index_or, Option, Some, None, false}
 use Rattle.std.specs.Prelude.{⊤, IfSome}
 use Rattle.std.specs.Ordering.{nat_cmp, ordering_then, is_gt}
@@ -13,7 +12,7 @@ use Rattle.mirror_model.specs.Forks.{Point}
 use Rattle.mirror_served.specs.HeldLeaves.{HasLeaves}
 use Rattle.mirror_trees.specs.Marked.{point_of}
 use Rattle.mirror_served.specs.declared.leaves.Leaves.{Leaves}
-use Rattle.tlog_mirror.specs.declared.kept.HeldNote.{HeldNote}
+use Rattle.mirror_served.specs.declared.held_note.HeldNote.{HeldNote}
 
 -- the size and root of a kept note
 abbrev pub kept_point : HeldNote → Point
