@@ -8,7 +8,7 @@ use Rattle.tlog_tiles.specs.declared.paths.Path.TheVariants.{Checkpoint}
 use Rattle.mirror_sources.specs.Recorded.{AddsToRecord, KeepsRecord, Rose, one_more}
 use Rattle.mirror_model.specs.View.{View}
 use Rattle.mirror_model.specs.Reports.{SaysServed}
-use Rattle.tlog_mirror.specs.Tops.{Top, IsServedTop}
+use Rattle.mirror_served.specs.Tops.{Top, IsServedTop}
 use Rattle.mirror_folders.specs.Shelf.{CountsFailures, Put, RecordsHas, RecordsNone, RecordsSome}
 use Rattle.mirror_export.specs.Faults.{of_shelf}
 use Rattle.log_paths.specs.Files.{file_at, files_at, kind_paths, paths_of, tile_paths}

@@ -6,8 +6,8 @@ use Rattle.tlog_tiles.specs.declared.paths.Path.TheVariants.{Checkpoint}
 use Rattle.mirror_model.specs.View.{View}
 use Rattle.mirror_model.proofs.HeadNotes.{head_once}
 use Rattle.mirror_model.specs.Reports.{SaysServed}
-use Rattle.tlog_mirror.specs.Tops.{Top, IsListOf, IsServedTop}
-use Rattle.tlog_mirror.proofs.ServedParts.{list_of}
+use Rattle.mirror_served.specs.Tops.{Top, IsListOf, IsServedTop}
+use Rattle.mirror_served.proofs.ServedParts.{list_of}
 use Rattle.mirror_sources.specs.Recorded.{KeepsRecord}
 use Rattle.mirror_folders.specs.Shelf.{Put, Stands, RecordsRead}
 use Rattle.log_paths.specs.Since.{files_since}

@@ -11,8 +11,8 @@ use Rattle.mirror_model.specs.Heads.{IsHead}
 use Rattle.mirror_model.proofs.HeadNotes.{head_once}
 use Rattle.mirror_model.proofs.OneLists.{at_most_both}
 use Rattle.mirror_model.specs.Reports.{SaysServed}
-use Rattle.tlog_mirror.specs.Tops.{Top, IsListOf, IsServedTop}
-use Rattle.tlog_mirror.proofs.ServedParts.{list_of, listed}
+use Rattle.mirror_served.specs.Tops.{Top, IsListOf, IsServedTop}
+use Rattle.mirror_served.proofs.ServedParts.{list_of, listed}
 use Rattle.mirror_sources.specs.Recorded.{Rose}
 use Rattle.mirror_folders.specs.Shelf.{CountsError, Put}
 use Rattle.mirror_export.specs.Faults.{update_of_shelf}

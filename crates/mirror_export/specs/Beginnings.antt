@@ -14,7 +14,7 @@ use Rattle.mirror_sources.specs.Recorded.{KeepsRecord, AddsToRecord}
 use Rattle.mirror_folders.specs.Shelf.{Put, Stands, RecordsRead}
 use Rattle.mirror_export.specs.Exports.{AddsPrefix}
 use Rattle.log_paths.specs.Since.{files_since}
-use Rattle.tlog_mirror.specs.Tops.{Top, IsListOf}
+use Rattle.mirror_served.specs.Tops.{Top, IsListOf}
 use Rattle.mirror_export.specs.declared.fault.UpdateFault.{UpdateFault}
 use Rattle.mirror_export.specs.declared.fault.UpdateFault.TheVariants.{NothingComplete, OtherLog}
 use Rattle.mirror_export.specs.declared.fault.UpdateFault.TheVariants.{ShelfFault, OutOfMemory}

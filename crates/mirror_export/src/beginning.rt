@@ -3,11 +3,11 @@ ghost use Rattle.std.specs.Prelude.{◌≡◌, IsTrue, ◌↔◌, option_map};
 ghost use Rattle.mirror_export.specs.Beginnings.{FindsSince, FindsSize, ReadsPoint, of_note, of_text};
 
 use crate::fault::UpdateFault;
+use mirror_served::TopRanges;
 use signed_note::{Note, NoteFault};
 use std::alloc::Global;
 use tlog_checkpoint::{Checkpoint, CheckpointFault, read};
 use tlog_hash::{Hash, TreeHash};
-use tlog_mirror::TopRanges;
 use tlog_proof::Ranges;
 
 // The fault for bytes that are no note, and so no checkpoint of the log.

@@ -2,7 +2,7 @@
 ghost use Rattle.std.specs.Prelude.{◌≡◌, ◌≤◌, ℕ, List, [], ◌∷◌, length, IfOk, IfSome};
 ghost use Rattle.std.specs.List.{filter};
 ghost use Rattle.tlog_tiles.specs.Tiles.{IsWithin};
-ghost use Rattle.tlog_mirror.specs.Tops.{IsListOf};
+ghost use Rattle.mirror_served.specs.Tops.{IsListOf};
 ghost use Rattle.mirror_export.specs.Exports.{AddsFiles};
 ghost use Rattle.log_paths.specs.Files.{served_bytes, files_at, kind_paths, kind_level, kind_path};
 ghost use Rattle.mirror_folders.specs.Shelf.{CountsFailures};
@@ -10,9 +10,9 @@ ghost use Rattle.log_paths.specs.Since.{is_new, since_parts, since_paths, width_
 
 use log_paths::{FileKind, files_to_put, lacks, level_at, path_at};
 use mirror_folders::{Shelf, ShelfError};
+use mirror_served::TopRanges;
 use std::alloc::{AllocError, Global};
 use tlog_hash::TreeHash;
-use tlog_mirror::TopRanges;
 use tlog_shape::{edge_index, edge_width};
 use tlog_tiles::Path;
 

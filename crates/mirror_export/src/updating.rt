@@ -1,7 +1,7 @@
 //! A folder with a checkpoint is brought up to date.
 ghost use Rattle.std.specs.Prelude.{◌≡◌, ◌↔◌, ℕ, List, Some, None, IsTrue, option_map};
 ghost use Rattle.mirror_model.specs.Reports.{SaysServed};
-ghost use Rattle.tlog_mirror.specs.Tops.{IsListOf};
+ghost use Rattle.mirror_served.specs.Tops.{IsListOf};
 ghost use Rattle.mirror_export.specs.Beginnings.{PutsLast, UpdatesTop};
 ghost use Rattle.mirror_export.specs.Updates.{CountsUpdate, StaysWhole, Updates};
 
@@ -9,9 +9,10 @@ use crate::beginning::size_found;
 use crate::fault::UpdateFault;
 use crate::files::put_parts;
 use mirror_folders::ReadableShelf;
+use mirror_served::TopRanges;
 use std::alloc::Global;
 use tlog_hash::TreeHash;
-use tlog_mirror::{Mirror, TopRanges};
+use tlog_mirror::Mirror;
 use tlog_proof::Ranges;
 use tlog_tiles::Path;
 

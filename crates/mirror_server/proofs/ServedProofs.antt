@@ -5,7 +5,7 @@ use Rattle.node_store.specs.Strings.{Strings}
 use Rattle.mirror_model.specs.Complete.{IsTreeOf}
 use Rattle.mirror_model.specs.Served.{IsCompleteNote, IsServedList, Served}
 use Rattle.mirror_model.proofs.OneLists.{at_most_both}
-use Rattle.tlog_mirror.specs.Tops.{IsListOf, IsServedTop, Top}
+use Rattle.mirror_served.specs.Tops.{IsListOf, IsServedTop, Top}
 
 -- the list of a served checkpoint is each list that is served
 pub listed_by_top : (digest : List ℕ → List ℕ) (v : View) (top : Top) → IsServedTop digest v top →

@@ -2,7 +2,6 @@ pub mod BuiltTrees
 pub mod Gained
 pub mod Descents
 pub mod Builds
-pub mod RowSteps
 pub mod RangeSteps
 pub mod Losses
 pub mod LevelSteps
@@ -10,13 +9,9 @@ pub mod LevelLists
 pub mod LevelPaths
 pub mod Marking
 pub mod MarkedTrees
-pub mod LeafRows
-pub mod FileSteps
 pub mod Orders
 pub mod PrefixSteps
 pub mod SliceSteps
 pub mod Settles
 pub mod KnownSteps
-pub mod EdgeSteps
 pub mod EmptySets
-pub mod LeafSteps

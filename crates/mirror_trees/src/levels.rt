@@ -7,7 +7,7 @@ ghost use Rattle.mirror_trees.specs.Levels.{AreClear, IsClear, IsOfLevel, ListsL
 
 use crate::known::{HeldTrees, is_noted, note_built};
 use crate::marks::Marks;
-use crate::rows::unit_of;
+use crate::unit::unit_of;
 use node_store::Store;
 use std::alloc::{AllocError, Global};
 use tlog_hash::{Hash, TreeHash};

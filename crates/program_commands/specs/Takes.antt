@@ -8,7 +8,7 @@ use Rattle.mirror_model.specs.View.{View}
 use Rattle.mirror_model.specs.declared.fault.TakeFault.{TakeFault}
 use Rattle.mirror_model.specs.declared.items.Item.{Item}
 use Rattle.mirror_model.specs.declared.items.Item.TheVariants as item
-use Rattle.tlog_mirror.specs.Plays.{JudgesItem}
+use Rattle.tlog_mirror.specs.Judged.{JudgesItem}
 use Rattle.program_files.specs.Named.{NamedFile}
 use Rattle.program_commands.specs.Answers.{done, failed}
 use Rattle.program_files.specs.Named.{FailsToPut, FailsToRead, HasContents, HaveContents}

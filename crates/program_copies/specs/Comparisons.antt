@@ -3,9 +3,9 @@ use Rattle.std.specs.Prelude.{◌≡◌, ◌≢◌, ℕ, ◌<◌, ◌≤◌, Lis
 use Rattle.signed_note.specs.Keys.{Key}
 use Rattle.mirror_folders.specs.Shelf.{Put}
 use Rattle.mirror_trees.specs.Marked.{point_of}
-use Rattle.tlog_mirror.specs.Compared.{IsCompared, compared_point, compared_text}
-use Rattle.tlog_mirror.specs.declared.compare.Compared.{Compared}
-use Rattle.tlog_mirror.specs.declared.compare.Compared.TheVariants.{Same, Fork, Larger}
+use Rattle.mirror_reports.specs.Compared.{IsCompared, compared_point, compared_text}
+use Rattle.mirror_reports.specs.declared.compare.Compared.{Compared}
+use Rattle.mirror_reports.specs.declared.compare.Compared.TheVariants.{Same, Fork, Larger}
 use Rattle.mirror_model.specs.Origin.{IsOrigin}
 use Rattle.program_files.specs.Named.{NamedFile}
 use Rattle.program_commands.specs.HeadFiles.{ReadsHeads}

@@ -1,17 +1,18 @@
 //! The command `entries` over a state: writes entries that a mirror serves.
 ghost use Rattle.std.specs.Prelude.{◌≡◌, ◌≤◌, ℕ, List, OnErr, OnOk};
 ghost use Rattle.mirror_model.specs.TrueLaws.{AreShort};
-ghost use Rattle.tlog_mirror.specs.Tops.{IsListOf};
+ghost use Rattle.mirror_served.specs.Tops.{IsListOf};
 ghost use Rattle.program_monitor.specs.Served.{AnswersServed, WritesAll, WritesFirst};
 
 use crate::cutting::CutFault;
 use crate::fault::StateEntriesFault;
 use crate::range::EntryRange;
 use crate::writing::{width_at, write_from};
+use mirror_served::TopRanges;
 use std::alloc::Global;
 use std::io::Write;
 use tlog_hash::TreeHash;
-use tlog_mirror::{Mirror, TopRanges};
+use tlog_mirror::Mirror;
 use tlog_proof::Ranges;
 
 // Writes the entries, bundle after bundle.

@@ -1,13 +1,11 @@
 -- The forks that are found are those of the view.
 use Rattle.std.proofs.Common.{◌≡◌, ◌≢◌, ℕ, ◌≤◌, List, [], ◌∷◌, length, map, Bool, sym, refl, ap, subst}
 use Rattle.std.proofs.Common.{inl, inr, arith}
-use Rattle.std.specs.Prelude.{◌↔◌, Result, Ok, Err, Option, IfOk, IfErr, OnOk, OnErr, IsTrue}
-use Rattle.std.specs.Io.KnownBytes.{Appends}
+use Rattle.std.specs.Prelude.{◌↔◌, Result, Ok, Err, Option}
 use Rattle.std.specs.declared.cmp.Ordering.TheVariants.{Less}
 use Rattle.std.specs.List.{Contains}
 use Rattle.std.specs.List.Sorted.{IsStrictlySortedBy}
 use Rattle.std.proofs.lemmas.List.{append-nil}
-use Rattle.byte_streams.specs.Streams.{AppendsPrefix}
 use Rattle.byte_streams.specs.declared.fault.StreamFault.{StreamFault}
 use Rattle.byte_streams.specs.declared.fault.StreamFault.TheVariants.{ReadFault, WriteFault, OutOfMemory}
 use Rattle.node_store.specs.Strings.{Strings}
@@ -21,15 +19,14 @@ use Rattle.mirror_model.specs.Texts.{IsForksText, forks_text}
 use Rattle.mirror_model.specs.declared.reports.Fork.{Fork}
 use Rattle.mirror_trees.proofs.PrefixSteps.{prefix_of_prefix}
 use Rattle.mirror_trees.specs.Marked.{point_of}
-use Rattle.tlog_mirror.specs.Best.{HasKept, by_point}
-use Rattle.tlog_mirror.specs.Branches.{AreBranches, AreCalm, Departs, IsForkOf, IsPairOf, all_forks}
+use Rattle.mirror_reports.specs.Forks.{AreForksOf, Departs, IsForkOf, IsPairOf, WritesForksOf}
+use Rattle.mirror_reports.specs.Points.{by_point}
+use Rattle.mirror_reports.proofs.BranchSteps.{not_both, less_size}
+use Rattle.mirror_reports.proofs.PointLists.{mapped, source_of}
+use Rattle.mirror_served.specs.Best.{HasKept}
 use Rattle.tlog_mirror.specs.ForksWritten.{WritesForks}
 use Rattle.tlog_mirror.specs.Kept.{state_of, IsKeptWell}
-use Rattle.tlog_mirror.specs.declared.branches.Branch.{Branch}
-use Rattle.tlog_mirror.specs.declared.kept.HeldNote.{HeldNote}
-use Rattle.tlog_mirror.proofs.AllForks.{all_exact, all_sorted}
-use Rattle.tlog_mirror.proofs.BranchSteps.{head_of, not_both, less_size}
-use Rattle.tlog_mirror.proofs.HeadLists.{mapped, source_of, sorted_out}
+use Rattle.mirror_served.specs.declared.held_note.HeldNote.{HeldNote}
 use Rattle.tlog_mirror.proofs.ServedNotes.{head_from_kept, kept_head}
 
 -- ---- the forks of the view
@@ -130,39 +127,32 @@ module _ (digest : List ℕ → List ℕ) (origin : List ℕ) (kept : List HeldN
       );
     })
 
-    -- the forks that the marks give, for the branches of these tree heads
-    pub reports_forks : (branches : List Branch) → AreBranches digest strings branches → map head_of branches ≡ points →
-        IsStrictlySortedBy by_point points → (calm : List Bool) → AreCalm branches calm → (marks : List Bool) → length marks ≡ length branches → (forks : List Fork) →
-        forks ≡ all_forks calm 0 marks branches → ReportsForks digest old.view forks
-    reports_forks branches each heads sorted calm are_calm marks len forks is =
-        let rising = subst (IsStrictlySortedBy by_point) (sym heads) sorted in
-        subst (ReportsForks digest old.view) (sym is)
-        (lists (all_forks calm 0 marks branches)
-        (sorted_out fork_pair pair_cmp (all_forks calm 0 marks branches)
-        (all_sorted digest strings branches each rising calm are_calm 0 marks branches refl len))
-        (λ f. subst (λ ps. Contains (all_forks calm 0 marks branches) f ↔ IsForkOf digest strings ps f) heads
-        (all_exact digest strings branches each rising calm are_calm 0 marks branches refl len f)))
+    pub reports_forks : (forks : List Fork) → AreForksOf digest strings points forks → ReportsForks digest old.view forks
+    reports_forks forks are = lists forks are.sorted are.exact
 
--- the answers of a writer of these forks
-module _ (digest : List ℕ → List ℕ) (v : View) (old new : Option (List ℕ)) (forks : List Fork)
-    (reported : ReportsForks digest v forks) where
-  no_text : (fs : List Fork) → forks_text fs ≡ [] → fs ≡ []
-  no_text [] e = refl
-  no_text (f ∷ fs) e = absurd (cc e)
+-- the answers of a writer of the forks
+no_text : (fs : List Fork) → forks_text fs ≡ [] → fs ≡ []
+no_text [] e = refl
+no_text (f ∷ fs) e = absurd (cc e)
 
-  abbrev is_text : IsForksText digest v (forks_text forks)
-  is_text = record { forks = forks; are_forks = reported; is = refl }
+is_text : (digest : List ℕ → List ℕ) (v : View) (forks : List Fork) → ReportsForks digest v forks →
+    IsForksText digest v (forks_text forks)
+is_text digest v forks reported = record { forks = forks; are_forks = reported; is = refl }
 
-  pub written : (r : Result Bool StreamFault) → OnOk r (Appends old new (forks_text forks)) →
-      OnErr r (AppendsPrefix old new (forks_text forks)) → IfOk r (λ any. IsTrue any ↔ (forks ≢ [])) →
-      IfErr r (λ e. e ≡ WriteFault) → WritesForks digest v old new r
-  written (Ok any) whole part tells fault = record {
-    text = forks_text forks;
-    is_text = is_text;
-    written = whole;
-    tells = (λ h none. tells.0 h (no_text forks none), λ some. tells.1 (λ none. some (ap forks_text none)));
-  }
-  written (Err WriteFault) whole part tells fault =
-      record { text = forks_text forks; is_text = is_text; written = part }
-  written (Err ReadFault) whole part tells fault = absurd (cc fault)
-  written (Err OutOfMemory) whole part tells fault = absurd (cc fault)
+pub written : (digest : List ℕ → List ℕ) (v : View) (held : Strings) (points : List (ℕ × List ℕ)) →
+    ((forks : List Fork) → AreForksOf digest held points forks → ReportsForks digest v forks) →
+    (old new : Option (List ℕ)) (r : Result Bool StreamFault) → WritesForksOf digest held points old new r →
+    WritesForks digest v old new r
+written digest v held points reported old new (Ok any) w = record {
+  text = forks_text w.forks;
+  is_text = is_text digest v w.forks (reported w.forks w.are_forks);
+  written = w.written;
+  tells = (λ h none. w.tells.0 h (no_text w.forks none), λ some. w.tells.1 (λ none. some (ap forks_text none)));
+}
+written digest v held points reported old new (Err WriteFault) w = record {
+  text = forks_text w.forks;
+  is_text = is_text digest v w.forks (reported w.forks w.are_forks);
+  written = w.written;
+}
+written digest v held points reported old new (Err OutOfMemory) w = w
+written digest v held points reported old new (Err ReadFault) w = w

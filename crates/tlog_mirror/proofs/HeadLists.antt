@@ -1,15 +1,8 @@
 -- The list of the held tree heads, in order.
-use Rattle.std.proofs.Common.{◌≡◌, ℕ, ◌<◌, List, [], ◌∷◌, map, get_or, true, sym}
-use Rattle.std.proofs.Common.{ap, subst, ◌∙◌, nat_eq}
+use Rattle.std.proofs.Common.{◌≡◌, ℕ, List, map, get_or, sym, ap, subst}
 use Rattle.std.specs.Prelude.{All, ◌↔◌, Result, Ok, Err, IfOk}
-use Rattle.std.specs.Ordering.{nat_cmp, eq_by_cmp}
-use Rattle.std.specs.declared.cmp.Ordering.{Ordering}
-use Rattle.std.specs.declared.cmp.Ordering.TheVariants.{Less}
-use Rattle.std.specs.Cmp.{IsTotalOrder, IsEquivalence, on_total, unsigned_ties, both_tied, eq_by_cmp_equiv}
-use Rattle.std.specs.Cmp.Lexicographic.{slice_cmp, pointwise, lists_ties}
-use Rattle.std.specs.List.{Contains, AllByRecursion}
+use Rattle.std.specs.List.{Contains}
 use Rattle.std.specs.List.Sorted.{IsStrictlySortedBy}
-use Rattle.std.proofs.lemmas.List.{get_or-map, length-map}
 use Rattle.std.proofs.lemmas.List.Elements.{All-get_or, Contains-get_or}
 use Rattle.node_store.specs.Strings.{Strings}
 use Rattle.mirror_model.specs.View.{View}
@@ -19,66 +12,13 @@ use Rattle.mirror_model.specs.Listed.{ListsHeads}
 use Rattle.mirror_model.specs.Marks.{Points, State}
 use Rattle.mirror_model.specs.Reports.{ReportsHeads, head_point}
 use Rattle.mirror_model.specs.declared.reports.Head.{Head}
-use Rattle.mirror_trees.proofs.Marking.{point_total, point_same, same_key}
-use Rattle.mirror_trees.proofs.Orders.{equal_is}
 use Rattle.tlog_mirror.specs.Kept.{state_of, IsKeptWell}
 use Rattle.mirror_trees.specs.Marked.{point_of}
-use Rattle.tlog_mirror.specs.Best.{HasKept, by_point, IsBuiltFlag}
-use Rattle.tlog_mirror.specs.declared.kept.HeldNote.{HeldNote}
-use Rattle.tlog_mirror.proofs.ServedNotes.{unmapped, head_from_kept, kept_head, with_head}
-
--- ---- the order of sizes and roots, and the test for equality
-
-pub pairs_total : IsTotalOrder by_point
-pairs_total = on_total point_of point_total
-
-pub pairs_tie : (a b : ℕ × List ℕ) → same_key a b ≡ eq_by_cmp by_point a b
-pairs_tie a b =
-    both_tied (nat_eq a.0 b.0) (pointwise nat_eq a.1 b.1) (nat_cmp a.0 b.0) (slice_cmp nat_cmp a.1 b.1)
-    (unsigned_ties a.0 b.0) (lists_ties nat_cmp unsigned_ties a.1 b.1)
-
-pub pairs_equivalence : IsEquivalence same_key
-pairs_equivalence = subst IsEquivalence (λ i a b. sym (pairs_tie a b) i) (eq_by_cmp_equiv pairs_total)
-
-pub pairs_exact : (a b : ℕ × List ℕ) → same_key a b ≡ true → a ≡ b
-pairs_exact a b h =
-    let same = point_same (point_of a) (point_of b) (equal_is (by_point a b) (sym (pairs_tie a b) ∙ h)) in
-    let s : a.0 ≡ b.0 = ap (λ (p : Point). p.size) same in
-    let r : a.1 ≡ b.1 = ap (λ (p : Point). p.root) same in
-    λ i. (s i, r i)
-
--- ---- mapped lists
-
-module _ {X Y : Type 0} (f : X → Y) where
-  pub mapped : (xs : List X) (x : X) → Contains xs x → Contains (map f xs) (f x)
-  mapped xs x (k, lt, is) = (k, subst (λ n. k < n) (sym (length-map xs f)) lt, get_or-map f xs k x (f x) lt ∙ ap f is)
-
-  pub source_of : (xs : List X) (y : Y) → Contains (map f xs) y → (x : X) × Contains xs x × (f x ≡ y)
-  source_of xs y (k, lt, is) = let u = unmapped f xs k y lt is in (u.one, (k, u.within, u.is_there), u.is)
-
-module _ {X Y : Type 0} (f : X → Y) (cmp : Y → Y → Ordering) where
-  abbrev pub through : X → X → Ordering
-  through a b = cmp (f a) (f b)
-
-  all_out : (x : X) (xs : List X) → AllByRecursion (λ y. through x y ≡ Less) xs →
-      AllByRecursion (λ y. cmp (f x) y ≡ Less) (map f xs)
-  all_out x [] h = tt
-  all_out x (y ∷ xs) h = (h.0, all_out x xs h.1)
-
-  all_in : (x : X) (xs : List X) → AllByRecursion (λ y. cmp (f x) y ≡ Less) (map f xs) →
-      AllByRecursion (λ y. through x y ≡ Less) xs
-  all_in x [] h = tt
-  all_in x (y ∷ xs) h = (h.0, all_in x xs h.1)
-
-  pub sorted_out : (xs : List X) → IsStrictlySortedBy through xs → IsStrictlySortedBy cmp (map f xs)
-  unfolding IsStrictlySortedBy
-  sorted_out [] s = tt
-  sorted_out (x ∷ xs) s = (all_out x xs s.0, sorted_out xs s.1)
-
-  pub sorted_in : (xs : List X) → IsStrictlySortedBy cmp (map f xs) → IsStrictlySortedBy through xs
-  unfolding IsStrictlySortedBy
-  sorted_in [] s = tt
-  sorted_in (x ∷ xs) s = (all_in x xs s.0, sorted_in xs s.1)
+use Rattle.mirror_reports.specs.Points.{by_point, IsBuiltFlag}
+use Rattle.mirror_reports.proofs.PointLists.{mapped, source_of, sorted_out}
+use Rattle.mirror_served.specs.Best.{HasKept}
+use Rattle.mirror_served.specs.declared.held_note.HeldNote.{HeldNote}
+use Rattle.tlog_mirror.proofs.ServedNotes.{head_from_kept, kept_head, with_head}
 
 -- the sizes and roots of the kept notes
 pub kept_points : (kept : List HeldNote) (p : ℕ × List ℕ) →

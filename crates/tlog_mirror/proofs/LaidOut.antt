@@ -4,8 +4,8 @@ use Rattle.mirror_model.specs.View.{View}
 use Rattle.mirror_model.specs.Complete.{IsTreeOf}
 use Rattle.tlog_mirror.specs.Kept.{note_bytes}
 use Rattle.tlog_mirror.specs.LaidOut.{IsLaidOut}
-use Rattle.tlog_mirror.specs.Tops.{IsServedAs}
-use Rattle.tlog_mirror.specs.declared.kept.HeldNote.{HeldNote}
+use Rattle.mirror_served.specs.Tops.{IsServedAs}
+use Rattle.mirror_served.specs.declared.held_note.HeldNote.{HeldNote}
 
 -- the served note, with the entries of its tree as they were found
 pub laid_anew :

@@ -11,7 +11,7 @@ use Rattle.std.specs.Cmp.Lexicographic.{slice_cmp, nat_list_cmp_total}
 use Rattle.std.specs.List.{Contains}
 use Rattle.std.specs.List.Sorted.{IsStrictlySortedBy}
 use Rattle.std.proofs.lemmas.Bool.{cases_lt}
-use Rattle.std.proofs.lemmas.Cmp.{tied_itself, ranked, by_ranked}
+use Rattle.std.proofs.lemmas.Cmp.{tied_itself}
 use Rattle.std.proofs.lemmas.List.{get_or-map, length-map}
 use Rattle.std.proofs.lemmas.List.Elements.{All-contains, All-from_recursion, Contains-get_or}
 use Rattle.node_store.specs.Strings.{Strings}
@@ -29,12 +29,13 @@ use Rattle.mirror_model.proofs.StringSets.{listed_from_has, has_from_listed}
 use Rattle.mirror_model.proofs.HeadNotes.{head_once}
 use Rattle.tlog_mirror.specs.Kept.{state_of, note_bytes, IsKeptWell}
 use Rattle.mirror_trees.specs.Marked.{point_of}
-use Rattle.tlog_mirror.specs.Best.{served_cmp, kept_point, HasKept, IsBuiltAt, IsBest, IsBestOf}
-use Rattle.tlog_mirror.specs.Best.{IsFirstWith}
+use Rattle.mirror_served.specs.Best.{served_cmp, kept_point, HasKept, IsBuiltAt, IsBest, IsBestOf}
+use Rattle.mirror_served.specs.Best.{IsFirstWith}
 use Rattle.mirror_model.specs.Reports.{SaysServed}
-use Rattle.tlog_mirror.specs.Tops.{IsServedAs}
-use Rattle.tlog_mirror.specs.declared.kept.HeldNote.{HeldNote}
-use Rattle.tlog_mirror.proofs.BestNotes.{any_default}
+use Rattle.mirror_served.specs.Tops.{IsServedAs}
+use Rattle.mirror_served.specs.declared.held_note.HeldNote.{HeldNote}
+use Rattle.std.proofs.lemmas.List.{get_or_default}
+use Rattle.mirror_reports.proofs.PointLists.{size_at_most, unmapped}
 
 -- ---- lists and orders
 
@@ -50,29 +51,6 @@ sorted_at {K} cmp (x ∷ xs) s zero (suc j) d lt fits =
 sorted_at cmp (x ∷ xs) s (suc i) zero d lt fits = absurd (omega (arith, lt))
 sorted_at cmp (x ∷ xs) s (suc i) (suc j) d lt fits =
     sorted_at cmp xs s.1 i j d (omega (arith, lt)) (omega (arith, fits))
-
--- an item of a mapped list, with the item before the map
-pub record Unmapped {X Y : Type 0} (f : X → Y) (xs : List X) (k : ℕ) (y : Y) : Type 0 where
-  pub one : X
-  pub within : k < length xs
-  pub is_there : get_or xs k one ≡ one
-  pub is : f one ≡ y
-
-pub unmapped : {X Y : Type 0} (f : X → Y) (xs : List X) (k : ℕ) (y : Y) → k < length (map f xs) →
-    get_or (map f xs) k y ≡ y → Unmapped f xs k y
-unmapped f [] k y lt is = absurd (omega (arith, lt))
-unmapped f (x ∷ xs) zero y lt is = record { one = x; within = omega arith; is_there = refl; is = is }
-unmapped f (x ∷ xs) (suc k) y lt is =
-    let r = unmapped f xs k y (omega (arith, lt)) is in
-    record { one = r.one; within = omega (arith, r.within); is_there = r.is_there; is = r.is }
-
-pub size_at_most : (n m : ℕ) (o : Ordering) → is_gt (ordering_then (nat_cmp n m) o) ≡ false → n ≤ m
-size_at_most n m o h =
-    by_ranked (n < m) (n ≡ m) (m < n) (nat_cmp n m) (ranked n m (nat_cmp n m) refl)
-    (λ e lt. omega (arith, lt))
-    (λ e same. omega (arith, same))
-    (λ e more. absurd
-    (let wrong : true ≡ false = ap (λ (x : Ordering). is_gt (ordering_then x o)) (sym e) ∙ h in cc wrong))
 
 le_from : (o : Ordering) → is_gt o ≡ false → is_le o ≡ true
 le_from Less h = refl
@@ -164,7 +142,7 @@ module _ (digest : List ℕ → List ℕ) (origin : List ℕ) (kept : List HeldN
         | inr ge ↦
             let same : i ≡ j = omega (arith, upto, ge) in
             let read : slice_index_or kept j a ≡ a = subst (λ n. slice_index_or kept n a ≡ a) same at_a in
-            same_at_most (note_bytes a) (note_bytes b) (ap note_bytes (sym read ∙ any_default kept j a b fits ∙ at_b))
+            same_at_most (note_bytes a) (note_bytes b) (ap note_bytes (sym read ∙ get_or_default kept j a b fits ∙ at_b))
       ]
 
   -- ---- the served note

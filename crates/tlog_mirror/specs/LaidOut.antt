@@ -4,7 +4,7 @@ use Rattle.std.specs.Prelude.{ℕ, List, Option, Some, None, ⊤}
 use Rattle.mirror_model.specs.View.{View}
 use Rattle.mirror_model.specs.Served.{Served}
 use Rattle.tlog_mirror.specs.Kept.{note_bytes}
-use Rattle.tlog_mirror.specs.declared.kept.HeldNote.{HeldNote}
+use Rattle.mirror_served.specs.declared.held_note.HeldNote.{HeldNote}
 
 -- the laid out files of a view, if there are any, are for the served note and its entries
 abbrev pub IsLaidOut :

@@ -1,19 +1,18 @@
 //! The tree heads that a mirror holds, and which of them are complete.
-ghost use Rattle.std.specs.Prelude.{◌≡◌, ◌↔◌, ℕ, List, map, All, IsTrue, IfOk};
+ghost use Rattle.std.specs.Prelude.{◌≡◌, ◌↔◌, ℕ, List, map, IsTrue, IfOk};
 ghost use Rattle.std.specs.List.{Contains};
 ghost use Rattle.std.specs.List.Sorted.{IsStrictlySortedBy};
 ghost use Rattle.mirror_model.specs.Complete.{IsComplete};
-ghost use Rattle.mirror_model.specs.Reports.{ReportsHeads, head_point};
-ghost use Rattle.mirror_trees.specs.HeldTrees.{AreKnown};
+ghost use Rattle.mirror_model.specs.Reports.{ReportsHeads};
 ghost use Rattle.mirror_trees.specs.Marked.{point_of};
-ghost use Rattle.tlog_mirror.specs.Best.{HasKept, by_point, IsBuiltFlag};
+ghost use Rattle.mirror_reports.specs.Points.{by_point};
+ghost use Rattle.mirror_served.specs.Best.{HasKept};
 
-use crate::best::first_with;
-use crate::kept::HeldNote;
 use crate::mirror::Mirror;
 use mirror_model::Head;
-use mirror_trees::{HeldTrees, is_built};
-use node_store::Store;
+use mirror_reports::flag_heads;
+use mirror_served::{HeldNote, first_with};
+use mirror_trees::is_built;
 use std::alloc::{AllocError, Global};
 use tlog_hash::{Hash, TreeHash};
 
@@ -37,39 +36,6 @@ impl<H: TreeHash> Mirror<H> {
     {
         let points = points_of(alloc, self.kept.as_slice())?;
         flag_heads(alloc, &self.strings, &self.known, points.as_slice())
-    }
-}
-
-// The tree heads of these sizes and roots, each with whether its tree is held.
-pub(crate) fn flag_heads<H: TreeHash>(
-    alloc: Global,
-    store: &Store<H>,
-    known: &HeldTrees,
-    points: &[(u64, Hash)],
-) -> Result<Vec<Head>, AllocError>
-    requires { AreKnown H.digest store.now known.now }
-    ensures points { IfOk result (λ heads. map head_point heads.items ≡ map point_of points.now) }
-    ensures flags { IfOk result (λ heads. All (IsBuiltFlag H.digest store.now) heads.items) }
-{
-    let mut heads = Vec::with_capacity(alloc, points.len())?;
-    for point in points {
-        heads.push(flag_head(store, known, point.0, &point.1))?;
-    }
-    Ok(heads)
-}
-
-// A size and root with whether its tree is held.
-fn flag_head<H: TreeHash>(store: &Store<H>, known: &HeldTrees, size: u64, root: &Hash) -> Head
-    requires { AreKnown H.digest store.now known.now }
-    ensures point { head_point result ≡ record { size = size; root = root.now } }
-    ensures flag { IsBuiltFlag H.digest store.now result }
-{
-    let complete = is_built(store, known, size, root);
-    let root = *root;
-    Head {
-        size,
-        root,
-        complete,
     }
 }
 

@@ -3,9 +3,8 @@ ghost use Rattle.std.specs.Prelude.{◌≡◌, length, IfOk, IfSome, IfNone};
 ghost use Rattle.tlog_tiles.specs.Tiles.{IsTileWithin, tile_bytes, bundle_bytes};
 ghost use Rattle.tlog_mirror.specs.LaidOut.{IsLaidOut};
 
-use crate::kept::HeldNote;
 use crate::mirror::Mirror;
-use mirror_trees::files_of;
+use mirror_served::{HeldNote, files_of};
 use std::alloc::{AllocError, Global};
 use tlog_files::LogFiles;
 use tlog_hash::TreeHash;
@@ -36,6 +35,14 @@ impl<H: TreeHash> Mirror<H> {
             self.laid = laid;
         }
         Ok(())
+    }
+
+    // Whether something is served, and there is room to lay it out.
+    fn has_room(&self, alloc: Global) -> Result<bool, AllocError> {
+        match self.top_ranges() {
+            Some(top) => top.has_room(alloc),
+            None => Ok(false),
+        }
     }
 
     // Lays out the served entries anew. `None` if nothing is served, or there is no room for it.

@@ -12,36 +12,24 @@
 //! ```
 #![tactic(auto)]
 
-mod best;
-mod branches;
-mod calm;
 mod compare;
-mod edge;
 mod fault;
 mod forks;
 mod heads;
 mod kept;
 mod laid;
-mod laws;
-mod lines;
 mod merge;
 mod mirror;
 mod missing;
-mod pieces;
-mod plays;
 mod restored;
-mod room;
 mod rows;
 mod served;
 mod settle;
 mod take_head;
 mod takes;
 mod texts;
-mod top_ranges;
 
-pub use compare::{Compared, comparison_text};
 pub use fault::{NewFault, RestoreFault};
-pub use laws::{compare_example, compare_law, served_list_law};
 pub use mirror::Mirror;
 pub use mirror_model::{
     Bytes, Event, Fork, Head, HeadNote, Item, MergeFault, Rows, TakeFault, again_law, bundles_law,
@@ -49,5 +37,3 @@ pub use mirror_model::{
     keeping_law, lists_law, part_law, plays_law, reports_law, retry_example, retry_law, run_law,
     served_law,
 };
-pub use plays::{fits, play, play_again};
-pub use top_ranges::TopRanges;

@@ -7,9 +7,9 @@ ghost use Rattle.mirror_model.specs.Steps.{Merges};
 ghost use Rattle.tlog_mirror.specs.Adding.{with_notes};
 ghost use Rattle.tlog_mirror.specs.Kept.{note_bytes};
 
-use crate::kept::HeldNote;
 use crate::mirror::Mirror;
 use mirror_model::MergeFault;
+use mirror_served::HeldNote;
 use node_store::AddFault;
 use std::alloc::{AllocError, Global};
 use tlog_hash::TreeHash;

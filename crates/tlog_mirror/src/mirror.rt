@@ -7,8 +7,8 @@ ghost use Rattle.mirror_model.specs.View.{nothing};
 ghost use Rattle.tlog_mirror.specs.NoteLists.{IsNoteAt};
 
 use crate::fault::NewFault;
-use crate::kept::HeldNote;
 use mirror_model::is_origin;
+use mirror_served::HeldNote;
 use mirror_trees::HeldTrees;
 use node_store::Store;
 use std::alloc::Global;

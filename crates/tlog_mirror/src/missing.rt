@@ -4,10 +4,10 @@ ghost use Rattle.mirror_model.specs.Heads.{HasHead};
 ghost use Rattle.mirror_model.specs.Listed.{ListsMissing};
 ghost use Rattle.tlog_mirror.specs.MissingWritten.{WritesMissing};
 
-use crate::best::first_with;
-use crate::lines::{part_of, write_all};
 use crate::mirror::Mirror;
 use byte_streams::StreamFault;
+use mirror_reports::write_missing;
+use mirror_served::first_with;
 use mirror_trees::missing_of;
 use std::alloc::{AllocError, Global};
 use std::io::Write;
@@ -68,16 +68,7 @@ impl<H: TreeHash> Mirror<H> {
         if first_with(self.kept.as_slice(), size, root).is_none() {
             return Ok(None);
         }
-        let part = part_of(alloc, size)?;
-        let any = write_all(
-            alloc,
-            output,
-            &self.strings,
-            &self.known,
-            size,
-            root,
-            part.as_bytes(),
-        )?;
+        let any = write_missing(alloc, output, &self.strings, &self.known, size, root)?;
         Ok(Some(any))
     }
 }

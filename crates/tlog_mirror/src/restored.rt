@@ -8,10 +8,11 @@ ghost use Rattle.tlog_mirror.specs.Opened.{KeepsOpened, SaysHead};
 ghost use Rattle.tlog_mirror.specs.Restored.{KeepsHeld, held_fault_of, strings_alone};
 
 use crate::fault::{NewFault, RestoreFault};
-use crate::kept::HeldNote;
 use crate::mirror::Mirror;
+use mirror_edges::holds_edge;
 use mirror_model::{HeadNote, TakeFault, is_origin};
-use mirror_trees::{HeldTrees, holds_edge};
+use mirror_served::HeldNote;
+use mirror_trees::HeldTrees;
 use node_store::Store;
 use signed_note::Verifier;
 use std::alloc::{AllocError, Global};

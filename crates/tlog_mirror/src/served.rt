@@ -4,13 +4,11 @@ ghost use Rattle.mirror_model.specs.Served.{IsRangeHash, IsServedBundle, IsServe
 ghost use Rattle.mirror_model.specs.Reports.{SaysServed};
 ghost use Rattle.std.specs.Option.{option_map};
 ghost use Rattle.mirror_trees.specs.Marked.{point_of};
-ghost use Rattle.tlog_mirror.specs.Tops.{IsServedAs, IsServedTop};
+ghost use Rattle.mirror_served.specs.Tops.{IsServedAs, IsServedTop};
 
-use crate::best::{best_leaves, best_of, first_with};
-use crate::kept::HeldNote;
 use crate::laid::{laid_bundle, laid_tile};
 use crate::mirror::Mirror;
-use crate::top_ranges::TopRanges;
+use mirror_served::{HeldNote, TopRanges, best_leaves, best_of, first_with};
 use signed_note::Note;
 use std::alloc::{AllocError, Global};
 use tlog_hash::{Hash, TreeHash};
@@ -28,13 +26,7 @@ impl<H: TreeHash> Mirror<H> {
             return None;
         };
         let root = kept.root;
-        Some(TopRanges {
-            note: &kept.note,
-            size: kept.size,
-            root,
-            strings: &self.strings,
-            leaves: None,
-        })
+        Some(TopRanges::new(&kept.note, kept.size, root, &self.strings, None))
     }
 
     /// The same as `top_ranges`, for a caller that wants all tiles and bundles. The walk that finds the entries gathers
@@ -57,13 +49,7 @@ impl<H: TreeHash> Mirror<H> {
         let Some(first) = first_with(kept, point.0, &root) else {
             return None;
         };
-        Some(TopRanges {
-            note: &first.note,
-            size: point.0,
-            root,
-            strings: &self.strings,
-            leaves,
-        })
+        Some(TopRanges::new(&first.note, point.0, root, &self.strings, leaves))
     }
 
     /// The note of the served checkpoint, as `top_ranges` finds it. It takes no memory.

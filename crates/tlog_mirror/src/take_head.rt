@@ -12,11 +12,12 @@ ghost use Rattle.tlog_text.specs.Answers.{seen};
 ghost use Rattle.tlog_mirror.specs.Adding.{added, with_note, with_strings};
 ghost use Rattle.tlog_mirror.specs.Opened.{IsOpenUnder, WasOpened};
 
-use crate::edge::take_edge;
-use crate::kept::{HeldNote, find_note};
+use crate::kept::find_note;
 use crate::mirror::Mirror;
 use crate::takes::take_answer;
+use mirror_edges::take_edge;
 use mirror_model::{HeadNote, TakeFault, open_head};
+use mirror_served::HeldNote;
 use node_store::{AddFault, Store};
 use signed_note::Verifier;
 use std::alloc::{AllocError, Global};

@@ -1,17 +1,12 @@
 //! The texts that report the state of a mirror.
-ghost use Rattle.std.specs.Prelude.{◌≡◌, ◌++◌, IfOk, IfSome, IfNone, OnOk, string_bytes};
-ghost use Rattle.std.specs.Option.{option_map};
-ghost use Rattle.std.specs.List.{flat_map};
+ghost use Rattle.std.specs.Prelude.{IfOk, IfSome, IfNone, string_bytes};
 ghost use Rattle.mirror_model.specs.Heads.{HasHead};
-ghost use Rattle.mirror_model.specs.Texts.{IsForksText, IsMissingText, IsStatusText, fork_line, forks_text, head_line, missing_text, path_line, point_text, served_line};
-ghost use Rattle.mirror_trees.specs.Marked.{point_of};
+ghost use Rattle.mirror_model.specs.Texts.{IsForksText, IsMissingText, IsStatusText};
 
 use crate::mirror::Mirror;
-use mirror_model::{Fork, Head};
+use mirror_reports::{forks_text, missing_text, status_text};
 use std::alloc::{AllocError, Global};
 use tlog_hash::{Hash, TreeHash};
-use tlog_text::{push_hash, push_number};
-use tlog_tiles::{Path, print};
 
 impl<H: TreeHash> Mirror<H> {
     /// The origin, each tree head with its state, and the served checkpoint, a line each. The lines are `origin O`,
@@ -24,13 +19,7 @@ impl<H: TreeHash> Mirror<H> {
         ensures { IfOk result (λ text. IsStatusText H.digest self.now.view (string_bytes text)) }
     {
         let heads = self.heads(alloc)?;
-        let served = self.served_point();
-        let mut text = String::from_str(alloc, "origin ")?;
-        text.push_str(self.origin())?;
-        text.push_str("\n")?;
-        push_heads(&mut text, heads.as_slice())?;
-        push_served(&mut text, &served)?;
-        Ok(text)
+        status_text(alloc, self.origin(), heads.as_slice(), &self.served_point())
     }
 
     /// The forks, a line each, the smaller tree head first: `fork SIZE ROOT SIZE ROOT`. The text is empty if there is
@@ -43,9 +32,7 @@ impl<H: TreeHash> Mirror<H> {
         ensures { IfOk result (λ text. IsForksText H.digest self.now.view (string_bytes text)) }
     {
         let forks = self.forks(alloc)?;
-        let mut text = String::new(alloc);
-        push_forks(&mut text, forks.as_slice())?;
-        Ok(text)
+        forks_text(alloc, forks.as_slice())
     }
 
     /// The missing paths of a tree head, a line each. `None` exactly if no held note has that size and root.
@@ -67,91 +54,6 @@ impl<H: TreeHash> Mirror<H> {
         let Some(paths) = self.missing(alloc, size, root)? else {
             return Ok(None);
         };
-        let mut text = String::new(alloc);
-        push_paths(alloc, &mut text, paths.as_slice())?;
-        Ok(Some(text))
+        Ok(Some(missing_text(alloc, paths.as_slice())?))
     }
-}
-
-// Adds a size and a root, with a space between.
-pub(crate) fn push_point(text: &mut String, size: u64, root: &Hash) -> Result<(), AllocError>
-    ensures { OnOk result (string_bytes text.new ≡ string_bytes text.old
-        ++ point_text size root.now) }
-{
-    push_number(text, size)?;
-    text.push_str(" ")?;
-    push_hash(text, root)
-}
-
-fn push_head(text: &mut String, head: &Head) -> Result<(), AllocError>
-    ensures { OnOk result (string_bytes text.new ≡ string_bytes text.old ++ head_line head.now) }
-{
-    text.push_str("head ")?;
-    push_point(text, head.size, &head.root)?;
-    text.push_str(if head.complete {
-        " complete\n"
-    } else {
-        " partial\n"
-    })
-}
-
-fn push_heads(text: &mut String, heads: &[Head]) -> Result<(), AllocError>
-    ensures { OnOk result (string_bytes text.new ≡ string_bytes text.old
-        ++ flat_map head_line heads.now) }
-{
-    for head in heads {
-        push_head(text, head)?;
-    }
-    Ok(())
-}
-
-fn push_served(text: &mut String, served: &Option<(u64, Hash)>) -> Result<(), AllocError>
-    ensures { OnOk result (string_bytes text.new ≡ string_bytes text.old
-        ++ served_line (option_map point_of served.now)) }
-{
-    match served {
-        Some(point) => {
-            text.push_str("served ")?;
-            push_point(text, point.0, &point.1)?;
-            text.push_str("\n")
-        }
-        None => text.push_str("served none\n"),
-    }
-}
-
-fn push_fork(text: &mut String, fork: &Fork) -> Result<(), AllocError>
-    ensures { OnOk result (string_bytes text.new ≡ string_bytes text.old ++ fork_line fork.now) }
-{
-    text.push_str("fork ")?;
-    push_point(text, fork.small.0, &fork.small.1)?;
-    text.push_str(" ")?;
-    push_point(text, fork.large.0, &fork.large.1)?;
-    text.push_str("\n")
-}
-
-fn push_forks(text: &mut String, forks: &[Fork]) -> Result<(), AllocError>
-    ensures { OnOk result (string_bytes text.new ≡ string_bytes text.old ++ forks_text forks.now) }
-{
-    for fork in forks {
-        push_fork(text, fork)?;
-    }
-    Ok(())
-}
-
-fn push_paths(alloc: Global, text: &mut String, paths: &[Path]) -> Result<(), AllocError>
-    ensures { OnOk result (string_bytes text.new ≡ string_bytes text.old
-        ++ missing_text paths.now) }
-{
-    for path in paths {
-        push_path(alloc, text, path)?;
-    }
-    Ok(())
-}
-
-fn push_path(alloc: Global, text: &mut String, path: &Path) -> Result<(), AllocError>
-    ensures { OnOk result (string_bytes text.new ≡ string_bytes text.old ++ path_line path.now) }
-{
-    let line = print(alloc, path)?;
-    text.push_str(line.as_str())?;
-    text.push_str("\n")
 }

@@ -6,7 +6,7 @@ use Rattle.mirror_export.proofs.Exported.{records_none, records_some}
 use Rattle.mirror_export.specs.Faults.{of_shelf}
 use Rattle.mirror_folders.specs.Shelf.{CountsFailures, RecordsHas}
 use Rattle.mirror_export.proofs.Moments.{checkpoint_last, kept_last}
-use Rattle.tlog_mirror.proofs.ServedParts.{list_of}
+use Rattle.mirror_served.proofs.ServedParts.{list_of}
 use Rattle.mirror_export.proofs.exporting.export.Goals as goal
 
 pub returns : goal.returns

@@ -1,7 +1,7 @@
 use Rattle.std.proofs.Common.{◌≡◌, ℕ, List}
 use Rattle.std.specs.List.{filter}
 use Rattle.log_paths.specs.Since.{is_new}
-use Rattle.tlog_mirror.specs.Tops.{IsListOf}
+use Rattle.mirror_served.specs.Tops.{IsListOf}
 use Rattle.mirror_sources.specs.Recorded.{AddsToRecord}
 use Rattle.log_paths.specs.Files.{files_at, tiles_below}
 use Rattle.mirror_export.proofs.files.put_parts.Given as goal

@@ -1,6 +1,6 @@
 use Rattle.std.proofs.Common.{ℕ, List, Err, Result, subst, refl}
-use Rattle.tlog_mirror.specs.Tops.{IsListOf}
-use Rattle.tlog_mirror.proofs.ServedParts.{list_of}
+use Rattle.mirror_served.specs.Tops.{IsListOf}
+use Rattle.mirror_served.proofs.ServedParts.{list_of}
 use Rattle.mirror_export.specs.declared.fault.UpdateFault.{UpdateFault}
 use Rattle.mirror_export.specs.declared.fault.UpdateFault.TheVariants.{NothingComplete}
 use Rattle.mirror_export.specs.Beginnings.{UpdatesTop}

@@ -1,5 +1,5 @@
 use Rattle.std.proofs.Common.{◌-◌, ◌≤◌, List, ℕ}
-use Rattle.tlog_mirror.specs.Tops.{IsListOf}
+use Rattle.mirror_served.specs.Tops.{IsListOf}
 use Rattle.program_monitor.specs.Served.{WritesAll}
 use Rattle.program_monitor.proofs.served.write_served.Given as goal
 

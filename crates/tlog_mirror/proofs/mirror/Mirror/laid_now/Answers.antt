@@ -1,9 +1,9 @@
 use Rattle.std.proofs.Common.{Some, sym, subst}
 use Rattle.mirror_model.specs.Complete.{IsTreeOf}
 use Rattle.mirror_model.specs.Marks.{State}
-use Rattle.mirror_trees.proofs.FileSteps.{at_some_and}
+use Rattle.mirror_served.proofs.FileSteps.{at_some_and}
 use Rattle.tlog_mirror.specs.LaidOut.{IsLaidOut}
-use Rattle.tlog_mirror.specs.declared.kept.HeldNote.{HeldNote}
+use Rattle.mirror_served.specs.declared.held_note.HeldNote.{HeldNote}
 use Rattle.tlog_mirror.proofs.LaidOut.{laid_anew}
 use Rattle.tlog_mirror.proofs.mirror.Mirror.laid_now.Goals as goal
 

@@ -2,9 +2,9 @@ use Rattle.std.proofs.Common.{None, Some, ap, subst}
 use Rattle.std.specs.Prelude.{string_bytes}
 use Rattle.mirror_model.specs.Forks.{Point}
 use Rattle.mirror_model.specs.Marks.{State}
-use Rattle.tlog_mirror.specs.Best.{IsBestOf, IsFirstWith}
+use Rattle.mirror_served.specs.Best.{IsBestOf, IsFirstWith}
 use Rattle.tlog_mirror.specs.Kept.{note_bytes}
-use Rattle.tlog_mirror.specs.Tops.{IsServedAs}
+use Rattle.mirror_served.specs.Tops.{IsServedAs}
 use Rattle.tlog_mirror.proofs.ServedNotes.{first_served, none_served}
 use Rattle.tlog_mirror.proofs.mirror.Mirror.top_leaves.Goals as goal
 
@@ -31,7 +31,7 @@ returns-clause-some g c =
     let served : IsServedAs d v (note_bytes one) one.size one.root =
     first_served d (string_bytes c.self.inside.origin) kept c.self.inside.strings c.self.inside.known.remembered
     c.self.invariant.0 c.args.self.now c.self.view_is c.in-Some.point (Some c.in-Some-first_with.first) best first in
-    record {
+    rw c.new.ensures (record {
       strings_are = ap (λ (s : State). s.view.strings) c.self.view_is;
       served = subst (λ (p : Point). IsServedAs d v (note_bytes one) p.size p.root) first.is served;
-    }
+    })

@@ -5,7 +5,8 @@ use Rattle.node_store.specs.Strings.{NoClash}
 use Rattle.mirror_model.specs.Marks.{State}
 use Rattle.mirror_trees.specs.Levels.{ListsLevels}
 use Rattle.tlog_mirror.specs.MissingWritten.{WritesMissing}
-use Rattle.tlog_mirror.proofs.MissingSteps.{whole, failed, is_err}
+use Rattle.mirror_reports.proofs.MissingSteps.{is_err}
+use Rattle.tlog_mirror.proofs.WrittenMissing.{whole, failed}
 use Rattle.tlog_mirror.proofs.ServedNotes.{no_head_held, head_held}
 use Rattle.tlog_mirror.proofs.mirror.Mirror.write_missing.Goals as goal
 
@@ -23,7 +24,7 @@ returns-then-is_none g c = record {
 pub returns-in_err-any : goal.returns-in_err-any
 returns-in_err-any g c =
     let old = g.W.Write.contents c.args.output.now in
-    let new = g.W.Write.contents c.write_all.new.output in
+    let new = g.W.Write.contents c.write_missing.new.output in
     let head =
     head_held g.H.TreeHash.digest
     (string_bytes c.self.inside.origin) c.self.inside.kept.items c.self.inside.strings c.self.inside.known.remembered
@@ -37,7 +38,7 @@ returns-in_err-any g c =
     let same = ap (λ (s : State). s.view.strings) c.self.view_is in
     let f = c.in_err-any.field-0.0 in
     subst (WritesMissing g.H.TreeHash.digest c.args.self.now.view c.args.size c.args.root.now old new)
-    (sym (is_err c.from_residual-in_err-any.result f c.from_residual-in_err-any.ensures.1))
+    (sym (is_err c.from_residual.result f c.from_residual.ensures.1))
     (failed g.H.TreeHash.digest c.args.self.now.view c.args.size c.args.root.now head clean small old new f
     (λ is paths lists. c.in_err-any.ensures.err (ap Err is) paths
     (subst (λ strings. ListsLevels g.H.TreeHash.digest strings c.args.size c.args.root.now 8 paths) (sym same) lists))
@@ -46,7 +47,7 @@ returns-in_err-any g c =
 pub returns : goal.returns
 returns g c =
     let old = g.W.Write.contents c.args.output.now in
-    let new = g.W.Write.contents c.write_all.new.output in
+    let new = g.W.Write.contents c.write_missing.new.output in
     let head =
     head_held g.H.TreeHash.digest
     (string_bytes c.self.inside.origin) c.self.inside.kept.items c.self.inside.strings c.self.inside.known.remembered

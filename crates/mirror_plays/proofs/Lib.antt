@@ -1,0 +1,3 @@
+pub mod PlayedEvents
+pub mod JudgedEvents
+pub mod PlayedMerges

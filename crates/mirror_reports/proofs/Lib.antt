@@ -1,0 +1,11 @@
+pub mod PointLists
+pub mod BranchSteps
+pub mod AllForks
+pub mod CalmHeads
+pub mod ForkSteps
+pub mod FoundForks
+pub mod SentPieces
+pub mod WrittenLines
+pub mod MissingSteps
+pub mod ComparedHeads
+pub mod AnswerLines

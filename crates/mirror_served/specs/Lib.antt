@@ -1,0 +1,4 @@
+pub mod Leaves
+pub mod HeldLeaves
+pub mod Tops
+pub mod Best
