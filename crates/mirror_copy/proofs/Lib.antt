@@ -10,6 +10,7 @@ pub mod EdgeRows
 pub mod Finishing
 pub mod Roots
 pub mod Earlier
+pub mod Exits
 pub mod ShelfReads
 pub mod PrunedFiles
 pub mod TipReads

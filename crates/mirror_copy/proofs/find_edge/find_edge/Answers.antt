@@ -1,9 +1,54 @@
-use Rattle.std.proofs.Common.{inr, subst}
-use Rattle.mirror_copy.specs.Faults.{CountsFault}
-use Rattle.mirror_places.specs.Giving.{MayGive}
+use Rattle.std.proofs.Common.{inr, refl, subst}
+use Rattle.std.proofs.lemmas.Result.{IfOk-from_err}
+use Rattle.mirror_copy.specs.Conflicts.{IsNoConflict}
+use Rattle.mirror_copy.specs.Faults.{BlamesPlaces, CountsFault}
 use Rattle.mirror_copy.specs.Taken.{MayTake}
+use Rattle.mirror_copy.specs.declared.fault.BringFault.TheVariants.{OutOfMemory}
+use Rattle.mirror_places.specs.Asked.{IsEdgeTile}
+use Rattle.mirror_places.specs.Giving.{MayGive}
+use Rattle.mirror_places.proofs.Asking.{asks_same}
+use Rattle.mirror_places.proofs.AskingOnce.{once_same}
 use Rattle.mirror_places.proofs.Giving.{edge_weaker}
+use Rattle.mirror_copy.proofs.Exits.{counted_exit, err_exit, no_place}
+use Rattle.mirror_copy.proofs.Spared.{no_lack}
 use Rattle.mirror_copy.proofs.find_edge.find_edge.Goals as goal
+
+pub returns-in_err-edge : goal.returns-in_err-edge
+returns-in_err-edge g c =
+    let exit = c.from_residual in
+    let fault = c.in_err-edge.field-0.0 in
+    let step = c.in_err-edge.ensures in
+    let failed = g.D.Shelf.failed in
+    record {
+      fault = err_exit IsNoConflict exit.result fault exit.ensures step.fault;
+      same = step.same;
+      counted = counted_exit exit.result fault exit.ensures (failed c.args.shelf.now) (failed c.args.shelf.now)
+          (failed c.edge_on_shelf.new.shelf) refl step.counted;
+      asks = asks_same g.S.Source.may_answer g.S.Source.failed g.S.Source.asked (IsEdgeTile c.args.size) c.args.places.now;
+      once = once_same g.S.Source.asked (λ k. IsEdgeTile c.args.size) c.args.places.now;
+      blames = err_exit (BlamesPlaces c.args.places.now) exit.result fault exit.ensures (no_place c.args.places.now fault step.places);
+      leads = IfOk-from_err exit.result _ exit.ensures.0;
+      taken = IfOk-from_err exit.result _ exit.ensures.0;
+      suffices = err_exit _ exit.result fault exit.ensures (λ entries root t. no_lack fault step.places);
+    }
+
+pub returns-in_err-edge-2 : goal.returns-in_err-edge-2
+returns-in_err-edge-2 g c =
+    let exit = c.from_residual-in_err-edge-2 in
+    let failed = g.D.Shelf.failed in
+    let places = c.edge_at_places.new.places in
+    record {
+      fault = err_exit IsNoConflict exit.result OutOfMemory exit.ensures tt;
+      same = c.edge_on_shelf.ensures.same;
+      counted = counted_exit exit.result OutOfMemory exit.ensures (failed c.args.shelf.now) (failed c.edge_on_shelf.new.shelf)
+          (failed c.edge_on_shelf.new.shelf) c.in_ok-edge.ensures.counted refl;
+      asks = c.edge_at_places.ensures.asks;
+      once = c.edge_at_places.ensures.once;
+      blames = err_exit (BlamesPlaces places) exit.result OutOfMemory exit.ensures tt;
+      leads = IfOk-from_err exit.result _ exit.ensures.0;
+      taken = IfOk-from_err exit.result _ exit.ensures.0;
+      suffices = err_exit _ exit.result OutOfMemory exit.ensures (λ entries root t. no_lack OutOfMemory tt);
+    }
 
 pub returns-in-None-clause-counted : goal.returns-in-None-clause-counted
 returns-in-None-clause-counted g c =
