@@ -1,18 +1,17 @@
 -- The paths that the parts of a call request differ.
-use Rattle.std.proofs.Common.{◌≡◌, ◌≢◌, ℕ, ◌+◌, ◌-◌, ◌*◌, ◌/◌, ◌^◌, ◌<◌, ◌≤◌, List, Option, inl, inr, refl, sym, subst, ap, ◌∙◌, arith}
+use Rattle.std.proofs.Common.{◌≡◌, ◌≢◌, ℕ, ◌+◌, ◌-◌, ◌*◌, ◌/◌, ◌^◌, ◌<◌, ◌≤◌, List, Option, inl, inr, sym, subst, ap, ◌∙◌, arith}
 use Rattle.std.specs.Prelude.{⊤}
 use Rattle.std.proofs.Math.Nat.{lt-div-mul-add}
 use Rattle.std.proofs.lemmas.Nat.{mul-le}
 use Rattle.tlog_shape.proofs.Levels.{level_positive}
 use Rattle.tlog_shape.specs.Edge.{edge_index_of, width_of}
-use Rattle.tlog_tiles.specs.Edge.{level_of}
 use Rattle.tlog_tiles.specs.Tiles.{IsWithin}
 use Rattle.tlog_tiles.specs.declared.paths.Path.{Path}
 use Rattle.tlog_tiles.specs.declared.paths.Path.TheVariants.{Checkpoint, Tile, Entries}
 use Rattle.mirror_sources.specs.Files.{full_of, width_named}
 use Rattle.mirror_copy.specs.Asked.{IsEdgeBundle, IsNewFull}
-use Rattle.mirror_places.specs.Asked.{IsEdgeTile, IsPathOrFull}
-use Rattle.mirror_places.specs.AskedOnce.{AsksOnce, IsAtPlace, IsEdgeTileAt, IsEdgeTileBelow}
+use Rattle.mirror_places.specs.Asked.{IsEdgeTile}
+use Rattle.mirror_places.specs.AskedOnce.{AsksOnce}
 use Rattle.mirror_copy.specs.Asked.{IsFullBetween, IsLower}
 use Rattle.mirror_places.specs.declared.places.Places.{Places}
 use Rattle.mirror_places.proofs.AskingOnce.{once_then, once_weaker}

@@ -26,6 +26,11 @@ counted_exit (Ok x) fault is old mid new same h = absurd (false≢true is.0)
 counted_exit (Err f) fault is old mid new same h =
     subst (CountsFault old new) (sym is.1) (subst (λ n. CountsFault n new fault) same h)
 
+-- the count over good calls, and over the last one
+pub counted_last : {T : Type 0} (result : Result T BringFault) (old mid new : ℕ) → mid ≡ old → CountsShelf mid new result →
+    CountsShelf old new result
+counted_last result old mid new same h = subst (λ n. CountsShelf n new result) same h
+
 pub early_exit : {T : Type 0} (result : Result T BringFault) (fault : BringFault) → IsErr result × IsErrAnd result (λ f. f ≡ fault) →
     (start m : ℕ) (x y : Option (List Put)) → ConflictPutsNothing {T = T} start m x y (Err fault) →
     ConflictPutsNothing start m x y result

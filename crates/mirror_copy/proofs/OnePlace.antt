@@ -10,10 +10,9 @@ use Rattle.tlog_tiles.specs.declared.paths.Path.TheVariants.{Entries, Tile}
 use Rattle.mirror_sources.specs.Recorded.{AddsToRecord, KeepsRecord}
 use Rattle.mirror_folders.specs.Shelf.{Put, RecordsRead}
 use Rattle.mirror_places.specs.PlaceGets.{AsksPlaces}
-use Rattle.mirror_places.specs.TruePlaces.{HasTruePlace, IsTruePlace}
 use Rattle.mirror_copy.specs.Suffices.{OneIsHonest}
 use Rattle.mirror_copy.specs.Taken.{FilesAreClear, IsLeafTile, MayTake, PutsTaken, WasPut}
-use Rattle.mirror_places.specs.Giving.{MayGive, PartOf}
+use Rattle.mirror_places.specs.Giving.{PartOf}
 use Rattle.mirror_places.specs.declared.places.Places.{Places}
 use Rattle.mirror_copy.proofs.Earlier.{kept_then}
 use Rattle.mirror_copy.proofs.Growth.{adds_then, kept_adds}

@@ -17,8 +17,7 @@ use Rattle.log_reader.proofs.Truths.{shown_rows_are_true}
 use Rattle.mirror_copy.specs.Found.{IsEdgeRead}
 use Rattle.mirror_copy.specs.Suffices.{IsEdgeTrue}
 use Rattle.mirror_copy.specs.Taken.{EdgesAreClear, WasPut}
-use Rattle.mirror_places.specs.Giving.{IsEdgeFrom, IsRowFrom}
-use Rattle.mirror_places.proofs.Giving.{part_weaker}
+use Rattle.mirror_places.specs.Giving.{IsEdgeFrom}
 
 -- the rows that were read from a shelf were put there
 pub edge_put : (puts : Option (List Put)) (n : ℕ) (edge : Edge) → IsEdgeRead puts n edge → IsEdgeFrom (WasPut puts) n edge

@@ -1,15 +1,14 @@
 -- A file that verifies under a true hash is true, if the strings of the tree and of the file do not clash.
-use Rattle.std.proofs.Common.{◌≡◌, ℕ, zero, suc, ◌+◌, ◌*◌, ◌^◌, ◌≤◌, All, List, [], ◌∷◌, ◌++◌, length, map, take, drop, get_or}
+use Rattle.std.proofs.Common.{◌≡◌, ℕ, ◌+◌, ◌*◌, ◌^◌, ◌≤◌, All, List, [], ◌∷◌, ◌++◌, length, map, drop, get_or}
 use Rattle.std.proofs.Common.{refl, sym, ap, subst, ◌∙◌, arith}
 use Rattle.std.specs.FinSet as set
 use Rattle.std.specs.List.{AllByRecursion, Contains}
-use Rattle.std.proofs.lemmas.List.{get_or-map, length-map, take-map}
+use Rattle.std.proofs.lemmas.List.{get_or-map, length-map}
 use Rattle.std.proofs.lemmas.List.Elements.{All-contains_itself, All-drop, All-map, All-take, All-weaker, Contains-append_left, Contains-append_right, recursion_from_All}
 use Rattle.tlog_shape.proofs.Levels.{level_next}
 use Rattle.tlog_hash.specs.Tree.{fold_of, joins, leaf_hash, mth, strings, tree_of}
 use Rattle.tlog_hash.specs.Nodes.{IsJoin}
 use Rattle.tlog_hash.specs.Rows.{level_row, part, ranges}
-use Rattle.tlog_hash.proofs.Folds.{length-ranges}
 use Rattle.tlog_hash.proofs.LeafRanges.{rows_of_leaves}
 use Rattle.tlog_hash.proofs.NodeStrings.{string_of_node, to_joins}
 use Rattle.tlog_tiles.proofs.TileLemmas.{mth_size, row_folds}

@@ -18,6 +18,8 @@ use Rattle.mirror_places.proofs.AskingOnce.{once_weaker}
 use Rattle.mirror_copy.proofs.Between.{once_larger}
 use Rattle.mirror_places.specs.AskedOnce.{AsksOnce}
 use Rattle.std.specs.Prelude.{⊤}
+use Rattle.std.proofs.Common.{inr, refl}
+use Rattle.mirror_copy.proofs.Exits.{counted_exit, err_exit}
 use Rattle.mirror_copy.proofs.copy.bring_larger.Goals as goal
 
 pub returns-in_err-edge-clause-brings : goal.returns-in_err-edge-clause-brings
@@ -135,3 +137,20 @@ returns-clause-once g c =
     c.bring_to_edge-done.new.places c.find_new_edge.ensures.once
     (subst (λ n. AsksOnce g.S.Source.asked (λ k path. ¬ IsEdgeTile n path) c.find_new_edge.new.places
     c.bring_to_edge-done.new.places) c.in_ok-edge.ensures.leads.is_edge.size_is c.bring_to_edge-done.ensures.once)
+
+pub returns-in_err-edge-clause-counted : goal.returns-in_err-edge-clause-counted
+returns-in_err-edge-clause-counted g c =
+    counted_exit c.from_residual.result c.in_err-edge.field-0.0 c.from_residual.ensures (g.D.Shelf.failed c.args.shelf.now)
+    (g.D.Shelf.failed c.args.shelf.now) (g.D.Shelf.failed c.find_new_edge.new.shelf) refl c.in_err-edge.ensures.counted
+
+pub returns-in_err-edge-clause-blames : goal.returns-in_err-edge-clause-blames
+returns-in_err-edge-clause-blames g c =
+    err_exit _ c.from_residual.result c.in_err-edge.field-0.0 c.from_residual.ensures (inr c.in_err-edge.ensures.blames)
+
+pub returns-in_err-edge-clause-empty : goal.returns-in_err-edge-clause-empty
+returns-in_err-edge-clause-empty g c =
+    err_exit _ c.from_residual.result c.in_err-edge.field-0.0 c.from_residual.ensures (λ is. c.in_err-edge.ensures.fault)
+
+pub returns-in_err-edge-clause-conflict : goal.returns-in_err-edge-clause-conflict
+returns-in_err-edge-clause-conflict g c =
+    err_exit _ c.from_residual.result c.in_err-edge.field-0.0 c.from_residual.ensures (λ is. c.find_new_edge.ensures.same)

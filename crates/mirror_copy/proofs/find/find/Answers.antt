@@ -4,7 +4,6 @@ use Rattle.mirror_copy.specs.Taken.{WasPut}
 use Rattle.mirror_copy.proofs.OnePlace.{put_read}
 use Rattle.std.proofs.lemmas.Result.{IfOk-from_err}
 use Rattle.std.proofs.Common.{refl}
-use Rattle.tlog_tiles.specs.declared.paths.Path.{Path}
 use Rattle.mirror_copy.specs.Conflicts.{IsNoConflict}
 use Rattle.mirror_copy.specs.Faults.{BlamesPlaces}
 use Rattle.mirror_copy.specs.declared.fault.BringFault.TheVariants.{OutOfMemory}
