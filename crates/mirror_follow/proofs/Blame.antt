@@ -6,14 +6,14 @@ use Rattle.tlog_tiles.specs.declared.paths.Path.TheVariants.{Checkpoint}
 use Rattle.mirror_folders.specs.Shelf.{Put}
 use Rattle.mirror_copy.specs.Asked.{MayBeAsked}
 use Rattle.mirror_copy.specs.AskedForCopy.{AsksFiles, AsksForCopy, AsksNothing, BlamesFailed}
-use Rattle.mirror_copy.specs.PlaceGets.{APlaceFailed, AnswersGet, AsksEach, AsksPlaces}
+use Rattle.mirror_places.specs.PlaceGets.{APlaceFailed, AnswersGet, AsksEach, AsksPlaces}
 use Rattle.mirror_copy.specs.declared.fault.BringFault.{BringFault}
 use Rattle.mirror_copy.specs.declared.fault.BringFault.TheVariants as bring
-use Rattle.mirror_copy.specs.declared.place.Place.{Place}
-use Rattle.mirror_copy.specs.declared.place.PlaceAnswer.{PlaceAnswer}
-use Rattle.mirror_copy.specs.declared.place.PlaceAnswer.TheVariants as answer
-use Rattle.mirror_copy.specs.declared.places.Places.{Places}
-use Rattle.mirror_copy.proofs.Asking.{asked_same, asked_then, asked_weaker}
+use Rattle.mirror_places.specs.declared.place.Place.{Place}
+use Rattle.mirror_places.specs.declared.place.PlaceAnswer.{PlaceAnswer}
+use Rattle.mirror_places.specs.declared.place.PlaceAnswer.TheVariants as answer
+use Rattle.mirror_places.specs.declared.places.Places.{Places}
+use Rattle.mirror_places.proofs.Asking.{asked_same, asked_then, asked_weaker}
 use Rattle.mirror_follow.specs.Blame.{AsksAny, MayGive, PlaceFails}
 
 module _ {S : Type 0} (may : S → Path → Option (List ℕ) → Type 0) (failed : S → ℕ) (asked : S → Option (List Path)) where

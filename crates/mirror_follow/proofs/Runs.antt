@@ -23,7 +23,7 @@ use Rattle.mirror_copy.specs.Moments.{AtEachMoment, IsGrownCopy, KeepsCopy, Puts
 use Rattle.mirror_copy.specs.Pruned.{IsGrownPruned, IsPrunedCopy, LeavesPruned}
 use Rattle.std.specs.Prelude.{Result}
 use Rattle.mirror_copy.proofs.Growth.{adds_then}
-use Rattle.mirror_copy.proofs.Prefixes.{within_more}
+use Rattle.mirror_places.proofs.Prefixes.{within_more}
 use Rattle.mirror_copy.proofs.WholeMoments.{at_kept, beyond_same, whole_same}
 use Rattle.mirror_follow.specs.Gathering.{note_of}
 use Rattle.mirror_follow.specs.declared.candidate.Candidate.{Candidate}

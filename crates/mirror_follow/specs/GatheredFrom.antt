@@ -3,8 +3,8 @@ use Rattle.std.specs.Prelude.{◌≡◌, ◌⊎◌, ℕ, ◌<◌, ◌≤◌, Lis
 use Rattle.signed_note.specs.Keys.{Key}
 use Rattle.tlog_tiles.specs.declared.paths.Path.{Path}
 use Rattle.tlog_tiles.specs.declared.paths.Path.TheVariants.{Checkpoint}
-use Rattle.mirror_copy.specs.declared.place.Place.{Place}
-use Rattle.mirror_copy.specs.declared.places.Places.{Places}
+use Rattle.mirror_places.specs.declared.place.Place.{Place}
+use Rattle.mirror_places.specs.declared.places.Places.{Places}
 use Rattle.mirror_follow.specs.Asking.{option_or}
 use Rattle.mirror_follow.specs.Blame.{MayGive, PlaceFails}
 use Rattle.mirror_follow.specs.Candidates.{IsCandidateOf}

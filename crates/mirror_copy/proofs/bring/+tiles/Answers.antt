@@ -7,8 +7,8 @@ use Rattle.mirror_copy.specs.Standing.{RecordsStands}
 use Rattle.mirror_copy.specs.Growing.{IsRowBrought}
 use Rattle.mirror_copy.proofs.Growth.{left_none, left_then, brings_ok, kept_same}
 use Rattle.mirror_sources.specs.Recorded.{KeepsRecord}
-use Rattle.mirror_copy.proofs.Earlier.{early_later}
-use Rattle.mirror_copy.proofs.Asking.{asks_same, asks_then, asks_weaker}
+use Rattle.mirror_copy.proofs.Earlier.{early_later, early_result}
+use Rattle.mirror_places.proofs.Asking.{asks_same, asks_then, asks_weaker}
 use Rattle.mirror_copy.specs.Suffices.{IsTileHash, IsTileRow}
 use Rattle.mirror_copy.specs.Taken.{MayTake}
 use Rattle.mirror_copy.proofs.OnePlace.{honest_between, puts_also, puts_none, puts_then}
@@ -19,9 +19,11 @@ use Rattle.mirror_copy.specs.Asked.{IsNewFull}
 use Rattle.mirror_copy.proofs.TileRows.{first_child, so_far_first, so_far_known, so_far_more, so_far_left}
 use Rattle.mirror_copy.proofs.TileRows.{child_beyond, child_fits, child_small, row_fits, row_then, tile_brought, tile_left}
 use Rattle.mirror_copy.proofs.EmptyTips.{row_after}
-use Rattle.mirror_copy.proofs.AskingOnce.{once_same, once_weaker}
+use Rattle.mirror_places.proofs.AskingOnce.{once_same, once_weaker}
 use Rattle.mirror_copy.proofs.Between.{bundle_between, child_to, once_child, once_longer, once_tile, tile_between}
-use Rattle.mirror_copy.specs.AskedOnce.{AsksOnce, IsFullBetween}
+use Rattle.mirror_places.specs.AskedOnce.{AsksOnce}
+use Rattle.mirror_copy.specs.Asked.{IsFullBetween}
+use Rattle.mirror_copy.proofs.Exits.{counted_exit, err_exit}
 use Rattle.mirror_copy.proofs.bring.+tiles.Goals as goal
 
 pub bring_row-returns-in_default-clause-brings : goal.bring_row-returns-in_default-clause-brings
@@ -421,3 +423,56 @@ bring_tile-returns-then-level-eq0-clause-once g t c =
     once_weaker g.S.Source.asked (λ k p. p ≡ Entries c.args.index 256) (λ k. IsFullBetween (c.args.level + 1) (c.args.index * 256 ^ (c.args.level + 1)) ((c.args.index + 1) * 256 ^ (c.args.level + 1)))
     (λ k path is. bundle_between c.args.level c.args.index zero path is) c.args.places.now c.bring_bundle.new.places
     c.bring_bundle.ensures.once
+
+-- ---- what a fault says
+
+pub bring_row-returns-in_err-bring_tile-clause-counted : goal.bring_row-returns-in_err-bring_tile-clause-counted
+bring_row-returns-in_err-bring_tile-clause-counted g t c =
+    let failed = g.D.Shelf.failed in
+    counted_exit c.from_residual.result c.in_err-bring_tile.field-0.0 c.from_residual.ensures (failed c.args.shelf.now)
+    (failed c.loop-i.shelf) (failed c.bring_tile.new.shelf) c.loop-i.invariant.counted c.in_err-bring_tile.ensures.counted
+
+pub bring_row-returns-in_err-bring_tile-clause-blames : goal.bring_row-returns-in_err-bring_tile-clause-blames
+bring_row-returns-in_err-bring_tile-clause-blames g t c =
+    err_exit _ c.from_residual.result c.in_err-bring_tile.field-0.0 c.from_residual.ensures c.in_err-bring_tile.ensures.blames
+
+pub bring_row-returns-in_err-bring_tile-clause-empty : goal.bring_row-returns-in_err-bring_tile-clause-empty
+bring_row-returns-in_err-bring_tile-clause-empty g t c =
+    err_exit _ c.from_residual.result c.in_err-bring_tile.field-0.0 c.from_residual.ensures c.in_err-bring_tile.ensures.empty
+
+pub bring_tile-returns-in_err-found-clause-counted : goal.bring_tile-returns-in_err-found-clause-counted
+bring_tile-returns-in_err-found-clause-counted g t c =
+    let failed = g.D.Shelf.failed in
+    counted_exit c.from_residual.result c.in_err-found.field-0.0 c.from_residual.ensures (failed c.args.shelf.now)
+    (failed c.args.shelf.now) (failed c.find.new.shelf) refl c.in_err-found.ensures.counted
+
+pub bring_tile-returns-in_err-found-clause-blames : goal.bring_tile-returns-in_err-found-clause-blames
+bring_tile-returns-in_err-found-clause-blames g t c =
+    err_exit _ c.from_residual.result c.in_err-found.field-0.0 c.from_residual.ensures c.in_err-found.ensures.blames
+
+pub bring_tile-returns-in_err-found-clause-empty : goal.bring_tile-returns-in_err-found-clause-empty
+bring_tile-returns-in_err-found-clause-empty g t c =
+    err_exit _ c.from_residual.result c.in_err-found.field-0.0 c.from_residual.ensures (λ is. c.in_err-found.ensures.fault)
+
+pub bring_tile-returns-in_err-found-clause-early : goal.bring_tile-returns-in_err-found-clause-early
+bring_tile-returns-in_err-found-clause-early g t c =
+    early_result (c.args.index * 256 ^ (c.args.level + 1)) c.args.tip.now.size (g.D.Shelf.puts c.args.shelf.now)
+    (g.D.Shelf.puts c.find.new.shelf) c.from_residual.result
+    (err_exit _ c.from_residual.result c.in_err-found.field-0.0 c.from_residual.ensures c.in_err-found.ensures.fault)
+
+pub bring_tile-returns-in_err-bring_row-clause-counted : goal.bring_tile-returns-in_err-bring_row-clause-counted
+bring_tile-returns-in_err-bring_row-clause-counted g t c =
+    let failed = g.D.Shelf.failed in
+    counted_exit c.from_residual-in_err-bring_row.result c.in_err-bring_row.field-0.0 c.from_residual-in_err-bring_row.ensures
+    (failed c.args.shelf.now) (failed c.find.new.shelf) (failed c.bring_row.new.shelf) c.in_ok-found.ensures.counted
+    c.in_err-bring_row.ensures.counted
+
+pub bring_tile-returns-in_err-bring_row-clause-blames : goal.bring_tile-returns-in_err-bring_row-clause-blames
+bring_tile-returns-in_err-bring_row-clause-blames g t c =
+    err_exit _ c.from_residual-in_err-bring_row.result c.in_err-bring_row.field-0.0 c.from_residual-in_err-bring_row.ensures
+    c.in_err-bring_row.ensures.blames
+
+pub bring_tile-returns-in_err-bring_row-clause-empty : goal.bring_tile-returns-in_err-bring_row-clause-empty
+bring_tile-returns-in_err-bring_row-clause-empty g t c =
+    err_exit _ c.from_residual-in_err-bring_row.result c.in_err-bring_row.field-0.0 c.from_residual-in_err-bring_row.ensures
+    c.in_err-bring_row.ensures.empty

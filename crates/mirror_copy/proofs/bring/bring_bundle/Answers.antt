@@ -1,4 +1,4 @@
-use Rattle.std.proofs.Common.{rules, ◌≡◌, ◌⊎◌, inl, inr, ◌∷◌, [], ℕ, List, IsFalse, length, take, subst, refl, sym, ap, ◌∙◌, arith}
+use Rattle.std.proofs.Common.{◌*◌, rules, ◌≡◌, ◌⊎◌, inl, inr, ◌∷◌, [], ℕ, List, IsFalse, length, take, subst, refl, sym, ap, ◌∙◌, arith}
 use Rattle.std.proofs.lemmas.Result.{err_from_is_err_and}
 use Rattle.tlog_shape.specs.Edge.{edge_index_of}
 use Rattle.tlog_tiles.specs.Row.{row_text}
@@ -8,7 +8,7 @@ use Rattle.mirror_copy.specs.Standing.{RecordsStands}
 use Rattle.mirror_copy.specs.Asked.{IsNewFull}
 use Rattle.tlog_tiles.specs.Bundle.{IsBundle}
 use Rattle.mirror_copy.specs.Suffices.{IsTileRow}
-use Rattle.mirror_copy.proofs.Asking.{asks_same, asks_weaker}
+use Rattle.mirror_places.proofs.Asking.{asks_same, asks_weaker}
 use Rattle.mirror_copy.proofs.OnePlace.{puts_after, puts_none, puts_one, puts_then}
 use Rattle.mirror_copy.proofs.Spared.{bundle_true, bundle_under, spared, spared_answer, spared_shelf}
 use Rattle.mirror_copy.proofs.TipTruth.{bundle_begins, row_begins}
@@ -16,6 +16,12 @@ use Rattle.mirror_copy.proofs.NewFulls.{bundle_asked}
 use Rattle.mirror_copy.proofs.Growth.{left_none, brings_ok}
 use Rattle.mirror_copy.proofs.Bundles.{bundle_left, bundle_brought, tile_left}
 use Rattle.mirror_copy.proofs.EmptyTips.{bundle_after, row_after}
+use Rattle.mirror_copy.proofs.Exits.{counted_exit, counted_last, err_exit, no_place}
+use Rattle.mirror_copy.specs.declared.fault.BringFault.TheVariants.{OutOfMemory}
+use Rattle.mirror_copy.proofs.Earlier.{early_result}
+use Rattle.mirror_copy.proofs.Spared.{err_weaker}
+use Rattle.mirror_copy.specs.Conflicts.{IsNoConflict}
+use Rattle.mirror_copy.specs.Faults.{BlamesPlaces, IsOfNoPlace}
 use Rattle.mirror_copy.proofs.bring.bring_bundle.Goals as goal
 
 pub returns-in_err-found-clause-brings : goal.returns-in_err-found-clause-brings
@@ -224,3 +230,79 @@ pub returns-then-not-goes_on-clause-empty : goal.returns-then-not-goes_on-clause
 returns-then-not-goes_on-clause-empty g c = λ k.
     let no : IsFalse c.goes_on.result = search rules in
     bundle_after g.H.TreeHash.digest c.args.tip.now k c.deref-2.result.now ⊥ (c.goes_on.ensures.differs no)
+
+pub returns-in_err-found-clause-counted : goal.returns-in_err-found-clause-counted
+returns-in_err-found-clause-counted g c =
+    counted_exit c.from_residual.result c.in_err-found.field-0.0 c.from_residual.ensures (g.D.Shelf.failed c.args.shelf.now)
+    (g.D.Shelf.failed c.args.shelf.now) (g.D.Shelf.failed c.find.new.shelf) refl c.in_err-found.ensures.counted
+
+pub returns-in_err-found-clause-blames : goal.returns-in_err-found-clause-blames
+returns-in_err-found-clause-blames g c =
+    err_exit _ c.from_residual.result c.in_err-found.field-0.0 c.from_residual.ensures c.in_err-found.ensures.blames
+
+pub returns-in_err-found-clause-early : goal.returns-in_err-found-clause-early
+returns-in_err-found-clause-early g c =
+    early_result (c.args.index * 256) c.args.tip.now.size (g.D.Shelf.puts c.args.shelf.now)
+    (g.D.Shelf.puts c.find.new.shelf) c.from_residual.result (err_exit _ c.from_residual.result c.in_err-found.field-0.0 c.from_residual.ensures c.in_err-found.ensures.fault)
+
+pub returns-in_err-found-clause-empty : goal.returns-in_err-found-clause-empty
+returns-in_err-found-clause-empty g c =
+    err_exit _ c.from_residual.result c.in_err-found.field-0.0 c.from_residual.ensures (λ is. c.in_err-found.ensures.fault)
+
+pub returns-in_err-bytes-clause-counted : goal.returns-in_err-bytes-clause-counted
+returns-in_err-bytes-clause-counted g c =
+    counted_exit c.from_residual-in_err-bytes.result OutOfMemory c.from_residual-in_err-bytes.ensures (g.D.Shelf.failed c.args.shelf.now)
+    (g.D.Shelf.failed c.find.new.shelf) (g.D.Shelf.failed c.find.new.shelf) c.in_ok-found.ensures.counted refl
+
+pub returns-in_err-bytes-clause-blames : goal.returns-in_err-bytes-clause-blames
+returns-in_err-bytes-clause-blames g c =
+    err_exit _ c.from_residual-in_err-bytes.result OutOfMemory c.from_residual-in_err-bytes.ensures tt
+
+pub returns-in_err-bytes-clause-early : goal.returns-in_err-bytes-clause-early
+returns-in_err-bytes-clause-early g c =
+    early_result (c.args.index * 256) c.args.tip.now.size (g.D.Shelf.puts c.args.shelf.now)
+    (g.D.Shelf.puts c.find.new.shelf) c.from_residual-in_err-bytes.result (err_exit _ c.from_residual-in_err-bytes.result OutOfMemory c.from_residual-in_err-bytes.ensures tt)
+
+pub returns-in_err-bytes-clause-empty : goal.returns-in_err-bytes-clause-empty
+returns-in_err-bytes-clause-empty g c =
+    err_exit _ c.from_residual-in_err-bytes.result OutOfMemory c.from_residual-in_err-bytes.ensures (λ is. tt)
+
+pub returns-in_err-bytes-clause-honest : goal.returns-in_err-bytes-clause-honest
+returns-in_err-bytes-clause-honest g c =
+    err_exit _ c.from_residual-in_err-bytes.result OutOfMemory c.from_residual-in_err-bytes.ensures (λ entries size h t is. tt)
+
+pub returns-in_err-keep-clause-counted : goal.returns-in_err-keep-clause-counted
+returns-in_err-keep-clause-counted g c =
+    counted_exit c.from_residual-in_err-keep.result c.in_err-keep.field-0.0 c.from_residual-in_err-keep.ensures (g.D.Shelf.failed c.args.shelf.now)
+    (g.D.Shelf.failed c.find.new.shelf) (g.D.Shelf.failed c.keep.new.shelf) c.in_ok-found.ensures.counted c.in_err-keep.ensures.counted
+
+pub returns-in_err-keep-clause-blames : goal.returns-in_err-keep-clause-blames
+returns-in_err-keep-clause-blames g c =
+    err_exit _ c.from_residual-in_err-keep.result c.in_err-keep.field-0.0 c.from_residual-in_err-keep.ensures (no_place c.find.new.places c.in_err-keep.field-0.0 c.in_err-keep.ensures.places)
+
+pub returns-in_err-keep-clause-early : goal.returns-in_err-keep-clause-early
+returns-in_err-keep-clause-early g c =
+    early_result (c.args.index * 256) c.args.tip.now.size (g.D.Shelf.puts c.args.shelf.now)
+    (g.D.Shelf.puts c.keep.new.shelf) c.from_residual-in_err-keep.result (err_exit _ c.from_residual-in_err-keep.result c.in_err-keep.field-0.0 c.from_residual-in_err-keep.ensures c.in_err-keep.ensures.fault)
+
+pub returns-in_err-keep-clause-empty : goal.returns-in_err-keep-clause-empty
+returns-in_err-keep-clause-empty g c =
+    err_exit _ c.from_residual-in_err-keep.result c.in_err-keep.field-0.0 c.from_residual-in_err-keep.ensures (λ is. c.in_err-keep.ensures.fault)
+
+pub returns-clause-counted : goal.returns-clause-counted
+returns-clause-counted g c =
+    counted_last c.keep-2.result (g.D.Shelf.failed c.args.shelf.now) (g.D.Shelf.failed c.keep.new.shelf) (g.D.Shelf.failed c.keep-2.new.shelf)
+    (c.in_ok-keep.ensures.counted ∙ c.in_ok-found.ensures.counted) c.keep-2.ensures.counted
+
+pub returns-clause-blames : goal.returns-clause-blames
+returns-clause-blames g c =
+    err_weaker c.keep-2.result IsOfNoPlace (BlamesPlaces c.find.new.places) (no_place c.find.new.places) c.keep-2.ensures.places
+
+pub returns-clause-early : goal.returns-clause-early
+returns-clause-early g c =
+    early_result (c.args.index * 256) c.args.tip.now.size (g.D.Shelf.puts c.args.shelf.now)
+    (g.D.Shelf.puts c.keep-2.new.shelf) c.keep-2.result c.keep-2.ensures.fault
+
+pub returns-clause-empty : goal.returns-clause-empty
+returns-clause-empty g c =
+    err_weaker c.keep-2.result IsNoConflict _ (λ e h is. h) c.keep-2.ensures.fault

@@ -2,7 +2,8 @@ use Rattle.std.proofs.lemmas.Result.{err_from_is_err_and}
 use Rattle.mirror_copy.specs.Asked.{MayBeAsked}
 use Rattle.mirror_copy.specs.AskedForCopy.{AsksFiles, AsksNothing}
 use Rattle.std.proofs.Common.{◌∙◌, subst, sym, take, IsFalse}
-use Rattle.mirror_copy.specs.EndTiles.{AreEnds, IsKept}
+use Rattle.mirror_copy.specs.AskedForCopy.{AreEnds}
+use Rattle.mirror_places.specs.EndTiles.{IsKept}
 use Rattle.mirror_copy.specs.Pruned.{HadSize}
 use Rattle.mirror_copy.proofs.Damages.{not_damaged_later, tip_damaged}
 use Rattle.mirror_copy.proofs.OneHonest.{ended_for, read_fails}
@@ -15,8 +16,13 @@ use Rattle.mirror_copy.proofs.PrunedMoments.{had_pruned, leaves_err, leaves_ok, 
 use Rattle.mirror_copy.proofs.WholeMoments.{had_size, whole_same}
 use Rattle.mirror_copy.proofs.Earlier.{no_conflict}
 use Rattle.mirror_copy.proofs.EmptyTips.{has_conflict}
-use Rattle.mirror_copy.proofs.AskingOnce.{begun_once, once_begun}
+use Rattle.mirror_places.proofs.AskingOnce.{begun_once, once_begun}
 use Rattle.std.specs.Prelude.{⊤}
+use Rattle.std.proofs.Common.{inr, refl}
+use Rattle.std.proofs.lemmas.Result.{IfOk-from_err}
+use Rattle.mirror_copy.specs.declared.fault.BringFault.TheVariants.{OutOfMemory}
+use Rattle.mirror_copy.proofs.Earlier.{kept_then}
+use Rattle.mirror_copy.proofs.Exits.{counted_exit, err_exit}
 use Rattle.mirror_copy.proofs.copy.bring_copy.Goals as goal
 
 pub returns-in_err-head-clause-whole : goal.returns-in_err-head-clause-whole
@@ -263,3 +269,93 @@ returns-in_err-done-clause-ends g c =
       had_is = had;
       is_head = rw c.in-Some.is at c.in_ok-head.ensures.found;
     }))
+
+-- ---- what a fault says
+
+pub returns-in_err-head-clause-counted : goal.returns-in_err-head-clause-counted
+returns-in_err-head-clause-counted g c =
+    counted_exit c.from_residual.result OutOfMemory c.from_residual.ensures (g.D.Shelf.failed c.args.shelf.now)
+    (g.D.Shelf.failed c.args.shelf.now) (g.D.Shelf.failed c.args.shelf.now) refl (λ i. g.D.Shelf.failed c.args.shelf.now)
+
+pub returns-in_err-head-clause-blames : goal.returns-in_err-head-clause-blames
+returns-in_err-head-clause-blames g c =
+    err_exit _ c.from_residual.result OutOfMemory c.from_residual.ensures tt
+
+pub returns-in_err-head-clause-refuses : goal.returns-in_err-head-clause-refuses
+returns-in_err-head-clause-refuses g c =
+    err_exit _ c.from_residual.result OutOfMemory c.from_residual.ensures tt
+
+pub returns-in_err-head-clause-in_use : goal.returns-in_err-head-clause-in_use
+returns-in_err-head-clause-in_use g c =
+    err_exit _ c.from_residual.result OutOfMemory c.from_residual.ensures (λ is. absurd (cc is))
+
+pub returns-in_err-head-clause-damaged : goal.returns-in_err-head-clause-damaged
+returns-in_err-head-clause-damaged g c =
+    err_exit _ c.from_residual.result OutOfMemory c.from_residual.ensures (λ is. absurd (cc is))
+
+pub returns-in_err-head-clause-suffices : goal.returns-in_err-head-clause-suffices
+returns-in_err-head-clause-suffices g c =
+    λ h. err_exit _ c.from_residual.result OutOfMemory c.from_residual.ensures (inr refl)
+
+pub returns-in_err-head-clause-had : goal.returns-in_err-head-clause-had
+returns-in_err-head-clause-had g c =
+    IfOk-from_err c.from_residual.result _ c.from_residual.ensures.0
+
+pub returns-in_err-head-clause-had_pruned : goal.returns-in_err-head-clause-had_pruned
+returns-in_err-head-clause-had_pruned g c =
+    IfOk-from_err c.from_residual.result _ c.from_residual.ensures.0
+
+pub returns-in_err-head-clause-conflict : goal.returns-in_err-head-clause-conflict
+returns-in_err-head-clause-conflict g c =
+    err_exit _ c.from_residual.result OutOfMemory c.from_residual.ensures (λ no. absurd no)
+
+pub returns-in_err-head-clause-conflicts : goal.returns-in_err-head-clause-conflicts
+returns-in_err-head-clause-conflicts g c =
+    err_exit _ c.from_residual.result OutOfMemory c.from_residual.ensures (λ no. absurd no)
+
+pub returns-in_err-head-clause-ends : goal.returns-in_err-head-clause-ends
+returns-in_err-head-clause-ends g c =
+    err_exit _ c.from_residual.result OutOfMemory c.from_residual.ensures (λ no. absurd no)
+
+pub returns-in_err-tip-clause-counted : goal.returns-in_err-tip-clause-counted
+returns-in_err-tip-clause-counted g c =
+    counted_exit c.from_residual-in_err-tip.result c.in_err-tip.field-0.0 c.from_residual-in_err-tip.ensures (g.D.Shelf.failed c.args.shelf.now)
+    (g.D.Shelf.failed c.args.shelf.now) (g.D.Shelf.failed c.read_tip.new.shelf) refl c.in_err-tip.ensures.counted
+
+pub returns-in_err-tip-clause-had : goal.returns-in_err-tip-clause-had
+returns-in_err-tip-clause-had g c =
+    IfOk-from_err c.from_residual-in_err-tip.result _ c.from_residual-in_err-tip.ensures.0
+
+pub returns-in_err-tip-clause-had_pruned : goal.returns-in_err-tip-clause-had_pruned
+returns-in_err-tip-clause-had_pruned g c =
+    IfOk-from_err c.from_residual-in_err-tip.result _ c.from_residual-in_err-tip.ensures.0
+
+pub returns-in_err-tip-clause-conflict : goal.returns-in_err-tip-clause-conflict
+returns-in_err-tip-clause-conflict g c =
+    err_exit _ c.from_residual-in_err-tip.result c.in_err-tip.field-0.0 c.from_residual-in_err-tip.ensures (λ no. c.read_tip.ensures.same)
+
+pub returns-in_err-done-clause-counted : goal.returns-in_err-done-clause-counted
+returns-in_err-done-clause-counted g c =
+    counted_exit c.from_residual-in_err-done.result c.in_err-done.field-0.0 c.from_residual-in_err-done.ensures (g.D.Shelf.failed c.args.shelf.now)
+    (g.D.Shelf.failed c.read_tip.new.shelf) (g.D.Shelf.failed c.bring_from-done.new.shelf) c.in_ok-tip.ensures.counted c.in_err-done.ensures.counted
+
+pub returns-in_err-done-clause-had : goal.returns-in_err-done-clause-had
+returns-in_err-done-clause-had g c =
+    IfOk-from_err c.from_residual-in_err-done.result _ c.from_residual-in_err-done.ensures.0
+
+pub returns-in_err-done-clause-had_pruned : goal.returns-in_err-done-clause-had_pruned
+returns-in_err-done-clause-had_pruned g c =
+    IfOk-from_err c.from_residual-in_err-done.result _ c.from_residual-in_err-done.ensures.0
+
+pub returns-in_err-done-clause-conflict : goal.returns-in_err-done-clause-conflict
+returns-in_err-done-clause-conflict g c =
+    err_exit _ c.from_residual-in_err-done.result c.in_err-done.field-0.0 c.from_residual-in_err-done.ensures (λ no. kept_then (g.D.Shelf.puts c.args.shelf.now) (g.D.Shelf.puts c.read_tip.new.shelf)
+    (g.D.Shelf.puts c.bring_from-done.new.shelf) c.read_tip.ensures.same (c.in_err-done.ensures.conflict no))
+
+pub returns-in_err-done-clause-whole : goal.returns-in_err-done-clause-whole
+returns-in_err-done-clause-whole g c =
+    (c.in_err-done.ensures.brings (g.D.Shelf.puts c.args.shelf.now) c.read_tip.ensures.same c.in_ok-tip.ensures.tip).0
+
+pub returns-in_err-done-clause-stays : goal.returns-in_err-done-clause-stays
+returns-in_err-done-clause-stays g c =
+    err_exit _ c.from_residual-in_err-done.result c.in_err-done.field-0.0 c.from_residual-in_err-done.ensures (c.in_err-done.ensures.brings (g.D.Shelf.puts c.args.shelf.now) c.read_tip.ensures.same c.in_ok-tip.ensures.tip).2

@@ -1,21 +1,25 @@
 use Rattle.std.proofs.Common.{◌≤◌, inl, subst, sym, arith}
 use Rattle.std.proofs.lemmas.Result.{err_from_is_err_and}
 use Rattle.mirror_model.specs.Heads.{IsHead}
-use Rattle.mirror_copy.specs.Asked.{IsEdgeTile, IsEdgeBundleOrNew, MayBeAsked}
-use Rattle.mirror_copy.specs.PlaceGets.{AsksPlaces}
+use Rattle.mirror_places.specs.Asked.{IsEdgeTile}
+use Rattle.mirror_copy.specs.Asked.{IsEdgeBundleOrNew, MayBeAsked}
+use Rattle.mirror_places.specs.PlaceGets.{AsksPlaces}
 use Rattle.mirror_copy.proofs.OneHonest.{edge_had}
 use Rattle.mirror_copy.proofs.OnePlace.{honest_between, puts_none}
 use Rattle.mirror_copy.proofs.Spared.{err_weaker, spared}
-use Rattle.mirror_copy.proofs.Asking.{asks_same, asks_weaker, larger_asks}
+use Rattle.mirror_places.proofs.Asking.{asks_same, asks_weaker}
+use Rattle.mirror_copy.proofs.NewFulls.{larger_asks}
 use Rattle.mirror_copy.proofs.Earlier.{conflict_keeps, conflict_later, kept_then}
 use Rattle.mirror_copy.proofs.Others.{later_blames}
 use Rattle.mirror_copy.proofs.Stays.{larger_stays, stays_later, stays_same}
 use Rattle.mirror_copy.proofs.PrunedMoments.{larger_leaves, leaves_later, leaves_same}
 use Rattle.mirror_copy.proofs.WholeMoments.{ends_later, larger_ends, larger_whole, whole_later, whole_same}
-use Rattle.mirror_copy.proofs.AskingOnce.{once_weaker}
+use Rattle.mirror_places.proofs.AskingOnce.{once_weaker}
 use Rattle.mirror_copy.proofs.Between.{once_larger}
-use Rattle.mirror_copy.specs.AskedOnce.{AsksOnce}
+use Rattle.mirror_places.specs.AskedOnce.{AsksOnce}
 use Rattle.std.specs.Prelude.{⊤}
+use Rattle.std.proofs.Common.{inr, refl}
+use Rattle.mirror_copy.proofs.Exits.{counted_exit, err_exit}
 use Rattle.mirror_copy.proofs.copy.bring_larger.Goals as goal
 
 pub returns-in_err-edge-clause-brings : goal.returns-in_err-edge-clause-brings
@@ -133,3 +137,20 @@ returns-clause-once g c =
     c.bring_to_edge-done.new.places c.find_new_edge.ensures.once
     (subst (λ n. AsksOnce g.S.Source.asked (λ k path. ¬ IsEdgeTile n path) c.find_new_edge.new.places
     c.bring_to_edge-done.new.places) c.in_ok-edge.ensures.leads.is_edge.size_is c.bring_to_edge-done.ensures.once)
+
+pub returns-in_err-edge-clause-counted : goal.returns-in_err-edge-clause-counted
+returns-in_err-edge-clause-counted g c =
+    counted_exit c.from_residual.result c.in_err-edge.field-0.0 c.from_residual.ensures (g.D.Shelf.failed c.args.shelf.now)
+    (g.D.Shelf.failed c.args.shelf.now) (g.D.Shelf.failed c.find_new_edge.new.shelf) refl c.in_err-edge.ensures.counted
+
+pub returns-in_err-edge-clause-blames : goal.returns-in_err-edge-clause-blames
+returns-in_err-edge-clause-blames g c =
+    err_exit _ c.from_residual.result c.in_err-edge.field-0.0 c.from_residual.ensures (inr c.in_err-edge.ensures.blames)
+
+pub returns-in_err-edge-clause-empty : goal.returns-in_err-edge-clause-empty
+returns-in_err-edge-clause-empty g c =
+    err_exit _ c.from_residual.result c.in_err-edge.field-0.0 c.from_residual.ensures (λ is. c.in_err-edge.ensures.fault)
+
+pub returns-in_err-edge-clause-conflict : goal.returns-in_err-edge-clause-conflict
+returns-in_err-edge-clause-conflict g c =
+    err_exit _ c.from_residual.result c.in_err-edge.field-0.0 c.from_residual.ensures (λ is. c.find_new_edge.ensures.same)

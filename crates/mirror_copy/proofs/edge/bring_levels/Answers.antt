@@ -2,7 +2,7 @@ use Rattle.std.proofs.Common.{◌≡◌, ◌+◌, ◌-◌, ◌*◌, ◌/◌, ◌
 use Rattle.std.proofs.lemmas.Result.{err_from_is_err_and}
 use Rattle.tlog_shape.specs.Edge.{edge_index_of}
 use Rattle.mirror_copy.proofs.Growth.{kept_same}
-use Rattle.mirror_copy.proofs.Asking.{asks_same, asks_then}
+use Rattle.mirror_places.proofs.Asking.{asks_same, asks_then}
 use Rattle.mirror_copy.specs.Asked.{IsNewFull}
 use Rattle.mirror_copy.specs.Suffices.{IsTileRow}
 use Rattle.mirror_copy.proofs.OnePlace.{honest_between, puts_none, puts_then}
@@ -12,10 +12,12 @@ use Rattle.log_reader.specs.EdgeRows.{row_at}
 use Rattle.mirror_copy.specs.Edges.{IsEdgeBrought}
 use Rattle.mirror_copy.proofs.EdgeRows.{edge_first, edge_known, edge_left, edge_step, floor_mono, row_beyond, row_end, row_fits}
 use Rattle.mirror_copy.proofs.Earlier.{kept_then}
-use Rattle.mirror_copy.proofs.AskingOnce.{once_same}
+use Rattle.mirror_places.proofs.AskingOnce.{once_same}
 use Rattle.mirror_copy.proofs.Between.{once_longer, once_row}
-use Rattle.mirror_copy.specs.AskedOnce.{AsksOnce, IsFullBetween}
+use Rattle.mirror_places.specs.AskedOnce.{AsksOnce}
+use Rattle.mirror_copy.specs.Asked.{IsFullBetween}
 use Rattle.std.proofs.Math.Nat.{div-mul-le_self}
+use Rattle.mirror_copy.proofs.Exits.{counted_exit, err_exit}
 use Rattle.mirror_copy.proofs.edge.bring_levels.Goals as goal
 
 pub loop-done-init : goal.loop-done-init
@@ -205,3 +207,16 @@ returns-clause-once g c =
     let l = 7 - c.loop-done.done + 1 in
     once_longer g.S.Source.asked 7 0 (c.args.edge.now.size / 256 ^ l * 256 ^ l) c.args.edge.now.size
     (div-mul-le_self c.args.edge.now.size (256 ^ l)) c.args.places.now c.loop-done.places c.loop-done.invariant.once
+
+pub returns-in_err-bring_row-clause-counted : goal.returns-in_err-bring_row-clause-counted
+returns-in_err-bring_row-clause-counted g c =
+    counted_exit c.from_residual.result c.in_err-bring_row.field-0.0 c.from_residual.ensures (g.D.Shelf.failed c.args.shelf.now)
+    (g.D.Shelf.failed c.loop-done.shelf) (g.D.Shelf.failed c.bring_row.new.shelf) c.loop-done.invariant.counted c.in_err-bring_row.ensures.counted
+
+pub returns-in_err-bring_row-clause-blames : goal.returns-in_err-bring_row-clause-blames
+returns-in_err-bring_row-clause-blames g c =
+    err_exit _ c.from_residual.result c.in_err-bring_row.field-0.0 c.from_residual.ensures c.in_err-bring_row.ensures.blames
+
+pub returns-in_err-bring_row-clause-empty : goal.returns-in_err-bring_row-clause-empty
+returns-in_err-bring_row-clause-empty g c =
+    err_exit _ c.from_residual.result c.in_err-bring_row.field-0.0 c.from_residual.ensures c.in_err-bring_row.ensures.empty

@@ -6,21 +6,27 @@ use Rattle.mirror_sources.specs.Recorded.{KeepsRecord, AddsToRecord}
 use Rattle.mirror_copy.specs.Standing.{RecordsStands}
 use Rattle.log_reader.specs.Verified.{HasLeaves}
 use Rattle.log_reader.specs.EdgeRows.{row_at}
-use Rattle.mirror_copy.specs.Asked.{IsEdgeBundle, IsPathOrFull}
+use Rattle.mirror_copy.specs.Asked.{IsEdgeBundle}
+use Rattle.mirror_places.specs.Asked.{IsPathOrFull}
 use Rattle.std.specs.Prelude.{IsFalse, IsNone}
 use Rattle.tlog_tiles.specs.Bundle.{IsBundle}
 use Rattle.tlog_tiles.proofs.EdgeLemmas.{hashes_of}
 use Rattle.mirror_copy.specs.Suffices.{IsTileRow}
-use Rattle.mirror_copy.specs.TrueAnswers.{HasTrueLeaves}
+use Rattle.mirror_places.specs.TrueAnswers.{HasTrueLeaves}
 use Rattle.mirror_copy.proofs.Spared.{edge_bundle_true, edge_row_true, spared, spared_answer, true_leaves}
 use Rattle.mirror_copy.proofs.TipTruth.{bundle_begins, of_none, row_begins}
-use Rattle.mirror_copy.proofs.Asking.{asks_same, asks_weaker}
+use Rattle.mirror_places.proofs.Asking.{asks_same, asks_weaker}
 use Rattle.mirror_copy.proofs.NewFulls.{edge_bundle_asked}
 use Rattle.mirror_copy.proofs.Growth.{kept_same, left_none}
 use Rattle.mirror_copy.proofs.Finishing.{brings_last, last_left, last_none, last_some}
 use Rattle.mirror_copy.proofs.EmptyTips.{bundle_after, row_after}
-use Rattle.mirror_copy.proofs.AskingOnce.{once_same, once_weaker}
+use Rattle.mirror_places.proofs.AskingOnce.{once_same, once_weaker}
 use Rattle.mirror_copy.proofs.Between.{bundle_partial}
+use Rattle.mirror_copy.proofs.Exits.{counted_exit, counted_last, err_exit, no_place}
+use Rattle.mirror_copy.proofs.Earlier.{early_result}
+use Rattle.mirror_copy.proofs.Spared.{err_weaker}
+use Rattle.mirror_copy.specs.Conflicts.{IsNoConflict}
+use Rattle.mirror_copy.specs.Faults.{BlamesPlaces, IsOfNoPlace}
 use Rattle.mirror_copy.proofs.edge_bundle.bring_edge_bundle.Goals as goal
 
 pub returns-then-is_empty-clause-brings : goal.returns-then-is_empty-clause-brings
@@ -232,3 +238,40 @@ returns-clause-once g c =
     (λ k. edge_bundle_asked c.args.edge.now.size c.edge_index-index.result (length c.row-row.result.now) at wide some)
     c.args.places.now c.find_edge_bundle.new.places (c.find_edge_bundle.ensures.once
     (bundle_partial c.edge_index-index.result (length c.row-row.result.now) c.args.edge.now.size wide))
+
+pub returns-in_err-bytes-clause-counted : goal.returns-in_err-bytes-clause-counted
+returns-in_err-bytes-clause-counted g c =
+    counted_exit c.from_residual.result c.in_err-bytes.field-0.0 c.from_residual.ensures (g.D.Shelf.failed c.args.shelf.now)
+    (g.D.Shelf.failed c.args.shelf.now) (g.D.Shelf.failed c.find_edge_bundle.new.shelf) refl c.in_err-bytes.ensures.counted
+
+pub returns-in_err-bytes-clause-blames : goal.returns-in_err-bytes-clause-blames
+returns-in_err-bytes-clause-blames g c =
+    err_exit _ c.from_residual.result c.in_err-bytes.field-0.0 c.from_residual.ensures c.in_err-bytes.ensures.blames
+
+pub returns-in_err-bytes-clause-early : goal.returns-in_err-bytes-clause-early
+returns-in_err-bytes-clause-early g c =
+    early_result (edge_index_of c.args.edge.now.size 0 * 256) c.args.tip.now.size
+    (g.D.Shelf.puts c.args.shelf.now) (g.D.Shelf.puts c.find_edge_bundle.new.shelf) c.from_residual.result (err_exit _ c.from_residual.result c.in_err-bytes.field-0.0 c.from_residual.ensures c.in_err-bytes.ensures.fault)
+
+pub returns-in_err-bytes-clause-empty : goal.returns-in_err-bytes-clause-empty
+returns-in_err-bytes-clause-empty g c =
+    err_exit _ c.from_residual.result c.in_err-bytes.field-0.0 c.from_residual.ensures (λ is. c.in_err-bytes.ensures.fault)
+
+pub returns-clause-counted : goal.returns-clause-counted
+returns-clause-counted g c =
+    counted_last c.keep.result (g.D.Shelf.failed c.args.shelf.now) (g.D.Shelf.failed c.find_edge_bundle.new.shelf) (g.D.Shelf.failed c.keep.new.shelf)
+    c.in_ok-bytes.ensures.counted c.keep.ensures.counted
+
+pub returns-clause-blames : goal.returns-clause-blames
+returns-clause-blames g c =
+    err_weaker c.keep.result IsOfNoPlace (BlamesPlaces c.find_edge_bundle.new.places)
+    (no_place c.find_edge_bundle.new.places) c.keep.ensures.places
+
+pub returns-clause-early : goal.returns-clause-early
+returns-clause-early g c =
+    early_result (edge_index_of c.args.edge.now.size 0 * 256) c.args.tip.now.size
+    (g.D.Shelf.puts c.args.shelf.now) (g.D.Shelf.puts c.keep.new.shelf) c.keep.result c.keep.ensures.fault
+
+pub returns-clause-empty : goal.returns-clause-empty
+returns-clause-empty g c =
+    err_weaker c.keep.result IsNoConflict _ (λ e h is. h) c.keep.ensures.fault

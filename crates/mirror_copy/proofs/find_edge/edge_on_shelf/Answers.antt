@@ -1,6 +1,10 @@
 use Rattle.std.proofs.Common.{sym, ◌∙◌}
 use Rattle.std.proofs.lemmas.Bool.{false≢true}
 use Rattle.mirror_copy.specs.Damaged.{HasOtherRoot, HasWrongRow}
+use Rattle.std.proofs.Common.{refl}
+use Rattle.mirror_copy.proofs.Exits.{counted_exit, err_exit}
+use Rattle.mirror_copy.specs.declared.fault.BringFault.TheVariants.{OutOfMemory}
+use Rattle.std.proofs.lemmas.Result.{IfOk-from_err}
 use Rattle.mirror_copy.proofs.find_edge.edge_on_shelf.Goals as goal
 
 pub returns-in_default-clause-none : goal.returns-in_default-clause-none
@@ -11,3 +15,27 @@ pub returns-else-branch-clause-none : goal.returns-else-branch-clause-none
 returns-else-branch-clause-none g c =
     let read = rw c.in-Some.is at c.in_ok-edge.ensures.edge in
     HasOtherRoot c.in-Some.edge read (λ same. false≢true (sym c.if-branch.false ∙ c.in_ok-leads_to.ensures.1 same))
+
+pub returns-in_err-edge : goal.returns-in_err-edge
+returns-in_err-edge g c = record {
+  fault = err_exit _ c.from_residual.result c.in_err-edge.field-0.0 c.from_residual.ensures c.in_err-edge.ensures.fault;
+  counted = counted_exit c.from_residual.result c.in_err-edge.field-0.0 c.from_residual.ensures (g.D.Shelf.failed c.args.shelf.now)
+      (g.D.Shelf.failed c.args.shelf.now) (g.D.Shelf.failed c.rows_on_shelf.new.shelf) refl c.in_err-edge.ensures.counted;
+  places = err_exit _ c.from_residual.result c.in_err-edge.field-0.0 c.from_residual.ensures c.in_err-edge.ensures.places;
+  same = c.rows_on_shelf.ensures.same;
+  read = IfOk-from_err c.from_residual.result _ c.from_residual.ensures.0;
+  none = IfOk-from_err c.from_residual.result _ c.from_residual.ensures.0;
+  leads = IfOk-from_err c.from_residual.result _ c.from_residual.ensures.0;
+}
+
+pub returns-in_err-leads_to : goal.returns-in_err-leads_to
+returns-in_err-leads_to g c = record {
+  fault = err_exit _ c.from_residual-in_err-leads_to.result OutOfMemory c.from_residual-in_err-leads_to.ensures tt;
+  counted = counted_exit c.from_residual-in_err-leads_to.result OutOfMemory c.from_residual-in_err-leads_to.ensures (g.D.Shelf.failed c.args.shelf.now)
+      (g.D.Shelf.failed c.rows_on_shelf.new.shelf) (g.D.Shelf.failed c.rows_on_shelf.new.shelf) c.in_ok-edge.ensures.counted refl;
+  places = err_exit _ c.from_residual-in_err-leads_to.result OutOfMemory c.from_residual-in_err-leads_to.ensures tt;
+  same = c.rows_on_shelf.ensures.same;
+  read = IfOk-from_err c.from_residual-in_err-leads_to.result _ c.from_residual-in_err-leads_to.ensures.0;
+  none = IfOk-from_err c.from_residual-in_err-leads_to.result _ c.from_residual-in_err-leads_to.ensures.0;
+  leads = IfOk-from_err c.from_residual-in_err-leads_to.result _ c.from_residual-in_err-leads_to.ensures.0;
+}

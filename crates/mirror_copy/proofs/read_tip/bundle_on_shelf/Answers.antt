@@ -3,6 +3,10 @@ use Rattle.std.specs.Prelude.{option_map}
 use Rattle.tlog_shape.specs.Edge.{edge_index_of, width_of}
 use Rattle.mirror_copy.proofs.Damages.{bundle_wrong}
 use Rattle.mirror_copy.proofs.WholeMoments.{bundle_made, no_bundle}
+use Rattle.std.proofs.Common.{inr}
+use Rattle.mirror_copy.proofs.Exits.{counted_exit, err_exit}
+use Rattle.mirror_copy.specs.declared.fault.BringFault.TheVariants.{OutOfMemory}
+use Rattle.std.proofs.lemmas.Result.{IfOk-from_err}
 use Rattle.mirror_copy.proofs.read_tip.bundle_on_shelf.Goals as goal
 
 pub returns-then-is_empty-clause-bundle : goal.returns-then-is_empty-clause-bundle
@@ -42,3 +46,23 @@ returns-in-None-clause-damaged g c =
           c.row-row.result.now c.in_ok-given.given index_is width_is c.row-row.ensures some c.in_ok-given.ensures.answer
           (rw c.in-None.is at c.in_ok-bytes.ensures.none),
     )
+
+pub returns-in_err-given : goal.returns-in_err-given
+returns-in_err-given g c = record {
+  fault = err_exit _ c.from_residual.result c.in_err-given.field-0.0 c.from_residual.ensures c.in_err-given.ensures.fault;
+  counted = counted_exit c.from_residual.result c.in_err-given.field-0.0 c.from_residual.ensures (g.D.Shelf.failed c.args.shelf.now)
+      (g.D.Shelf.failed c.args.shelf.now) (g.D.Shelf.failed c.read_partial.new.shelf) refl c.in_err-given.ensures.counted;
+  damaged = err_exit _ c.from_residual.result c.in_err-given.field-0.0 c.from_residual.ensures (inr c.in_err-given.ensures.places);
+  same = c.read_partial.ensures.same;
+  bundle = IfOk-from_err c.from_residual.result _ c.from_residual.ensures.0;
+}
+
+pub returns-in_err-bytes : goal.returns-in_err-bytes
+returns-in_err-bytes g c = record {
+  fault = err_exit _ c.from_residual-in_err-bytes.result OutOfMemory c.from_residual-in_err-bytes.ensures tt;
+  counted = counted_exit c.from_residual-in_err-bytes.result OutOfMemory c.from_residual-in_err-bytes.ensures (g.D.Shelf.failed c.args.shelf.now)
+      (g.D.Shelf.failed c.read_partial.new.shelf) (g.D.Shelf.failed c.read_partial.new.shelf) c.in_ok-given.ensures.counted refl;
+  damaged = err_exit _ c.from_residual-in_err-bytes.result OutOfMemory c.from_residual-in_err-bytes.ensures (inr tt);
+  same = c.read_partial.ensures.same;
+  bundle = IfOk-from_err c.from_residual-in_err-bytes.result _ c.from_residual-in_err-bytes.ensures.0;
+}

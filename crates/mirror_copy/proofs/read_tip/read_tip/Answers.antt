@@ -3,6 +3,11 @@ use Rattle.mirror_model.specs.Heads.{IsHead}
 use Rattle.std.proofs.lemmas.Result.{err_from_is_err_and}
 use Rattle.mirror_copy.proofs.Damages.{damaged_bundle, damaged_edge, damaged_head}
 use Rattle.mirror_copy.proofs.WholeMoments.{empty_read, tip_made}
+use Rattle.std.proofs.Common.{◌∙◌, inr}
+use Rattle.mirror_copy.proofs.Exits.{counted_exit, err_exit}
+use Rattle.mirror_copy.specs.declared.fault.BringFault.TheVariants.{OutOfMemory}
+use Rattle.std.proofs.lemmas.Result.{IfOk-from_err}
+use Rattle.mirror_copy.proofs.Earlier.{kept_then}
 use Rattle.mirror_copy.proofs.read_tip.read_tip.Goals as goal
 
 pub returns-in_default-clause-tip : goal.returns-in_default-clause-tip
@@ -63,3 +68,37 @@ returns-in_default-3-clause-damaged g c =
           (rw c.in-Some.is at c.in_ok-checkpoint.ensures.answer) head.0 head.1 is_head
           (rw c.in_default-3.is at c.in_ok-edge.ensures.none),
     )
+
+pub returns-in_err-head : goal.returns-in_err-head
+returns-in_err-head g c = record {
+  fault = err_exit _ c.from_residual-in_err-head.result OutOfMemory c.from_residual-in_err-head.ensures tt;
+  counted = counted_exit c.from_residual-in_err-head.result OutOfMemory c.from_residual-in_err-head.ensures (g.D.Shelf.failed c.args.shelf.now)
+      (g.D.Shelf.failed c.read.new.self) (g.D.Shelf.failed c.read.new.self) c.in_ok-checkpoint.ensures.counted refl;
+  damaged = err_exit _ c.from_residual-in_err-head.result OutOfMemory c.from_residual-in_err-head.ensures (inr tt);
+  same = c.read.ensures.same;
+  tip = IfOk-from_err c.from_residual-in_err-head.result _ c.from_residual-in_err-head.ensures.0;
+}
+
+pub returns-in_err-edge : goal.returns-in_err-edge
+returns-in_err-edge g c = record {
+  fault = err_exit _ c.from_residual-in_err-edge.result c.in_err-edge.field-0.0 c.from_residual-in_err-edge.ensures c.in_err-edge.ensures.fault;
+  counted = counted_exit c.from_residual-in_err-edge.result c.in_err-edge.field-0.0 c.from_residual-in_err-edge.ensures (g.D.Shelf.failed c.args.shelf.now)
+      (g.D.Shelf.failed c.read.new.self) (g.D.Shelf.failed c.edge_on_shelf.new.shelf) c.in_ok-checkpoint.ensures.counted c.in_err-edge.ensures.counted;
+  damaged = err_exit _ c.from_residual-in_err-edge.result c.in_err-edge.field-0.0 c.from_residual-in_err-edge.ensures (inr c.in_err-edge.ensures.places);
+  same = kept_then (g.D.Shelf.puts c.args.shelf.now) (g.D.Shelf.puts c.read.new.self) (g.D.Shelf.puts c.edge_on_shelf.new.shelf) c.read.ensures.same
+      c.edge_on_shelf.ensures.same;
+  tip = IfOk-from_err c.from_residual-in_err-edge.result _ c.from_residual-in_err-edge.ensures.0;
+}
+
+pub returns-in_err-bundle-clause-fault : goal.returns-in_err-bundle-clause-fault
+returns-in_err-bundle-clause-fault g c =
+    err_exit _ c.from_residual-in_err-bundle.result c.in_err-bundle.field-0.0 c.from_residual-in_err-bundle.ensures c.in_err-bundle.ensures.fault
+
+pub returns-in_err-bundle-clause-counted : goal.returns-in_err-bundle-clause-counted
+returns-in_err-bundle-clause-counted g c =
+    counted_exit c.from_residual-in_err-bundle.result c.in_err-bundle.field-0.0 c.from_residual-in_err-bundle.ensures (g.D.Shelf.failed c.args.shelf.now)
+    (g.D.Shelf.failed c.edge_on_shelf.new.shelf) (g.D.Shelf.failed c.bundle_on_shelf.new.shelf) (c.in_ok-edge.ensures.counted ∙ c.in_ok-checkpoint.ensures.counted) c.in_err-bundle.ensures.counted
+
+pub returns-in_err-bundle-clause-tip : goal.returns-in_err-bundle-clause-tip
+returns-in_err-bundle-clause-tip g c =
+    IfOk-from_err c.from_residual-in_err-bundle.result _ c.from_residual-in_err-bundle.ensures.0

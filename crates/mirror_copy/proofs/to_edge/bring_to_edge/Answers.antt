@@ -1,14 +1,17 @@
-use Rattle.std.proofs.Common.{inr, refl}
+use Rattle.std.proofs.Common.{◌∙◌, inr, refl}
 use Rattle.std.proofs.lemmas.Result.{err_from_is_err_and}
 use Rattle.mirror_copy.specs.Asked.{IsEdgeBundle, IsEdgeBundleOrNew, IsNewFull}
 use Rattle.mirror_copy.proofs.OnePlace.{honest_between}
 use Rattle.mirror_copy.proofs.Spared.{spared_last, spared_shelf}
 use Rattle.mirror_copy.proofs.EdgeRows.{edge_known, edge_left}
 use Rattle.mirror_copy.proofs.Growth.{kept_same}
-use Rattle.mirror_copy.proofs.Asking.{asks_same, asks_weaker, to_edge_asks}
+use Rattle.mirror_places.proofs.Asking.{asks_same, asks_weaker}
+use Rattle.mirror_copy.proofs.NewFulls.{to_edge_asks}
 use Rattle.mirror_copy.proofs.Others.{last_blames}
 use Rattle.mirror_copy.proofs.Finishing.{copy_brought, ends_brought, left_put, true_rows}
 use Rattle.mirror_copy.proofs.Between.{once_below, once_to_edge}
+use Rattle.mirror_copy.proofs.Exits.{counted_exit, early_exit, err_exit, no_place}
+use Rattle.mirror_copy.proofs.Earlier.{early_result}
 use Rattle.mirror_copy.proofs.to_edge.bring_to_edge.Goals as goal
 
 pub returns-in_err-bring_edge_bundle-clause-brings : goal.returns-in_err-bring_edge_bundle-clause-brings
@@ -143,3 +146,67 @@ returns-in_err-bring_levels-clause-asks g c =
     asks_weaker g.S.Source.may_answer g.S.Source.failed g.S.Source.asked (IsNewFull c.args.tip.now.size)
     (IsEdgeBundleOrNew c.args.edge.now.size c.args.tip.now.size) (λ path h. inr h) c.args.places.now c.bring_levels.new.places
     c.bring_levels.ensures.asks
+
+-- ---- what a fault says
+
+pub returns-in_err-bring_levels-clause-counted : goal.returns-in_err-bring_levels-clause-counted
+returns-in_err-bring_levels-clause-counted g c =
+    let failed = g.D.Shelf.failed in
+    counted_exit c.from_residual.result c.in_err-bring_levels.field-0.0 c.from_residual.ensures (failed c.args.shelf.now)
+    (failed c.args.shelf.now) (failed c.bring_levels.new.shelf) refl c.in_err-bring_levels.ensures.counted
+
+pub returns-in_err-bring_levels-clause-blames : goal.returns-in_err-bring_levels-clause-blames
+returns-in_err-bring_levels-clause-blames g c =
+    err_exit _ c.from_residual.result c.in_err-bring_levels.field-0.0 c.from_residual.ensures (inr c.in_err-bring_levels.ensures.blames)
+
+pub returns-in_err-bring_levels-clause-early : goal.returns-in_err-bring_levels-clause-early
+returns-in_err-bring_levels-clause-early g c =
+    early_exit c.from_residual.result c.in_err-bring_levels.field-0.0 c.from_residual.ensures 0 c.args.tip.now.size
+    (g.D.Shelf.puts c.args.shelf.now) (g.D.Shelf.puts c.bring_levels.new.shelf) c.in_err-bring_levels.ensures.early
+
+pub returns-in_err-bring_levels-clause-empty : goal.returns-in_err-bring_levels-clause-empty
+returns-in_err-bring_levels-clause-empty g c =
+    err_exit _ c.from_residual.result c.in_err-bring_levels.field-0.0 c.from_residual.ensures c.in_err-bring_levels.ensures.empty
+
+pub returns-in_err-bring_edge_bundle-clause-counted : goal.returns-in_err-bring_edge_bundle-clause-counted
+returns-in_err-bring_edge_bundle-clause-counted g c =
+    let failed = g.D.Shelf.failed in
+    counted_exit c.from_residual-in_err-bring_edge_bundle.result c.in_err-bring_edge_bundle.field-0.0
+    c.from_residual-in_err-bring_edge_bundle.ensures (failed c.args.shelf.now) (failed c.bring_levels.new.shelf)
+    (failed c.bring_edge_bundle.new.shelf) c.in_ok-bring_levels.ensures.counted c.in_err-bring_edge_bundle.ensures.counted
+
+pub returns-in_err-bring_edge_bundle-clause-blames : goal.returns-in_err-bring_edge_bundle-clause-blames
+returns-in_err-bring_edge_bundle-clause-blames g c =
+    err_exit _ c.from_residual-in_err-bring_edge_bundle.result c.in_err-bring_edge_bundle.field-0.0
+    c.from_residual-in_err-bring_edge_bundle.ensures (inr c.in_err-bring_edge_bundle.ensures.blames)
+
+pub returns-in_err-bring_edge_bundle-clause-empty : goal.returns-in_err-bring_edge_bundle-clause-empty
+returns-in_err-bring_edge_bundle-clause-empty g c =
+    err_exit _ c.from_residual-in_err-bring_edge_bundle.result c.in_err-bring_edge_bundle.field-0.0
+    c.from_residual-in_err-bring_edge_bundle.ensures c.in_err-bring_edge_bundle.ensures.empty
+
+pub returns-in_err-put_edge_tiles-clause-counted : goal.returns-in_err-put_edge_tiles-clause-counted
+returns-in_err-put_edge_tiles-clause-counted g c =
+    let failed = g.D.Shelf.failed in
+    counted_exit c.from_residual-in_err-put_edge_tiles.result c.in_err-put_edge_tiles.field-0.0
+    c.from_residual-in_err-put_edge_tiles.ensures (failed c.args.shelf.now) (failed c.bring_edge_bundle.new.shelf)
+    (failed c.put_edge_tiles.new.shelf) (c.in_ok-bring_edge_bundle.ensures.counted ∙ c.in_ok-bring_levels.ensures.counted)
+    c.in_err-put_edge_tiles.ensures.counted
+
+pub returns-in_err-put_edge_tiles-clause-blames : goal.returns-in_err-put_edge_tiles-clause-blames
+returns-in_err-put_edge_tiles-clause-blames g c =
+    err_exit _ c.from_residual-in_err-put_edge_tiles.result c.in_err-put_edge_tiles.field-0.0
+    c.from_residual-in_err-put_edge_tiles.ensures
+    (inr (no_place c.bring_edge_bundle.new.places c.in_err-put_edge_tiles.field-0.0 c.in_err-put_edge_tiles.ensures.places))
+
+pub returns-in_err-put_edge_tiles-clause-empty : goal.returns-in_err-put_edge_tiles-clause-empty
+returns-in_err-put_edge_tiles-clause-empty g c =
+    err_exit _ c.from_residual-in_err-put_edge_tiles.result c.in_err-put_edge_tiles.field-0.0
+    c.from_residual-in_err-put_edge_tiles.ensures (λ is. c.in_err-put_edge_tiles.ensures.fault)
+
+pub returns-in_err-put_edge_tiles-clause-early : goal.returns-in_err-put_edge_tiles-clause-early
+returns-in_err-put_edge_tiles-clause-early g c =
+    early_result 0 c.args.tip.now.size (g.D.Shelf.puts c.args.shelf.now) (g.D.Shelf.puts c.put_edge_tiles.new.shelf)
+    c.from_residual-in_err-put_edge_tiles.result
+    (err_exit _ c.from_residual-in_err-put_edge_tiles.result c.in_err-put_edge_tiles.field-0.0
+    c.from_residual-in_err-put_edge_tiles.ensures c.in_err-put_edge_tiles.ensures.fault)

@@ -3,6 +3,7 @@ use Rattle.std.proofs.lemmas.Result.{err_from_is_err_and}
 use Rattle.mirror_copy.specs.Edges.{AreEdgeTilesPut}
 use Rattle.mirror_copy.proofs.Growth.{gathers_then}
 use Rattle.mirror_copy.proofs.Finishing.{edge_put_first, edge_put_then}
+use Rattle.mirror_copy.proofs.Exits.{counted_exit, err_exit}
 use Rattle.mirror_copy.proofs.to_edge.put_edge_tiles.Goals as goal
 
 pub loop-level-init : goal.loop-level-init
@@ -36,3 +37,16 @@ returns-clause-puts g c = λ entries long rows.
     let end : c.loop-level.level ≡ 8 = omega arith in
     subst (λ n. AreEdgeTilesPut g.H.TreeHash.digest c.args.tip.now.size c.args.edge.now entries (g.D.Shelf.puts c.args.shelf.now)
     (g.D.Shelf.puts c.loop-level.shelf) n) end (c.loop-level.invariant.puts entries long rows)
+
+pub returns-in_err-put_edge_tile-clause-fault : goal.returns-in_err-put_edge_tile-clause-fault
+returns-in_err-put_edge_tile-clause-fault g c =
+    err_exit _ c.from_residual.result c.in_err-put_edge_tile.field-0.0 c.from_residual.ensures c.in_err-put_edge_tile.ensures.fault
+
+pub returns-in_err-put_edge_tile-clause-counted : goal.returns-in_err-put_edge_tile-clause-counted
+returns-in_err-put_edge_tile-clause-counted g c =
+    counted_exit c.from_residual.result c.in_err-put_edge_tile.field-0.0 c.from_residual.ensures (g.D.Shelf.failed c.args.shelf.now)
+    (g.D.Shelf.failed c.loop-level.shelf) (g.D.Shelf.failed c.put_edge_tile.new.shelf) c.loop-level.invariant.counted c.in_err-put_edge_tile.ensures.counted
+
+pub returns-in_err-put_edge_tile-clause-places : goal.returns-in_err-put_edge_tile-clause-places
+returns-in_err-put_edge_tile-clause-places g c =
+    err_exit _ c.from_residual.result c.in_err-put_edge_tile.field-0.0 c.from_residual.ensures c.in_err-put_edge_tile.ensures.places

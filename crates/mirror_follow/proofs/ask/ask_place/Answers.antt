@@ -1,6 +1,6 @@
 use Rattle.std.proofs.Common.{◌≡◌}
 use Rattle.tlog_tiles.specs.declared.paths.Path.TheVariants.{Checkpoint}
-use Rattle.mirror_copy.specs.declared.place.PlaceAnswer.TheVariants as answer
+use Rattle.mirror_places.specs.declared.place.PlaceAnswer.TheVariants as answer
 use Rattle.mirror_follow.proofs.Blame.{answer_fails, answer_gives, answer_is, any_of}
 use Rattle.mirror_follow.proofs.ask.ask_place.Goals as goal
 
