@@ -5,7 +5,7 @@ ghost use Rattle.program_library.specs.Runs.{FindsKeys, NamesKeyFile, ReadsJoine
 
 use program_env::why::{Why, of_named};
 use program_env::{Error, RunFault, RunFiles};
-use program_words::read_line;
+use program_parser::read_line;
 use signed_note::{KeyFileFault, KeyLine, Verifier, join_pins, read_keys};
 use std::alloc::Global;
 
