@@ -6,10 +6,10 @@ ghost use Rattle.program_env.specs.Envs.{IsSameEnv, moment};
 ghost use Rattle.program_env.specs.Performing.{Performs};
 
 use crate::asking::{of_file, of_head};
-use program_commands::check_origin;
 use program_env::served::{copy_size, of_backwards, of_size};
 use program_env::why::{Why, of_folder, of_origin};
 use program_env::{Env, Error, RunFault, RunFiles, RunFolders};
+use program_heads::check_origin;
 use program_monitor::{CopyEntriesFault, EntryRange, entries_of_copy};
 use program_words::Command;
 use program_words::commands::entries::CopyEntries;

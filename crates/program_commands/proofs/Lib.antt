@@ -3,6 +3,3 @@ mod Putting
 mod NoteWalks
 mod Reordering
 mod Sizes
-mod Cut
-mod CheckText
-pub mod HeadNotes

@@ -9,7 +9,3 @@ pub mod Updated
 pub mod NoteFiles
 pub mod Notes
 pub mod NoteLaws
-pub mod Root
-pub mod Check
-pub mod Faults
-pub mod HeadFiles

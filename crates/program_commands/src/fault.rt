@@ -36,18 +36,6 @@ pub enum TakeFilesFault {
     Out(NamedFault),
 }
 
-/// Why no checkpoints were read from files. The variants are in the order of the checks. It prints the name of the innermost
-/// variant.
-#[derive(Debug, Drop, Clone, Copy, Error)]
-pub enum HeadFilesFault {
-    /// A file was not read.
-    #[error(transparent)]
-    File(NamedFault),
-    /// A file holds no checkpoint of the log that opens under the keys.
-    #[error(transparent)]
-    Head(TakeFault),
-}
-
 /// Why two states were not merged. The variants are in the order of the checks. It prints the name of the innermost variant.
 #[derive(Debug, Drop, Clone, Copy, Error)]
 pub enum MergeFilesFault {

@@ -10,7 +10,7 @@ use tlog_hash::TreeHash;
 use tlog_mirror::Mirror;
 
 /// The number of notes and strings in a mirror.
-#[derive(Debug, Drop, PartialEq, Eq, Clone, Copy)]
+#[derive(Drop, Clone, Copy)]
 pub struct HeldCounts {
     /// The number of notes.
     pub notes: usize,

@@ -5,7 +5,7 @@
 /// ```text
 /// ItemFiles::Bundle { width: 3, file: "log/tile/entries/000.p/3" }
 /// ```
-#[derive(Debug, Drop, PartialEq, Eq, Clone, Copy)]
+#[derive(Drop, Clone, Copy)]
 pub enum ItemFiles<'a> {
     /// A checkpoint: the file of its note, and the files of its right edge's rows, lowest level first.
     Head {

@@ -9,7 +9,7 @@ use tlog_hash::{Hash, TreeHash};
 use tlog_mirror::Mirror;
 
 /// A note as a file.
-#[derive(Debug, Drop)]
+#[derive(Drop)]
 pub struct NoteFile<'a> {
     /// `SIZE-ROOT-NUMBER.note`: the size and the root of the note, and its number. The root has 64 hexadecimal digits in lower
     /// case. The notes of one size and root are numbered from 0.

@@ -2,14 +2,13 @@
 ghost use Rattle.std.specs.Prelude.{◌≤◌, List, map, option_map};
 ghost use Rattle.signed_note.specs.Keys.{Key};
 ghost use Rattle.tlog_text.specs.Answers.{seen};
-ghost use Rattle.program_files.specs.Named.{ReadsFiles};
 ghost use Rattle.program_commands.specs.Takes.{NamesWidth, LeavesTaken, MakesTaken, TakesHeld};
 ghost use Rattle.program_commands.specs.declared.item.ItemFiles.TheVariants.{Bundle, Head, Tile};
 
 use crate::fault::TakeFilesFault;
 use crate::item::ItemFiles;
 use crate::state::{open_or_new, write_state};
-use program_files::{NamedFault, NamedFiles};
+use program_files::{NamedFiles, read_files};
 use signed_note::Verifier;
 use std::alloc::Global;
 use tlog_hash::TreeHash;
@@ -165,24 +164,4 @@ fn take_bundle<H: TreeHash, F: NamedFiles>(
         Ok(()) => Ok(()),
         Err(fault) => Err(TakeFilesFault::Take(fault)),
     }
-}
-
-// The bytes of each of the files.
-pub(crate) fn read_files<F: NamedFiles>(
-    files: &F,
-    alloc: Global,
-    names: &[&str],
-) -> Result<Vec<Vec<u8>>, NamedFault>
-    ensures { ReadsFiles (F.puts files.now) (map (λ name. name.now) names.now)
-        (seen (λ held. map (λ bytes. bytes.items) held.items) result) }
-{
-    let mut held = Vec::new(alloc);
-    for name in names {
-        let bytes = files.read(name)?;
-        match held.push(bytes) {
-            Ok(()) => {}
-            Err(_) => return Err(NamedFault::OutOfMemory),
-        }
-    }
-    Ok(held)
 }

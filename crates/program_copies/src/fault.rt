@@ -3,7 +3,7 @@ ghost use Rattle.std.specs.Prelude.{◌≡◌};
 ghost use Rattle.program_copies.specs.declared.fault.CopyAskFault.TheVariants as asking;
 
 use copy_reader::CopyFault;
-use program_commands::HeadFilesFault;
+use program_heads::HeadFilesFault;
 use program_reports::AskFault;
 use thiserror::Error;
 

@@ -63,11 +63,11 @@ use Rattle.program_copies.specs.Statuses.{ReportsStatus}
 use Rattle.program_copies.specs.declared.fault.CopyAskFault.{CopyAskFault}
 use Rattle.tlog_proof.specs.declared.proof.Ask.{Ask as ProofAsk}
 use Rattle.mirror_model.specs.View.{View}
-use Rattle.program_commands.specs.declared.root.RootFault.TheVariants as root
-use Rattle.program_commands.specs.declared.check.CheckFault.TheVariants as check
+use Rattle.program_streams.specs.declared.root.RootFault.TheVariants as root
+use Rattle.program_streams.specs.declared.check.CheckFault.TheVariants as check
 use Rattle.program_reports.specs.declared.fault.AskFault.TheVariants as ask
-use Rattle.program_commands.specs.Root.{AnswersRoot}
-use Rattle.program_commands.specs.Check.{AnswersCheck}
+use Rattle.program_streams.specs.Root.{AnswersRoot}
+use Rattle.program_streams.specs.Check.{AnswersCheck}
 use Rattle.program_env.specs.Builds.{BuildsFrom, RefusesOrigin}
 use Rattle.program_env.specs.Moment.{Moment}
 use Rattle.program_env.specs.Named.{TakesWords}

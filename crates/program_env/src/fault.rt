@@ -1,14 +1,15 @@
 //! Why a command was not done.
 use mirror_pull::PullFault;
 use program_commands::{
-    CheckFault, ExportFileFault, HeadFilesFault, MergeFilesFault, NotesFault, RootFault,
-    StateFault, TakeFilesFault, UpdateFileFault,
+    ExportFileFault, MergeFilesFault, NotesFault, StateFault, TakeFilesFault, UpdateFileFault,
 };
 use program_copies::CopyAskFault;
 use program_files::NamedFault;
 use program_follow::FollowRunFault;
+use program_heads::HeadFilesFault;
 use program_monitor::{AuditRunFault, CopyEntriesFault, StateEntriesFault};
 use program_reports::AskFault;
+use program_streams::{CheckFault, RootFault};
 use program_words::CommandFault;
 use note_keys::KeyFileFault;
 use std::fmt;

@@ -12,6 +12,7 @@ mod fault;
 mod laws;
 mod memory;
 mod named;
+mod several;
 mod system;
 mod why;
 
@@ -19,5 +20,6 @@ pub use fault::NamedFault;
 pub use laws::limits_law;
 pub use memory::MemoryFiles;
 pub use named::{MAX_FILE_LEN, NamedFiles};
+pub use several::read_files;
 pub use system::{Cause, FailedName, SystemFiles};
 pub use why::{MAX_WHY_LEN, system_reason, why_line};

@@ -2,7 +2,7 @@
 ghost use Rattle.std.specs.Prelude.{◌≡◌, IfErr, IfOk, List, map, string_bytes, ℕ};
 ghost use Rattle.std.specs.Io.KnownBytes.{Keeps};
 ghost use Rattle.sha2.specs.Sha256.{sha256};
-ghost use Rattle.program_words.specs.Lines.{IsLine};
+ghost use Rattle.program_parser.specs.Lines.{IsLine};
 ghost use Rattle.program_env.specs.Done.{IsDoable, IsWriteFault};
 ghost use Rattle.program_env.specs.Moment.{on_system, seen_of};
 ghost use Rattle.program_env.specs.Performing.{Ends};
@@ -16,7 +16,7 @@ use crate::system::system_folders;
 use program_env::why::FailedStreams;
 use program_env::{Env, Error, RunFault, RunFiles, RunFolders};
 use program_files::SystemFiles;
-use program_words::{Line, read_line};
+use program_parser::{Line, read_line};
 use signed_note::Verifier;
 use std::alloc::Global;
 use std::fs::Files;

@@ -5,8 +5,8 @@ ghost use Rattle.program_library.specs.Runs.{FindsKeys, NamesKeyFile, ReadsJoine
 
 use program_env::why::{Why, of_named};
 use program_env::{Error, RunFault, RunFiles};
-use program_words::read_line;
 use note_keys::{KeyFileFault, KeyLine, join_pins, read_keys};
+use program_parser::read_line;
 use signed_note::Verifier;
 use std::alloc::Global;
 

@@ -1,8 +1,8 @@
 //! The key of the tests, and mirrors that are loaded from states.
 use crate::states::COMPLETE;
 use mirror_state::{LoadFault, SaveFault, load, save};
-use program_commands::check_origin;
 use note_keys::{HmacKey, KeyFault};
+use program_heads::check_origin;
 use signed_note::Verifier;
 use std::alloc::Global;
 use std::io::{Read, Write};

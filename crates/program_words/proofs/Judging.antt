@@ -1,6 +1,6 @@
 -- How the readers of the parts of a command are combined.
 use Rattle.std.proofs.Common.{◌≡◌, ◌∙◌, ap, sym, subst, refl, Bool, true, false, true≢false, is_some}
-use Rattle.program_words.specs.Readings.{IsGood, JudgesPart, ReadsPart, judged_as, judged_by, no_refusals}
+use Rattle.program_words.specs.Refusals.{IsGood, JudgesPart, ReadsPart, judged_as, judged_by, no_refusals}
 use Rattle.program_words.specs.declared.commands.Command.{Command}
 use Rattle.program_words.specs.declared.refusals.Refusals.{Refusals}
 

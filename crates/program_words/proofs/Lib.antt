@@ -1,6 +1,3 @@
-pub mod Refusing
-pub mod Judging
-pub mod Lines
 pub mod Named
-pub mod Places
-pub mod CommandLaws
+pub mod Judging
+mod Places

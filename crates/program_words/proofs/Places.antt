@@ -7,14 +7,12 @@ use Rattle.std.specs.Str.Pattern.{RFindsChar}
 use Rattle.std.specs.Str.{NoCharPasses}
 use Rattle.std.proofs.lemmas.Str.Pattern.{NoCharPasses-char}
 use Rattle.std.proofs.lemmas.List.{append-nil, append_assoc, drop_all, drop_more, length-drop, length-take}
-use Rattle.clap.specs.Words.{Text}
+use Rattle.program_words.specs.Spelling.{ArePlaces, FindsPart, IsEmptyOrSlash, IsNumberIn, IsPlace, IsServer, Text, colon}
 use Rattle.std.specs.Str.Parse.{AllDigits}
 use Rattle.std.specs.Char.{digit_value}
 use Rattle.signed_note.proofs.Lacking.{Lacks, Lacks-from_reads}
 use Rattle.tlog_text.specs.Number.{IsDecimal}
 use Rattle.mirror_client.specs.Site.{slash, IsSitePrefix}
-use Rattle.program_words.specs.Commands.{ArePlaces, IsEmptyOrSlash, IsNumberIn, IsPlace, IsServer, colon}
-use Rattle.program_words.specs.Readings.{FindsPart}
 use Rattle.program_words.specs.declared.place.Place.{Place}
 use Rattle.program_words.specs.declared.place.Place.TheVariants.{Folder, Server}
 use Rattle.program_words.proofs.Named.{apart}

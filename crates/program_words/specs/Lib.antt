@@ -1,5 +1,2 @@
-pub mod App
-pub mod Commands
-pub mod Readings
-pub mod Laws
-pub mod Lines
+pub mod Spelling
+pub mod Refusals

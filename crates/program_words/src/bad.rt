@@ -13,7 +13,7 @@ pub struct BadWord {
 
 impl BadWord {
     /// This word is bad for this reason.
-    pub(crate) fn new(word: &'static str, reason: &'static str) -> BadWord {
+    pub fn new(word: &'static str, reason: &'static str) -> BadWord {
         BadWord { word, reason }
     }
 }

@@ -1,10 +1,4 @@
-//! The list of the commands. Each command has a file with its options, its command line, its help and its reader.
-ghost use Rattle.std.specs.Prelude.{IfOk, map};
-ghost use Rattle.clap.specs.Words.{App, found_of, rows_of, with_subcommand};
-ghost use Rattle.program_words.specs.App.{IsParserOf, line_app, named_app, program_app, with_commands};
-ghost use Rattle.program_words.specs.Commands.{first_app, mirror_app};
-ghost use Rattle.program_words.specs.Readings.{IsSaid, JudgesPart};
-
+//! The list of the commands. Each command has a file with its options, its command line and its help.
 pub mod audit;
 pub mod build;
 pub mod check;
@@ -23,15 +17,13 @@ pub mod serve;
 pub mod status;
 pub mod take;
 
-use crate::bad::BadWord;
-use crate::parser::{CommandLine, parser_of};
 use crate::parts::{CopyArgs, StateArgs};
-use crate::refusals::Refusals;
-use clap::ArgMatches;
-use std::alloc::{AllocError, Global};
+
+/// The version of the program, for `-V` and `--version`.
+pub const VERSION: &str = "0.5.6";
 
 /// The help of the program, for `-h` and `--help`.
-const PROGRAM: &str = "\
+pub const PROGRAM: &str = "\
 A mirror for one append-only transparency log in the C2SP tlog-tiles layout
 
 Usage: tlogmirror <COMMAND>
@@ -137,135 +129,4 @@ pub enum Command<'a> {
     Serve(serve::Serve<'a>),
     /// Answers over HTTP from a copy: `serve --dir`.
     CopyServe(serve::CopyServe<'a>),
-}
-
-// The parser of the program, with its name, its help and its version.
-fn named_parser<'a>(alloc: Global) -> Result<clap::Command<'a>, AllocError>
-    ensures { IfOk result (IsParserOf named_app) }
-{
-    clap::Command::new(alloc, "tlogmirror")
-        .override_help(PROGRAM)
-        .version("0.5.6")
-        .bin_name("tlogmirror")
-}
-
-// The parser of the program, without commands.
-fn program_parser<'a>(alloc: Global) -> Result<clap::Command<'a>, AllocError>
-    ensures { IfOk result (IsParserOf program_app) }
-{
-    let program = named_parser(alloc)?
-        .no_binary_name(true)
-        .subcommand_required(true)
-        .disable_help_subcommand(true);
-    Ok(program)
-}
-
-// The parser with one more subcommand, unless it is an error.
-fn with_command<'a>(
-    alloc: Global,
-    parser: Result<clap::Command<'a>, AllocError>,
-    line: &CommandLine<'a>,
-) -> Result<clap::Command<'a>, AllocError>
-    ensures { (a : App) → IfOk parser.entry (IsParserOf a)
-        → IfOk result (IsParserOf (with_subcommand a (line_app line.now).top)) }
-{
-    match parser {
-        Ok(parser) => match parser_of(alloc, line) {
-            Ok(below) => parser.subcommand(below),
-            Err(fault) => {
-                // `drop` is one step for the checker.
-                drop(parser);
-                Err(fault)
-            }
-        },
-        Err(fault) => Err(fault),
-    }
-}
-
-// The parser with these subcommands, in order, unless it is an error.
-fn with_commands<'a>(
-    alloc: Global,
-    parser: Result<clap::Command<'a>, AllocError>,
-    lines: &[&CommandLine<'a>],
-) -> Result<clap::Command<'a>, AllocError>
-    ensures { (a : App) → IfOk parser.entry (IsParserOf a)
-        → IfOk result (IsParserOf (with_commands a (map (λ line. line_app line.now) lines.now))) }
-{
-    let mut made = parser;
-    for &line in lines {
-        made = with_command(alloc, made, line);
-    }
-    made
-}
-
-// The parser of the program, with the first half of its commands: in two halves they are checked in half the time.
-fn first_parser<'a>(alloc: Global) -> Result<clap::Command<'a>, AllocError>
-    ensures { IfOk result (IsParserOf first_app) }
-{
-    // An array in the body, not a constant: for a constant of all of them the checker reaches its limit.
-    let lines = [
-        &root::LINE,
-        &check::LINE,
-        &build::LINE,
-        &take::LINE,
-        &merge::LINE,
-        &pull::LINE,
-        &follow::LINE,
-        &audit::LINE,
-    ];
-    with_commands(alloc, program_parser(alloc), &lines)
-}
-
-/// The parser of the program's command line.
-pub(crate) fn parser<'a>(alloc: Global) -> Result<clap::Command<'a>, AllocError>
-    ensures { IfOk result (IsParserOf mirror_app) }
-{
-    let lines = [
-        &status::LINE,
-        &missing::LINE,
-        &forks::LINE,
-        &compare::LINE,
-        &prove::LINE,
-        &entries::LINE,
-        &export::LINE,
-        &notes::LINE,
-        &serve::LINE,
-    ];
-    with_commands(alloc, first_parser(alloc), &lines)
-}
-
-/// Reads the command of this name from its options.
-pub(crate) fn command_of<'a>(
-    alloc: Global,
-    name: &str,
-    found: &ArgMatches<'a>,
-    refusals: &mut Refusals,
-) -> Command<'a>
-    ensures { JudgesPart (IsSaid name.now (rows_of (found_of found.now))) refusals.old refusals.new
-        result }
-{
-    match name {
-        "root" => root::read(found, refusals),
-        "check" => check::read(found, refusals),
-        "build" => build::read(found, refusals),
-        "take" => take::read(alloc, found, refusals),
-        "merge" => merge::read(found, refusals),
-        "pull" => pull::read(alloc, found, refusals),
-        "follow" => follow::read(alloc, found, refusals),
-        "audit" => audit::read(alloc, found, refusals),
-        "status" => status::read(found, refusals),
-        "missing" => missing::read(found, refusals),
-        "forks" => forks::read(found, refusals),
-        "compare" => compare::read(alloc, found, refusals),
-        "prove" => prove::read(found, refusals),
-        "entries" => entries::read(found, refusals),
-        "export" => export::read(found, refusals),
-        "notes" => notes::read(found, refusals),
-        "serve" => serve::read(found, refusals),
-        // It never gets here: words in which `clap` finds no fault name a command.
-        _ => {
-            refusals.note(BadWord::new("COMMAND", "one of those of the help is due"));
-            Command::Check
-        }
-    }
 }

@@ -1,6 +1,6 @@
 //! The faults in the options of a command, which are read in order.
 ghost use Rattle.std.specs.Prelude.{◌≡◌, is_some, true};
-ghost use Rattle.program_words.specs.Readings.{judged_as, no_refusals};
+ghost use Rattle.program_words.specs.Refusals.{judged_as, no_refusals};
 
 use crate::bad::BadWord;
 use crate::commands::Command;
@@ -9,7 +9,7 @@ use crate::fault::CommandFault;
 /// Why a command is refused, by the options that were read so far. The reader of a bad option notes it and returns
 /// some value. Then the next options are read. In the end `judged` refuses the command.
 #[derive(Drop)]
-pub(crate) struct Refusals {
+pub struct Refusals {
     /// The first bad option or word.
     pub bad: Option<BadWord>,
     /// Whether memory was refused.
@@ -18,7 +18,7 @@ pub(crate) struct Refusals {
 
 impl Refusals {
     /// Nothing is refused yet.
-    pub(crate) fn none() -> Refusals
+    pub fn none() -> Refusals
         ensures { result ≡ no_refusals }
     {
         Refusals {
@@ -28,7 +28,7 @@ impl Refusals {
     }
 
     /// Notes that this word is bad.
-    pub(crate) fn note(&mut self, bad: BadWord)
+    pub fn note(&mut self, bad: BadWord)
         ensures { is_some self.new.bad ≡ true }
     {
         if self.bad.is_none() {
@@ -37,7 +37,7 @@ impl Refusals {
     }
 
     /// Notes that memory was refused.
-    pub(crate) fn lack_memory(&mut self)
+    pub fn lack_memory(&mut self)
         ensures { (self.new.bad ≡ self.old.bad) × (self.new.out_of_memory ≡ true) }
     {
         self.out_of_memory = true;
@@ -45,10 +45,11 @@ impl Refusals {
 }
 
 /// The command, if nothing was refused.
-pub(crate) fn judged<'a>(
-    refusals: &Refusals,
-    command: Command<'a>,
-) -> Result<Command<'a>, CommandFault>
+///
+/// # Errors
+///
+/// `OutOfMemory` if memory was refused, else `BadArgument` if a word is bad.
+pub fn judged<'a>(refusals: &Refusals, command: Command<'a>) -> Result<Command<'a>, CommandFault>
     ensures { result ≡ judged_as refusals.now command.entry }
 {
     if refusals.out_of_memory {

@@ -5,8 +5,8 @@ ghost use Rattle.program_env.specs.Done.{verdict_status};
 ghost use Rattle.program_env.specs.Envs.{IsSameEnv, moment};
 ghost use Rattle.program_env.specs.Performing.{Performs};
 
-use program_commands::run_check;
 use program_env::{Env, Error, RunFault, RunFiles, RunFolders};
+use program_streams::run_check;
 use program_words::Command;
 use signed_note::Verifier;
 use std::io::{Read, Write};

@@ -9,10 +9,11 @@ ghost use Rattle.program_env.specs.Performing.{Performs};
 ghost use Rattle.program_env.specs.Works.{ComparesState, ComparesView, FindsHeads, IsStatus};
 
 use crate::ask::{asked, why_of_report};
-use program_commands::{HeadFilesFault, open_state, read_heads};
+use program_commands::open_state;
 use program_env::served::of_heads;
 use program_env::why::of_state;
 use program_env::{Env, Error, RunFault, RunFiles, RunFolders};
+use program_heads::{HeadFilesFault, read_heads};
 use program_reports::print_comparison;
 use program_words::Command;
 use program_words::commands::compare::Compare;

@@ -4,8 +4,8 @@ ghost use Rattle.sha2.specs.Sha256.{sha256};
 ghost use Rattle.program_env.specs.Envs.{IsSameEnv, moment};
 ghost use Rattle.program_env.specs.Performing.{Performs};
 
-use program_commands::run_root;
 use program_env::{Env, Error, RunFault, RunFiles, RunFolders};
+use program_streams::run_root;
 use program_words::Command;
 use program_words::commands::root::Root;
 use signed_note::Verifier;

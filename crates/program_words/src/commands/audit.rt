@@ -1,15 +1,7 @@
 //! `audit`: verifies a complete log at a place, file by file.
-ghost use Rattle.std.specs.Prelude.{codes};
-ghost use Rattle.clap.specs.Words.{found_of, rows_of};
-ghost use Rattle.program_words.specs.Readings.{IsSaid, JudgesPart};
-
-use crate::commands::Command;
-use crate::parser::{AHEAD, Argument, Base, CommandLine, PROGRESS};
-use crate::parts::{Log, ahead_of, has_flag, log_of};
-use crate::place::{Place, place_given};
-use crate::refusals::Refusals;
-use clap::ArgMatches;
-use std::alloc::Global;
+use crate::line::{AHEAD, Argument, Base, CommandLine, PROGRESS};
+use crate::parts::Log;
+use crate::place::Place;
 
 /// `audit`: verifies a complete log at a place, file by file.
 #[derive(Drop, Clone, Copy)]
@@ -50,7 +42,7 @@ Faults of O and K: see 'tlogmirror --help'. Of the place:
 Example: tlogmirror audit --origin example.com/log --keys examples/log.keys dir examples/log";
 
 /// The command line.
-pub(crate) const LINE: CommandLine<'static> = CommandLine {
+pub const LINE: CommandLine<'static> = CommandLine {
     name: "audit",
     about: "Reads a whole log at a place, and verifies every file of it, in little memory",
     help: HELP,
@@ -70,24 +62,3 @@ pub(crate) const LINE: CommandLine<'static> = CommandLine {
         ),
     ],
 };
-
-/// Reads the command from its options.
-pub(crate) fn read<'a>(
-    alloc: Global,
-    found: &ArgMatches<'a>,
-    refusals: &mut Refusals,
-) -> Command<'a>
-    ensures { JudgesPart (IsSaid (codes "audit") (rows_of (found_of found.now))) refusals.old
-        refusals.new result }
-{
-    let log = log_of(found, refusals);
-    let ahead = ahead_of(found, refusals);
-    let progress = has_flag(found, "progress");
-    let place = place_given(alloc, found, refusals);
-    Command::Audit(Audit {
-        log,
-        ahead,
-        progress,
-        place,
-    })
-}

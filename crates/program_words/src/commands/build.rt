@@ -1,13 +1,6 @@
 //! `build`: makes a log from the entries on standard input.
-ghost use Rattle.std.specs.Prelude.{codes};
-ghost use Rattle.clap.specs.Words.{found_of, rows_of};
-ghost use Rattle.program_words.specs.Readings.{IsSaid, JudgesPart};
-
-use crate::commands::Command;
-use crate::parser::{Argument, Base, CommandLine, ORIGIN, PROGRESS, WHY};
-use crate::parts::{Log, has_flag, log_of, word_of};
-use crate::refusals::Refusals;
-use clap::ArgMatches;
+use crate::line::{Argument, Base, CommandLine, ORIGIN, PROGRESS, WHY};
+use crate::parts::Log;
 
 /// `build`: makes a log from the entries on standard input.
 #[derive(Drop, Clone, Copy)]
@@ -42,7 +35,7 @@ Faults, on standard error:
 Example: printf '\\0\\1a' | tlogmirror build --origin ex --keys examples/ex.keys --dir new";
 
 /// The command line.
-pub(crate) const LINE: CommandLine<'static> = CommandLine {
+pub const LINE: CommandLine<'static> = CommandLine {
     name: "build",
     about: "Makes a log of the entries on standard input, signs its checkpoint, and writes its files to a folder",
     help: HELP,
@@ -59,18 +52,3 @@ pub(crate) const LINE: CommandLine<'static> = CommandLine {
         PROGRESS,
     ],
 };
-
-/// Reads the command from its options.
-pub(crate) fn read<'a>(found: &ArgMatches<'a>, refusals: &mut Refusals) -> Command<'a>
-    ensures { JudgesPart (IsSaid (codes "build") (rows_of (found_of found.now))) refusals.old
-        refusals.new result }
-{
-    let log = log_of(found, refusals);
-    let folder = word_of(found, "dir", refusals);
-    let progress = has_flag(found, "progress");
-    Command::Build(Build {
-        log,
-        folder,
-        progress,
-    })
-}

@@ -1,12 +1,5 @@
 //! `check`: verifies the proof on standard input. It has no options.
-ghost use Rattle.std.specs.Prelude.{codes};
-ghost use Rattle.clap.specs.Words.{found_of, rows_of};
-ghost use Rattle.program_words.specs.Readings.{IsSaid, JudgesPart};
-
-use crate::commands::Command;
-use crate::parser::{Base, CommandLine};
-use crate::refusals::Refusals;
-use clap::ArgMatches;
+use crate::line::{Base, CommandLine};
 
 // The text of the long help: input, output, statuses, faults and an example.
 const HELP: &str = "\
@@ -23,18 +16,10 @@ Faults, on standard error:
 Example: tlogmirror check <examples/inclusion-2-of-3.proof";
 
 /// The command line.
-pub(crate) const LINE: CommandLine<'static> = CommandLine {
+pub const LINE: CommandLine<'static> = CommandLine {
     name: "check",
     about: "Reads the text of a proof from standard input, and prints whether it holds: yes or no",
     help: HELP,
     base: Base::Nothing,
     arguments: &[],
 };
-
-/// Reads the command, which has no options.
-pub(crate) fn read<'a>(_found: &ArgMatches<'a>, _refusals: &mut Refusals) -> Command<'a>
-    ensures { JudgesPart (IsSaid (codes "check") (rows_of (found_of _found.now))) _refusals.old
-        _refusals.new result }
-{
-    Command::Check
-}

@@ -1,14 +1,6 @@
 //! `entries`: writes a range of entries that a mirror serves, or that a copy has.
-ghost use Rattle.std.specs.Prelude.{codes};
-ghost use Rattle.clap.specs.Words.{found_of, rows_of};
-ghost use Rattle.program_words.specs.Commands.{IsEntryRange};
-ghost use Rattle.program_words.specs.Readings.{IsSaid, JudgesPart};
-
-use crate::commands::Command;
-use crate::parser::{Argument, Base, CommandLine};
-use crate::parts::{CopyArgs, Source, StateArgs, has_flag, size_of, source_of};
-use crate::refusals::Refusals;
-use clap::ArgMatches;
+use crate::line::{Argument, Base, CommandLine};
+use crate::parts::{CopyArgs, StateArgs};
 
 /// A range of entries and the format of the output.
 #[derive(Drop, Clone, Copy)]
@@ -56,7 +48,7 @@ Faults of O, K, S and D: see 'tlogmirror --help'. At CopyDamaged a part may have
 Example: tlogmirror entries --origin example.com/log --keys examples/log.keys --dir log 12 20";
 
 /// The command line.
-pub(crate) const LINE: CommandLine<'static> = CommandLine {
+pub const LINE: CommandLine<'static> = CommandLine {
     name: "entries",
     about: "Writes a range of entries to standard output",
     help: HELP,
@@ -67,27 +59,3 @@ pub(crate) const LINE: CommandLine<'static> = CommandLine {
         Argument::Place("to", "TO", "The index behind the last entry"),
     ],
 };
-
-// Reads the range from the options.
-fn range_of(found: &ArgMatches<'_>, refusals: &mut Refusals) -> EntryRange
-    ensures { JudgesPart (IsEntryRange (rows_of (found_of found.now))) refusals.old refusals.new
-        result }
-{
-    let from = size_of(found, "from", "FROM", refusals);
-    let to = size_of(found, "to", "TO", refusals);
-    let base64 = has_flag(found, "base64");
-    EntryRange { from, to, base64 }
-}
-
-/// Reads the command for a state or a copy from its options.
-pub(crate) fn read<'a>(found: &ArgMatches<'a>, refusals: &mut Refusals) -> Command<'a>
-    ensures { JudgesPart (IsSaid (codes "entries") (rows_of (found_of found.now))) refusals.old
-        refusals.new result }
-{
-    let source = source_of(found, refusals);
-    let range = range_of(found, refusals);
-    match source {
-        Source::State(mirror) => Command::Entries(Entries { mirror, range }),
-        Source::Copy(copy) => Command::CopyEntries(CopyEntries { copy, range }),
-    }
-}

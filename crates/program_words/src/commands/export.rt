@@ -1,13 +1,6 @@
 //! `export` and `export --update`: write the served files to a folder.
-ghost use Rattle.std.specs.Prelude.{codes};
-ghost use Rattle.clap.specs.Words.{found_of, rows_of};
-ghost use Rattle.program_words.specs.Readings.{IsSaid, JudgesPart};
-
-use crate::commands::Command;
-use crate::parser::{Argument, Base, CommandLine, PROGRESS};
-use crate::parts::{StateArgs, has_flag, state_args, word_of};
-use crate::refusals::Refusals;
-use clap::ArgMatches;
+use crate::line::{Argument, Base, CommandLine, PROGRESS};
+use crate::parts::StateArgs;
 
 /// `export` and `export --update`: write the served files to a folder.
 #[derive(Drop, Clone, Copy)]
@@ -38,7 +31,7 @@ Faults of O, K and S: see 'tlogmirror --help'. Then:
 Example: tlogmirror export --origin log.example --keys keys --state state --dir copy";
 
 /// The command line.
-pub(crate) const LINE: CommandLine<'static> = CommandLine {
+pub const LINE: CommandLine<'static> = CommandLine {
     name: "export",
     about: "Writes the files of the served checkpoint to a folder, as a log publishes them",
     help: HELP,
@@ -52,23 +45,3 @@ pub(crate) const LINE: CommandLine<'static> = CommandLine {
         PROGRESS,
     ],
 };
-
-/// Reads the command from its options, with or without `--update`.
-pub(crate) fn read<'a>(found: &ArgMatches<'a>, refusals: &mut Refusals) -> Command<'a>
-    ensures { JudgesPart (IsSaid (codes "export") (rows_of (found_of found.now))) refusals.old
-        refusals.new result }
-{
-    let mirror = state_args(found, refusals);
-    let folder = word_of(found, "dir", refusals);
-    let progress = has_flag(found, "progress");
-    let export = Export {
-        mirror,
-        folder,
-        progress,
-    };
-    if has_flag(found, "update") {
-        Command::Update(export)
-    } else {
-        Command::Export(export)
-    }
-}

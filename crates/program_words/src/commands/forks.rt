@@ -1,13 +1,5 @@
 //! `forks`: prints the forks between a mirror's heads. It has only the options of every command over a state.
-ghost use Rattle.std.specs.Prelude.{codes};
-ghost use Rattle.clap.specs.Words.{found_of, rows_of};
-ghost use Rattle.program_words.specs.Readings.{IsSaid, JudgesPart};
-
-use crate::commands::Command;
-use crate::parser::{Base, CommandLine};
-use crate::parts::state_args;
-use crate::refusals::Refusals;
-use clap::ArgMatches;
+use crate::line::{Base, CommandLine};
 
 // The text of the long help: input, output, statuses, faults and an example.
 const HELP: &str = "\
@@ -21,18 +13,10 @@ Faults of O, K and S: see 'tlogmirror --help'.
 Example: tlogmirror forks --origin log.example --keys keys --state state";
 
 /// The command line.
-pub(crate) const LINE: CommandLine<'static> = CommandLine {
+pub const LINE: CommandLine<'static> = CommandLine {
     name: "forks",
     about: "Prints which checkpoints contradict each other: of one size, or both complete",
     help: HELP,
     base: Base::State,
     arguments: &[],
 };
-
-/// Reads the command from its options.
-pub(crate) fn read<'a>(found: &ArgMatches<'a>, refusals: &mut Refusals) -> Command<'a>
-    ensures { JudgesPart (IsSaid (codes "forks") (rows_of (found_of found.now))) refusals.old
-        refusals.new result }
-{
-    Command::Forks(state_args(found, refusals))
-}

@@ -1,13 +1,6 @@
 //! `merge`: merges a second mirror into a first.
-ghost use Rattle.std.specs.Prelude.{codes};
-ghost use Rattle.clap.specs.Words.{found_of, rows_of};
-ghost use Rattle.program_words.specs.Readings.{IsSaid, JudgesPart};
-
-use crate::commands::Command;
-use crate::parser::{Argument, Base, CommandLine};
-use crate::parts::{OutputArgs, output_args, word_of};
-use crate::refusals::Refusals;
-use clap::ArgMatches;
+use crate::line::{Argument, Base, CommandLine};
+use crate::parts::OutputArgs;
 
 /// `merge`: merges a second mirror into a first.
 #[derive(Drop, Clone, Copy)]
@@ -31,7 +24,7 @@ Faults of O, K, A, B and T: see 'tlogmirror --help'. A is read before B. Then:
 Example: tlogmirror merge --origin log.example --keys keys --out both here there";
 
 /// The command line.
-pub(crate) const LINE: CommandLine<'static> = CommandLine {
+pub const LINE: CommandLine<'static> = CommandLine {
     name: "merge",
     about: "Makes one mirror of two, and writes its state",
     help: HELP,
@@ -41,18 +34,3 @@ pub(crate) const LINE: CommandLine<'static> = CommandLine {
         Argument::Place("b", "B", "The file of the state that is taken into it"),
     ],
 };
-
-/// Reads the command from its options.
-pub(crate) fn read<'a>(found: &ArgMatches<'a>, refusals: &mut Refusals) -> Command<'a>
-    ensures { JudgesPart (IsSaid (codes "merge") (rows_of (found_of found.now))) refusals.old
-        refusals.new result }
-{
-    let mirror = output_args(found, refusals);
-    let first = word_of(found, "a", refusals);
-    let second = word_of(found, "b", refusals);
-    Command::Merge(Merge {
-        mirror,
-        first,
-        second,
-    })
-}

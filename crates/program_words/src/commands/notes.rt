@@ -1,13 +1,6 @@
 //! `notes`: writes the notes of a mirror to a folder.
-ghost use Rattle.std.specs.Prelude.{codes};
-ghost use Rattle.clap.specs.Words.{found_of, rows_of};
-ghost use Rattle.program_words.specs.Readings.{IsSaid, JudgesPart};
-
-use crate::commands::Command;
-use crate::parser::{Argument, Base, CommandLine};
-use crate::parts::{StateArgs, state_args, word_of};
-use crate::refusals::Refusals;
-use clap::ArgMatches;
+use crate::line::{Argument, Base, CommandLine};
+use crate::parts::StateArgs;
 
 /// `notes`: writes the notes of a mirror to a folder.
 #[derive(Drop, Clone, Copy)]
@@ -30,20 +23,10 @@ Faults of O, K and S: see 'tlogmirror --help'. Then:
 Example: tlogmirror notes --origin log.example --keys keys --state state --dir notes";
 
 /// The command line.
-pub(crate) const LINE: CommandLine<'static> = CommandLine {
+pub const LINE: CommandLine<'static> = CommandLine {
     name: "notes",
     about: "Writes each signed note of a mirror to a file of its own",
     help: HELP,
     base: Base::State,
     arguments: &[Argument::Option("dir", "D", "The folder that is written")],
 };
-
-/// Reads the command from its options.
-pub(crate) fn read<'a>(found: &ArgMatches<'a>, refusals: &mut Refusals) -> Command<'a>
-    ensures { JudgesPart (IsSaid (codes "notes") (rows_of (found_of found.now))) refusals.old
-        refusals.new result }
-{
-    let mirror = state_args(found, refusals);
-    let folder = word_of(found, "dir", refusals);
-    Command::Notes(Notes { mirror, folder })
-}

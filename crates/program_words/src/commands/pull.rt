@@ -1,15 +1,7 @@
 //! `pull`: fetches what is missing.
-ghost use Rattle.std.specs.Prelude.{codes};
-ghost use Rattle.clap.specs.Words.{found_of, rows_of};
-ghost use Rattle.program_words.specs.Readings.{IsSaid, JudgesPart};
-
-use crate::commands::Command;
-use crate::parser::{AHEAD, Argument, Base, CommandLine, FIRST_STATE, PROGRESS};
-use crate::parts::{OutputArgs, ahead_of, has_flag, output_args};
-use crate::place::{Place, place_given};
-use crate::refusals::Refusals;
-use clap::ArgMatches;
-use std::alloc::Global;
+use crate::line::{AHEAD, Argument, Base, CommandLine, FIRST_STATE, PROGRESS};
+use crate::parts::OutputArgs;
+use crate::place::Place;
 
 /// `pull`: fetches what is missing.
 #[derive(Drop, Clone, Copy)]
@@ -58,7 +50,7 @@ Faults of O, K, S and T: see 'tlogmirror --help'. Of the place:
 Example: tlogmirror pull --origin log.example --keys keys --out state http log.example:80/2026";
 
 /// The command line.
-pub(crate) const LINE: CommandLine<'static> = CommandLine {
+pub const LINE: CommandLine<'static> = CommandLine {
     name: "pull",
     about: "Fetches a log's newest checkpoint and what is missing of it, from a folder or over plain HTTP, and writes a state",
     help: HELP,
@@ -83,28 +75,3 @@ pub(crate) const LINE: CommandLine<'static> = CommandLine {
         ),
     ],
 };
-
-/// Reads the command from its options.
-pub(crate) fn read<'a>(
-    alloc: Global,
-    found: &ArgMatches<'a>,
-    refusals: &mut Refusals,
-) -> Command<'a>
-    ensures { JudgesPart (IsSaid (codes "pull") (rows_of (found_of found.now))) refusals.old
-        refusals.new result }
-{
-    let mirror = output_args(found, refusals);
-    let state = found.get_str("state");
-    let keep = has_flag(found, "keep");
-    let ahead = ahead_of(found, refusals);
-    let progress = has_flag(found, "progress");
-    let place = place_given(alloc, found, refusals);
-    Command::Pull(Pull {
-        mirror,
-        state,
-        keep,
-        ahead,
-        progress,
-        place,
-    })
-}

@@ -1,15 +1,6 @@
 //! `serve`: answers over HTTP from a mirror or a copy.
-ghost use Rattle.std.specs.Prelude.{codes};
-ghost use Rattle.clap.specs.Words.{found_of, rows_of};
-ghost use Rattle.program_words.specs.Commands.{HasNumber};
-ghost use Rattle.program_words.specs.Readings.{IsSaid, JudgesPart};
-
-use crate::bad::BadWord;
-use crate::commands::Command;
-use crate::parser::{Argument, Base, CommandLine};
-use crate::parts::{CopyArgs, Source, StateArgs, has_flag, number_of, size_of, source_of};
-use crate::refusals::Refusals;
-use clap::ArgMatches;
+use crate::line::{Argument, Base, CommandLine};
+use crate::parts::{CopyArgs, StateArgs};
 
 /// `serve --state`: answers over HTTP from a mirror.
 #[derive(Drop, Clone, Copy)]
@@ -56,7 +47,7 @@ them. Then:
 Example: tlogmirror serve --origin log.example --keys keys --state state --port 8080 --requests 100";
 
 /// The command line.
-pub(crate) const LINE: CommandLine<'static> = CommandLine {
+pub const LINE: CommandLine<'static> = CommandLine {
     name: "serve",
     about: "Answers over plain HTTP what the mirror serves",
     help: HELP,
@@ -66,41 +57,3 @@ pub(crate) const LINE: CommandLine<'static> = CommandLine {
         Argument::Option("requests", "N", "How many connections are answered"),
     ],
 };
-
-// Reads the port from the options.
-fn port_of(found: &ArgMatches<'_>, refusals: &mut Refusals) -> u16
-    ensures { JudgesPart (HasNumber (rows_of (found_of found.now)) (codes "port") 1 65535)
-        refusals.old refusals.new result }
-{
-    match number_of(found, "port", 1, 65_535) {
-        Some(port) => port as u16,
-        None => {
-            refusals.note(BadWord::new("--port", "a number from 1 to 65535 is due"));
-            1
-        }
-    }
-}
-
-/// Reads the command for a state or a copy from its options.
-pub(crate) fn read<'a>(found: &ArgMatches<'a>, refusals: &mut Refusals) -> Command<'a>
-    ensures { JudgesPart (IsSaid (codes "serve") (rows_of (found_of found.now))) refusals.old
-        refusals.new result }
-{
-    let source = source_of(found, refusals);
-    let port = port_of(found, refusals);
-    let requests = size_of(found, "requests", "--requests", refusals);
-    let why = has_flag(found, "why");
-    match source {
-        Source::State(mirror) => Command::Serve(Serve {
-            mirror,
-            port,
-            requests,
-        }),
-        Source::Copy(copy) => Command::CopyServe(CopyServe {
-            copy,
-            port,
-            requests,
-            why,
-        }),
-    }
-}

@@ -1,14 +1,6 @@
 //! `status`: prints the heads of a mirror, or the checkpoint of a copy. It has only the options of every command over one of
 //! these.
-ghost use Rattle.std.specs.Prelude.{codes};
-ghost use Rattle.clap.specs.Words.{found_of, rows_of};
-ghost use Rattle.program_words.specs.Readings.{IsSaid, JudgesPart};
-
-use crate::commands::Command;
-use crate::parser::{Base, CommandLine};
-use crate::parts::{Source, source_of};
-use crate::refusals::Refusals;
-use clap::ArgMatches;
+use crate::line::{Base, CommandLine};
 
 // The text of the long help: input, output, statuses, faults and an example.
 const HELP: &str = "\
@@ -21,21 +13,10 @@ Faults of O, K, S and D: see 'tlogmirror --help'.
 Example: tlogmirror status --origin log.example --keys keys --state state";
 
 /// The command line.
-pub(crate) const LINE: CommandLine<'static> = CommandLine {
+pub const LINE: CommandLine<'static> = CommandLine {
     name: "status",
     about: "Prints the checkpoints of a mirror, which of them are complete, and which is served",
     help: HELP,
     base: Base::StateOrCopy,
     arguments: &[],
 };
-
-/// Reads the command for a state or a copy from its options.
-pub(crate) fn read<'a>(found: &ArgMatches<'a>, refusals: &mut Refusals) -> Command<'a>
-    ensures { JudgesPart (IsSaid (codes "status") (rows_of (found_of found.now))) refusals.old
-        refusals.new result }
-{
-    match source_of(found, refusals) {
-        Source::State(args) => Command::Status(args),
-        Source::Copy(args) => Command::CopyStatus(args),
-    }
-}

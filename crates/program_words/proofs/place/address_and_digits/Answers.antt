@@ -1,5 +1,5 @@
 use Rattle.std.proofs.Common.{lit<}
-use Rattle.program_words.specs.Commands.{colon}
+use Rattle.program_words.specs.Spelling.{colon}
 use Rattle.program_words.proofs.Places.{last_lacks, none_lacks}
 use Rattle.program_words.proofs.place.address_and_digits.Goals as goal
 

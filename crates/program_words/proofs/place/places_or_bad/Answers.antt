@@ -1,6 +1,5 @@
 use Rattle.std.proofs.Common.{map, option_map, subst}
-use Rattle.program_words.specs.Commands.{ArePlaces}
-use Rattle.program_words.specs.Readings.{FindsPart}
+use Rattle.program_words.specs.Spelling.{ArePlaces, FindsPart}
 use Rattle.program_words.proofs.Judging.{noted}
 use Rattle.program_words.proofs.place.places_or_bad.Goals as goal
 

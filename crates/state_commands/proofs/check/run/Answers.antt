@@ -1,5 +1,5 @@
 use Rattle.std.proofs.Common.{inl, refl}
-use Rattle.program_commands.specs.declared.check.CheckFault.TheVariants as check
+use Rattle.program_streams.specs.declared.check.CheckFault.TheVariants as check
 use Rattle.program_env.specs.Done.{verdict_status}
 use Rattle.program_env.specs.declared.fault.RunFault.TheVariants.{Check}
 use Rattle.program_env.proofs.Performing.{performs_done, performs_part, verdict_is}

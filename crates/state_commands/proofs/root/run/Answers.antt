@@ -1,5 +1,5 @@
 use Rattle.std.proofs.Common.{inl, refl}
-use Rattle.program_commands.specs.declared.root.RootFault.TheVariants as root
+use Rattle.program_streams.specs.declared.root.RootFault.TheVariants as root
 use Rattle.program_env.specs.declared.fault.RunFault.TheVariants.{Root}
 use Rattle.program_env.proofs.Performing.{performs_done, performs_part}
 use Rattle.state_commands.proofs.root.run.Goals as goal

@@ -1,0 +1,5 @@
+use Rattle.program_parser.specs.Commands.{second_app}
+use Rattle.program_parser.proofs.program.parser.Goals as goal
+
+pub returns : goal.returns
+returns c = c.with_commands.ensures second_app c.second_parser.ensures

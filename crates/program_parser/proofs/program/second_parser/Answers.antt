@@ -1,0 +1,5 @@
+use Rattle.program_parser.specs.Commands.{first_app}
+use Rattle.program_parser.proofs.program.second_parser.Goals as goal
+
+pub returns : goal.returns
+returns c = c.with_commands.ensures first_app c.first_parser.ensures

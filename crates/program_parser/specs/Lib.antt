@@ -1,0 +1,5 @@
+pub mod App
+pub mod Commands
+pub mod Readings
+pub mod Laws
+pub mod Lines

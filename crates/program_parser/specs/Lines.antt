@@ -1,0 +1,12 @@
+-- All that the words of a command line say.
+use Rattle.std.specs.Prelude.{List, Ok, IsTrue, ◌↔◌, option_map}
+use Rattle.clap.specs.Words.{Text}
+use Rattle.program_parser.specs.declared.words.Line.{Line}
+use Rattle.program_parser.specs.Readings.{AsksWhy, Reads, ReadsKeyFile}
+
+-- the words name this key file, or none; they have the option `--why` or not; and they are those of this command, or of none for
+-- this reason
+pub record IsLine (words : List Text) (line : Line) : Type 0 where
+  pub keys : ReadsKeyFile words (Ok (option_map (λ name. name.now) line.keys))
+  pub why : IsTrue line.why ↔ AsksWhy words
+  pub command : Reads words line.command

@@ -1,0 +1,25 @@
+//! The reader of `build`.
+ghost use Rattle.std.specs.Prelude.{codes};
+ghost use Rattle.clap.specs.Words.{found_of, rows_of};
+ghost use Rattle.program_words.specs.Refusals.{JudgesPart};
+ghost use Rattle.program_parser.specs.Readings.{IsSaid};
+
+use crate::parts::{has_flag, log_of, word_of};
+use clap::ArgMatches;
+use program_words::commands::build::Build;
+use program_words::{Command, Refusals};
+
+/// Reads the command from its options.
+pub(crate) fn read<'a>(found: &ArgMatches<'a>, refusals: &mut Refusals) -> Command<'a>
+    ensures { JudgesPart (IsSaid (codes "build") (rows_of (found_of found.now))) refusals.old
+        refusals.new result }
+{
+    let log = log_of(found, refusals);
+    let folder = word_of(found, "dir", refusals);
+    let progress = has_flag(found, "progress");
+    Command::Build(Build {
+        log,
+        folder,
+        progress,
+    })
+}

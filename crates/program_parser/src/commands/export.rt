@@ -1,0 +1,30 @@
+//! The reader of `export` and `export --update`.
+ghost use Rattle.std.specs.Prelude.{codes};
+ghost use Rattle.clap.specs.Words.{found_of, rows_of};
+ghost use Rattle.program_words.specs.Refusals.{JudgesPart};
+ghost use Rattle.program_parser.specs.Readings.{IsSaid};
+
+use crate::parts::{has_flag, state_args, word_of};
+use clap::ArgMatches;
+use program_words::commands::export::Export;
+use program_words::{Command, Refusals};
+
+/// Reads the command from its options, with or without `--update`.
+pub(crate) fn read<'a>(found: &ArgMatches<'a>, refusals: &mut Refusals) -> Command<'a>
+    ensures { JudgesPart (IsSaid (codes "export") (rows_of (found_of found.now))) refusals.old
+        refusals.new result }
+{
+    let mirror = state_args(found, refusals);
+    let folder = word_of(found, "dir", refusals);
+    let progress = has_flag(found, "progress");
+    let export = Export {
+        mirror,
+        folder,
+        progress,
+    };
+    if has_flag(found, "update") {
+        Command::Update(export)
+    } else {
+        Command::Export(export)
+    }
+}

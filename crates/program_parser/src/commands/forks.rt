@@ -1,0 +1,17 @@
+//! The reader of `forks`.
+ghost use Rattle.std.specs.Prelude.{codes};
+ghost use Rattle.clap.specs.Words.{found_of, rows_of};
+ghost use Rattle.program_words.specs.Refusals.{JudgesPart};
+ghost use Rattle.program_parser.specs.Readings.{IsSaid};
+
+use crate::parts::state_args;
+use clap::ArgMatches;
+use program_words::{Command, Refusals};
+
+/// Reads the command from its options.
+pub(crate) fn read<'a>(found: &ArgMatches<'a>, refusals: &mut Refusals) -> Command<'a>
+    ensures { JudgesPart (IsSaid (codes "forks") (rows_of (found_of found.now))) refusals.old
+        refusals.new result }
+{
+    Command::Forks(state_args(found, refusals))
+}
