@@ -26,21 +26,19 @@ use Rattle.mirror_copy.specs.Taken.{FilesAreClear, MayGive, MayTake, WasPut}
 use Rattle.mirror_copy.specs.declared.places.Places.{Places}
 use Rattle.mirror_copy.proofs.OneHonest.{edges_clear}
 use Rattle.mirror_copy.proofs.ShelfReads.{part_weaker}
-use Rattle.mirror_follow.specs.Blame.{AsksAny}
+use Rattle.mirror_candidates.specs.Requests.{AsksAny}
 use Rattle.mirror_follow.specs.Ending.{EndsAt, EndsRun, HasFalseRoot}
-use Rattle.mirror_follow.specs.Gathering.{note_of}
+use Rattle.mirror_candidates.specs.Candidates.{note_of, turn_cmp, IsOnePoint}
 use Rattle.mirror_follow.specs.OneHonest.{HasNone, HasPart, HasReached, HasSize, HoldsPart, HoldsPartOrNone, IsHonestFirst, IsHonestListed, IsHonestTurn, IsOfShelfOrMemory, KeepsPoint, StepsUp}
-use Rattle.mirror_follow.specs.Candidates.{turn_cmp}
 use Rattle.mirror_follow.specs.Runs.{KeepsEach}
-use Rattle.mirror_follow.specs.Says.{IsOnePoint}
 use Rattle.mirror_follow.specs.Standing.{HadCopy, HasStanding, HoldsNoCopy, IsCopyNow, IsCopyRead, IsCopyOfRun, IsHeadOf, KnowsAfter, PrunedAs, StandsOrNone}
 use Rattle.mirror_follow.specs.Taken.{IsAbove, IsLargerThan, IsRepeat, SaysTurn}
-use Rattle.mirror_follow.specs.declared.candidate.Candidate.{Candidate}
+use Rattle.mirror_candidates.specs.declared.candidate.Candidate.{Candidate}
 use Rattle.mirror_follow.specs.declared.fault.FollowFault.{FollowFault}
 use Rattle.mirror_follow.specs.declared.fault.FollowFault.TheVariants as fault
-use Rattle.mirror_follow.specs.declared.report.Outcome.{Outcome}
-use Rattle.mirror_follow.specs.declared.report.Outcome.TheVariants as turn
-use Rattle.mirror_follow.proofs.Blame.{any_same, any_then}
+use Rattle.mirror_follow.specs.declared.run.Outcome.{Outcome}
+use Rattle.mirror_follow.specs.declared.run.Outcome.TheVariants as turn
+use Rattle.mirror_candidates.proofs.Requests.{any_same, any_then}
 use Rattle.mirror_follow.proofs.Runs.{each_none, each_then}
 use Rattle.mirror_follow.proofs.Standing.{standing_as, standing_none}
 use Rattle.mirror_follow.proofs.TurnOrder.{again, falls, none_above}

@@ -3,15 +3,15 @@ use Rattle.std.proofs.Common.{◌≡◌, ◌≢◌, ℕ, List, [], Option, IfSom
 use Rattle.std.proofs.lemmas.List.Elements.{All-nil}
 use Rattle.mirror_folders.specs.Shelf.{Put}
 use Rattle.mirror_follow.specs.Blame.{CountsFollowFault, IsOfTheRun}
-use Rattle.mirror_follow.specs.Shown.{ShowsEach, ShowsLine}
+use Rattle.mirror_candidates.specs.Shown.{ShowsEach, ShowsLine}
 use Rattle.mirror_follow.specs.Standing.{IsCopyOfRun, IsHeadOf, KnowsAfter, StandsAfter, size_of_copy}
 use Rattle.mirror_follow.specs.Turning.{ContinuesRun, IsRunFrom}
-use Rattle.mirror_follow.specs.declared.candidate.Candidate.{Candidate}
+use Rattle.mirror_candidates.specs.declared.candidate.Candidate.{Candidate}
 use Rattle.mirror_follow.specs.declared.fault.FollowFault.{FollowFault}
 use Rattle.mirror_follow.specs.declared.fault.FollowFault.TheVariants.{Source, ShelfFault}
 use Rattle.mirror_follow.specs.declared.fault.FollowFault.TheVariants as fault
-use Rattle.mirror_follow.specs.declared.report.Run.{Run}
-use Rattle.mirror_follow.specs.declared.report.Outcome.{Outcome}
+use Rattle.mirror_follow.specs.declared.run.Run.{Run}
+use Rattle.mirror_follow.specs.declared.run.Outcome.{Outcome}
 use Rattle.mirror_follow.proofs.Standing.{head_after, known_after}
 
 module _ (digest : List ℕ → List ℕ) (origin : List ℕ) where

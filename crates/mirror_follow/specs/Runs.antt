@@ -7,9 +7,8 @@ use Rattle.mirror_folders.specs.Shelf.{Put, HasPut}
 use Rattle.mirror_copy.specs.Copies.{IsCopy}
 use Rattle.mirror_copy.specs.Moments.{AtEachMoment, IsGrownCopy, KeepsCopy, PutsBeyond}
 use Rattle.mirror_copy.specs.Pruned.{IsPrunedCopy, OfPrunedCopies}
-use Rattle.mirror_follow.specs.Candidates.{IsCandidate}
-use Rattle.mirror_follow.specs.Gathering.{note_of}
-use Rattle.mirror_follow.specs.declared.candidate.Candidate.{Candidate}
+use Rattle.mirror_candidates.specs.Candidates.{IsCandidate, note_of}
+use Rattle.mirror_candidates.specs.declared.candidate.Candidate.{Candidate}
 
 module _ (digest : List ℕ → List ℕ) (origin : List ℕ) (notes : List (List ℕ)) where
   -- under one of the notes, the shelf has a copy of entries that begin with these. Each file of these entries, except the
