@@ -21,6 +21,8 @@ use Rattle.mirror_follow.specs.declared.run.Outcome.TheVariants as turn
 use Rattle.mirror_follow.proofs.Adding.{lines_forked}
 use Rattle.mirror_candidates.proofs.Lines.{lines_more, lines_none, listed_more, listed_now}
 use Rattle.mirror_follow.proofs.TurnOrder.{again, element, next_of, note_itself, note_upto}
+use Rattle.mirror_candidates.proofs.LineLists.{lines_kept}
+use Rattle.mirror_candidates.proofs.Points.{one_back, one_of_same, one_then, point_same}
 
 -- ---- points
 
