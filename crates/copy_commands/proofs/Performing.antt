@@ -11,7 +11,7 @@ use Rattle.copy_reader.specs.Copies.{LeavesPuts}
 use Rattle.program_copies.specs.Printed.{Prints, IsWriteFault as IsPrintFault}
 use Rattle.program_copies.specs.declared.fault.CopyAskFault.{CopyAskFault}
 use Rattle.tlog_tiles.specs.declared.paths.Path.{Path}
-use Rattle.mirror_copy.specs.declared.places.Places.{Places}
+use Rattle.mirror_places.specs.declared.places.Places.{Places}
 use Rattle.program_files.specs.Named.{NamedFile}
 use Rattle.program_follow.specs.Following.{IsNoteOf}
 use Rattle.program_follow.specs.declared.fault.FollowRunFault.{FollowRunFault}

@@ -6,8 +6,8 @@ ghost use Rattle.program_env.specs.Envs.{IsSameEnv, moment};
 ghost use Rattle.program_env.specs.Performing.{Performs};
 
 use crate::places::places_of;
-use mirror_copy::Places;
 use mirror_follow::FollowFault;
+use mirror_places::Places;
 use mirror_sources::Source;
 use program_commands::check_origin;
 use program_env::served::of_note;

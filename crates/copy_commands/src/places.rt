@@ -2,8 +2,8 @@
 ghost use Rattle.std.specs.Prelude.{◌≡◌, IfOk};
 
 use mirror_client::TcpDial;
-use mirror_copy::Places;
 use mirror_folders::DirSource;
+use mirror_places::Places;
 use mirror_sources::Source;
 use program_env::places::{place_name, server_of};
 use program_follow::PlaceSource;

@@ -16,7 +16,7 @@ use Rattle.mirror_candidates.specs.Gathering.{AreCandidatesOf, Gathers, IsGiven}
 use Rattle.mirror_candidates.specs.declared.candidate.Candidate.{Candidate}
 use Rattle.mirror_candidates.specs.declared.fault.CandidateFault.{CandidateFault}
 use Rattle.mirror_candidates.specs.declared.fault.CandidateFault.TheVariants as follow
-use Rattle.mirror_copy.specs.declared.place.PlaceAnswer.{PlaceAnswer}
+use Rattle.mirror_places.specs.declared.place.PlaceAnswer.{PlaceAnswer}
 
 module _ {S : Type 0} (may : S → Path → Option (List ℕ) → Type 0) (failed : S → ℕ) (asked : S → Option (List Path)) where
   abbrev Answer : S → S → PlaceAnswer → Type 0

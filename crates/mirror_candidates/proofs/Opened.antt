@@ -8,7 +8,7 @@ use Rattle.signed_note.specs.Keys.{Key}
 use Rattle.mirror_candidates.specs.Candidates.{IsCandidate, IsCandidateOf, turn_cmp, note_of}
 use Rattle.mirror_candidates.specs.GatheredFrom.{IsOnly}
 use Rattle.mirror_candidates.specs.Gathering.{Gathers, IsGiven}
-use Rattle.mirror_copy.specs.declared.place.PlaceAnswer.{PlaceAnswer}
+use Rattle.mirror_places.specs.declared.place.PlaceAnswer.{PlaceAnswer}
 use Rattle.mirror_candidates.specs.declared.candidate.Candidate.{Candidate}
 use Rattle.mirror_candidates.specs.declared.fault.CandidateFault.{CandidateFault}
 

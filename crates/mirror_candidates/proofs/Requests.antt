@@ -3,12 +3,12 @@ use Rattle.std.proofs.Common.{◌≡◌, inl, inr, ℕ, ◌<◌, List, [], ◌�
 use Rattle.std.proofs.lemmas.Bool.{cases_lt}
 use Rattle.tlog_tiles.specs.declared.paths.Path.{Path}
 use Rattle.tlog_tiles.specs.declared.paths.Path.TheVariants.{Checkpoint}
-use Rattle.mirror_copy.specs.PlaceGets.{AnswersGet, AsksEach, AsksPlaces}
-use Rattle.mirror_copy.specs.declared.place.Place.{Place}
-use Rattle.mirror_copy.specs.declared.place.PlaceAnswer.{PlaceAnswer}
-use Rattle.mirror_copy.specs.declared.place.PlaceAnswer.TheVariants as answer
-use Rattle.mirror_copy.specs.declared.places.Places.{Places}
-use Rattle.mirror_copy.proofs.Asking.{asked_same, asked_then, asked_weaker}
+use Rattle.mirror_places.specs.PlaceGets.{AnswersGet, AsksEach, AsksPlaces}
+use Rattle.mirror_places.specs.declared.place.Place.{Place}
+use Rattle.mirror_places.specs.declared.place.PlaceAnswer.{PlaceAnswer}
+use Rattle.mirror_places.specs.declared.place.PlaceAnswer.TheVariants as answer
+use Rattle.mirror_places.specs.declared.places.Places.{Places}
+use Rattle.mirror_places.proofs.Asking.{asked_same, asked_then, asked_weaker}
 use Rattle.mirror_candidates.specs.Requests.{AsksAny, MayGive, PlaceFails}
 use Rattle.mirror_candidates.specs.Gathering.{IsNote}
 

@@ -9,8 +9,8 @@ use Rattle.mirror_sources.specs.Recorded.{AddsToRecord, one_more}
 use Rattle.mirror_candidates.specs.Candidates.{turn_cmp}
 use Rattle.mirror_candidates.specs.Gathering.{AreCandidatesOf, IsFirstReason}
 use Rattle.mirror_candidates.specs.declared.candidate.Candidate.{Candidate}
-use Rattle.mirror_copy.specs.declared.place.PlaceAnswer.{PlaceAnswer}
-use Rattle.mirror_copy.specs.declared.place.PlaceAnswer.TheVariants.{File, NotFound, Failed}
+use Rattle.mirror_places.specs.declared.place.PlaceAnswer.{PlaceAnswer}
+use Rattle.mirror_places.specs.declared.place.PlaceAnswer.TheVariants.{File, NotFound, Failed}
 use Rattle.mirror_candidates.specs.declared.fault.CandidateFault.{CandidateFault}
 use Rattle.mirror_candidates.specs.declared.fault.CandidateFault.TheVariants.{NoCheckpoint, Head, Source, OutOfMemory}
 

@@ -2,9 +2,9 @@
 use Rattle.std.specs.Prelude.{◌≡◌, ◌⊎◌, ℕ, ◌<◌, ◌≤◌, List, get_or, length, Option, Some, None, ⊤}
 use Rattle.tlog_tiles.specs.declared.paths.Path.{Path}
 use Rattle.tlog_tiles.specs.declared.paths.Path.TheVariants.{Checkpoint}
-use Rattle.mirror_copy.specs.PlaceGets.{AsksEach}
-use Rattle.mirror_copy.specs.declared.place.Place.{Place}
-use Rattle.mirror_copy.specs.declared.places.Places.{Places}
+use Rattle.mirror_places.specs.PlaceGets.{AsksEach}
+use Rattle.mirror_places.specs.declared.place.Place.{Place}
+use Rattle.mirror_places.specs.declared.places.Places.{Places}
 
 -- a place failed, or had been given up after 8 failures
 pub record PlaceFails {S : Type 0} (old new : Places S) : Type 0 where

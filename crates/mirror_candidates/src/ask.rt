@@ -1,14 +1,14 @@
 //! Candidates requested from sources.
 ghost use Rattle.std.specs.Prelude.{IfOk, List, length, map};
 ghost use Rattle.tlog_text.specs.Answers.{seen};
-ghost use Rattle.mirror_copy.specs.declared.place.PlaceAnswer.{PlaceAnswer};
+ghost use Rattle.mirror_places.specs.declared.place.PlaceAnswer.{PlaceAnswer};
 ghost use Rattle.mirror_candidates.specs.Asking.{AreAnswers, FindsCandidates, IsAnswer};
 ghost use Rattle.mirror_candidates.specs.Gathering.{Gathers};
 
 use crate::candidate::Candidate;
 use crate::fault::CandidateFault;
 use crate::gather::{Gathered, in_turn};
-use mirror_copy::PlaceAnswer;
+use mirror_places::PlaceAnswer;
 use mirror_sources::{Source, SourceFault};
 use signed_note::Verifier;
 use std::alloc::{AllocError, Global};

@@ -1,10 +1,10 @@
 //! The files of a log for a proof, read into memory.
 ghost use Rattle.std.specs.Prelude.{◌<◌, ℕ, All, IfOk, length};
-ghost use Rattle.mirror_copy.specs.AskedOnce.{AsksMore};
-ghost use Rattle.mirror_copy.specs.EndTiles.{IsEndTile};
+ghost use Rattle.mirror_places.specs.AskedOnce.{AsksMore};
+ghost use Rattle.mirror_places.specs.EndTiles.{IsEndTile};
 ghost use Rattle.mirror_candidates.specs.Requests.{AsksAny};
 
-use mirror_copy::{PlaceAnswer, Places};
+use mirror_places::{PlaceAnswer, Places};
 use mirror_sources::{Source, SourceFault};
 use std::alloc::{AllocError, Global};
 use tlog_shape::{edge_index, edge_width};

@@ -1,14 +1,14 @@
 //! The candidates of some places, gathered answer after answer.
 ghost use Rattle.std.specs.Prelude.{◌≡◌, ◌≢◌, ◌∷◌, ◌++◌, [], List, IfErr, IfOk, None, OnOk, map};
 ghost use Rattle.std.specs.List.Sorted.{IsPermutation, IsSorted};
-ghost use Rattle.mirror_copy.specs.declared.place.PlaceAnswer.{PlaceAnswer};
+ghost use Rattle.mirror_places.specs.declared.place.PlaceAnswer.{PlaceAnswer};
 ghost use Rattle.mirror_candidates.specs.Asking.{option_or};
 ghost use Rattle.mirror_candidates.specs.Candidates.{turn_cmp};
 ghost use Rattle.mirror_candidates.specs.Gathering.{Gathers, or_first};
 
 use crate::candidate::{Candidate, candidate_of};
 use crate::fault::CandidateFault;
-use mirror_copy::PlaceAnswer;
+use mirror_places::PlaceAnswer;
 use mirror_model::TakeFault;
 use signed_note::Verifier;
 use std::alloc::{AllocError, Global};

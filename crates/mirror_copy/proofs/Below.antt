@@ -17,7 +17,7 @@ use Rattle.log_paths.proofs.Standing.{stands_more}
 use Rattle.mirror_folders.specs.Shelf.{RecordsRead}
 use Rattle.mirror_copy.specs.Standing.{RecordsStands}
 use Rattle.mirror_copy.specs.Growing.{IsBelow, IsNewFile, Obtains, HoldsBelow}
-use Rattle.mirror_copy.proofs.Prefixes.{bytes_front}
+use Rattle.mirror_places.proofs.Prefixes.{bytes_front}
 
 -- ---- files below a tile
 

@@ -23,7 +23,7 @@ use Rattle.mirror_copy.specs.Growing.{IsNewFile, Obtains, Tip}
 use Rattle.log_reader.specs.EdgeRows.{Edge}
 use Rattle.mirror_copy.specs.Edges.{IsCopyBrought}
 use Rattle.mirror_copy.specs.Standing.{RecordsStands}
-use Rattle.mirror_copy.proofs.Prefixes.{within_more}
+use Rattle.mirror_places.proofs.Prefixes.{within_more}
 use Rattle.mirror_copy.proofs.Below.{stands_gathered, records_earlier, records_later, records_put}
 use Rattle.mirror_copy.proofs.Growth.{kept_same}
 use Rattle.mirror_sources.specs.Recorded.{AddsToRecord}

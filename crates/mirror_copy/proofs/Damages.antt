@@ -25,7 +25,7 @@ use Rattle.mirror_copy.specs.Found.{IsEdgeRead, RecordsPartial}
 use Rattle.mirror_copy.specs.Growing.{Tip}
 use Rattle.mirror_copy.specs.declared.fault.BringFault.{BringFault}
 use Rattle.mirror_copy.specs.declared.fault.BringFault.TheVariants.{CopyDamaged}
-use Rattle.mirror_copy.specs.declared.places.Places.{Places}
+use Rattle.mirror_places.specs.declared.places.Places.{Places}
 use Rattle.mirror_copy.proofs.Earlier.{kept_then}
 use Rattle.mirror_copy.proofs.ShelfReads.{edge_before, partial_before}
 use Rattle.mirror_copy.proofs.PrunedFiles.{copies_are_pruned}

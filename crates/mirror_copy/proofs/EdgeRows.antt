@@ -14,7 +14,7 @@ use Rattle.mirror_folders.specs.Shelf.{Put}
 use Rattle.mirror_copy.specs.Growing.{HoldsBelow, IsKnown, IsCutShort, IsRowBrought, Tip}
 use Rattle.log_reader.specs.EdgeRows.{Edge, HasWidths, RowIsTrue, row_at}
 use Rattle.mirror_copy.specs.Edges.{IsEdgeBrought}
-use Rattle.mirror_copy.proofs.Prefixes.{level_row_front}
+use Rattle.mirror_places.proofs.Prefixes.{level_row_front}
 use Rattle.mirror_copy.proofs.Growth.{gathers_none, gathers_then, kept_same, known_more}
 use Rattle.mirror_copy.proofs.Below.{holds_gathered, records_earlier}
 

@@ -22,7 +22,7 @@ use Rattle.log_reader.specs.Verified.{HasLeaves}
 use Rattle.mirror_copy.specs.Growing.{Obtains, IsBelow, IsKnown, IsCutShort, IsNewFile, Tip}
 use Rattle.log_reader.specs.EdgeRows.{Edge, HasWidths, RowIsTrue, edge_tile, row_at}
 use Rattle.mirror_copy.specs.Edges.{BringsToEdge, PutsNote, BringsEdgeBundle, PutsEdgeTile, IsCopyBrought, IsEdgeBrought, AreEdgeTilesPut, IsEdgeBundleBrought, IsEdgeTilePut}
-use Rattle.mirror_copy.proofs.Prefixes.{level_row_front, within_more}
+use Rattle.mirror_places.proofs.Prefixes.{level_row_front, within_more}
 use Rattle.mirror_copy.proofs.Growth.{gathers_keep, gathers_none, gathers_then, kept_same}
 use Rattle.mirror_copy.proofs.Below.{below_within, stands_gathered, records_earlier}
 use Rattle.mirror_copy.proofs.EdgeRows.{above_within}

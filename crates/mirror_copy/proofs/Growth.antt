@@ -12,7 +12,7 @@ use Rattle.mirror_model.specs.TrueLaws.{AreShort}
 use Rattle.mirror_sources.specs.Recorded.{AddsToRecord, KeepsRecord}
 use Rattle.mirror_folders.specs.Shelf.{Put}
 use Rattle.mirror_copy.specs.Growing.{IsNewFile, Obtains, IsKnown, IsBrought, IsCutShort, BringsTile, Tip}
-use Rattle.mirror_copy.proofs.Prefixes.{bytes_front, within_more, level_row_front, part_front}
+use Rattle.mirror_places.proofs.Prefixes.{bytes_front, within_more, level_row_front, part_front}
 
 pub kept_adds : (a b : Option (List Put)) → KeepsRecord a b → AddsToRecord a b []
 kept_adds None b k = tt

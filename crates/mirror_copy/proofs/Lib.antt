@@ -1,10 +1,6 @@
-pub mod Asking
-pub mod AskingOnce
-pub mod Getting
 pub mod Between
 pub mod Begun
 pub mod NewFulls
-pub mod Prefixes
 pub mod Growth
 pub mod Below
 pub mod Bundles
@@ -21,15 +17,12 @@ pub mod WholeMoments
 pub mod PrunedMoments
 pub mod SameCopies
 pub mod Stays
-pub mod Suffices
 pub mod Others
 pub mod TrueRows
 pub mod TipTruth
 pub mod EmptyTips
 pub mod OnePlace
 pub mod Spared
-pub mod Cutting
-pub mod TrueAnswers
 pub mod TrueEdges
 pub mod Damages
 pub mod OneHonest

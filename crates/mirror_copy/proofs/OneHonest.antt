@@ -18,17 +18,19 @@ use Rattle.mirror_copy.specs.Found.{IsTipRead}
 use Rattle.mirror_copy.specs.Growing.{Tip}
 use Rattle.mirror_copy.specs.OneHonest.{HoldsCopy, HoldsFirst, HoldsNone, HoldsPruned, IsHonestFor, IsHonestNote, IsShelfOrMemory}
 use Rattle.mirror_copy.specs.Suffices.{IsEdgeTrue, IsSpared, IsTipOf}
-use Rattle.mirror_copy.specs.Taken.{EdgesAreClear, FilesAreClear, IsEdgeFrom, MayGive, MayTake}
+use Rattle.mirror_copy.specs.Taken.{EdgesAreClear, FilesAreClear, MayTake}
+use Rattle.mirror_places.specs.Giving.{IsEdgeFrom, MayGive}
 use Rattle.mirror_copy.specs.declared.fault.BringFault.{BringFault}
 use Rattle.mirror_copy.specs.declared.fault.BringFault.TheVariants.{BadCheckpoint, CopyDamaged, NotLarger}
 use Rattle.mirror_copy.specs.declared.fault.BringFault.TheVariants.{Contradiction, Collision, NoFile, Source, CopyInUse}
 use Rattle.mirror_copy.specs.declared.fault.BringFault.TheVariants.{ShelfFault, OutOfMemory}
-use Rattle.mirror_copy.specs.declared.place.Place.{Place}
-use Rattle.mirror_copy.specs.declared.places.Places.{Places}
+use Rattle.mirror_places.specs.declared.place.Place.{Place}
+use Rattle.mirror_places.specs.declared.places.Places.{Places}
 use Rattle.mirror_copy.proofs.OnePlace.{put_before}
 use Rattle.mirror_copy.proofs.Others.{in_use_later}
-use Rattle.mirror_copy.proofs.ShelfReads.{part_weaker}
-use Rattle.mirror_copy.proofs.TrueEdges.{edge_is_true, edge_weaker}
+use Rattle.mirror_places.proofs.Giving.{part_weaker}
+use Rattle.mirror_copy.proofs.TrueEdges.{edge_is_true}
+use Rattle.mirror_places.proofs.Giving.{edge_weaker}
 use Rattle.mirror_copy.proofs.WholeMoments.{none_found}
 
 -- ---- remaining faults

@@ -9,12 +9,16 @@ use Rattle.tlog_tiles.specs.declared.paths.Path.{Path}
 use Rattle.tlog_tiles.specs.declared.paths.Path.TheVariants.{Entries, Tile}
 use Rattle.mirror_sources.specs.Recorded.{AddsToRecord, KeepsRecord}
 use Rattle.mirror_folders.specs.Shelf.{Put, RecordsRead}
-use Rattle.mirror_copy.specs.PlaceGets.{AsksPlaces}
-use Rattle.mirror_copy.specs.Suffices.{HasTruePlace, IsTruePlace, OneIsHonest}
-use Rattle.mirror_copy.specs.Taken.{FilesAreClear, IsLeafTile, MayGive, MayTake, PartOf, PutsTaken, WasPut}
-use Rattle.mirror_copy.specs.declared.places.Places.{Places}
+use Rattle.mirror_places.specs.PlaceGets.{AsksPlaces}
+use Rattle.mirror_places.specs.TruePlaces.{HasTruePlace, IsTruePlace}
+use Rattle.mirror_copy.specs.Suffices.{OneIsHonest}
+use Rattle.mirror_copy.specs.Taken.{FilesAreClear, IsLeafTile, MayTake, PutsTaken, WasPut}
+use Rattle.mirror_places.specs.Giving.{MayGive, PartOf}
+use Rattle.mirror_places.specs.declared.places.Places.{Places}
 use Rattle.mirror_copy.proofs.Earlier.{kept_then}
 use Rattle.mirror_copy.proofs.Growth.{adds_then, kept_adds}
+use Rattle.mirror_places.proofs.Giving.{given_before}
+use Rattle.mirror_places.proofs.TruePlaces.{place_between}
 
 -- earlier puts stay in the list while nothing is put
 pub put_before : (a b : Option (List Put)) → KeepsRecord a b → (path : Path) (bytes : List ℕ) → WasPut b path bytes → WasPut a path bytes
@@ -39,43 +43,6 @@ put_read (Some puts) path bytes s = (
 )
 
 module _ {S : Type 0} (may : S → Path → Option (List ℕ) → Type 0) (failed : S → ℕ) (asked : S → Option (List Path)) where
-  -- a place that answers in a call answers in a part of it
-  pub true_between : (digest : List ℕ → List ℕ) (entries : List (List ℕ)) (so also last : Path → Type 0) (x y z w : Places S) →
-      AsksPlaces may failed asked so x y → AsksPlaces may failed asked also y z → AsksPlaces may failed asked last z w →
-      (index : ℕ) → IsTruePlace digest entries may x w index → IsTruePlace digest entries may y z index
-  true_between digest entries so also last x y z w p q r index t =
-      let a = p.each index t.none in
-      let b = q.each index t.none in
-      let c = r.each index t.none in
-      let first = a.more in
-      let second = b.more in
-      let third = c.more in
-      let same = t.answers in
-      let few = t.asked in
-      record {
-        none = t.none;
-        listed = let lt = t.listed in omega (arith, lt, p.count);
-        gives = λ path within answer h. t.gives path within answer (a.later.stays path answer h);
-        asked = omega (arith, first, second, third, same, few);
-        answers = omega (arith, first, second, third, same);
-      }
-
-  pub place_between : (digest : List ℕ → List ℕ) (entries : List (List ℕ)) (so also last : Path → Type 0) (x y z w : Places S) →
-      AsksPlaces may failed asked so x y → AsksPlaces may failed asked also y z → AsksPlaces may failed asked last z w →
-      HasTruePlace digest entries may x w → HasTruePlace digest entries may y z
-  place_between digest entries so also last x y z w p q r t = record {
-    index = t.index;
-    place = true_between digest entries so also last x y z w p q r t.index t.place;
-  }
-
-  pub given_before : (so : Path → Type 0) (x y : Places S) (path : Path) (bytes : List ℕ) → AsksPlaces may failed asked so x y →
-      MayGive may y path bytes → MayGive may x path bytes
-  given_before so x y path bytes p g = record {
-    index = g.index;
-    listed = let lt = g.listed in omega (arith, lt, p.count);
-    may_be = λ d. (p.each g.index d).later.stays path (Some bytes) (g.may_be d);
-  }
-
   module _ (so : Path → Type 0) (x y : Places S) (p : AsksPlaces may failed asked so x y) where
     was_put : (a b : Option (List Put)) (path : Path) (bytes : List ℕ) → PutsTaken may x a b → WasPut b path bytes →
         IsLeafTile path ⊎ MayTake may x a path bytes
@@ -92,7 +59,7 @@ module _ {S : Type 0} (may : S → Path → Option (List ℕ) → Type 0) (faile
     pub taken_before : (a b : Option (List Put)) (path : Path) (bytes : List ℕ) → PutsTaken may x a b → MayTake may y b path bytes →
         IsLeafTile path ⊎ MayTake may x a path bytes
     taken_before a b path bytes t (inl put) = was_put a b path bytes t put
-    taken_before a b path bytes t (inr given) = inr (inr (given_before so x y path bytes p given))
+    taken_before a b path bytes t (inr given) = inr (inr (given_before may failed asked so x y path bytes p given))
 
     not_leaf : (a b : Option (List Put)) (path : Path) (bytes : List ℕ) → PutsTaken may x a b → (IsLeafTile path → ⊥) →
         MayTake may y b path bytes → MayTake may x a path bytes
@@ -135,7 +102,7 @@ module _ {S : Type 0} (may : S → Path → Option (List ℕ) → Type 0) (faile
   honest_between digest entries size so also last x y z w a b p q r t h = record {
     short = h.short;
     upto = h.upto;
-    place = place_between digest entries so also last x y z w p q r h.place;
+    place = place_between may failed asked digest entries so also last x y z w p q r h.place;
     clear = clear_later so x y p digest (take size entries) a b t h.clear;
   }
 
@@ -159,7 +126,7 @@ module _ {S : Type 0} (may : S → Path → Option (List ℕ) → Type 0) (faile
   -- the files that may be taken after nothing was put
   pub taken_kept : (so : Path → Type 0) (x y : Places S) (a b : Option (List Put)) (path : Path) (bytes : List ℕ) →
       AsksPlaces may failed asked so x y → KeepsRecord a b → MayTake may y b path bytes → MayTake may x a path bytes
-  taken_kept so x y a b path bytes p kept (inr given) = inr (given_before so x y path bytes p given)
+  taken_kept so x y a b path bytes p kept (inr given) = inr (given_before may failed asked so x y path bytes p given)
   taken_kept so x y a b path bytes p kept (inl put) = inl (put_before a b kept path bytes put)
 
   adds_after : (a b c : Option (List Put)) (puts : List Put) → KeepsRecord a b → AddsToRecord b c puts → AddsToRecord a c puts

@@ -34,8 +34,8 @@ use Rattle.log_reader.specs.Holding.{GoesOn, IsTreeFile}
 use Rattle.mirror_copy.specs.Copies.{IsCopy}
 use Rattle.mirror_copy.specs.Growing.{IsNewFile}
 use Rattle.mirror_copy.specs.Pruned.{CopiesArePruned, EachFileStands, HasGivenWay, IsPrunedCopy}
-use Rattle.mirror_copy.proofs.Cutting.{bundle_cut, tile_cut}
-use Rattle.mirror_copy.proofs.Prefixes.{bytes_front}
+use Rattle.mirror_places.proofs.Cutting.{bundle_cut, tile_cut}
+use Rattle.mirror_places.proofs.Prefixes.{bytes_front}
 
 -- ---- the files of a tree are those of a log
 

@@ -24,7 +24,7 @@ use Rattle.mirror_copy.specs.Standing.{RecordsStands}
 use Rattle.log_reader.specs.Holding.{IsTreeFile}
 use Rattle.mirror_copy.proofs.CopyMoments.{copy_files, new_files_keep_copies, put_new}
 use Rattle.mirror_copy.proofs.Growth.{adds_then, left_none}
-use Rattle.mirror_copy.proofs.Prefixes.{bytes_front}
+use Rattle.mirror_places.proofs.Prefixes.{bytes_front}
 use Rattle.mirror_copy.proofs.PrunedFiles.{IsFilled, all_filled, copy_back, filled_copy, given_later, kept_back, stands_behind}
 use Rattle.mirror_copy.proofs.WholeMoments.{at_kept, beyond_brought, beyond_cut, beyond_same, empty_brought, empty_edge, empty_edge_hash, grown_copy, grown_end, so_far_put}
 

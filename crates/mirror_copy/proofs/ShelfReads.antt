@@ -10,9 +10,11 @@ use Rattle.mirror_model.specs.TrueLaws.{AreShort}
 use Rattle.mirror_sources.specs.Honest.{true_bytes}
 use Rattle.tlog_tiles.specs.Tiles.{IsWithin}
 use Rattle.mirror_copy.proofs.TipReads.{stands_has, stands_one}
-use Rattle.mirror_copy.specs.Taken.{IsFirstOf, PartOf, WasPut}
+use Rattle.mirror_places.specs.Giving.{IsFirstOf, PartOf}
+use Rattle.mirror_copy.specs.Taken.{WasPut}
 use Rattle.log_reader.specs.EdgeRows.{Edge, row_at}
 use Rattle.mirror_copy.proofs.OnePlace.{put_before, put_read}
+use Rattle.mirror_places.proofs.Giving.{part_weaker}
 
 -- a file that is read after the puts were kept was there before
 pub read_before : (x y : Option (List Put)) (path : Path) (answer : Option (List ℕ)) → KeepsRecord x y →
@@ -81,11 +83,6 @@ partial_none (Some xs) (Some ys) path none k full = (
   λ digest hash entries short within way. absurd
       (full (subst (λ (l : List Put). HasPut l (full_of path)) (sym k) (stands_has xs (full_of path) way.full way.stands))),
 )
-
-pub part_weaker : (take also : Path → List ℕ → Type 0) → ((path : Path) (bytes : List ℕ) → take path bytes → also path bytes) →
-    (path : Path) (bytes : List ℕ) → PartOf take path bytes → PartOf also path bytes
-part_weaker take also f path bytes (inl h) = inl (f path bytes h)
-part_weaker take also f path bytes (inr h) = inr (h.0, f (full_of path) h.0 h.1, h.2)
 
 -- the bytes that were read were put there, or a longer file that was put begins with them
 pub part_put : (x : Option (List Put)) (path : Path) (bytes : List ℕ) → RecordsRead x path (Some bytes) → PartOf (WasPut x) path bytes

@@ -23,14 +23,15 @@ use Rattle.log_reader.specs.declared.verify.FullFile.TheVariants as kind
 use Rattle.mirror_copy.specs.Conflicts.{IsNoConflict}
 use Rattle.mirror_folders.specs.Shelf.{Put}
 use Rattle.mirror_copy.specs.Faults.{BlamesLast, IsOfNoPlace}
-use Rattle.mirror_copy.specs.Suffices.{IsEdgeTrue, IsFileUnder, IsNoLack, IsSpared, IsTileHash, IsTileRow}
+use Rattle.mirror_copy.specs.Suffices.{IsEdgeTrue, IsNoLack, IsSpared, IsTileHash, IsTileRow}
+use Rattle.mirror_places.specs.TruePlaces.{IsFileUnder}
 use Rattle.mirror_copy.specs.Taken.{AreEntriesClear, IsRowClear}
-use Rattle.mirror_copy.specs.TrueAnswers.{HasTrueLeaves}
+use Rattle.mirror_places.specs.TrueAnswers.{HasTrueLeaves}
 use Rattle.mirror_copy.specs.declared.fault.BringFault.{BringFault}
 use Rattle.mirror_copy.specs.declared.fault.BringFault.TheVariants.{BadCheckpoint, CopyDamaged, NotLarger}
 use Rattle.mirror_copy.specs.declared.fault.BringFault.TheVariants.{Contradiction, Collision, NoFile, Source, CopyInUse}
 use Rattle.mirror_copy.specs.declared.fault.BringFault.TheVariants.{ShelfFault, OutOfMemory}
-use Rattle.mirror_copy.proofs.Prefixes.{part_front}
+use Rattle.mirror_places.proofs.Prefixes.{part_front}
 use Rattle.mirror_copy.proofs.TrueRows.{joins_within, true_entries, true_row}
 
 pub spared : (e : BringFault) → IsNoLack e → IsNoConflict e → IsSpared e

@@ -18,7 +18,7 @@ use Rattle.tlog_tiles.proofs.TileLemmas.{row_folds}
 use Rattle.mirror_sources.specs.Recorded.{KeepsRecord, AddsToRecord}
 use Rattle.mirror_folders.specs.Shelf.{Put}
 use Rattle.mirror_copy.specs.Growing.{IsNewFile, Obtains, HoldsBelow, IsBelow, IsKnown, IsBrought, IsRowBrought, IsCutShort, Tip}
-use Rattle.mirror_copy.proofs.Prefixes.{level_row_front}
+use Rattle.mirror_places.proofs.Prefixes.{level_row_front}
 use Rattle.mirror_copy.proofs.Below.{below_child, below_within, holds_gathered, records_earlier}
 use Rattle.mirror_copy.specs.Standing.{RecordsStands}
 use Rattle.mirror_sources.specs.Honest.{true_bytes}

@@ -14,8 +14,8 @@ use Rattle.tlog_tiles.specs.Bundle.{bundle_text, entry_text, IsBundle}
 use Rattle.tlog_tiles.proofs.EdgeLemmas.{hashes_of}
 use Rattle.mirror_copy.specs.Growing.{Tip}
 use Rattle.mirror_copy.specs.Suffices.{IsTipOf, IsTileRow}
-use Rattle.mirror_copy.proofs.Prefixes.{level_row_front, part_front}
-use Rattle.mirror_copy.proofs.TrueRows.{count_row, take_row}
+use Rattle.mirror_places.proofs.Prefixes.{level_row_front, part_front}
+use Rattle.mirror_places.proofs.Cutting.{count_row, take_row}
 
 pub of_none : {T P : Type 0} (o : Option T) → IsNone o → IfNone o P → P
 of_none None none h = h

@@ -16,22 +16,9 @@ use Rattle.log_reader.specs.Ways.{HasEdgeHashes}
 use Rattle.log_reader.proofs.Truths.{shown_rows_are_true}
 use Rattle.mirror_copy.specs.Found.{IsEdgeRead}
 use Rattle.mirror_copy.specs.Suffices.{IsEdgeTrue}
-use Rattle.mirror_copy.specs.Taken.{EdgesAreClear, IsEdgeFrom, IsRowFrom, WasPut}
-use Rattle.mirror_copy.proofs.ShelfReads.{part_weaker}
-
-module _ (take also : Path → List ℕ → Type 0) (f : (path : Path) (bytes : List ℕ) → take path bytes → also path bytes) where
-  pub row_weaker : (n level : ℕ) (row : List (List ℕ)) → IsRowFrom take n level row → IsRowFrom also n level row
-  row_weaker n level row h = record {
-    bytes = h.bytes;
-    is_row = h.is_row;
-    taken = λ some. part_weaker take also f _ h.bytes (h.taken some);
-  }
-
-  pub edge_weaker : (n : ℕ) (edge : Edge) → IsEdgeFrom take n edge → IsEdgeFrom also n edge
-  edge_weaker n edge h = record {
-    size_is = h.size_is;
-    rows_are = λ level upto. row_weaker n level (row_at edge level) (h.rows_are level upto);
-  }
+use Rattle.mirror_copy.specs.Taken.{EdgesAreClear, WasPut}
+use Rattle.mirror_places.specs.Giving.{IsEdgeFrom, IsRowFrom}
+use Rattle.mirror_places.proofs.Giving.{part_weaker}
 
 -- the rows that were read from a shelf were put there
 pub edge_put : (puts : Option (List Put)) (n : ℕ) (edge : Edge) → IsEdgeRead puts n edge → IsEdgeFrom (WasPut puts) n edge

@@ -20,24 +20,7 @@ use Rattle.mirror_model.proofs.TreeLaws.{full_row_joins}
 use Rattle.mirror_model.proofs.TrueItems.{tile_end}
 use Rattle.log_reader.proofs.OneRow.{only_row}
 use Rattle.mirror_copy.specs.Suffices.{IsTileHash}
-
--- the first w of some ranges
-take_ranges : {A : Type 0} (b first w count : ℕ) (es : List A) → w ≤ count →
-    take w (ranges b first count es) ≡ ranges b first w es
-take_ranges b first zero count es le = refl
-take_ranges b first (suc w) zero es le = absurd (omega arith)
-take_ranges b first (suc w) (suc count) es le =
-    λ i. part (first * b) b es ∷ take_ranges b (first + 1) w count es (omega arith) i
-
-pub take_row : (digest : List ℕ → List ℕ) (es : List (List ℕ)) (level first w count : ℕ) → w ≤ count →
-    take w (level_row digest es level first count) ≡ level_row digest es level first w
-take_row digest es level first w count le =
-    take-map (mth digest) w (ranges (256 ^ level) first count es) ∙ ap (map (mth digest)) (take_ranges (256 ^ level) first w count es le)
-
-pub count_row : (digest : List ℕ → List ℕ) (es : List (List ℕ)) (level first w : ℕ) →
-    length (level_row digest es level first w) ≡ w
-count_row digest es level first w =
-    length-map (ranges (256 ^ level) first w es) (mth digest) ∙ length-ranges (256 ^ level) first w es
+use Rattle.mirror_places.proofs.Cutting.{count_row}
 
 -- the string of an entry is a string of the tree
 leaf_there : (e : List ℕ) (es : List (List ℕ)) → Contains es e → Contains (map (λ (x : List ℕ). 0 ∷ x) es) (0 ∷ e)

@@ -8,9 +8,9 @@ use Rattle.mirror_copy.specs.Asked.{MayBeAsked}
 use Rattle.mirror_copy.specs.Copies.{IsCopy}
 use Rattle.mirror_copy.specs.Faults.{IsOtherFound}
 use Rattle.mirror_copy.specs.Pruned.{HadSize, IsPrunedCopy}
-use Rattle.mirror_copy.specs.PlaceGets.{APlaceFailed, AsksEach}
-use Rattle.mirror_copy.specs.declared.place.Place.{Place}
-use Rattle.mirror_copy.specs.declared.places.Places.{Places}
+use Rattle.mirror_places.specs.PlaceGets.{APlaceFailed, AsksEach}
+use Rattle.mirror_places.specs.declared.place.Place.{Place}
+use Rattle.mirror_places.specs.declared.places.Places.{Places}
 use Rattle.mirror_copy.specs.declared.fault.BringFault.{BringFault}
 use Rattle.mirror_copy.specs.declared.fault.BringFault.TheVariants.{BadCheckpoint, CopyDamaged, NotLarger}
 use Rattle.mirror_copy.specs.declared.fault.BringFault.TheVariants.{Contradiction, Collision, NoFile, Source, CopyInUse}
@@ -78,3 +78,9 @@ pub record IsInUse (digest : List ℕ → List ℕ) (origin : List ℕ) (old : O
   pub no_pruned : (held : List Put) → old ≡ Some held → (note : List ℕ) (entries : List (List ℕ)) →
       ¬ IsPrunedCopy digest origin note entries held
   pub not_none : (held : List Put) → old ≡ Some held → ¬ ¬ HasPut held Checkpoint
+
+-- the two sizes are those of the old copy, which is 0 if there was no checkpoint, and of the note
+pub record AreEnds (digest : List ℕ → List ℕ) (origin note : List ℕ) (puts : Option (List Put)) (sizes : ℕ × ℕ) : Type 0 where
+  pub root : List ℕ
+  pub had_is : HadSize digest origin puts sizes.0
+  pub is_head : IsHead note origin sizes.1 root

@@ -11,7 +11,8 @@ use Rattle.log_reader.specs.EdgeRows.{Edge, row_at}
 use Rattle.mirror_copy.specs.Growing.{IsKnown, Tip}
 use Rattle.mirror_copy.specs.Moments.{CopyStays, IsBroughtTo, KeepsCopy}
 use Rattle.mirror_copy.specs.Pruned.{HasGivenWay, IsPrunedCopy, LeavesPruned}
-use Rattle.mirror_copy.specs.Taken.{PartOf, WasPut}
+use Rattle.mirror_places.specs.Giving.{PartOf}
+use Rattle.mirror_copy.specs.Taken.{WasPut}
 use Rattle.mirror_model.specs.Strings.{IsDigest}
 use Rattle.mirror_model.specs.TrueLaws.{AreShort}
 use Rattle.mirror_sources.specs.Honest.{true_bytes}

@@ -1,5 +1,3 @@
-pub mod EndTiles
-pub mod PlaceGets
 pub mod Faults
 pub mod Standing
 pub mod Growing
@@ -11,9 +9,7 @@ pub mod Pruned
 pub mod Edges
 pub mod Found
 pub mod AskedForCopy
-pub mod AskedOnce
 pub mod Suffices
 pub mod Taken
-pub mod TrueAnswers
 pub mod OneHonest
 pub mod Damaged

@@ -11,7 +11,7 @@ use Rattle.mirror_copy.specs.Suffices.{OneIsHonest}
 use Rattle.mirror_copy.specs.Taken.{EdgesAreClear, MayTake}
 use Rattle.mirror_copy.specs.declared.fault.BringFault.{BringFault}
 use Rattle.mirror_copy.specs.declared.fault.BringFault.TheVariants.{ShelfFault, OutOfMemory}
-use Rattle.mirror_copy.specs.declared.places.Places.{Places}
+use Rattle.mirror_places.specs.declared.places.Places.{Places}
 
 -- the shelf failed, or memory was refused
 abbrev pub IsShelfOrMemory : BringFault → Type 0

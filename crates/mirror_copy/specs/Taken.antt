@@ -1,7 +1,6 @@
 -- The files that a call may take from its places and its shelf, and when their strings do not clash with those of a log.
-use Rattle.std.specs.Prelude.{◌≡◌, ◌⊎◌, ℕ, ◌<◌, ◌≤◌, All, Contains, List, ◌++◌, length, map, get_or, Option, Some, None, ⊤}
+use Rattle.std.specs.Prelude.{◌≡◌, ◌⊎◌, ℕ, ◌≤◌, All, Contains, List, ◌++◌, length, map, Option, Some, None, ⊤}
 use Rattle.std.specs.FinSet as set
-use Rattle.tlog_shape.specs.Edge.{edge_index_of, width_of}
 use Rattle.tlog_hash.specs.Tree.{joins, strings}
 use Rattle.tlog_tiles.specs.declared.paths.Path.{Path}
 use Rattle.tlog_tiles.specs.declared.paths.Path.TheVariants.{Checkpoint, Tile, Entries}
@@ -9,12 +8,11 @@ use Rattle.tlog_tiles.specs.Bundle.{IsBundle}
 use Rattle.tlog_tiles.specs.Row.{IsRow}
 use Rattle.node_store.specs.Strings.{NoClash}
 use Rattle.mirror_model.specs.Edge.{edge_levels, edge_strings}
-use Rattle.mirror_sources.specs.Files.{full_of}
 use Rattle.mirror_sources.specs.Recorded.{AddsToRecord}
 use Rattle.mirror_folders.specs.Shelf.{Put}
 use Rattle.log_reader.specs.EdgeRows.{Edge, row_at}
-use Rattle.mirror_copy.specs.declared.place.Place.{Place}
-use Rattle.mirror_copy.specs.declared.places.Places.{Places}
+use Rattle.mirror_places.specs.Giving.{IsEdgeFrom, MayGive, PartOf}
+use Rattle.mirror_places.specs.declared.places.Places.{Places}
 
 -- the bytes were put at the path. It always holds for a shelf that does not record its puts
 abbrev pub WasPut : Option (List Put) → Path → List ℕ → Type 0
@@ -27,36 +25,10 @@ IsLeafTile Checkpoint = ⊥
 IsLeafTile (Tile level index width) = level ≡ 0
 IsLeafTile (Entries index width) = ⊥
 
--- the full file begins with the bytes
-pub record IsFirstOf (full bytes : List ℕ) : Type 0 where
-  pub rest : List ℕ
-  pub full_is : full ≡ bytes ++ rest
-
--- the bytes may be taken at the path, or the bytes of a full file that begins with them may be taken at its full path
-abbrev pub PartOf : (Path → List ℕ → Type 0) → Path → List ℕ → Type 0
-PartOf take path bytes = take path bytes ⊎ ((full : List ℕ) × take (full_of path) full × IsFirstOf full bytes)
-
--- the row of a level of the edge of n entries comes from bytes that may be taken, if the level has one
-pub record IsRowFrom (take : Path → List ℕ → Type 0) (n level : ℕ) (row : List (List ℕ)) : Type 0 where
-  pub bytes : List ℕ
-  pub is_row : IsRow (width_of n level) bytes row
-  pub taken : 1 ≤ width_of n level → PartOf take (Tile level (edge_index_of n level) (width_of n level)) bytes
-
--- each row of the edge is such a row
-pub record IsEdgeFrom (take : Path → List ℕ → Type 0) (n : ℕ) (edge : Edge) : Type 0 where
-  pub size_is : edge.size ≡ n
-  pub rows_are : (level : ℕ) → level ≤ 7 → IsRowFrom take n level (row_at edge level)
-
 module _ {S : Type 0} (may : S → Path → Option (List ℕ) → Type 0) where
-  -- one of the places may give the bytes at the path
-  pub record MayGive (places : Places S) (path : Path) (bytes : List ℕ) : Type 0 where
-    pub index : ℕ
-    pub listed : index < length places.list.items
-    pub may_be : (d : Place S) → may (get_or places.list.items index d).source path (Some bytes)
-
   -- the bytes at the path may be taken: they were put there, or a place may give them
   abbrev pub MayTake : Places S → Option (List Put) → Path → List ℕ → Type 0
-  MayTake places puts path bytes = WasPut puts path bytes ⊎ MayGive places path bytes
+  MayTake places puts path bytes = WasPut puts path bytes ⊎ MayGive may places path bytes
 
   -- each put is a tile of level 0, or a file that might be taken
   pub record PutsTaken (places : Places S) (old new : Option (List Put)) : Type 0 where

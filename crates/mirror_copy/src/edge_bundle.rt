@@ -3,128 +3,35 @@ ghost use Rattle.std.specs.Prelude.{◌≡◌, ◌≢◌, ◌*◌, ◌^◌, ◌<
 ghost use Rattle.tlog_shape.specs.Edge.{edge_index_of};
 ghost use Rattle.mirror_sources.specs.Files.{full_of};
 ghost use Rattle.mirror_sources.specs.Recorded.{KeepsRecord};
-ghost use Rattle.mirror_copy.specs.Asked.{IsEdgeBundle, IsPathOrFull};
+ghost use Rattle.mirror_copy.specs.Asked.{IsEdgeBundle};
+ghost use Rattle.mirror_places.specs.Asked.{IsPathOrFull};
 ghost use Rattle.mirror_copy.specs.Faults.{BlamesPlaces, CountsShelf};
-ghost use Rattle.mirror_copy.specs.AskedOnce.{AsksOnce, IsAtPlace};
-ghost use Rattle.mirror_copy.specs.PlaceGets.{AsksPlaces};
+ghost use Rattle.mirror_places.specs.AskedOnce.{AsksOnce, IsAtPlace};
+ghost use Rattle.mirror_places.specs.PlaceGets.{AsksPlaces};
 ghost use Rattle.mirror_copy.specs.Conflicts.{ConflictPutsNothing, IsNoConflict};
 ghost use Rattle.log_reader.specs.Verified.{HasLeaves};
 ghost use Rattle.mirror_copy.specs.Growing.{IsKnown};
 ghost use Rattle.log_reader.specs.EdgeRows.{HasWidths};
 ghost use Rattle.mirror_copy.specs.Edges.{BringsEdgeBundle};
-ghost use Rattle.mirror_copy.specs.Suffices.{HasTruePlace, IsEdgeTrue, IsNoLack, IsSpared, IsTipOf, IsTruePlace, OneIsHonest};
-ghost use Rattle.mirror_copy.specs.Taken.{MayGive, MayTake, PartOf};
-ghost use Rattle.mirror_copy.specs.TrueAnswers.{HasTrueLeaves};
+ghost use Rattle.mirror_places.specs.TruePlaces.{HasTruePlace, IsTruePlace};
+ghost use Rattle.mirror_copy.specs.Suffices.{IsEdgeTrue, IsNoLack, IsSpared, IsTipOf, OneIsHonest};
+ghost use Rattle.mirror_places.specs.Giving.{MayGive, PartOf};
+ghost use Rattle.mirror_copy.specs.Taken.{MayTake};
+ghost use Rattle.mirror_places.specs.TrueAnswers.{HasTrueLeaves};
 ghost use Rattle.mirror_model.specs.TrueLaws.{AreShort};
 
-use crate::fault::BringFault;
+use crate::fault::{BringFault, fault_of};
 use crate::keep::keep;
-use crate::place::Wrong;
-use crate::place_files::get_partial;
-use crate::places::{Places, in_turn};
 use crate::shelf_files::read_partial;
-use crate::tip::{CopyTip, is_same_row};
-use log_reader::{EdgeRows, leaves_of};
+use crate::tip::CopyTip;
+use log_reader::EdgeRows;
 use mirror_folders::ReadableShelf;
+use mirror_places::{Places, accept_bundle, bundle_at_places};
 use mirror_sources::Source;
-use std::alloc::{AllocError, Global};
+use std::alloc::Global;
 use tlog_hash::{Hash, TreeHash};
 use tlog_shape::edge_index;
 use tlog_tiles::Path;
-
-/// These bytes, if they are a bundle with these leaf hashes.
-pub(crate) fn accept_edge_bundle<H: TreeHash>(
-    alloc: Global,
-    row: &[Hash],
-    given: Option<Vec<u8>>,
-) -> Result<Option<Vec<u8>>, AllocError>
-    requires { length row.now ≤ 256 }
-    ensures found { IfOk result (λ found. IfSome found
-        (λ bytes. HasLeaves H.digest (length row.now) bytes.items row.now)) }
-    ensures given { IfOk result (λ found. IfSome found (λ bytes. option_map
-        (λ v. v.items) given ≡ Some bytes.items)) }
-    ensures none { IfOk result (λ found. IfNone found (IfSome given
-        (λ bytes. ¬ HasLeaves H.digest (length row.now) bytes.items row.now))) }
-{
-    let Some(bytes) = given else {
-        return Ok(None);
-    };
-    match leaves_of::<H>(alloc, row.len() as u32, &bytes)? {
-        Some(leaves) => {
-            if is_same_row(&leaves, row) {
-                Ok(Some(bytes))
-            } else {
-                Ok(None)
-            }
-        }
-        None => Ok(None),
-    }
-}
-
-// The bundle from a place, if it verifies.
-fn edge_bundle_at_place<H: TreeHash, S: Source + Drop>(
-    alloc: Global,
-    places: &mut Places<S>,
-    index: usize,
-    path: &Path,
-    row: &[Hash],
-) -> Result<Option<Vec<u8>>, AllocError>
-    requires place { index < length places.old.list.items }
-    requires width { length row.now ≤ 256 }
-    ensures asks { AsksPlaces S.may_answer S.failed S.asked (IsPathOrFull path.now)
-        places.old places.new }
-    ensures once { path.now ≢ full_of path.now
-        → AsksOnce S.asked (IsAtPlace index (IsPathOrFull path.now)) places.old places.new }
-    ensures found { IfOk result (λ found. IfSome found
-        (λ bytes. HasLeaves H.digest (length row.now) bytes.items row.now)) }
-    ensures taken { IfOk result (λ found. IfSome found
-        (λ bytes. PartOf (MayGive S.may_answer places.old) path.now bytes.items)) }
-    ensures honest { IfOk result (λ found. IfNone found ((entries : List (List ℕ))
-        → AreShort entries → HasTrueLeaves H.digest entries path.now row.now
-        → ¬ IsTruePlace H.digest entries S.may_answer places.old places.new index)) }
-{
-    let Some(bytes) = get_partial::<S>(alloc, places, index, path)? else {
-        return Ok(None);
-    };
-    let found = accept_edge_bundle::<H>(alloc, row, Some(bytes))?;
-    if found.is_some() {
-        places.note_verified(index);
-    } else {
-        places.note_wrong(index, path, Wrong::False);
-    }
-    Ok(found)
-}
-
-// The bundle from the first place whose bundle verifies.
-fn edge_bundle_at_places<H: TreeHash, S: Source + Drop>(
-    alloc: Global,
-    places: &mut Places<S>,
-    path: &Path,
-    row: &[Hash],
-) -> Result<Option<Vec<u8>>, AllocError>
-    requires { length row.now ≤ 256 }
-    ensures asks { AsksPlaces S.may_answer S.failed S.asked (IsPathOrFull path.now)
-        places.old places.new }
-    ensures once { path.now ≢ full_of path.now
-        → AsksOnce S.asked (λ k. IsPathOrFull path.now) places.old places.new }
-    ensures found { IfOk result (λ found. IfSome found
-        (λ bytes. HasLeaves H.digest (length row.now) bytes.items row.now)) }
-    ensures taken { IfOk result (λ found. IfSome found
-        (λ bytes. PartOf (MayGive S.may_answer places.old) path.now bytes.items)) }
-    ensures honest { IfOk result (λ found. IfNone found ((entries : List (List ℕ))
-        → AreShort entries → HasTrueLeaves H.digest entries path.now row.now
-        → ¬ HasTruePlace H.digest entries S.may_answer places.old places.new)) }
-{
-    let first = places.first();
-    for turn in 0..places.len() {
-        let index = in_turn(first, turn);
-        match edge_bundle_at_place::<H, S>(alloc, places, index, path, row)? {
-            Some(found) => return Ok(Some(found)),
-            None => {}
-        }
-    }
-    Ok(None)
-}
 
 // The bundle from the shelf, or else from a place.
 fn find_edge_bundle<H: TreeHash, D: ReadableShelf, S: Source + Drop>(
@@ -151,12 +58,12 @@ fn find_edge_bundle<H: TreeHash, D: ReadableShelf, S: Source + Drop>(
         → HasTruePlace H.digest entries S.may_answer places.old places.new → IsNoLack e) }
 {
     let given = read_partial(alloc, shelf, path)?;
-    if let Some(found) = accept_edge_bundle::<H>(alloc, row, given)? {
+    if let Some(found) = accept_bundle::<H>(alloc, row, given)? {
         return Ok(found);
     }
-    match edge_bundle_at_places::<H, S>(alloc, places, path, row)? {
+    match bundle_at_places::<H, S>(alloc, places, path, row)? {
         Some(found) => Ok(found),
-        None => Err(places.lacks(path)),
+        None => Err(fault_of(places)),
     }
 }
 

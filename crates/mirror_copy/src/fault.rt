@@ -1,9 +1,12 @@
 //! The faults of bringing a copy to a checkpoint.
-ghost use Rattle.std.specs.Prelude.{◌≡◌};
-ghost use Rattle.mirror_copy.specs.Faults.{by_shelf};
+ghost use Rattle.std.specs.Prelude.{◌≡◌, ℕ, IsSome};
+ghost use Rattle.mirror_copy.specs.Conflicts.{IsNoConflict};
+ghost use Rattle.mirror_copy.specs.Faults.{BlamesPlaces, CountsFault, by_shelf};
 ghost use Rattle.mirror_copy.specs.declared.fault.BringFault.TheVariants.{OutOfMemory};
 
 use mirror_folders::ShelfError;
+use mirror_places::Places;
+use mirror_sources::Source;
 use std::alloc::{AllocError, AllocFailed};
 use thiserror::Error;
 
@@ -66,5 +69,19 @@ impl<T: Drop> From<AllocFailed<T>> for BringFault {
 
     fn from(_e: AllocFailed<T>) -> BringFault {
         BringFault::OutOfMemory
+    }
+}
+
+/// The fault after neither the shelf nor a place gave a file.
+pub(crate) fn fault_of<S: Source + Drop>(places: &Places<S>) -> BringFault
+    requires { IsSome places.now.lacked }
+    ensures blames { BlamesPlaces places.now result }
+    ensures fault { IsNoConflict result }
+    ensures counted { (n : ℕ) → CountsFault n n result }
+{
+    if places.has_failed() {
+        BringFault::Source
+    } else {
+        BringFault::NoFile
     }
 }

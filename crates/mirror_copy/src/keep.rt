@@ -6,14 +6,9 @@ ghost use Rattle.mirror_copy.specs.Faults.{CountsShelf, IsOfNoPlace};
 ghost use Rattle.mirror_copy.specs.Standing.{RecordsStands};
 
 use crate::fault::BringFault;
+use crate::same::is_same;
 use mirror_folders::ReadableShelf;
 use tlog_tiles::Path;
-
-fn is_same(first: &[u8], second: &[u8]) -> bool
-    ensures { IsTrue result ↔ (first.now ≡ second.now) }
-{
-    first == second
-}
 
 // Whether the shelf has these bytes at the path.
 fn stands<D: ReadableShelf>(shelf: &mut D, path: &Path, bytes: &[u8]) -> Result<bool, BringFault>

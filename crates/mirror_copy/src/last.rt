@@ -5,15 +5,10 @@ ghost use Rattle.mirror_copy.specs.Faults.{BlamesLast, CountsShelf};
 ghost use Rattle.mirror_copy.specs.Edges.{PutsNote};
 
 use crate::fault::BringFault;
+use crate::same::is_same;
 use crate::tip::CopyTip;
 use mirror_folders::ReadableShelf;
 use tlog_tiles::Path;
-
-fn is_same(first: &[u8], second: &[u8]) -> bool
-    ensures { IsTrue result ↔ (first.now ≡ second.now) }
-{
-    first == second
-}
 
 // Whether the shelf still has the checkpoint that was read with the tip.
 fn is_unchanged(tip: &CopyTip, now: &Option<Vec<u8>>) -> bool

@@ -6,24 +6,18 @@
 //! ```
 #![tactic(auto)]
 
-mod ahead;
 mod bring;
 mod copy;
 mod edge;
 mod edge_bundle;
-mod end_tiles;
 mod fault;
 mod find;
 mod find_edge;
 mod keep;
 mod last;
 mod laws;
-mod part;
-mod place;
-mod place_files;
-mod places;
 mod read_tip;
-mod row;
+mod same;
 mod shelf_files;
 mod tip;
 mod to_edge;
@@ -34,5 +28,3 @@ pub use laws::{
     empty_tip_law, makes_copy_law, new_files_law, pruned_copy_law, root_law, same_copy_law,
     stays_copy_law,
 };
-pub use place::{Place, PlaceAnswer, Wrong, WrongFile};
-pub use places::Places;

@@ -8,13 +8,13 @@ ghost use Rattle.mirror_copy.specs.declared.fault.BringFault.TheVariants.{CopyDa
 ghost use Rattle.mirror_copy.specs.Faults.{CountsShelf, IsOfNoPlace};
 ghost use Rattle.mirror_copy.specs.Found.{IsBundleRead, IsTipRead};
 
-use crate::edge_bundle::accept_edge_bundle;
 use crate::fault::BringFault;
 use crate::find_edge::edge_on_shelf;
 use crate::shelf_files::read_partial;
 use crate::tip::CopyTip;
 use log_reader::{EdgeRows, head_of};
 use mirror_folders::ReadableShelf;
+use mirror_places::accept_bundle;
 use std::alloc::Global;
 use tlog_hash::TreeHash;
 use tlog_shape::edge_index;
@@ -44,7 +44,7 @@ fn bundle_on_shelf<H: TreeHash, D: ReadableShelf>(
         width: row.len() as u32,
     };
     let given = read_partial(alloc, shelf, &path)?;
-    match accept_edge_bundle::<H>(alloc, row, given)? {
+    match accept_bundle::<H>(alloc, row, given)? {
         Some(bytes) => Ok(bytes),
         None => Err(BringFault::CopyDamaged),
     }

@@ -4,11 +4,12 @@ ghost use Rattle.mirror_sources.specs.Recorded.{KeepsRecord};
 ghost use Rattle.mirror_copy.specs.Conflicts.{IsNoConflict};
 ghost use Rattle.mirror_copy.specs.Faults.{CountsShelf, IsOfNoPlace};
 ghost use Rattle.mirror_copy.specs.Found.{RecordsPartial};
-ghost use Rattle.mirror_copy.specs.Taken.{PartOf, WasPut};
+ghost use Rattle.mirror_places.specs.Giving.{PartOf};
+ghost use Rattle.mirror_copy.specs.Taken.{WasPut};
 
 use crate::fault::BringFault;
-use crate::part::{full_of, part_of};
 use mirror_folders::ReadableShelf;
+use mirror_places::{full_of, part_of};
 use std::alloc::Global;
 use tlog_tiles::Path;
 

@@ -3,6 +3,7 @@ ghost use Rattle.std.specs.Prelude.{◌≡◌, ◌≢◌, ◌↔◌, ◌≤◌, 
 ghost use Rattle.tlog_shape.specs.Edge.{width_of, edge_index_of};
 ghost use Rattle.mirror_copy.specs.Growing.{empty_tip};
 
+use crate::same::is_same;
 use log_reader::EdgeRows;
 use std::alloc::Global;
 use std::marker::Model;
@@ -32,13 +33,7 @@ impl Model for CopyTip {
     } };
 }
 
-pub(crate) fn is_same_row(first: &[Hash], second: &[Hash]) -> bool
-    ensures { IsTrue result ↔ (first.now ≡ second.now) }
-{
-    first == second
-}
-
-fn is_same(first: &[u8], second: &[u8]) -> bool
+fn is_same_row(first: &[Hash], second: &[Hash]) -> bool
     ensures { IsTrue result ↔ (first.now ≡ second.now) }
 {
     first == second

@@ -18,7 +18,7 @@ use Rattle.mirror_copy.specs.Pruned.{IsPrunedCopy}
 use Rattle.mirror_copy.specs.AskedForCopy.{BlamesFailed, IsInUse, RefusesNote}
 use Rattle.mirror_copy.specs.Damaged.{IsDamaged}
 use Rattle.mirror_copy.specs.Faults.{IsOtherFound}
-use Rattle.mirror_copy.specs.declared.places.Places.{Places}
+use Rattle.mirror_places.specs.declared.places.Places.{Places}
 use Rattle.mirror_copy.specs.declared.fault.BringFault.{BringFault}
 use Rattle.mirror_copy.specs.declared.fault.BringFault.TheVariants as bring
 use Rattle.mirror_candidates.specs.Asking.{option_or}

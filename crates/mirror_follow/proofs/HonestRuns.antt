@@ -11,7 +11,7 @@ use Rattle.mirror_sources.specs.Recorded.{KeepsRecord}
 use Rattle.mirror_folders.specs.Shelf.{Put}
 use Rattle.mirror_copy.specs.Moments.{InTheEnd}
 use Rattle.mirror_copy.specs.OneHonest.{IsHonestFor}
-use Rattle.mirror_copy.specs.declared.places.Places.{Places}
+use Rattle.mirror_places.specs.declared.places.Places.{Places}
 use Rattle.mirror_candidates.specs.Asking.{option_or}
 use Rattle.mirror_candidates.specs.Requests.{AsksAny}
 use Rattle.mirror_candidates.specs.Candidates.{turn_cmp, IsOnePoint}

@@ -21,11 +21,12 @@ use Rattle.mirror_sources.specs.Recorded.{AddsToRecord}
 use Rattle.mirror_folders.specs.Shelf.{Put, RecordsSome}
 use Rattle.mirror_copy.specs.OneHonest.{HoldsFirst, HoldsNone, HoldsPruned, IsHonestFor, IsHonestNote}
 use Rattle.mirror_copy.specs.Pruned.{IsPrunedCopy}
-use Rattle.mirror_copy.specs.Suffices.{IsTruePlace}
-use Rattle.mirror_copy.specs.Taken.{FilesAreClear, MayGive, MayTake, WasPut}
-use Rattle.mirror_copy.specs.declared.places.Places.{Places}
+use Rattle.mirror_places.specs.TruePlaces.{IsTruePlace}
+use Rattle.mirror_copy.specs.Taken.{FilesAreClear, MayTake, WasPut}
+use Rattle.mirror_places.specs.Giving.{MayGive}
+use Rattle.mirror_places.specs.declared.places.Places.{Places}
 use Rattle.mirror_copy.proofs.OneHonest.{edges_clear}
-use Rattle.mirror_copy.proofs.ShelfReads.{part_weaker}
+use Rattle.mirror_places.proofs.Giving.{part_weaker}
 use Rattle.mirror_candidates.specs.Requests.{AsksAny}
 use Rattle.mirror_follow.specs.Ending.{EndsAt, EndsRun, HasFalseRoot}
 use Rattle.mirror_candidates.specs.Candidates.{note_of, turn_cmp, IsOnePoint}

@@ -20,7 +20,7 @@ use Rattle.mirror_copy.specs.Copies.{IsCopy}
 use Rattle.mirror_copy.specs.Moments.{AtEachMoment, IsGrownCopy, KeepsCopy, PutsBeyond}
 use Rattle.mirror_copy.specs.Pruned.{IsGrownPruned, IsPrunedCopy, LeavesPruned}
 use Rattle.mirror_copy.proofs.Growth.{adds_then}
-use Rattle.mirror_copy.proofs.Prefixes.{within_more}
+use Rattle.mirror_places.proofs.Prefixes.{within_more}
 use Rattle.mirror_copy.proofs.WholeMoments.{at_kept, beyond_same, whole_same}
 use Rattle.mirror_candidates.specs.Candidates.{note_of}
 use Rattle.mirror_candidates.specs.declared.candidate.Candidate.{Candidate}

@@ -8,7 +8,7 @@ use Rattle.tlog_tiles.specs.declared.paths.Path.TheVariants.{Checkpoint}
 use Rattle.mirror_folders.specs.Shelf.{HasPut, Put}
 use Rattle.mirror_copy.specs.OneHonest.{HoldsFirst, IsHonestFor}
 use Rattle.mirror_copy.specs.Pruned.{IsPrunedCopy}
-use Rattle.mirror_copy.specs.declared.places.Places.{Places}
+use Rattle.mirror_places.specs.declared.places.Places.{Places}
 use Rattle.mirror_candidates.specs.Candidates.{turn_cmp, IsOnePoint}
 use Rattle.mirror_follow.specs.Standing.{HadCopy, IsCopyNow, IsCopyOfRun}
 use Rattle.mirror_follow.specs.Taken.{IsAbove, IsLargerThan}

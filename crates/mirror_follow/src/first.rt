@@ -14,7 +14,7 @@ use crate::bring::bring;
 use crate::fault::FollowFault;
 use crate::run::Outcome;
 use mirror_candidates::Candidate;
-use mirror_copy::Places;
+use mirror_places::Places;
 use mirror_folders::ReadableShelf;
 use mirror_sources::Source;
 use std::alloc::Global;

@@ -16,7 +16,7 @@ use crate::fault::FollowFault;
 use crate::report::{Followed, report};
 use crate::turns::take_turns;
 use mirror_candidates::candidates_of;
-use mirror_copy::Places;
+use mirror_places::Places;
 use mirror_folders::ReadableShelf;
 use mirror_sources::Source;
 use signed_note::Verifier;

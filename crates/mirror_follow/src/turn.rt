@@ -19,7 +19,7 @@ use crate::first::take_first;
 use crate::renote::{has_lesser_note, renote};
 use crate::run::{Outcome, Run};
 use mirror_candidates::Candidate;
-use mirror_copy::Places;
+use mirror_places::Places;
 use mirror_folders::ReadableShelf;
 use mirror_sources::Source;
 use std::alloc::Global;

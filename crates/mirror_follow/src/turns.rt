@@ -18,7 +18,7 @@ use crate::fault::FollowFault;
 use crate::run::Run;
 use crate::turn::take_turn;
 use mirror_candidates::Candidate;
-use mirror_copy::Places;
+use mirror_places::Places;
 use mirror_folders::ReadableShelf;
 use mirror_sources::Source;
 use std::alloc::Global;

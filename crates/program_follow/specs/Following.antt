@@ -5,7 +5,7 @@ use Rattle.byte_streams.specs.Streams.{AppendsPrefix}
 use Rattle.tlog_tiles.specs.declared.paths.Path.{Path}
 use Rattle.signed_note.specs.Keys.{Key}
 use Rattle.mirror_folders.specs.Shelf.{Put}
-use Rattle.mirror_copy.specs.declared.places.Places.{Places}
+use Rattle.mirror_places.specs.declared.places.Places.{Places}
 use Rattle.mirror_follow.specs.Blame.{CountsFollowFault}
 use Rattle.mirror_candidates.specs.Requests.{MayGive}
 use Rattle.mirror_follow.specs.Ending.{EndsFor}

@@ -18,7 +18,7 @@ use crate::evidence::write_evidence;
 use crate::fault::FollowRunFault;
 use crate::text::{followed_status, followed_text};
 use byte_streams::write_whole;
-use mirror_copy::Places;
+use mirror_places::Places;
 use mirror_follow::{FollowFault, Followed, follow};
 use mirror_progress::{CountedFolders, Task};
 use mirror_sources::Source;

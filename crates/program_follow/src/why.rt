@@ -6,7 +6,7 @@ ghost use Rattle.program_follow.specs.Whys.{AreWhyLines};
 use crate::place::{Answered, FailedAt, WatchedPlace};
 use log_reader::open_head;
 use mirror_client::Reason;
-use mirror_copy::{Place, Places, Wrong, WrongFile};
+use mirror_places::{Place, Places, Wrong, WrongFile};
 use mirror_model::TakeFault;
 use program_files::{system_reason, why_line};
 use signed_note::Verifier;

@@ -1,6 +1,6 @@
 use Rattle.std.proofs.Common.{subst, sym}
-use Rattle.mirror_copy.specs.EndTiles.{IsEndTile}
-use Rattle.mirror_copy.proofs.AskingOnce.{more_then}
+use Rattle.mirror_places.specs.EndTiles.{IsEndTile}
+use Rattle.mirror_places.proofs.AskingOnce.{more_then}
 use Rattle.mirror_candidates.proofs.Requests.{any_then}
 use Rattle.mirror_candidates.proofs.files.ask_file.Goals as goal
 

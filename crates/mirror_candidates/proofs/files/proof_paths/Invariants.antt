@@ -1,5 +1,5 @@
 use Rattle.std.proofs.Common.{All}
-use Rattle.mirror_copy.specs.EndTiles.{IsEndTile}
+use Rattle.mirror_places.specs.EndTiles.{IsEndTile}
 use Rattle.mirror_candidates.proofs.files.proof_paths.Given as goal
 
 -- the paths so far are those of tiles in which one of the trees ends

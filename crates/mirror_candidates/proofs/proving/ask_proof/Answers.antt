@@ -1,4 +1,4 @@
-use Rattle.mirror_copy.proofs.AskingOnce.{more_same, more_then}
+use Rattle.mirror_places.proofs.AskingOnce.{more_same, more_then}
 use Rattle.mirror_candidates.proofs.Requests.{any_same, any_then}
 use Rattle.mirror_candidates.proofs.proving.ask_proof.Goals as goal
 

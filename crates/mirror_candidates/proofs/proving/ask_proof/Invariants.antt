@@ -1,4 +1,4 @@
-use Rattle.mirror_copy.specs.AskedOnce.{AsksMore}
+use Rattle.mirror_places.specs.AskedOnce.{AsksMore}
 use Rattle.mirror_candidates.specs.Requests.{AsksAny}
 use Rattle.mirror_candidates.proofs.proving.ask_proof.Given as goal
 

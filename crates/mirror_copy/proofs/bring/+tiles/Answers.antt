@@ -8,7 +8,7 @@ use Rattle.mirror_copy.specs.Growing.{IsRowBrought}
 use Rattle.mirror_copy.proofs.Growth.{left_none, left_then, brings_ok, kept_same}
 use Rattle.mirror_sources.specs.Recorded.{KeepsRecord}
 use Rattle.mirror_copy.proofs.Earlier.{early_later}
-use Rattle.mirror_copy.proofs.Asking.{asks_same, asks_then, asks_weaker}
+use Rattle.mirror_places.proofs.Asking.{asks_same, asks_then, asks_weaker}
 use Rattle.mirror_copy.specs.Suffices.{IsTileHash, IsTileRow}
 use Rattle.mirror_copy.specs.Taken.{MayTake}
 use Rattle.mirror_copy.proofs.OnePlace.{honest_between, puts_also, puts_none, puts_then}
@@ -19,9 +19,10 @@ use Rattle.mirror_copy.specs.Asked.{IsNewFull}
 use Rattle.mirror_copy.proofs.TileRows.{first_child, so_far_first, so_far_known, so_far_more, so_far_left}
 use Rattle.mirror_copy.proofs.TileRows.{child_beyond, child_fits, child_small, row_fits, row_then, tile_brought, tile_left}
 use Rattle.mirror_copy.proofs.EmptyTips.{row_after}
-use Rattle.mirror_copy.proofs.AskingOnce.{once_same, once_weaker}
+use Rattle.mirror_places.proofs.AskingOnce.{once_same, once_weaker}
 use Rattle.mirror_copy.proofs.Between.{bundle_between, child_to, once_child, once_longer, once_tile, tile_between}
-use Rattle.mirror_copy.specs.AskedOnce.{AsksOnce, IsFullBetween}
+use Rattle.mirror_places.specs.AskedOnce.{AsksOnce}
+use Rattle.mirror_copy.specs.Asked.{IsFullBetween}
 use Rattle.mirror_copy.proofs.bring.+tiles.Goals as goal
 
 pub bring_row-returns-in_default-clause-brings : goal.bring_row-returns-in_default-clause-brings

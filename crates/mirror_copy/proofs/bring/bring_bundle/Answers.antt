@@ -8,7 +8,7 @@ use Rattle.mirror_copy.specs.Standing.{RecordsStands}
 use Rattle.mirror_copy.specs.Asked.{IsNewFull}
 use Rattle.tlog_tiles.specs.Bundle.{IsBundle}
 use Rattle.mirror_copy.specs.Suffices.{IsTileRow}
-use Rattle.mirror_copy.proofs.Asking.{asks_same, asks_weaker}
+use Rattle.mirror_places.proofs.Asking.{asks_same, asks_weaker}
 use Rattle.mirror_copy.proofs.OnePlace.{puts_after, puts_none, puts_one, puts_then}
 use Rattle.mirror_copy.proofs.Spared.{bundle_true, bundle_under, spared, spared_answer, spared_shelf}
 use Rattle.mirror_copy.proofs.TipTruth.{bundle_begins, row_begins}

@@ -2,7 +2,8 @@ use Rattle.std.proofs.lemmas.Result.{err_from_is_err_and}
 use Rattle.mirror_copy.specs.Asked.{MayBeAsked}
 use Rattle.mirror_copy.specs.AskedForCopy.{AsksFiles, AsksNothing}
 use Rattle.std.proofs.Common.{◌∙◌, subst, sym, take, IsFalse}
-use Rattle.mirror_copy.specs.EndTiles.{AreEnds, IsKept}
+use Rattle.mirror_copy.specs.AskedForCopy.{AreEnds}
+use Rattle.mirror_places.specs.EndTiles.{IsKept}
 use Rattle.mirror_copy.specs.Pruned.{HadSize}
 use Rattle.mirror_copy.proofs.Damages.{not_damaged_later, tip_damaged}
 use Rattle.mirror_copy.proofs.OneHonest.{ended_for, read_fails}
@@ -15,7 +16,7 @@ use Rattle.mirror_copy.proofs.PrunedMoments.{had_pruned, leaves_err, leaves_ok, 
 use Rattle.mirror_copy.proofs.WholeMoments.{had_size, whole_same}
 use Rattle.mirror_copy.proofs.Earlier.{no_conflict}
 use Rattle.mirror_copy.proofs.EmptyTips.{has_conflict}
-use Rattle.mirror_copy.proofs.AskingOnce.{begun_once, once_begun}
+use Rattle.mirror_places.proofs.AskingOnce.{begun_once, once_begun}
 use Rattle.std.specs.Prelude.{⊤}
 use Rattle.mirror_copy.proofs.copy.bring_copy.Goals as goal
 

@@ -2,14 +2,14 @@ use Rattle.mirror_copy.specs.Asked.{MayBeAsked}
 use Rattle.std.proofs.Common.{◌≡◌, take, ap, ◌∙◌, arith}
 use Rattle.tlog_hash.specs.Tree.{mth}
 use Rattle.mirror_copy.proofs.Spared.{err_weaker}
-use Rattle.mirror_copy.proofs.Asking.{asks_same}
+use Rattle.mirror_places.proofs.Asking.{asks_same}
 use Rattle.mirror_copy.proofs.Stays.{stays_same}
 use Rattle.mirror_copy.specs.declared.fault.BringFault.TheVariants.{NotLarger}
 use Rattle.mirror_copy.proofs.PrunedMoments.{leaves_same}
 use Rattle.mirror_copy.proofs.WholeMoments.{whole_same}
 use Rattle.mirror_copy.proofs.Earlier.{no_conflict}
 use Rattle.mirror_copy.proofs.EmptyTips.{false_empty}
-use Rattle.mirror_copy.proofs.AskingOnce.{once_same}
+use Rattle.mirror_places.proofs.AskingOnce.{once_same}
 use Rattle.std.specs.Prelude.{⊤}
 use Rattle.mirror_copy.proofs.copy.bring_from.Goals as goal
 

@@ -1,20 +1,22 @@
 use Rattle.std.proofs.Common.{◌≤◌, inl, subst, sym, arith}
 use Rattle.std.proofs.lemmas.Result.{err_from_is_err_and}
 use Rattle.mirror_model.specs.Heads.{IsHead}
-use Rattle.mirror_copy.specs.Asked.{IsEdgeTile, IsEdgeBundleOrNew, MayBeAsked}
-use Rattle.mirror_copy.specs.PlaceGets.{AsksPlaces}
+use Rattle.mirror_places.specs.Asked.{IsEdgeTile}
+use Rattle.mirror_copy.specs.Asked.{IsEdgeBundleOrNew, MayBeAsked}
+use Rattle.mirror_places.specs.PlaceGets.{AsksPlaces}
 use Rattle.mirror_copy.proofs.OneHonest.{edge_had}
 use Rattle.mirror_copy.proofs.OnePlace.{honest_between, puts_none}
 use Rattle.mirror_copy.proofs.Spared.{err_weaker, spared}
-use Rattle.mirror_copy.proofs.Asking.{asks_same, asks_weaker, larger_asks}
+use Rattle.mirror_places.proofs.Asking.{asks_same, asks_weaker}
+use Rattle.mirror_copy.proofs.NewFulls.{larger_asks}
 use Rattle.mirror_copy.proofs.Earlier.{conflict_keeps, conflict_later, kept_then}
 use Rattle.mirror_copy.proofs.Others.{later_blames}
 use Rattle.mirror_copy.proofs.Stays.{larger_stays, stays_later, stays_same}
 use Rattle.mirror_copy.proofs.PrunedMoments.{larger_leaves, leaves_later, leaves_same}
 use Rattle.mirror_copy.proofs.WholeMoments.{ends_later, larger_ends, larger_whole, whole_later, whole_same}
-use Rattle.mirror_copy.proofs.AskingOnce.{once_weaker}
+use Rattle.mirror_places.proofs.AskingOnce.{once_weaker}
 use Rattle.mirror_copy.proofs.Between.{once_larger}
-use Rattle.mirror_copy.specs.AskedOnce.{AsksOnce}
+use Rattle.mirror_places.specs.AskedOnce.{AsksOnce}
 use Rattle.std.specs.Prelude.{⊤}
 use Rattle.mirror_copy.proofs.copy.bring_larger.Goals as goal
 

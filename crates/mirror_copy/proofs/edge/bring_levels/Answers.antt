@@ -2,7 +2,7 @@ use Rattle.std.proofs.Common.{◌≡◌, ◌+◌, ◌-◌, ◌*◌, ◌/◌, ◌
 use Rattle.std.proofs.lemmas.Result.{err_from_is_err_and}
 use Rattle.tlog_shape.specs.Edge.{edge_index_of}
 use Rattle.mirror_copy.proofs.Growth.{kept_same}
-use Rattle.mirror_copy.proofs.Asking.{asks_same, asks_then}
+use Rattle.mirror_places.proofs.Asking.{asks_same, asks_then}
 use Rattle.mirror_copy.specs.Asked.{IsNewFull}
 use Rattle.mirror_copy.specs.Suffices.{IsTileRow}
 use Rattle.mirror_copy.proofs.OnePlace.{honest_between, puts_none, puts_then}
@@ -12,9 +12,10 @@ use Rattle.log_reader.specs.EdgeRows.{row_at}
 use Rattle.mirror_copy.specs.Edges.{IsEdgeBrought}
 use Rattle.mirror_copy.proofs.EdgeRows.{edge_first, edge_known, edge_left, edge_step, floor_mono, row_beyond, row_end, row_fits}
 use Rattle.mirror_copy.proofs.Earlier.{kept_then}
-use Rattle.mirror_copy.proofs.AskingOnce.{once_same}
+use Rattle.mirror_places.proofs.AskingOnce.{once_same}
 use Rattle.mirror_copy.proofs.Between.{once_longer, once_row}
-use Rattle.mirror_copy.specs.AskedOnce.{AsksOnce, IsFullBetween}
+use Rattle.mirror_places.specs.AskedOnce.{AsksOnce}
+use Rattle.mirror_copy.specs.Asked.{IsFullBetween}
 use Rattle.std.proofs.Math.Nat.{div-mul-le_self}
 use Rattle.mirror_copy.proofs.edge.bring_levels.Goals as goal
 

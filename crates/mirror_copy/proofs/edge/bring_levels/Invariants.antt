@@ -1,5 +1,6 @@
-use Rattle.mirror_copy.specs.AskedOnce.{AsksOnce, IsFullBetween}
-use Rattle.mirror_copy.specs.PlaceGets.{AsksPlaces}
+use Rattle.mirror_places.specs.AskedOnce.{AsksOnce}
+use Rattle.mirror_copy.specs.Asked.{IsFullBetween}
+use Rattle.mirror_places.specs.PlaceGets.{AsksPlaces}
 use Rattle.mirror_copy.specs.Asked.{IsNewFull}
 use Rattle.mirror_copy.specs.Taken.{PutsTaken}
 use Rattle.std.proofs.Common.{◌≡◌, ◌+◌, ◌-◌, ◌*◌, ◌^◌, ◌≤◌, ℕ, List}

@@ -6,20 +6,21 @@ use Rattle.mirror_sources.specs.Recorded.{KeepsRecord, AddsToRecord}
 use Rattle.mirror_copy.specs.Standing.{RecordsStands}
 use Rattle.log_reader.specs.Verified.{HasLeaves}
 use Rattle.log_reader.specs.EdgeRows.{row_at}
-use Rattle.mirror_copy.specs.Asked.{IsEdgeBundle, IsPathOrFull}
+use Rattle.mirror_copy.specs.Asked.{IsEdgeBundle}
+use Rattle.mirror_places.specs.Asked.{IsPathOrFull}
 use Rattle.std.specs.Prelude.{IsFalse, IsNone}
 use Rattle.tlog_tiles.specs.Bundle.{IsBundle}
 use Rattle.tlog_tiles.proofs.EdgeLemmas.{hashes_of}
 use Rattle.mirror_copy.specs.Suffices.{IsTileRow}
-use Rattle.mirror_copy.specs.TrueAnswers.{HasTrueLeaves}
+use Rattle.mirror_places.specs.TrueAnswers.{HasTrueLeaves}
 use Rattle.mirror_copy.proofs.Spared.{edge_bundle_true, edge_row_true, spared, spared_answer, true_leaves}
 use Rattle.mirror_copy.proofs.TipTruth.{bundle_begins, of_none, row_begins}
-use Rattle.mirror_copy.proofs.Asking.{asks_same, asks_weaker}
+use Rattle.mirror_places.proofs.Asking.{asks_same, asks_weaker}
 use Rattle.mirror_copy.proofs.NewFulls.{edge_bundle_asked}
 use Rattle.mirror_copy.proofs.Growth.{kept_same, left_none}
 use Rattle.mirror_copy.proofs.Finishing.{brings_last, last_left, last_none, last_some}
 use Rattle.mirror_copy.proofs.EmptyTips.{bundle_after, row_after}
-use Rattle.mirror_copy.proofs.AskingOnce.{once_same, once_weaker}
+use Rattle.mirror_places.proofs.AskingOnce.{once_same, once_weaker}
 use Rattle.mirror_copy.proofs.Between.{bundle_partial}
 use Rattle.mirror_copy.proofs.edge_bundle.bring_edge_bundle.Goals as goal
 

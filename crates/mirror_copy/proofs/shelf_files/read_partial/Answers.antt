@@ -1,7 +1,7 @@
 use Rattle.std.proofs.Common.{ℕ, List, None, Some, ap, sym, subst, ◌∙◌}
 use Rattle.mirror_folders.specs.Shelf.{RecordsRead}
 use Rattle.mirror_sources.specs.Honest.{true_bytes}
-use Rattle.mirror_copy.specs.Taken.{IsFirstOf}
+use Rattle.mirror_places.specs.Giving.{IsFirstOf}
 use Rattle.mirror_copy.proofs.ShelfReads.{part_cut, part_put, partial_cut, partial_none, partial_read}
 use Rattle.mirror_copy.proofs.shelf_files.read_partial.Goals as goal
 

@@ -5,7 +5,8 @@ use Rattle.mirror_copy.proofs.OnePlace.{honest_between}
 use Rattle.mirror_copy.proofs.Spared.{spared_last, spared_shelf}
 use Rattle.mirror_copy.proofs.EdgeRows.{edge_known, edge_left}
 use Rattle.mirror_copy.proofs.Growth.{kept_same}
-use Rattle.mirror_copy.proofs.Asking.{asks_same, asks_weaker, to_edge_asks}
+use Rattle.mirror_places.proofs.Asking.{asks_same, asks_weaker}
+use Rattle.mirror_copy.proofs.NewFulls.{to_edge_asks}
 use Rattle.mirror_copy.proofs.Others.{last_blames}
 use Rattle.mirror_copy.proofs.Finishing.{copy_brought, ends_brought, left_put, true_rows}
 use Rattle.mirror_copy.proofs.Between.{once_below, once_to_edge}

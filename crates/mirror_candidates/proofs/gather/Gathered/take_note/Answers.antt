@@ -1,4 +1,4 @@
-use Rattle.mirror_copy.specs.declared.place.PlaceAnswer.TheVariants.{File}
+use Rattle.mirror_places.specs.declared.place.PlaceAnswer.TheVariants.{File}
 use Rattle.mirror_candidates.proofs.Gathering.{gathers_added, gathers_passed}
 use Rattle.mirror_candidates.proofs.gather.Gathered.take_note.Goals as goal
 

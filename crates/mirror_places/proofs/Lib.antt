@@ -1,0 +1,9 @@
+pub mod Asking
+pub mod AskingOnce
+pub mod Getting
+pub mod EdgeLevels
+pub mod Prefixes
+pub mod Cutting
+pub mod Giving
+pub mod TrueAnswers
+pub mod TruePlaces

@@ -1,0 +1,30 @@
+-- The tiles in which the copy and the larger tree end. The answers of the places for them are kept.
+use Rattle.std.specs.Prelude.{◌≡◌, ◌⊎◌, ℕ, ◌<◌, ◌≤◌, List, length, get_or}
+use Rattle.tlog_shape.specs.Edge.{edge_index_of}
+use Rattle.tlog_tiles.specs.declared.paths.Path.{Path}
+use Rattle.tlog_tiles.specs.declared.paths.Path.TheVariants.{Checkpoint, Tile, Entries}
+use Rattle.mirror_places.specs.declared.end_tiles.EndTile.{EndTile}
+use Rattle.mirror_places.specs.declared.end_tiles.EndTiles.{EndTiles}
+use Rattle.mirror_places.specs.declared.places.Places.{Places}
+
+-- a tile, partial or full, in which a tree of one of two sizes ends: the one after the full tiles of its level
+abbrev pub IsEndTile : ℕ × ℕ → Path → Type 0
+IsEndTile sizes Checkpoint = ⊥
+IsEndTile sizes (Tile level index width) =
+    (level ≤ 7) × ((index ≡ edge_index_of sizes.0 level) ⊎ (index ≡ edge_index_of sizes.1 level))
+IsEndTile sizes (Entries index width) = ⊥
+
+-- one of the answers is that of the place of index k for the path
+pub record IsHeard (tiles : List EndTile) (k : ℕ) (path : Path) : Type 0 where
+  pub at : ℕ
+  pub listed : at < length tiles
+  pub is : (d : EndTile) → ((get_or tiles at d).place ≡ k) × ((get_or tiles at d).path ≡ path)
+
+-- if the path is that of such a tile, the answer of the place is kept
+abbrev pub IsKept : {S : Type 0} → Places S → ℕ → Path → Type 0
+IsKept places k path = IsEndTile places.ends.sizes path → IsHeard places.ends.tiles.items k path
+
+-- the two sizes are the same, and each answer that was kept still is
+pub record KeepsAnswers (old new : EndTiles) : Type 0 where
+  pub sizes_are : new.sizes ≡ old.sizes
+  pub heard : (k : ℕ) (path : Path) → IsHeard old.tiles.items k path → IsHeard new.tiles.items k path

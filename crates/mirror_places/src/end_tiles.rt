@@ -1,0 +1,130 @@
+//! The tiles in which two trees end, as places answered for them.
+ghost use Rattle.std.specs.Prelude.{◌≡◌, ◌↔◌, ◌<◌, IfNone, IfOk, IfSome, IsTrue, length};
+ghost use Rattle.mirror_places.specs.EndTiles.{IsEndTile, IsHeard, KeepsAnswers};
+
+use crate::place::PlaceAnswer;
+use std::alloc::{AllocError, Global};
+use tlog_shape::edge_index;
+use tlog_tiles::Path;
+
+/// What a place answered for a tile.
+#[derive(Drop)]
+pub(crate) struct EndTile {
+    place: usize,
+    path: Path,
+    answer: PlaceAnswer,
+}
+
+/// What the places answered in one bringing for the last tile of each level, partial or full, of the copy and of the larger tree.
+/// The proof that they contradict each other is made from these tiles. A place gives 24 of them at most, of 8,192 bytes at most.
+#[derive(Drop)]
+pub(crate) struct EndTiles {
+    alloc: Global,
+    sizes: (u64, u64),
+    tiles: Vec<EndTile>,
+}
+
+// A copy of an answer.
+fn copy_of(alloc: Global, answer: &PlaceAnswer) -> Result<PlaceAnswer, AllocError> {
+    match answer {
+        PlaceAnswer::File(bytes) => Ok(PlaceAnswer::File(Vec::from_slice(alloc, bytes)?)),
+        PlaceAnswer::NotFound => Ok(PlaceAnswer::NotFound),
+        PlaceAnswer::Failed => Ok(PlaceAnswer::Failed),
+    }
+}
+
+// Whether a tree of one of these sizes ends in the tile at a path.
+fn is_end_tile(sizes: (u64, u64), path: &Path) -> bool
+    ensures { IsTrue result ↔ IsEndTile sizes path.now }
+{
+    match path {
+        Path::Checkpoint => false,
+        Path::Tile { level, index, .. } => {
+            *level <= 7
+                && (*index == edge_index(sizes.0, *level) || *index == edge_index(sizes.1, *level))
+        }
+        Path::Entries { .. } => false,
+    }
+}
+
+impl EndTiles {
+    /// No answers.
+    pub(crate) fn new(alloc: Global) -> EndTiles {
+        EndTiles {
+            alloc,
+            sizes: (0, 0),
+            tiles: Vec::new(alloc),
+        }
+    }
+
+    /// The sizes of the two trees.
+    pub(crate) fn sizes(&self) -> (u64, u64)
+        ensures { result ≡ self.now.sizes }
+    {
+        self.sizes
+    }
+
+    /// Forgets all answers. From now on those for trees of these sizes are kept.
+    pub(crate) fn begin(&mut self, sizes: (u64, u64))
+        ensures { self.new.sizes ≡ sizes }
+    {
+        self.sizes = sizes;
+        self.tiles.clear();
+    }
+
+    /// Records that a place will be asked for a path, if that is the path of such a tile. The answer is where its answer belongs.
+    /// Until it is there, the place counts as one that failed.
+    pub(crate) fn note(&mut self, place: usize, path: &Path) -> Result<Option<usize>, AllocError>
+        ensures kept { KeepsAnswers self.old self.new }
+        ensures heard { IfOk result (λ at. IsEndTile self.old.sizes path.now
+            → IsHeard self.new.tiles.items place path.now) }
+    {
+        if !is_end_tile(self.sizes, path) {
+            return Ok(None);
+        }
+        let at = self.tiles.len();
+        self.tiles.push(EndTile {
+            place,
+            path: *path,
+            answer: PlaceAnswer::Failed,
+        })?;
+        Ok(Some(at))
+    }
+
+    /// Keeps a copy of an answer where it belongs.
+    pub(crate) fn keep(&mut self, at: Option<usize>, answer: &PlaceAnswer) -> Result<(), AllocError>
+        ensures { KeepsAnswers self.old self.new }
+    {
+        if let Some(i) = at {
+            let copy = copy_of(self.alloc, answer)?;
+            if i < self.tiles.len() {
+                self.tiles[i].answer = copy;
+            }
+        }
+        Ok(())
+    }
+
+    // The index of the answer of a place for a path.
+    fn index_of(&self, place: usize, path: &Path) -> Option<usize>
+        ensures none { IfNone result (¬ IsHeard self.now.tiles.items place path.now) }
+        ensures within { IfSome result (λ i. i < length self.now.tiles.items) }
+    {
+        for i in 0..self.tiles.len() {
+            if self.tiles[i].place == place && self.tiles[i].path == *path {
+                return Some(i);
+            }
+        }
+        None
+    }
+
+    /// A copy of what a place answered for a path. None: it was not asked.
+    pub(crate) fn find(&self, place: usize, path: &Path) -> Result<Option<PlaceAnswer>, AllocError>
+        ensures { IfOk result (λ found. IfNone found
+            (¬ IsHeard self.now.tiles.items place path.now)) }
+    {
+        match self.index_of(place, path) {
+            Some(i) => Ok(Some(copy_of(self.alloc, &self.tiles[i].answer)?)),
+            None => Ok(None),
+        }
+    }
+}
