@@ -4,19 +4,19 @@ use Rattle.std.proofs.Math.ListN.{set}
 use Rattle.std.proofs.lemmas.Bool.{cases_lt}
 use Rattle.std.proofs.lemmas.List.{get_or-set_same, get_or-set_other, get_or_default, get_or_append_left, length-set, nil_from_length}
 use Rattle.std.proofs.Math.Seq.{get_or-append_seam}
-use Rattle.tlog_tiles.specs.declared.paths.Path.{Path}
 use Rattle.std.proofs.lemmas.List.Sorted.{All-permutation, Contains-permutation, IsPermutation-map, length_permutation}
 use Rattle.std.specs.List.Sorted.{IsPermutation, IsSorted}
 use Rattle.std.specs.Prelude.{IfErr, IfOk}
 use Rattle.tlog_text.specs.Answers.{seen}
+use Rattle.tlog_tiles.specs.declared.paths.Path.{Path}
 use Rattle.signed_note.specs.Keys.{Key}
+use Rattle.mirror_places.specs.declared.place.PlaceAnswer.{PlaceAnswer}
 use Rattle.mirror_candidates.specs.Asking.{AreAnswers, FindsCandidates, GivesCandidates, GivesNone, IsAnswer, option_or}
-use Rattle.mirror_candidates.specs.Candidates.{turn_cmp, note_of}
+use Rattle.mirror_candidates.specs.Candidates.{note_of, turn_cmp}
 use Rattle.mirror_candidates.specs.Gathering.{AreCandidatesOf, Gathers, IsGiven}
 use Rattle.mirror_candidates.specs.declared.candidate.Candidate.{Candidate}
 use Rattle.mirror_candidates.specs.declared.fault.CandidateFault.{CandidateFault}
 use Rattle.mirror_candidates.specs.declared.fault.CandidateFault.TheVariants as follow
-use Rattle.mirror_places.specs.declared.place.PlaceAnswer.{PlaceAnswer}
 
 module _ {S : Type 0} (may : S → Path → Option (List ℕ) → Type 0) (failed : S → ℕ) (asked : S → Option (List Path)) where
   abbrev Answer : S → S → PlaceAnswer → Type 0

@@ -1,7 +1,5 @@
 -- A consistency proof that is accepted for the root of a list has the root of the list's first entries.
-use Rattle.std.proofs.Common.{subst, Bool, true, false, inl, inr, ◌≡◌, ℕ, ◌+◌, ◌-◌, ◌*◌, ◌<◌, ◌≤◌, List, [], ◌∷◌, ◌++◌}
-use Rattle.std.proofs.Common.{length, take, drop, Option, Some, None, sym, refl, ap, ◌∙◌, arith, length-take}
-use Rattle.std.proofs.Common.{length-drop, take-append-drop, length-append}
+use Rattle.std.proofs.Common.{subst, Bool, true, false, inl, inr, ◌≡◌, ℕ, ◌+◌, ◌-◌, ◌*◌, ◌<◌, ◌≤◌, List, [], ◌∷◌, ◌++◌, length, take, drop, Option, Some, None, sym, refl, ap, ◌∙◌, arith, length-take, length-drop, take-append-drop, length-append}
 use Rattle.std.proofs.lemmas.List.{take-take, take_all}
 use Rattle.std.proofs.Math.Seq.{take-add}
 use Rattle.std.proofs.lemmas.Bool.{cases_lt}
@@ -13,8 +11,8 @@ use Rattle.tlog_hash.specs.Tree.{Join, size_of, mth, strings}
 use Rattle.tlog_hash.proofs.Trees.{induction, mth-append, length-mth, left-strings, right-strings, join-string}
 use Rattle.tlog_hash.proofs.PairStrings.{left_is, right_is}
 use Rattle.tlog_hash.specs.Shape.{shape}
-use Rattle.tlog_proof.specs.Consistency.{at_end, both_right, both_left, cons_in, IsHashedBoth}
 use Rattle.tlog_hash.proofs.Shapes.{shape-one, shape-join, size_of-shape}
+use Rattle.tlog_proof.specs.Consistency.{at_end, both_right, both_left, cons_in, IsHashedBoth}
 use Rattle.tlog_proof.proofs.Inclusions.{mapped}
 use Rattle.tlog_proof.proofs.Consistencies.{cons-one, cons-left, cons-right, cons-short, cons-whole}
 

@@ -8,18 +8,18 @@ use Rattle.std.proofs.lemmas.Bool.{cases_lt}
 use Rattle.std.proofs.lemmas.List.{get_or_append_left, nil_from_length}
 use Rattle.std.proofs.lemmas.List.Elements.{All-weaker, Contains-append_left, Contains-push, Contains-push_cases}
 use Rattle.std.proofs.lemmas.List.Sorted.{All-permutation, Contains-permutation, IsPermutation-map, length_permutation}
-use Rattle.signed_note.specs.Keys.{Key}
 use Rattle.tlog_tiles.specs.declared.paths.Path.{Path}
 use Rattle.tlog_tiles.specs.declared.paths.Path.TheVariants.{Checkpoint}
+use Rattle.signed_note.specs.Keys.{Key}
 use Rattle.mirror_places.specs.declared.place.Place.{Place}
 use Rattle.mirror_places.specs.declared.places.Places.{Places}
+use Rattle.mirror_places.specs.declared.place.PlaceAnswer.{PlaceAnswer}
+use Rattle.mirror_places.specs.declared.place.PlaceAnswer.TheVariants.{File, NotFound, Failed}
 use Rattle.mirror_candidates.specs.Asking.{option_or}
 use Rattle.mirror_candidates.specs.Requests.{AsksAny, MayGive, PlaceFails}
 use Rattle.mirror_candidates.specs.GatheredFrom.{AnswerEach, AreCandidates, GathersFrom, GiveCandidates, GiveNone, GiveNoneFor, MayAnswer}
 use Rattle.mirror_candidates.specs.Gathering.{AreCandidatesOf, Gathers, IsFirstReason, IsGiven, IsNote, IsReason}
 use Rattle.mirror_candidates.specs.Candidates.{note_of}
-use Rattle.mirror_places.specs.declared.place.PlaceAnswer.{PlaceAnswer}
-use Rattle.mirror_places.specs.declared.place.PlaceAnswer.TheVariants.{File, NotFound, Failed}
 use Rattle.mirror_candidates.specs.declared.candidate.Candidate.{Candidate}
 use Rattle.mirror_candidates.specs.declared.fault.CandidateFault.{CandidateFault}
 use Rattle.mirror_candidates.specs.declared.fault.CandidateFault.TheVariants as fault

@@ -3,7 +3,7 @@ use Rattle.std.proofs.Common.{◌≡◌, inl, inr, ℕ, ◌<◌, List, [], ◌�
 use Rattle.std.specs.List.{insert}
 use Rattle.std.proofs.lemmas.List.Elements.{Contains-append_right}
 use Rattle.std.proofs.lemmas.List.Sorted.{Contains-permutation, IsPermutation-insert}
-use Rattle.mirror_candidates.specs.Lines.{IsInLine, IsInSomeLine, HasLineOf, KeepsLines}
+use Rattle.mirror_candidates.specs.Lines.{HasLineOf, IsInLine, IsInSomeLine, KeepsLines}
 use Rattle.mirror_candidates.specs.Candidates.{IsOnePoint, IsSame}
 use Rattle.mirror_candidates.specs.declared.candidate.Candidate.{Candidate}
 use Rattle.mirror_candidates.specs.declared.fork_line.ForkLine.{ForkLine}

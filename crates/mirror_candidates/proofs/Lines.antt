@@ -11,8 +11,8 @@ use Rattle.std.proofs.lemmas.List.Elements.{All-append, All-cons, All-drop, All-
 use Rattle.tlog_proof.specs.declared.proof.Proof.{Proof}
 use Rattle.mirror_model.specs.Forks.{point_cmp}
 use Rattle.mirror_candidates.specs.Adding.{AddsFork, AddsLine, IsForkLine, IsPlaceOf}
-use Rattle.mirror_candidates.specs.Lines.{AreLines, HasCandidate, HasSmallFirst, IsFirst, IsFirstOrListed, IsListed, fork_line_cmp, HasLineOf}
-use Rattle.mirror_candidates.specs.Candidates.{IsOnePoint, point_of, IsSame}
+use Rattle.mirror_candidates.specs.Lines.{AreLines, HasCandidate, HasLineOf, HasSmallFirst, IsFirst, IsFirstOrListed, IsListed, fork_line_cmp}
+use Rattle.mirror_candidates.specs.Candidates.{IsOnePoint, IsSame, point_of}
 use Rattle.mirror_candidates.specs.Shown.{IsLine}
 use Rattle.mirror_candidates.specs.declared.candidate.Candidate.{Candidate}
 use Rattle.mirror_candidates.specs.declared.fork_line.ForkLine.{ForkLine}

@@ -5,10 +5,10 @@ use Rattle.std.specs.Prelude.{IfOk}
 use Rattle.std.proofs.lemmas.List.Elements.{All-nil, All-push, All-weaker}
 use Rattle.std.proofs.lemmas.List.Sorted.{All-permutation}
 use Rattle.signed_note.specs.Keys.{Key}
-use Rattle.mirror_candidates.specs.Candidates.{IsCandidate, IsCandidateOf, turn_cmp, note_of}
+use Rattle.mirror_places.specs.declared.place.PlaceAnswer.{PlaceAnswer}
+use Rattle.mirror_candidates.specs.Candidates.{IsCandidate, IsCandidateOf, note_of, turn_cmp}
 use Rattle.mirror_candidates.specs.GatheredFrom.{IsOnly}
 use Rattle.mirror_candidates.specs.Gathering.{Gathers, IsGiven}
-use Rattle.mirror_places.specs.declared.place.PlaceAnswer.{PlaceAnswer}
 use Rattle.mirror_candidates.specs.declared.candidate.Candidate.{Candidate}
 use Rattle.mirror_candidates.specs.declared.fault.CandidateFault.{CandidateFault}
 

@@ -1,6 +1,6 @@
 -- Candidates of one size and root.
 use Rattle.std.proofs.Common.{◌≡◌, sym, ◌∙◌}
-use Rattle.mirror_candidates.specs.Candidates.{IsOnePoint, point_of, IsSame}
+use Rattle.mirror_candidates.specs.Candidates.{IsOnePoint, IsSame, point_of}
 use Rattle.mirror_candidates.specs.declared.candidate.Candidate.{Candidate}
 
 pub one_back : (a b : Candidate) → IsOnePoint a b → IsOnePoint b a

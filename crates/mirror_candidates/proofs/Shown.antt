@@ -5,7 +5,7 @@ use Rattle.std.specs.List.{insert}
 use Rattle.tlog_proof.specs.declared.proof.Proof.{Proof}
 use Rattle.mirror_candidates.specs.Forks.{ShowsFork}
 use Rattle.mirror_candidates.specs.Shown.{AreFork, IsLine, ShowsEach, ShowsLine}
-use Rattle.mirror_candidates.specs.Candidates.{point_of, IsSame}
+use Rattle.mirror_candidates.specs.Candidates.{IsSame, point_of}
 use Rattle.mirror_candidates.specs.declared.candidate.Candidate.{Candidate}
 use Rattle.mirror_candidates.specs.declared.fork_line.ForkLine.{ForkLine}
 use Rattle.mirror_candidates.specs.Adding.{AddsFork, AddsLine, IsForkLine}

@@ -1,16 +1,16 @@
 -- Each place gets one request for its checkpoint, and answers.
 use Rattle.std.specs.Prelude.{◌≡◌, ℕ, ◌<◌, ◌≤◌, ◌≢◌, List, [], ◌∷◌, length, get_or, Option, Some, None, Result, Ok, Err, ⊤}
 use Rattle.std.specs.List.Sorted.{IsSorted}
-use Rattle.signed_note.specs.Keys.{Key}
 use Rattle.tlog_tiles.specs.declared.paths.Path.{Path}
 use Rattle.tlog_tiles.specs.declared.paths.Path.TheVariants.{Checkpoint}
+use Rattle.signed_note.specs.Keys.{Key}
 use Rattle.mirror_sources.specs.Source.{StaysWithin}
 use Rattle.mirror_sources.specs.Recorded.{AddsToRecord, one_more}
+use Rattle.mirror_places.specs.declared.place.PlaceAnswer.{PlaceAnswer}
+use Rattle.mirror_places.specs.declared.place.PlaceAnswer.TheVariants.{File, NotFound, Failed}
 use Rattle.mirror_candidates.specs.Candidates.{turn_cmp}
 use Rattle.mirror_candidates.specs.Gathering.{AreCandidatesOf, IsFirstReason}
 use Rattle.mirror_candidates.specs.declared.candidate.Candidate.{Candidate}
-use Rattle.mirror_places.specs.declared.place.PlaceAnswer.{PlaceAnswer}
-use Rattle.mirror_places.specs.declared.place.PlaceAnswer.TheVariants.{File, NotFound, Failed}
 use Rattle.mirror_candidates.specs.declared.fault.CandidateFault.{CandidateFault}
 use Rattle.mirror_candidates.specs.declared.fault.CandidateFault.TheVariants.{NoCheckpoint, Head, Source, OutOfMemory}
 

@@ -1,20 +1,20 @@
 -- The candidates of the places of a run, or the reason why there are none.
 use Rattle.std.specs.Prelude.{◌≡◌, ◌≢◌, ℕ, ◌<◌, List, [], ◌∷◌, Contains, get_or, length, Option, Some, None, Err, ⊤}
-use Rattle.signed_note.specs.Keys.{Key}
 use Rattle.tlog_tiles.specs.declared.paths.Path.{Path}
 use Rattle.tlog_tiles.specs.declared.paths.Path.TheVariants.{Checkpoint}
+use Rattle.signed_note.specs.Keys.{Key}
 use Rattle.mirror_model.specs.Refusals.{ReadsHead}
 use Rattle.mirror_model.specs.declared.fault.TakeFault.{TakeFault}
 use Rattle.mirror_model.specs.declared.fault.TakeFault.TheVariants as take
 use Rattle.mirror_places.specs.PlaceGets.{AnswersGet}
 use Rattle.mirror_places.specs.declared.place.Place.{Place}
 use Rattle.mirror_places.specs.declared.places.Places.{Places}
+use Rattle.mirror_places.specs.declared.place.PlaceAnswer.{PlaceAnswer}
+use Rattle.mirror_places.specs.declared.place.PlaceAnswer.TheVariants.{Failed}
 use Rattle.mirror_candidates.specs.Asking.{option_or}
 use Rattle.mirror_candidates.specs.Requests.{MayGive, PlaceFails}
 use Rattle.mirror_candidates.specs.Candidates.{IsCandidateOf}
 use Rattle.mirror_candidates.specs.Gathering.{AreCandidatesOf, Gathers, Gave, IsFirstReason}
-use Rattle.mirror_places.specs.declared.place.PlaceAnswer.{PlaceAnswer}
-use Rattle.mirror_places.specs.declared.place.PlaceAnswer.TheVariants.{Failed}
 use Rattle.mirror_candidates.specs.declared.candidate.Candidate.{Candidate}
 use Rattle.mirror_candidates.specs.declared.fault.CandidateFault.{CandidateFault}
 use Rattle.mirror_candidates.specs.declared.fault.CandidateFault.TheVariants as candidate

@@ -5,10 +5,10 @@ use Rattle.mirror_model.specs.Heads.{IsOpenHead}
 use Rattle.mirror_model.specs.Refusals.{ReadsHead}
 use Rattle.mirror_model.specs.declared.fault.TakeFault.{TakeFault}
 use Rattle.mirror_model.specs.declared.fault.TakeFault.TheVariants.{OutOfMemory}
-use Rattle.mirror_candidates.specs.Candidates.{IsCandidateOf, note_of}
-use Rattle.mirror_candidates.specs.declared.candidate.Candidate.{Candidate}
 use Rattle.mirror_places.specs.declared.place.PlaceAnswer.{PlaceAnswer}
 use Rattle.mirror_places.specs.declared.place.PlaceAnswer.TheVariants.{File, NotFound, Failed}
+use Rattle.mirror_candidates.specs.Candidates.{IsCandidateOf, note_of}
+use Rattle.mirror_candidates.specs.declared.candidate.Candidate.{Candidate}
 use Rattle.mirror_candidates.specs.declared.fault.CandidateFault.{CandidateFault}
 use Rattle.mirror_candidates.specs.declared.fault.CandidateFault.TheVariants as follow
 

@@ -11,7 +11,7 @@ use tlog_hash::Hash;
 
 /// A note that opens under the keys and whose text is a checkpoint of the origin. Candidates rise in the order of their turns: the
 /// greatest size first, then the least root, then the least note.
-#[derive(Debug, Drop, PartialEq, Eq, PartialOrd, Ord)]
+#[derive(Drop, PartialEq, Eq, PartialOrd, Ord)]
 pub struct Candidate {
     /// The log's number of entries.
     pub size: Reverse<u64>,

@@ -8,8 +8,8 @@ ghost use Rattle.mirror_candidates.specs.Requests.{AsksAny, IsGivenOrMayGive, Ma
 use crate::candidate::{Candidate, candidate_of};
 use crate::fault::CandidateFault;
 use crate::gather::{Gathered, in_turn};
-use mirror_places::Places;
 use mirror_model::TakeFault;
+use mirror_places::Places;
 use mirror_sources::Source;
 use signed_note::Verifier;
 use std::alloc::{AllocError, Global};

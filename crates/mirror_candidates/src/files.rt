@@ -4,7 +4,7 @@ ghost use Rattle.mirror_places.specs.AskedOnce.{AsksMore};
 ghost use Rattle.mirror_places.specs.EndTiles.{IsEndTile};
 ghost use Rattle.mirror_candidates.specs.Requests.{AsksAny};
 
-use mirror_places::{PlaceAnswer, Places};
+use mirror_places::{PlaceAnswer, Places, full_of};
 use mirror_sources::{Source, SourceFault};
 use std::alloc::{AllocError, Global};
 use tlog_shape::{edge_index, edge_width};
@@ -52,24 +52,6 @@ impl ReadFiles {
             alloc,
             files: Vec::new(alloc),
         }
-    }
-}
-
-// The path of the full file with the same level and index.
-fn full_of(path: &Path) -> Path
-    ensures { (sizes : ℕ × ℕ) → IsEndTile sizes path.now → IsEndTile sizes result }
-{
-    match path {
-        Path::Checkpoint => Path::Checkpoint,
-        Path::Tile { level, index, .. } => Path::Tile {
-            level: *level,
-            index: *index,
-            width: 256,
-        },
-        Path::Entries { index, .. } => Path::Entries {
-            index: *index,
-            width: 256,
-        },
     }
 }
 

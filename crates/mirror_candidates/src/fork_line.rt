@@ -13,7 +13,7 @@ use std::cmp::Ordering;
 use tlog_proof::Proof;
 
 /// Two checkpoints that no log has both made. The one with the lesser size, then root, is first.
-#[derive(Drop, PartialEq, Eq)]
+#[derive(Drop)]
 pub struct ForkLine {
     /// The smaller checkpoint.
     pub small: Candidate,

@@ -8,8 +8,8 @@ ghost use Rattle.mirror_candidates.specs.Gathering.{Gathers, or_first};
 
 use crate::candidate::{Candidate, candidate_of};
 use crate::fault::CandidateFault;
-use mirror_places::PlaceAnswer;
 use mirror_model::TakeFault;
+use mirror_places::PlaceAnswer;
 use signed_note::Verifier;
 use std::alloc::{AllocError, Global};
 

@@ -10,7 +10,7 @@ ghost use Rattle.log_reader.specs.Holding.{ReadsLog};
 ghost use Rattle.mirror_places.specs.AskedOnce.{AsksMore};
 ghost use Rattle.mirror_candidates.specs.Agreeing.{Agrees};
 ghost use Rattle.mirror_candidates.specs.Candidates.{point_of};
-ghost use Rattle.mirror_candidates.specs.Checked.{HasFirstRoot, IsCheckedFork};
+ghost use Rattle.mirror_candidates.specs.Checked.{HasFirstRoot};
 ghost use Rattle.mirror_candidates.specs.Requests.{AsksAny};
 ghost use Rattle.mirror_candidates.specs.Shown.{ShowsLarger};
 
@@ -93,7 +93,7 @@ fn checked_proof<H: TreeHash, S: Source>(
     ensures honest { ReadsLog H.digest large.now.size.0 large.now.root (S.may_answer files.old)
         result (λ _ _. ⊤) }
     ensures fork { IfOk result (λ found. IfSome found
-        (IsCheckedFork H.digest small.now large.now)) }
+        (λ proof. ShowsLarger H.digest small.now large.now (Some proof))) }
     ensures agrees { IfOk result (λ found. found ≡ None
         → Agrees H.digest (point_of small.now) (point_of large.now)) }
 {
@@ -139,13 +139,7 @@ pub fn fork_proof<H: TreeHash, S: Source>(
     if small.size.0 == 0 || small.size.0 >= large.size.0 {
         return Ok(None);
     }
-    match checked_proof::<H, S>(alloc, files, small, large)? {
-        Some(proof) => {
-            see_hashes(&proof);
-            Ok(Some(proof))
-        }
-        None => Ok(None),
-    }
+    checked_proof::<H, S>(alloc, files, small, large)
 }
 
 /// The proof that a larger candidate contradicts a smaller one, made from files of one of the places. None: no place has these files. For

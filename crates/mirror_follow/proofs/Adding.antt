@@ -1,12 +1,12 @@
 -- Fork lines are added, turn after turn.
 use Rattle.std.proofs.Common.{Result, Ok, Err, OnOk, ◌≡◌, ◌≢◌, inr, List, [], ◌∷◌, ◌++◌, Contains, Option, Some, None, IfSome, refl, sym, subst}
 use Rattle.mirror_candidates.specs.Adding.{AddsFork}
-use Rattle.mirror_follow.specs.Adding.{AddsLinesOf, AddsOther}
 use Rattle.mirror_candidates.specs.Lines.{AreLines, IsFirstOrListed}
 use Rattle.mirror_candidates.specs.Candidates.{IsOnePoint}
 use Rattle.mirror_candidates.specs.declared.candidate.Candidate.{Candidate}
 use Rattle.mirror_candidates.specs.declared.fork_line.ForkLine.{ForkLine}
 use Rattle.mirror_candidates.proofs.Lines.{known_more, lines_added, lines_more, listed_now}
+use Rattle.mirror_follow.specs.Adding.{AddsLinesOf, AddsOther}
 
 module _ (first : Option Candidate) where
   -- after the turn of a candidate that is a fork with the copy

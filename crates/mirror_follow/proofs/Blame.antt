@@ -2,12 +2,12 @@
 use Rattle.std.proofs.Common.{◌≡◌, inl, ℕ, List, Option, subst}
 use Rattle.tlog_tiles.specs.declared.paths.Path.{Path}
 use Rattle.mirror_folders.specs.Shelf.{Put}
+use Rattle.mirror_places.specs.PlaceGets.{APlaceFailed}
+use Rattle.mirror_places.specs.declared.places.Places.{Places}
 use Rattle.mirror_copy.specs.Asked.{MayBeAsked}
 use Rattle.mirror_copy.specs.AskedForCopy.{AsksFiles, AsksForCopy, AsksNothing, BlamesFailed}
-use Rattle.mirror_places.specs.PlaceGets.{APlaceFailed}
 use Rattle.mirror_copy.specs.declared.fault.BringFault.{BringFault}
 use Rattle.mirror_copy.specs.declared.fault.BringFault.TheVariants as bring
-use Rattle.mirror_places.specs.declared.places.Places.{Places}
 use Rattle.mirror_candidates.specs.Requests.{AsksAny, PlaceFails}
 use Rattle.mirror_candidates.proofs.Requests.{any_weaker}
 

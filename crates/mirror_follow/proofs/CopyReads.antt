@@ -4,9 +4,9 @@ use Rattle.std.specs.Prelude.{⊤}
 use Rattle.std.proofs.lemmas.Bool.{false≢true}
 use Rattle.tlog_hash.specs.Tree.{mth}
 use Rattle.tlog_tiles.specs.declared.paths.Path.TheVariants.{Checkpoint}
+use Rattle.mirror_model.specs.Heads.{IsHead}
 use Rattle.mirror_sources.specs.Recorded.{KeepsRecord}
 use Rattle.mirror_folders.specs.Shelf.{Put, RecordsRead, RecordsSome, Stands}
-use Rattle.mirror_model.specs.Heads.{IsHead}
 use Rattle.log_reader.specs.Holding.{IsReaderOf}
 use Rattle.log_reader.specs.Ways.{Reader}
 use Rattle.copy_reader.specs.Faults.{CountsRead}
@@ -18,11 +18,11 @@ use Rattle.copy_reader.proofs.WholeLaws.{copies_are_whole}
 use Rattle.mirror_copy.specs.Pruned.{IsPrunedCopy}
 use Rattle.mirror_copy.proofs.PrunedFiles.{copies_are_pruned}
 use Rattle.mirror_copy.proofs.TipReads.{stands_has, stands_one}
+use Rattle.mirror_candidates.specs.Candidates.{note_of}
+use Rattle.mirror_candidates.specs.declared.candidate.Candidate.{Candidate}
 use Rattle.mirror_follow.specs.Blame.{CountsFollow, CountsFollowFault, by_copy}
 use Rattle.mirror_follow.specs.Ending.{EndsRun}
-use Rattle.mirror_candidates.specs.Candidates.{note_of}
 use Rattle.mirror_follow.specs.Standing.{HasStanding, HoldsNoCopy, LacksLog}
-use Rattle.mirror_candidates.specs.declared.candidate.Candidate.{Candidate}
 use Rattle.mirror_follow.specs.declared.fault.FollowFault.{FollowFault}
 
 -- ---- faults of a read

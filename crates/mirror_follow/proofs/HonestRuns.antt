@@ -4,31 +4,31 @@ use Rattle.std.proofs.lemmas.List.{append-nil, nil_from_length}
 use Rattle.std.proofs.Math.Seq.{take-append_seam}
 use Rattle.std.specs.List.{Contains}
 use Rattle.std.specs.List.Sorted.{IsSorted}
-use Rattle.signed_note.specs.Keys.{Key}
 use Rattle.tlog_hash.specs.Tree.{mth}
 use Rattle.tlog_tiles.specs.declared.paths.Path.{Path}
+use Rattle.signed_note.specs.Keys.{Key}
 use Rattle.mirror_sources.specs.Recorded.{KeepsRecord}
 use Rattle.mirror_folders.specs.Shelf.{Put}
+use Rattle.mirror_places.specs.declared.places.Places.{Places}
 use Rattle.mirror_copy.specs.Moments.{InTheEnd}
 use Rattle.mirror_copy.specs.OneHonest.{IsHonestFor}
-use Rattle.mirror_places.specs.declared.places.Places.{Places}
 use Rattle.mirror_candidates.specs.Asking.{option_or}
 use Rattle.mirror_candidates.specs.Requests.{AsksAny}
-use Rattle.mirror_candidates.specs.Candidates.{turn_cmp, IsOnePoint}
-use Rattle.mirror_follow.specs.Ending.{EndsAt}
+use Rattle.mirror_candidates.specs.Candidates.{IsOnePoint, turn_cmp}
 use Rattle.mirror_candidates.specs.GatheredFrom.{AreCandidates, GiveCandidates, GiveNone, GiveNoneFor, LacksCandidates, RefusesGiven}
-use Rattle.mirror_follow.specs.OneHonest.{HasNone, HasPart, HasReached, HasSize, HoldsPartOrNone, IsFirstPoint, IsHonestAmong, IsHonestFirst, IsHonestListed, IsHonestRun, IsOfShelfOrMemory, KeepsPoint, ReachesLog, ReachesSize}
-use Rattle.mirror_follow.specs.Standing.{HadCopy, HoldsNoCopy, IsCopyOfRun, IsCopyRead, PrunedAs, PrunedUnder, size_of_copy}
-use Rattle.mirror_follow.specs.Taken.{IsLargerThan}
 use Rattle.mirror_candidates.specs.declared.candidate.Candidate.{Candidate}
 use Rattle.mirror_candidates.specs.declared.fault.CandidateFault.{CandidateFault}
 use Rattle.mirror_candidates.specs.declared.fault.CandidateFault.TheVariants as none
+use Rattle.mirror_candidates.proofs.Requests.{any_same}
+use Rattle.mirror_follow.specs.Ending.{EndsAt}
+use Rattle.mirror_follow.specs.OneHonest.{HasNone, HasPart, HasReached, HasSize, HoldsPartOrNone, IsFirstPoint, IsHonestAmong, IsHonestFirst, IsHonestListed, IsHonestRun, IsOfShelfOrMemory, KeepsPoint, ReachesLog, ReachesSize}
+use Rattle.mirror_follow.specs.Standing.{HadCopy, HoldsNoCopy, IsCopyOfRun, IsCopyRead, PrunedAs, PrunedUnder, size_of_copy}
+use Rattle.mirror_follow.specs.Taken.{IsLargerThan}
 use Rattle.mirror_follow.specs.Blame.{of_candidates}
 use Rattle.mirror_follow.specs.declared.fault.FollowFault.{FollowFault}
 use Rattle.mirror_follow.specs.declared.fault.FollowFault.TheVariants as fault
 use Rattle.mirror_follow.specs.declared.report.Followed.{Followed}
 use Rattle.mirror_follow.specs.declared.run.Run.{Run}
-use Rattle.mirror_candidates.proofs.Requests.{any_same}
 use Rattle.mirror_follow.proofs.Ending.{ends_so}
 use Rattle.mirror_follow.proofs.OneHonest.{honest_part, never_ends, not_refused}
 

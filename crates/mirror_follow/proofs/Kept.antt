@@ -1,4 +1,4 @@
--- Calls in sequence that put nothing, and candidates that open.
+-- Candidates that are checkpoints of the origin, and runs under their notes.
 use Rattle.std.proofs.Common.{◌≡◌, ℕ, ◌<◌, length, get_or, List, [], All, Option, map, sym, subst}
 use Rattle.std.proofs.lemmas.List.Elements.{All-get_or, All-nil, All-weaker}
 use Rattle.signed_note.specs.Keys.{Key}

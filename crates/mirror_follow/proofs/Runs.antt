@@ -16,11 +16,11 @@ use Rattle.log_paths.specs.FileLaws.{IsFileOf}
 use Rattle.log_paths.specs.Files.{served_bytes}
 use Rattle.log_paths.proofs.AllFiles.{files_are_all}
 use Rattle.log_paths.proofs.Standing.{stands_more}
+use Rattle.mirror_places.proofs.Prefixes.{within_more}
 use Rattle.mirror_copy.specs.Copies.{IsCopy}
 use Rattle.mirror_copy.specs.Moments.{AtEachMoment, IsGrownCopy, KeepsCopy, PutsBeyond}
 use Rattle.mirror_copy.specs.Pruned.{IsGrownPruned, IsPrunedCopy, LeavesPruned}
 use Rattle.mirror_copy.proofs.Growth.{adds_then}
-use Rattle.mirror_places.proofs.Prefixes.{within_more}
 use Rattle.mirror_copy.proofs.WholeMoments.{at_kept, beyond_same, whole_same}
 use Rattle.mirror_candidates.specs.Candidates.{note_of}
 use Rattle.mirror_candidates.specs.declared.candidate.Candidate.{Candidate}

@@ -3,10 +3,10 @@ use Rattle.std.proofs.Common.{◌≡◌, ◌≢◌, ◌⊎◌, inl, inr, ℕ, �
 use Rattle.std.proofs.lemmas.Bool.{cases_lt}
 use Rattle.tlog_proof.specs.declared.proof.Proof.{Proof}
 use Rattle.mirror_candidates.specs.Shown.{AreFork, ShowsEach}
-use Rattle.mirror_follow.specs.Turning.{ShowsTurn}
 use Rattle.mirror_candidates.specs.declared.candidate.Candidate.{Candidate}
-use Rattle.mirror_follow.specs.declared.report.Followed.{Followed}
 use Rattle.mirror_candidates.specs.declared.fork_line.ForkLine.{ForkLine}
+use Rattle.mirror_follow.specs.Turning.{ShowsTurn}
+use Rattle.mirror_follow.specs.declared.report.Followed.{Followed}
 use Rattle.mirror_follow.specs.declared.run.Run.{Run}
 use Rattle.mirror_follow.specs.declared.run.Outcome.{Outcome}
 

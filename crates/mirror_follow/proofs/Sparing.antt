@@ -5,28 +5,28 @@ use Rattle.std.specs.List.Sorted.{IsSorted}
 use Rattle.tlog_tiles.specs.declared.paths.Path.{Path}
 use Rattle.mirror_sources.specs.Recorded.{KeepsRecord}
 use Rattle.mirror_folders.specs.Shelf.{Put}
+use Rattle.mirror_places.specs.declared.places.Places.{Places}
 use Rattle.mirror_copy.specs.AskedForCopy.{AsksFiles, AsksForCopy, AsksNothing, BlamesFailed}
 use Rattle.mirror_copy.specs.Pruned.{HadSize}
 use Rattle.mirror_copy.specs.declared.fault.BringFault.{BringFault}
 use Rattle.mirror_copy.specs.declared.fault.BringFault.TheVariants as bring
-use Rattle.mirror_places.specs.declared.places.Places.{Places}
 use Rattle.mirror_candidates.specs.Asking.{option_or}
 use Rattle.mirror_candidates.specs.Requests.{AsksAny}
-use Rattle.mirror_candidates.specs.Candidates.{turn_cmp, note_of}
-use Rattle.mirror_follow.specs.Ending.{EndsRun, IsFirstFault, KeepsFault, fault_after, or_fault}
+use Rattle.mirror_candidates.specs.Candidates.{note_of, turn_cmp}
 use Rattle.mirror_candidates.specs.declared.fault.CandidateFault.{CandidateFault}
 use Rattle.mirror_candidates.specs.declared.fault.CandidateFault.TheVariants as none
+use Rattle.mirror_candidates.specs.declared.candidate.Candidate.{Candidate}
+use Rattle.mirror_candidates.proofs.Requests.{any_same, any_then}
+use Rattle.mirror_follow.specs.Ending.{EndsRun, IsFirstFault, KeepsFault, fault_after, or_fault}
 use Rattle.mirror_follow.specs.Blame.{of_candidates}
 use Rattle.mirror_follow.specs.OneHonest.{StepsUp}
 use Rattle.mirror_follow.specs.Sparing.{SparesAt, SparesBringing, SparesGreatest}
 use Rattle.mirror_follow.specs.Standing.{IsCopyNow, KnowsAfter}
-use Rattle.mirror_candidates.specs.declared.candidate.Candidate.{Candidate}
 use Rattle.mirror_follow.specs.declared.fault.FollowFault.{FollowFault}
 use Rattle.mirror_follow.specs.declared.fault.FollowFault.TheVariants as fault
 use Rattle.mirror_follow.specs.declared.run.Run.{Run}
 use Rattle.mirror_follow.specs.declared.run.Outcome.{Outcome}
 use Rattle.mirror_follow.specs.declared.run.Outcome.TheVariants as turn
-use Rattle.mirror_candidates.proofs.Requests.{any_same, any_then}
 use Rattle.mirror_follow.proofs.OneHonest.{same_at}
 
 module _ (digest : List ℕ → List ℕ) {S : Type 0} (may : S → Path → Option (List ℕ) → Type 0) (failed : S → ℕ)

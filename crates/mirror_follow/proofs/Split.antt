@@ -3,10 +3,10 @@ use Rattle.std.proofs.Common.{◌≡◌, inl, inr, ℕ, ◌+◌, ◌<◌, ◌≤
 use Rattle.std.proofs.lemmas.List.{take_all, take_more}
 use Rattle.std.proofs.lemmas.List.Elements.{All-push, Contains-append_left, Contains-push}
 use Rattle.mirror_candidates.specs.Lines.{IsInSomeLine, KeepsLines}
-use Rattle.mirror_follow.specs.Taken.{IsLeft, IsSplit, SplitsLacked}
 use Rattle.mirror_candidates.specs.declared.candidate.Candidate.{Candidate}
 use Rattle.mirror_candidates.specs.declared.fork_line.ForkLine.{ForkLine}
 use Rattle.mirror_candidates.proofs.LineLists.{kept_itself, kept_then, lines_kept}
+use Rattle.mirror_follow.specs.Taken.{IsLeft, IsSplit, SplitsLacked}
 
 -- a line of the copy and a candidate was added
 pub line_added : {T E : Type 0} (r : Result T E) (old new : List ForkLine) (c : Candidate) (P : Type 0) →

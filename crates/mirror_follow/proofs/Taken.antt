@@ -6,23 +6,23 @@ use Rattle.std.proofs.lemmas.List.{take_all, take_more}
 use Rattle.std.proofs.lemmas.List.Elements.{All-contains, All-nil, All-push, All-weaker, Contains-append_left, Contains-push}
 use Rattle.tlog_proof.specs.declared.proof.Proof.{Proof}
 use Rattle.mirror_candidates.specs.Agreeing.{Agrees}
-use Rattle.mirror_candidates.specs.Candidates.{turn_cmp, note_of, IsOnePoint, point_of, IsSame}
-use Rattle.mirror_candidates.specs.Lines.{AreLines, IsFirstOrListed, IsListed, IsInLine, IsInSomeLine, KeepsLines}
-use Rattle.mirror_follow.specs.Says.{IsNoteUpTo}
+use Rattle.mirror_candidates.specs.Candidates.{IsOnePoint, IsSame, note_of, point_of, turn_cmp}
+use Rattle.mirror_candidates.specs.Lines.{AreLines, IsFirstOrListed, IsInLine, IsInSomeLine, IsListed, KeepsLines}
 use Rattle.mirror_candidates.specs.Shown.{AreFork}
+use Rattle.mirror_candidates.specs.declared.candidate.Candidate.{Candidate}
+use Rattle.mirror_candidates.specs.declared.fork_line.ForkLine.{ForkLine}
+use Rattle.mirror_candidates.proofs.Lines.{lines_more, lines_none, listed_more, listed_now}
+use Rattle.mirror_candidates.proofs.LineLists.{lines_kept}
+use Rattle.mirror_candidates.proofs.Points.{one_back, one_of_same, one_then, point_same}
+use Rattle.mirror_follow.specs.Says.{IsNoteUpTo}
 use Rattle.mirror_follow.specs.Turning.{ShowsTurn}
 use Rattle.mirror_follow.specs.Standing.{KnowsAfter}
 use Rattle.mirror_follow.specs.Taken.{AddsLacked, HasTaken, HasTakenRun, IsAbove, IsAdded, IsAgreed, IsBeyond, IsGrown, IsLacked, IsLargerThan, IsNextOf, IsNoted, IsOneOf, IsReached, IsRepeat, IsReported, IsUnder, KeepsFirst, MarksReached, SaysTurn, or_agreed}
-use Rattle.mirror_candidates.specs.declared.candidate.Candidate.{Candidate}
-use Rattle.mirror_candidates.specs.declared.fork_line.ForkLine.{ForkLine}
 use Rattle.mirror_follow.specs.declared.run.Run.{Run}
 use Rattle.mirror_follow.specs.declared.run.Outcome.{Outcome}
 use Rattle.mirror_follow.specs.declared.run.Outcome.TheVariants as turn
 use Rattle.mirror_follow.proofs.Adding.{lines_forked}
-use Rattle.mirror_candidates.proofs.Lines.{lines_more, lines_none, listed_more, listed_now}
 use Rattle.mirror_follow.proofs.TurnOrder.{again, element, next_of, note_itself, note_upto}
-use Rattle.mirror_candidates.proofs.LineLists.{lines_kept}
-use Rattle.mirror_candidates.proofs.Points.{one_back, one_of_same, one_then, point_same}
 
 -- ---- points
 

@@ -10,10 +10,10 @@ use Rattle.std.proofs.lemmas.Cmp.{by_ranked, ranked, upto}
 use Rattle.std.proofs.lemmas.List.{get_or_default, get_or-take}
 use Rattle.std.proofs.lemmas.List.Elements.{Contains-get_or}
 use Rattle.std.proofs.lemmas.List.Sorted.{ranks_by, sorted_far}
-use Rattle.mirror_candidates.specs.Candidates.{turn_cmp, note_of, IsOnePoint}
+use Rattle.mirror_candidates.specs.Candidates.{IsOnePoint, note_of, turn_cmp}
+use Rattle.mirror_candidates.specs.declared.candidate.Candidate.{Candidate}
 use Rattle.mirror_follow.specs.Says.{IsNoteUpTo}
 use Rattle.mirror_follow.specs.Taken.{IsNextOf, IsRepeat}
-use Rattle.mirror_candidates.specs.declared.candidate.Candidate.{Candidate}
 
 turn_total : IsTotalOrder turn_cmp
 turn_total =

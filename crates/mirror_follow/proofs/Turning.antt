@@ -2,11 +2,11 @@
 use Rattle.std.proofs.Common.{◌≡◌, ◌≢◌, ℕ, List, [], Option, IfSome, refl, sym, subst, ◌∙◌}
 use Rattle.std.proofs.lemmas.List.Elements.{All-nil}
 use Rattle.mirror_folders.specs.Shelf.{Put}
-use Rattle.mirror_follow.specs.Blame.{CountsFollowFault, IsOfTheRun}
 use Rattle.mirror_candidates.specs.Shown.{ShowsEach, ShowsLine}
+use Rattle.mirror_candidates.specs.declared.candidate.Candidate.{Candidate}
+use Rattle.mirror_follow.specs.Blame.{CountsFollowFault, IsOfTheRun}
 use Rattle.mirror_follow.specs.Standing.{IsCopyOfRun, IsHeadOf, KnowsAfter, StandsAfter, size_of_copy}
 use Rattle.mirror_follow.specs.Turning.{ContinuesRun, IsRunFrom}
-use Rattle.mirror_candidates.specs.declared.candidate.Candidate.{Candidate}
 use Rattle.mirror_follow.specs.declared.fault.FollowFault.{FollowFault}
 use Rattle.mirror_follow.specs.declared.fault.FollowFault.TheVariants.{Source, ShelfFault}
 use Rattle.mirror_follow.specs.declared.fault.FollowFault.TheVariants as fault

@@ -1,20 +1,20 @@
 -- The reasons why a call of `follow` ends with a fault.
 use Rattle.std.specs.Prelude.{◌≡◌, ◌≢◌, ◌⊎◌, ℕ, List, [], ◌∷◌, Option, Some, None, ⊤}
 use Rattle.std.specs.List.Sorted.{IsSorted}
-use Rattle.signed_note.specs.Keys.{Key}
 use Rattle.tlog_tiles.specs.declared.paths.Path.{Path}
 use Rattle.tlog_tiles.specs.declared.paths.Path.TheVariants.{Checkpoint}
+use Rattle.signed_note.specs.Keys.{Key}
+use Rattle.mirror_model.specs.declared.fault.TakeFault.TheVariants as take
 use Rattle.mirror_folders.specs.Shelf.{Put, RecordsRead}
 use Rattle.mirror_places.specs.declared.places.Places.{Places}
 use Rattle.mirror_copy.specs.declared.fault.BringFault.{BringFault}
 use Rattle.mirror_copy.specs.declared.fault.BringFault.TheVariants as bring
-use Rattle.mirror_model.specs.declared.fault.TakeFault.TheVariants as take
 use Rattle.mirror_candidates.specs.Requests.{PlaceFails}
 use Rattle.mirror_candidates.specs.Candidates.{turn_cmp}
 use Rattle.mirror_candidates.specs.GatheredFrom.{AreCandidates, GiveNone, IsRefused}
-use Rattle.mirror_follow.specs.Standing.{HoldsNoCopy}
 use Rattle.mirror_candidates.specs.declared.candidate.Candidate.{Candidate}
 use Rattle.mirror_candidates.specs.declared.fault.CandidateFault.TheVariants as candidate
+use Rattle.mirror_follow.specs.Standing.{HoldsNoCopy}
 use Rattle.mirror_follow.specs.declared.fault.FollowFault.{FollowFault}
 use Rattle.mirror_follow.specs.declared.fault.FollowFault.TheVariants.{NoCheckpoint, Head, CopyDamaged, CopyInUse, ShelfFault, Contradiction, Collision, NoFile, Source, OutOfMemory}
 use Rattle.mirror_follow.specs.declared.run.Run.{Run}

@@ -6,13 +6,13 @@ use Rattle.tlog_hash.specs.Tree.{mth}
 use Rattle.tlog_tiles.specs.declared.paths.Path.{Path}
 use Rattle.tlog_tiles.specs.declared.paths.Path.TheVariants.{Checkpoint}
 use Rattle.mirror_folders.specs.Shelf.{HasPut, Put}
+use Rattle.mirror_places.specs.declared.places.Places.{Places}
 use Rattle.mirror_copy.specs.OneHonest.{HoldsFirst, IsHonestFor}
 use Rattle.mirror_copy.specs.Pruned.{IsPrunedCopy}
-use Rattle.mirror_places.specs.declared.places.Places.{Places}
-use Rattle.mirror_candidates.specs.Candidates.{turn_cmp, IsOnePoint}
+use Rattle.mirror_candidates.specs.Candidates.{IsOnePoint, turn_cmp}
+use Rattle.mirror_candidates.specs.declared.candidate.Candidate.{Candidate}
 use Rattle.mirror_follow.specs.Standing.{HadCopy, IsCopyNow, IsCopyOfRun}
 use Rattle.mirror_follow.specs.Taken.{IsAbove, IsLargerThan}
-use Rattle.mirror_candidates.specs.declared.candidate.Candidate.{Candidate}
 use Rattle.mirror_follow.specs.declared.fault.FollowFault.{FollowFault}
 use Rattle.mirror_follow.specs.declared.fault.FollowFault.TheVariants.{ShelfFault, OutOfMemory}
 use Rattle.mirror_follow.specs.declared.report.Followed.{Followed}

@@ -5,16 +5,16 @@ use Rattle.std.specs.List.Sorted.{IsSorted}
 use Rattle.std.specs.Ordering.{is_gt, nat_cmp}
 use Rattle.tlog_hash.specs.Tree.{mth}
 use Rattle.tlog_tiles.specs.declared.paths.Path.TheVariants.{Checkpoint}
-use Rattle.mirror_folders.specs.Shelf.{Put, HasPut}
 use Rattle.mirror_model.specs.Forks.{Point}
+use Rattle.mirror_folders.specs.Shelf.{Put, HasPut}
 use Rattle.mirror_copy.specs.Copies.{IsCopy}
 use Rattle.mirror_copy.specs.Moments.{InTheEnd}
 use Rattle.mirror_copy.specs.Pruned.{IsPrunedCopy, OfPrunedCopies}
 use Rattle.mirror_candidates.specs.Agreeing.{Agrees}
-use Rattle.mirror_candidates.specs.Candidates.{turn_cmp, note_of, point_of}
+use Rattle.mirror_candidates.specs.Candidates.{note_of, point_of, turn_cmp}
 use Rattle.mirror_candidates.specs.Lines.{AreLines, IsInSomeLine}
-use Rattle.mirror_follow.specs.Standing.{IsFoundCopy}
 use Rattle.mirror_candidates.specs.declared.candidate.Candidate.{Candidate}
+use Rattle.mirror_follow.specs.Standing.{IsFoundCopy}
 use Rattle.mirror_follow.specs.declared.report.Followed.{Followed}
 
 -- ---- candidates

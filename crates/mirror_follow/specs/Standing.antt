@@ -2,13 +2,13 @@
 use Rattle.std.specs.Prelude.{◌≡◌, ℕ, ◌≤◌, List, [], ◌++◌, length, Option, Some, None}
 use Rattle.tlog_hash.specs.Tree.{mth}
 use Rattle.tlog_tiles.specs.declared.paths.Path.TheVariants.{Checkpoint}
-use Rattle.mirror_folders.specs.Shelf.{Put, HasPut, RecordsRead}
 use Rattle.mirror_model.specs.Heads.{IsHead}
+use Rattle.mirror_folders.specs.Shelf.{Put, HasPut, RecordsRead}
 use Rattle.copy_reader.specs.WholeCopies.{HasFilesOf}
 use Rattle.mirror_copy.specs.Copies.{IsCopy}
 use Rattle.mirror_copy.specs.Moments.{CopyStays, InTheEnd, IsBroughtTo}
 use Rattle.mirror_copy.specs.Pruned.{HadSize, IsGrownPruned, IsPrunedCopy, OfPrunedCopies}
-use Rattle.mirror_candidates.specs.Candidates.{note_of, IsSame}
+use Rattle.mirror_candidates.specs.Candidates.{IsSame, note_of}
 use Rattle.mirror_candidates.specs.declared.candidate.Candidate.{Candidate}
 use Rattle.mirror_follow.specs.declared.report.Followed.{Followed}
 use Rattle.mirror_follow.specs.declared.run.Outcome.{Outcome}

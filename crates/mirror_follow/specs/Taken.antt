@@ -1,13 +1,13 @@
 -- The facts about the candidates that had their turn.
 use Rattle.std.specs.Prelude.{◌≡◌, ◌≢◌, ◌⊎◌, ℕ, ◌-◌, ◌<◌, ◌≤◌, Bool, true, false, List, [], ◌∷◌, ◌++◌, All, Contains, IfSome, Option, None, Some, ⊤, slice_index_or}
 use Rattle.mirror_candidates.specs.Agreeing.{Agrees}
-use Rattle.mirror_candidates.specs.Candidates.{note_of, IsOnePoint, point_of, IsSame}
+use Rattle.mirror_candidates.specs.Candidates.{IsOnePoint, IsSame, note_of, point_of}
 use Rattle.mirror_candidates.specs.Adding.{AddsFork}
-use Rattle.mirror_candidates.specs.Lines.{AreLines, IsFirstOrListed, IsListed, IsInSomeLine, KeepsLines}
-use Rattle.mirror_follow.specs.Says.{IsNoteUpTo}
-use Rattle.mirror_follow.specs.Standing.{size_of_copy}
+use Rattle.mirror_candidates.specs.Lines.{AreLines, IsFirstOrListed, IsInSomeLine, IsListed, KeepsLines}
 use Rattle.mirror_candidates.specs.declared.candidate.Candidate.{Candidate}
 use Rattle.mirror_candidates.specs.declared.fork_line.ForkLine.{ForkLine}
+use Rattle.mirror_follow.specs.Says.{IsNoteUpTo}
+use Rattle.mirror_follow.specs.Standing.{size_of_copy}
 use Rattle.mirror_follow.specs.declared.run.Run.{Run}
 use Rattle.mirror_follow.specs.declared.run.Outcome.{Outcome}
 use Rattle.mirror_follow.specs.declared.run.Outcome.TheVariants as turn

@@ -1,14 +1,15 @@
 //! A copy that is brought to a larger candidate.
 ghost use Rattle.std.specs.Prelude.{◌≡◌, ◌≢◌, ◌<◌, ℕ, IfErr, IfOk, List, Option, Some, ⊤};
 ghost use Rattle.mirror_folders.specs.Shelf.{Put};
+ghost use Rattle.mirror_places.specs.AskedOnce.{AsksEachOnce, AsksMore};
+ghost use Rattle.mirror_places.specs.EndTiles.{IsKept};
 ghost use Rattle.mirror_copy.specs.Conflicts.{HasConflict, IsConflict};
 ghost use Rattle.mirror_copy.specs.Faults.{CountsFault};
 ghost use Rattle.mirror_copy.specs.OneHonest.{IsShelfOrMemory};
-ghost use Rattle.mirror_places.specs.AskedOnce.{AsksEachOnce, AsksMore};
-ghost use Rattle.mirror_places.specs.EndTiles.{IsKept};
 ghost use Rattle.mirror_candidates.specs.Requests.{AsksAny, PlaceFails};
-ghost use Rattle.mirror_follow.specs.Blame.{CountsFollow};
 ghost use Rattle.mirror_candidates.specs.Candidates.{note_of};
+ghost use Rattle.mirror_candidates.specs.declared.candidate.Candidate.{Candidate};
+ghost use Rattle.mirror_follow.specs.Blame.{CountsFollow};
 ghost use Rattle.mirror_follow.specs.Ending.{EndsAt, EndsRun, IsOfConflict, IsOfOtherRun};
 ghost use Rattle.mirror_follow.specs.OneHonest.{IsBroughtOr, IsHonestTurn};
 ghost use Rattle.mirror_follow.specs.Runs.{KeepsUnder};
@@ -16,14 +17,13 @@ ghost use Rattle.mirror_follow.specs.Turning.{ShowsTurn};
 ghost use Rattle.mirror_follow.specs.Sparing.{SparesBringing};
 ghost use Rattle.mirror_follow.specs.Standing.{EachStays, HasStanding, HoldsNoCopy, HoldsNoSmaller, IsHeadOf, StandsAfter};
 ghost use Rattle.mirror_follow.specs.Taken.{IsLargerThan, SaysTurn};
-ghost use Rattle.mirror_candidates.specs.declared.candidate.Candidate.{Candidate};
 
 use crate::fault::FollowFault;
 use crate::run::Outcome;
 use mirror_candidates::{Candidate, ask_proof};
 use mirror_copy::{BringFault, bring_copy};
-use mirror_places::Places;
 use mirror_folders::ReadableShelf;
+use mirror_places::Places;
 use mirror_sources::Source;
 use std::alloc::{AllocError, Global};
 use tlog_hash::TreeHash;

@@ -2,8 +2,8 @@
 ghost use Rattle.std.specs.Prelude.{◌≡◌, ◌≢◌, ◌⊎◌, ◌<◌, ◌≤◌, [], ℕ, IfErr, IfOk, IsFalse, IsTrue, List, Option, Some};
 ghost use Rattle.mirror_sources.specs.Recorded.{KeepsRecord};
 ghost use Rattle.mirror_folders.specs.Shelf.{Put};
-ghost use Rattle.mirror_follow.specs.Blame.{CountsFollow};
 ghost use Rattle.mirror_candidates.specs.Candidates.{note_of};
+ghost use Rattle.mirror_follow.specs.Blame.{CountsFollow};
 ghost use Rattle.mirror_follow.specs.Ending.{EndsAt, EndsRun};
 ghost use Rattle.mirror_follow.specs.Runs.{KeepsUnder};
 ghost use Rattle.mirror_follow.specs.Turning.{ShowsTurn};

@@ -6,10 +6,10 @@ ghost use Rattle.mirror_folders.specs.Shelf.{RecordsSome};
 ghost use Rattle.copy_reader.specs.Faults.{CountsRead};
 ghost use Rattle.copy_reader.specs.WholeCopies.{ReadsCopyLog};
 ghost use Rattle.mirror_candidates.specs.Agreeing.{Agrees};
-ghost use Rattle.mirror_follow.specs.Blame.{CountsFollow};
-ghost use Rattle.mirror_follow.specs.Ending.{EndsRun};
 ghost use Rattle.mirror_candidates.specs.Shown.{ShowsLarger};
 ghost use Rattle.mirror_candidates.specs.Candidates.{point_of};
+ghost use Rattle.mirror_follow.specs.Blame.{CountsFollow};
+ghost use Rattle.mirror_follow.specs.Ending.{EndsRun};
 ghost use Rattle.mirror_follow.specs.Standing.{HoldsNoCopy, IsFoundCopy, IsHeadOf};
 
 use crate::fault::FollowFault;

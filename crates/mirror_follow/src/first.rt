@@ -1,21 +1,21 @@
 //! The turn of a candidate if the copy is empty.
 ghost use Rattle.std.specs.Prelude.{◌≡◌, ◌↔◌, ℕ, IfErr, IfOk, IsTrue, List, None};
 ghost use Rattle.mirror_candidates.specs.Requests.{AsksAny, PlaceFails};
-ghost use Rattle.mirror_follow.specs.Blame.{CountsFollow};
 ghost use Rattle.mirror_candidates.specs.Candidates.{note_of};
+ghost use Rattle.mirror_candidates.specs.declared.candidate.Candidate.{Candidate};
+ghost use Rattle.mirror_follow.specs.Blame.{CountsFollow};
 ghost use Rattle.mirror_follow.specs.Ending.{EndsAt, HasFalseRoot, IsOfConflict, IsOfEmpty};
 ghost use Rattle.mirror_follow.specs.OneHonest.{IsBroughtOr, IsHonestTurn};
 ghost use Rattle.mirror_follow.specs.Runs.{KeepsUnder};
 ghost use Rattle.mirror_follow.specs.Sparing.{SparesBringing};
 ghost use Rattle.mirror_follow.specs.Standing.{HasStanding, IsHeadOf, StandsAfter};
-ghost use Rattle.mirror_candidates.specs.declared.candidate.Candidate.{Candidate};
 
 use crate::bring::bring;
 use crate::fault::FollowFault;
 use crate::run::Outcome;
 use mirror_candidates::Candidate;
-use mirror_places::Places;
 use mirror_folders::ReadableShelf;
+use mirror_places::Places;
 use mirror_sources::Source;
 use std::alloc::Global;
 use tlog_hash::TreeHash;

@@ -1,13 +1,13 @@
 //! A copy that follows its places.
 ghost use Rattle.std.specs.Prelude.{◌≡◌, All, IfErr, IfOk, map, option_map};
 ghost use Rattle.mirror_candidates.specs.Requests.{IsGivenOrMayGive};
+ghost use Rattle.mirror_candidates.specs.GatheredFrom.{AreCandidates};
+ghost use Rattle.mirror_candidates.specs.Shown.{ShowsLine};
 ghost use Rattle.mirror_follow.specs.Blame.{CountsFollow};
 ghost use Rattle.mirror_follow.specs.Ending.{EndsFor};
-ghost use Rattle.mirror_candidates.specs.GatheredFrom.{AreCandidates};
 ghost use Rattle.mirror_follow.specs.OneHonest.{IsHonestAmong, IsHonestRun, ReachesLog, ReachesSize};
 ghost use Rattle.mirror_follow.specs.Runs.{FollowsCandidates};
 ghost use Rattle.mirror_follow.specs.Says.{Says};
-ghost use Rattle.mirror_candidates.specs.Shown.{ShowsLine};
 ghost use Rattle.mirror_follow.specs.Sparing.{SparesGreatest};
 ghost use Rattle.mirror_follow.specs.Standing.{IsFollowed};
 
@@ -16,8 +16,8 @@ use crate::fault::FollowFault;
 use crate::report::{Followed, report};
 use crate::turns::take_turns;
 use mirror_candidates::candidates_of;
-use mirror_places::Places;
 use mirror_folders::ReadableShelf;
+use mirror_places::Places;
 use mirror_sources::Source;
 use signed_note::Verifier;
 use std::alloc::Global;

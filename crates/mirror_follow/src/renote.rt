@@ -1,8 +1,8 @@
 //! The note of a candidate replaces the copy's note.
 ghost use Rattle.std.specs.Prelude.{◌≡◌, ◌≢◌, ◌↔◌, IfErr, IfOk, IsFalse, IsTrue, Some};
 ghost use Rattle.mirror_copy.specs.Faults.{IsOtherFound};
+ghost use Rattle.mirror_candidates.specs.Candidates.{IsOnePoint, note_of};
 ghost use Rattle.mirror_follow.specs.Blame.{CountsFollow};
-ghost use Rattle.mirror_candidates.specs.Candidates.{note_of, IsOnePoint};
 ghost use Rattle.mirror_follow.specs.Ending.{EndsAt, EndsRun};
 ghost use Rattle.mirror_follow.specs.Runs.{KeepsUnder};
 ghost use Rattle.mirror_follow.specs.Says.{IsNoteUpTo};

@@ -1,12 +1,12 @@
 //! The result of a run of turns.
 ghost use Rattle.std.specs.Prelude.{◌≡◌, ◌≢◌, ◌⊎◌, ◌∷◌, ◌++◌, [], ℕ, All, Contains, IfErr, IfOk, IfSome, List, None, OnOk, Option, Some, false, if◌then◌else◌, true};
-ghost use Rattle.mirror_follow.specs.Adding.{AddsLinesOf, AddsOther};
 ghost use Rattle.mirror_candidates.specs.Asking.{option_or};
-ghost use Rattle.mirror_candidates.specs.Lines.{AreLines, IsFirstOrListed, IsListed, IsInSomeLine, KeepsLines};
-ghost use Rattle.mirror_follow.specs.Says.{SettlesEach};
+ghost use Rattle.mirror_candidates.specs.Lines.{AreLines, IsFirstOrListed, IsInSomeLine, IsListed, KeepsLines};
 ghost use Rattle.mirror_candidates.specs.Shown.{ShowsEach};
-ghost use Rattle.mirror_follow.specs.Taken.{HasTakenRun, IsBehindTest, SplitsLacked};
 ghost use Rattle.mirror_candidates.specs.declared.candidate.Candidate.{Candidate};
+ghost use Rattle.mirror_follow.specs.Adding.{AddsLinesOf, AddsOther};
+ghost use Rattle.mirror_follow.specs.Says.{SettlesEach};
+ghost use Rattle.mirror_follow.specs.Taken.{HasTakenRun, IsBehindTest, SplitsLacked};
 
 use crate::fault::FollowFault;
 use crate::run::Run;
@@ -15,7 +15,7 @@ use std::alloc::{AllocError, Global};
 use tlog_hash::Hash;
 
 /// The result of a call of `follow`.
-#[derive(Drop, PartialEq, Eq)]
+#[derive(Drop)]
 pub struct Followed {
     /// The copy's number of entries.
     pub size: u64,

@@ -1,9 +1,9 @@
 //! The state of a run of turns: the forks, and the candidates to which the copy could not be brought.
 ghost use Rattle.std.specs.Prelude.{◌≡◌, ◌≢◌, [], ℕ, IfSome, List, None, OnOk, false};
 ghost use Rattle.mirror_candidates.specs.Adding.{AddsFork};
-ghost use Rattle.mirror_follow.specs.Ending.{fault_after, or_fault};
 ghost use Rattle.mirror_candidates.specs.Lines.{IsInSomeLine, KeepsLines};
 ghost use Rattle.mirror_candidates.specs.Shown.{AreFork, ShowsEach};
+ghost use Rattle.mirror_follow.specs.Ending.{fault_after, or_fault};
 ghost use Rattle.mirror_follow.specs.Turning.{ShowsTurn};
 ghost use Rattle.mirror_follow.specs.Standing.{KnowsAfter, size_of_copy};
 ghost use Rattle.mirror_follow.specs.Taken.{AddsLacked, IsAdded, MarksReached, or_agreed};

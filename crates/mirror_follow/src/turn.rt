@@ -1,16 +1,16 @@
 //! The turn of a candidate.
 ghost use Rattle.std.specs.Prelude.{◌≡◌, ◌∷◌, ◌+◌, ◌++◌, [], IfErr, IfOk, IfSome, List, None, OnOk, Option};
 ghost use Rattle.mirror_candidates.specs.Requests.{AsksAny, PlaceFails};
-ghost use Rattle.mirror_follow.specs.Blame.{CountsFollow};
 ghost use Rattle.mirror_candidates.specs.Candidates.{note_of};
+ghost use Rattle.mirror_candidates.specs.declared.candidate.Candidate.{Candidate};
+ghost use Rattle.mirror_follow.specs.Blame.{CountsFollow};
 ghost use Rattle.mirror_follow.specs.Ending.{BlamesPlace, EndsAt, IsOfEmpty, KeepsFault};
 ghost use Rattle.mirror_follow.specs.OneHonest.{BringsTo, IsBroughtOr, IsHonestTurn, StepsUp};
 ghost use Rattle.mirror_follow.specs.Runs.{KeepsUnder};
-ghost use Rattle.mirror_follow.specs.Turning.{ShowsTurn, ContinuesRun};
+ghost use Rattle.mirror_follow.specs.Turning.{ContinuesRun, ShowsTurn};
 ghost use Rattle.mirror_follow.specs.Sparing.{SparesAt, SparesBringing};
 ghost use Rattle.mirror_follow.specs.Standing.{HasStanding, IsHeadOf, StandsAfter};
 ghost use Rattle.mirror_follow.specs.Taken.{HasTakenRun, IsLargerThan, IsNextOf, SaysTurn};
-ghost use Rattle.mirror_candidates.specs.declared.candidate.Candidate.{Candidate};
 
 use crate::bring::take_larger;
 use crate::compare::compare;
@@ -19,8 +19,8 @@ use crate::first::take_first;
 use crate::renote::{has_lesser_note, renote};
 use crate::run::{Outcome, Run};
 use mirror_candidates::Candidate;
-use mirror_places::Places;
 use mirror_folders::ReadableShelf;
+use mirror_places::Places;
 use mirror_sources::Source;
 use std::alloc::Global;
 use tlog_hash::TreeHash;

@@ -3,8 +3,9 @@ ghost use Rattle.std.specs.Prelude.{◌≡◌, ◌⊎◌, ◌↔◌, ◌∷◌, 
 ghost use Rattle.std.specs.List.Sorted.{IsSorted};
 ghost use Rattle.mirror_folders.specs.Shelf.{Put};
 ghost use Rattle.mirror_candidates.specs.Requests.{AsksAny, PlaceFails};
+ghost use Rattle.mirror_candidates.specs.Candidates.{note_of, turn_cmp};
+ghost use Rattle.mirror_candidates.specs.declared.candidate.Candidate.{Candidate};
 ghost use Rattle.mirror_follow.specs.Blame.{CountsFollow};
-ghost use Rattle.mirror_candidates.specs.Candidates.{turn_cmp, note_of};
 ghost use Rattle.mirror_follow.specs.Ending.{BlamesPlace, EndsAt, KeepsFault};
 ghost use Rattle.mirror_follow.specs.OneHonest.{BringsTo, HasSize, IsHonestFirst, IsHonestListed, IsHonestTurn, StepsUp, TurnsReach};
 ghost use Rattle.mirror_follow.specs.Runs.{KeepsEach};
@@ -12,14 +13,13 @@ ghost use Rattle.mirror_follow.specs.Turning.{ContinuesRun, IsRunFrom};
 ghost use Rattle.mirror_follow.specs.Sparing.{SparesAt, SparesBringing};
 ghost use Rattle.mirror_follow.specs.Standing.{HasStanding, HoldsNoCopy, IsCopyOfRun, IsHeadOf};
 ghost use Rattle.mirror_follow.specs.Taken.{HasTakenRun, IsLargerThan, IsRepeat};
-ghost use Rattle.mirror_candidates.specs.declared.candidate.Candidate.{Candidate};
 
 use crate::fault::FollowFault;
 use crate::run::Run;
 use crate::turn::take_turn;
 use mirror_candidates::Candidate;
-use mirror_places::Places;
 use mirror_folders::ReadableShelf;
+use mirror_places::Places;
 use mirror_sources::Source;
 use std::alloc::Global;
 use tlog_hash::TreeHash;

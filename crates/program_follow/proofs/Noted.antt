@@ -3,21 +3,21 @@ use Rattle.std.proofs.Common.{◌≡◌, inr, ℕ, List, IfErr, IfOk, Option, So
 use Rattle.std.specs.Io.KnownBytes.{Keeps}
 use Rattle.std.proofs.lemmas.List.Elements.{All-weaker}
 use Rattle.std.proofs.lemmas.Option.{none-some}
-use Rattle.signed_note.specs.Keys.{Key}
 use Rattle.tlog_tiles.specs.declared.paths.Path.{Path}
+use Rattle.signed_note.specs.Keys.{Key}
 use Rattle.mirror_folders.specs.Shelf.{Put}
 use Rattle.mirror_places.specs.declared.places.Places.{Places}
-use Rattle.mirror_follow.specs.Blame.{CountsFollowFault}
 use Rattle.mirror_candidates.specs.Requests.{IsGivenOrMayGive}
+use Rattle.mirror_candidates.specs.GatheredFrom.{AreCandidates}
+use Rattle.mirror_candidates.specs.Candidates.{note_of}
+use Rattle.mirror_candidates.specs.declared.candidate.Candidate.{Candidate}
+use Rattle.mirror_follow.specs.Blame.{CountsFollowFault}
 use Rattle.mirror_follow.specs.Ending.{EndsFor}
 use Rattle.mirror_follow.specs.OneHonest.{IsHonestAmong, IsHonestRun, ReachesLog, ReachesSize}
 use Rattle.mirror_follow.specs.Runs.{FollowsCandidates}
-use Rattle.mirror_candidates.specs.GatheredFrom.{AreCandidates}
-use Rattle.mirror_candidates.specs.Candidates.{note_of}
 use Rattle.mirror_follow.specs.Says.{Says}
 use Rattle.mirror_follow.specs.Sparing.{SparesGreatest}
 use Rattle.mirror_follow.specs.Standing.{IsFollowed}
-use Rattle.mirror_candidates.specs.declared.candidate.Candidate.{Candidate}
 use Rattle.mirror_follow.specs.declared.fault.FollowFault.{FollowFault}
 use Rattle.mirror_follow.specs.declared.fault.FollowFault.TheVariants as following
 use Rattle.mirror_follow.specs.declared.report.Followed.{Followed}

@@ -1,7 +1,7 @@
 use Rattle.std.proofs.Common.{List, map}
+use Rattle.mirror_places.specs.declared.place.PlaceAnswer.{PlaceAnswer}
 use Rattle.mirror_candidates.specs.Asking.{AreAnswers}
 use Rattle.mirror_candidates.specs.Gathering.{Gathers}
-use Rattle.mirror_places.specs.declared.place.PlaceAnswer.{PlaceAnswer}
 use Rattle.mirror_candidates.proofs.ask.ask_each.Given as goal
 
 abbrev pub invariant-loop-i : goal.invariant-loop-i

@@ -1,6 +1,6 @@
 use Rattle.std.proofs.Common.{◌≡◌, ◌<◌, length, ap, arith}
 use Rattle.tlog_tiles.specs.declared.paths.Path.TheVariants.{Checkpoint}
-use Rattle.mirror_candidates.proofs.Requests.{any_of, any_same, any_then, answer_fails, note_given}
+use Rattle.mirror_candidates.proofs.Requests.{answer_fails, any_of, any_same, any_then, note_given}
 use Rattle.mirror_candidates.proofs.GatheredFrom.{gathered_all, gathered_first, gathered_then}
 use Rattle.mirror_candidates.proofs.Gathering.{gathers_new}
 use Rattle.mirror_candidates.proofs.candidates.ask_each_place.Goals as goal

@@ -1,7 +1,7 @@
 use Rattle.std.proofs.Common.{subst, sym}
 use Rattle.mirror_places.specs.EndTiles.{IsEndTile}
 use Rattle.mirror_places.proofs.AskingOnce.{more_then}
-use Rattle.mirror_candidates.proofs.Requests.{any_then}
+use Rattle.mirror_candidates.proofs.Requests.{any_then, full_ends}
 use Rattle.mirror_candidates.proofs.files.ask_file.Goals as goal
 
 pub returns-in_err-bytes-2-clause-asks : goal.returns-in_err-bytes-2-clause-asks
@@ -46,5 +46,6 @@ returns-in-Failed-2-clause-more g c =
 
 pub get_file-requires-2-clause-end : goal.get_file-requires-2-clause-end
 get_file-requires-2-clause-end g c =
+    let sizes = c.args.places.now.ends.sizes in
     subst (λ n. IsEndTile n c.full_of-full.result) (sym c.get_file.ensures.more.still.sizes_are)
-    (c.full_of-full.ensures c.args.places.now.ends.sizes c.requires.end)
+    (subst (IsEndTile sizes) (sym c.full_of-full.ensures) (full_ends sizes c.args.path.now c.requires.end))

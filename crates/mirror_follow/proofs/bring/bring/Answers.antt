@@ -1,18 +1,18 @@
 use Rattle.std.proofs.Common.{◌≡◌, subst, sym, ℕ, Ok, Err}
 use Rattle.mirror_copy.specs.AskedForCopy.{RefusesNote, AsksForCopy}
 use Rattle.mirror_copy.specs.declared.fault.BringFault.TheVariants.{CopyDamaged}
-use Rattle.mirror_follow.specs.Ending.{IsOfOtherRun}
-use Rattle.mirror_follow.specs.Standing.{HoldsNoCopy, HoldsNoSmaller}
-use Rattle.mirror_follow.proofs.Blame.{any_copied}
-use Rattle.mirror_follow.proofs.Ending.{brought_damaged, ends_if, no_smaller, turned_fails, turned_conflict}
-use Rattle.mirror_follow.proofs.Taken.{larger_above}
 use Rattle.mirror_copy.specs.OneHonest.{IsHonestNote}
-use Rattle.mirror_follow.proofs.OneHonest.{honest_note}
-use Rattle.mirror_follow.proofs.Sparing.{turned_spares}
 use Rattle.mirror_copy.specs.Conflicts.{HasConflict}
 use Rattle.mirror_copy.specs.Moments.{IsBroughtTo, KeepsCopy}
 use Rattle.mirror_copy.specs.declared.fault.BringFault.{BringFault}
 use Rattle.mirror_copy.specs.Pruned.{LeavesPruned}
+use Rattle.mirror_follow.specs.Ending.{IsOfOtherRun}
+use Rattle.mirror_follow.specs.Standing.{HoldsNoCopy, HoldsNoSmaller}
+use Rattle.mirror_follow.proofs.Blame.{any_copied}
+use Rattle.mirror_follow.proofs.Ending.{brought_damaged, ends_if, no_smaller, turned_conflict, turned_fails}
+use Rattle.mirror_follow.proofs.Taken.{larger_above}
+use Rattle.mirror_follow.proofs.OneHonest.{honest_note}
+use Rattle.mirror_follow.proofs.Sparing.{turned_spares}
 use Rattle.mirror_follow.proofs.Runs.{each_one}
 use Rattle.mirror_follow.proofs.Standing.{brought_after, stayed_after, turned_after}
 use Rattle.mirror_follow.proofs.bring.bring.Goals as goal

@@ -1,11 +1,11 @@
 use Rattle.std.proofs.Common.{Some}
 use Rattle.std.proofs.lemmas.Result.{err_from_is_err_and}
-use Rattle.mirror_follow.specs.Standing.{HasStanding, HoldsNoCopy, HoldsNoSmaller}
-use Rattle.mirror_candidates.proofs.Requests.{any_then}
-use Rattle.mirror_follow.proofs.Ending.{ends_so, none_at_all, none_stands}
+use Rattle.std.specs.Prelude.{⊤}
 use Rattle.mirror_places.specs.EndTiles.{IsKept}
 use Rattle.mirror_places.proofs.AskingOnce.{each_weaker, once_more}
-use Rattle.std.specs.Prelude.{⊤}
+use Rattle.mirror_candidates.proofs.Requests.{any_then}
+use Rattle.mirror_follow.specs.Standing.{HasStanding, HoldsNoCopy, HoldsNoSmaller}
+use Rattle.mirror_follow.proofs.Ending.{ends_so, none_at_all, none_stands}
 use Rattle.mirror_follow.proofs.OneHonest.{honest_before}
 use Rattle.mirror_follow.proofs.bring.take_larger.Goals as goal
 

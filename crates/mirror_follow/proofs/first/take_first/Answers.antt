@@ -1,9 +1,9 @@
-use Rattle.log_reader.proofs.Kept.{kept_once}
-use Rattle.mirror_follow.proofs.Runs.{each_none}
-use Rattle.mirror_candidates.proofs.Requests.{any_same}
 use Rattle.std.proofs.lemmas.Result.{err_from_is_err_and}
-use Rattle.mirror_follow.proofs.OneHonest.{no_false_root}
 use Rattle.std.proofs.Common.{None, sym, true≢false, ◌∙◌}
+use Rattle.log_reader.proofs.Kept.{kept_once}
+use Rattle.mirror_candidates.proofs.Requests.{any_same}
+use Rattle.mirror_follow.proofs.Runs.{each_none}
+use Rattle.mirror_follow.proofs.OneHonest.{no_false_root}
 use Rattle.mirror_follow.specs.Standing.{HasStanding, HoldsNoCopy, HoldsNoSmaller}
 use Rattle.mirror_follow.proofs.Ending.{ends_so, first_ends}
 use Rattle.mirror_follow.proofs.Standing.{each_same}

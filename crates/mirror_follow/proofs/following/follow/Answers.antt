@@ -1,20 +1,20 @@
-use Rattle.mirror_follow.proofs.Kept.{follows_candidates, follows_none}
 use Rattle.std.proofs.Common.{◌∙◌, ℕ, List, Option, IfOk, option_map, subst, sym}
 use Rattle.std.specs.List.Sorted.{IsSorted}
 use Rattle.std.proofs.lemmas.Result.{err_from_is_err_and}
+use Rattle.mirror_folders.specs.Shelf.{Put}
 use Rattle.mirror_copy.specs.Pruned.{HadSize}
 use Rattle.mirror_candidates.specs.Candidates.{turn_cmp}
-use Rattle.mirror_folders.specs.Shelf.{Put}
-use Rattle.mirror_follow.specs.Ending.{KeepsFault}
 use Rattle.mirror_candidates.specs.Lines.{AreLines}
+use Rattle.mirror_candidates.specs.declared.candidate.Candidate.{Candidate}
+use Rattle.mirror_candidates.proofs.Requests.{fails_later}
+use Rattle.mirror_candidates.proofs.GatheredFrom.{candidates_later}
+use Rattle.mirror_follow.proofs.Kept.{follows_candidates, follows_none}
+use Rattle.mirror_follow.specs.Ending.{KeepsFault}
 use Rattle.mirror_follow.specs.Says.{SettlesEach}
 use Rattle.mirror_follow.specs.Standing.{HoldsNoCopy, IsCopyOfRun}
 use Rattle.mirror_follow.specs.Taken.{HasTakenRun}
-use Rattle.mirror_candidates.specs.declared.candidate.Candidate.{Candidate}
-use Rattle.mirror_candidates.proofs.Requests.{fails_later}
 use Rattle.mirror_follow.proofs.Ending.{ends_lacking, ends_report, ends_run, ends_so, none_counts, report_counts, was_empty}
 use Rattle.mirror_follow.proofs.Noted.{says_by}
-use Rattle.mirror_candidates.proofs.GatheredFrom.{candidates_later}
 use Rattle.mirror_follow.proofs.Shown.{reported_forks}
 use Rattle.mirror_follow.proofs.Standing.{followed_by, had_found, known_found, read_found}
 use Rattle.mirror_follow.proofs.HonestRuns.{honest_first, honest_listed, one_given, part_stands, report_passes, report_reaches, some_given}

@@ -1,8 +1,8 @@
+use Rattle.std.proofs.Common.{subst}
+use Rattle.std.proofs.lemmas.Result.{err_from_is_err_and}
 use Rattle.mirror_follow.proofs.Ending.{keeps_fault, source_blames}
 use Rattle.mirror_follow.proofs.Taken.{taken_turn}
 use Rattle.mirror_follow.proofs.Turning.{run_turned}
-use Rattle.std.proofs.Common.{subst}
-use Rattle.std.proofs.lemmas.Result.{err_from_is_err_and}
 use Rattle.mirror_follow.specs.Standing.{KnowsAfter}
 use Rattle.mirror_follow.proofs.OneHonest.{steps_up}
 use Rattle.mirror_follow.proofs.Sparing.{spares_turn}

@@ -1,6 +1,6 @@
-use Rattle.mirror_candidates.proofs.Requests.{any_same}
 use Rattle.std.proofs.Common.{map, sym, true≢false, ◌∙◌, inl, inr, refl, subst}
 use Rattle.log_reader.proofs.Kept.{kept_once}
+use Rattle.mirror_candidates.proofs.Requests.{any_same}
 use Rattle.mirror_candidates.specs.Candidates.{note_of}
 use Rattle.mirror_follow.proofs.Ending.{keeps_again, keeps_at}
 use Rattle.mirror_follow.proofs.Runs.{each_none, listed_note}

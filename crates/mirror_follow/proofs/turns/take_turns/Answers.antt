@@ -1,11 +1,11 @@
 use Rattle.std.proofs.Common.{arith, map, refl, List, Option, ◌∙◌, ◌<◌, length}
+use Rattle.std.proofs.lemmas.Result.{err_from_is_err_and}
+use Rattle.mirror_folders.specs.Shelf.{Put}
 use Rattle.log_reader.proofs.Kept.{kept_once}
 use Rattle.mirror_candidates.proofs.Requests.{any_same, any_then}
-use Rattle.std.proofs.lemmas.Result.{err_from_is_err_and}
-use Rattle.mirror_follow.proofs.Ending.{ends_so, fails_now, keeps_all, none_first}
-use Rattle.mirror_folders.specs.Shelf.{Put}
-use Rattle.mirror_follow.specs.Standing.{HasStanding, HoldsNoCopy, IsCopyOfRun}
 use Rattle.mirror_candidates.specs.Candidates.{note_of}
+use Rattle.mirror_follow.proofs.Ending.{ends_so, fails_now, keeps_all, none_first}
+use Rattle.mirror_follow.specs.Standing.{HasStanding, HoldsNoCopy, IsCopyOfRun}
 use Rattle.mirror_follow.proofs.Runs.{each_none, each_then}
 use Rattle.mirror_follow.proofs.Taken.{taken_all, taken_begin}
 use Rattle.mirror_follow.proofs.Turning.{run_first, run_then}

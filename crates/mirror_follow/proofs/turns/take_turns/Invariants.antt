@@ -1,7 +1,7 @@
 use Rattle.std.proofs.Common.{◌≡◌, Some, map, take}
 use Rattle.std.specs.List.Sorted.{IsSorted}
 use Rattle.mirror_candidates.specs.Requests.{AsksAny, PlaceFails}
-use Rattle.mirror_candidates.specs.Candidates.{turn_cmp, note_of}
+use Rattle.mirror_candidates.specs.Candidates.{note_of, turn_cmp}
 use Rattle.mirror_follow.specs.Ending.{KeepsFault}
 use Rattle.mirror_follow.specs.Runs.{KeepsEach}
 use Rattle.mirror_follow.specs.Taken.{HasTakenRun}
