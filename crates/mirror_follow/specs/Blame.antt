@@ -1,5 +1,5 @@
 -- The causes of the faults of a run.
-use Rattle.std.specs.Prelude.{◌≡◌, ℕ, Result, Ok, Err, ⊤}
+use Rattle.std.specs.Prelude.{◌≡◌, ℕ, Result, Ok, Err}
 use Rattle.mirror_sources.specs.Recorded.{one_more}
 use Rattle.mirror_folders.specs.declared.shelf.ShelfError.{ShelfError}
 use Rattle.mirror_folders.specs.declared.shelf.ShelfError.TheVariants as shelf
@@ -47,16 +47,3 @@ CountsFollowFault old new OutOfMemory = new ≡ old
 abbrev pub CountsFollow : {T : Type 0} → ℕ → ℕ → Result T FollowFault → Type 0
 CountsFollow old new (Ok x) = new ≡ old
 CountsFollow old new (Err e) = CountsFollowFault old new e
-
--- the fault is neither a place's nor the shelf's
-abbrev pub IsOfTheRun : FollowFault → Type 0
-IsOfTheRun NoCheckpoint = ⊤
-IsOfTheRun (Head fault) = ⊤
-IsOfTheRun CopyDamaged = ⊤
-IsOfTheRun CopyInUse = ⊤
-IsOfTheRun ShelfFault = ⊥
-IsOfTheRun Contradiction = ⊤
-IsOfTheRun Collision = ⊤
-IsOfTheRun NoFile = ⊤
-IsOfTheRun Source = ⊥
-IsOfTheRun OutOfMemory = ⊤
