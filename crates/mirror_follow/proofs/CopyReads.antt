@@ -3,17 +3,12 @@ use Rattle.std.proofs.Common.{◌≡◌, ℕ, ◌++◌, List, length, Option, No
 use Rattle.std.specs.Prelude.{⊤}
 use Rattle.std.proofs.lemmas.Bool.{false≢true}
 use Rattle.tlog_hash.specs.Tree.{mth}
-use Rattle.tlog_tiles.specs.declared.paths.Path.{Path}
 use Rattle.tlog_tiles.specs.declared.paths.Path.TheVariants.{Checkpoint}
-use Rattle.mirror_sources.specs.Source.{StaysWithin}
+use Rattle.mirror_model.specs.Heads.{IsHead}
 use Rattle.mirror_sources.specs.Recorded.{KeepsRecord}
 use Rattle.mirror_folders.specs.Shelf.{Put, RecordsRead, RecordsSome, Stands}
-use Rattle.mirror_model.specs.Heads.{IsHead}
-use Rattle.log_reader.specs.Holding.{IsReaderOf, ReadsLog, ReadsTilesOf}
+use Rattle.log_reader.specs.Holding.{IsReaderOf}
 use Rattle.log_reader.specs.Ways.{Reader}
-use Rattle.log_reader.specs.declared.fault.ReadFault.{ReadFault}
-use Rattle.log_reader.proofs.FullTiles.{source_tiles}
-use Rattle.log_reader.proofs.TrueReads.{source_later}
 use Rattle.copy_reader.specs.Faults.{CountsRead}
 use Rattle.copy_reader.specs.WholeCopies.{HasFilesOf, IsShelfFailure, IsWholeCopy, ReadsCopyLog, ReadsCopyOf}
 use Rattle.copy_reader.specs.declared.fault.CopyFault.{CopyFault}
@@ -23,11 +18,11 @@ use Rattle.copy_reader.proofs.WholeLaws.{copies_are_whole}
 use Rattle.mirror_copy.specs.Pruned.{IsPrunedCopy}
 use Rattle.mirror_copy.proofs.PrunedFiles.{copies_are_pruned}
 use Rattle.mirror_copy.proofs.TipReads.{stands_has, stands_one}
+use Rattle.mirror_candidates.specs.Candidates.{note_of}
+use Rattle.mirror_candidates.specs.declared.candidate.Candidate.{Candidate}
 use Rattle.mirror_follow.specs.Blame.{CountsFollow, CountsFollowFault, by_copy}
 use Rattle.mirror_follow.specs.Ending.{EndsRun}
-use Rattle.mirror_follow.specs.Gathering.{note_of}
 use Rattle.mirror_follow.specs.Standing.{HasStanding, HoldsNoCopy, LacksLog}
-use Rattle.mirror_follow.specs.declared.candidate.Candidate.{Candidate}
 use Rattle.mirror_follow.specs.declared.fault.FollowFault.{FollowFault}
 
 -- ---- faults of a read
@@ -75,14 +70,6 @@ module _ (T U : Type 0) (digest : List ℕ → List ℕ) (size : ℕ) (root : Li
     (claim : List (List ℕ) → T → Type 0) where
   abbrev Opened : List (List ℕ) → Reader → Type 0
   Opened entries r = IsReaderOf digest entries r
-
-  -- a read of a source
-  pub read_log : (may later : Path → Option (List ℕ) → Type 0) → StaysWithin may later → (e : ReadFault) →
-      ReadsLog digest size root may (Ok reader) Opened → ReadsTilesOf digest reader new later (Err e) claim →
-      ReadsLog {T = U} digest size root may (Err e) (λ _ _. ⊤)
-  read_log may later stays e opened reads entries size_is root_is source =
-      (reads entries (opened entries size_is root_is source)
-      (source_tiles digest entries later (source_later digest entries may later stays source))).answer
 
   -- a read of a shelf
   pub read_copy : (x y : Option (List Put)) → KeepsRecord x y → (e : CopyFault) →

@@ -3,14 +3,15 @@ use Rattle.std.proofs.Common.{◌≡◌, ◌≢◌, ◌⊎◌, inl, inr, ℕ, �
 use Rattle.std.specs.Prelude.{⊤}
 use Rattle.std.specs.List.Sorted.{IsSorted}
 use Rattle.std.proofs.lemmas.List.{take_all, take_more}
-use Rattle.signed_note.specs.Keys.{Key}
 use Rattle.tlog_tiles.specs.declared.paths.Path.{Path}
 use Rattle.tlog_tiles.specs.declared.paths.Path.TheVariants.{Checkpoint}
+use Rattle.signed_note.specs.Keys.{Key}
 use Rattle.mirror_model.specs.Heads.{IsHead}
 use Rattle.mirror_model.proofs.HeadNotes.{head_once}
 use Rattle.mirror_folders.specs.Shelf.{Put, RecordsRead}
 use Rattle.mirror_folders.specs.declared.shelf.ShelfError.{ShelfError}
 use Rattle.mirror_folders.specs.declared.shelf.ShelfError.TheVariants as shelf
+use Rattle.mirror_places.specs.declared.places.Places.{Places}
 use Rattle.mirror_copy.proofs.PrunedFiles.{copies_are_pruned}
 use Rattle.mirror_copy.proofs.TipReads.{stands_has, stands_one}
 use Rattle.mirror_copy.specs.Conflicts.{HasConflict, IsConflict, WithCopy, WithEmpty}
@@ -18,27 +19,27 @@ use Rattle.mirror_copy.specs.Pruned.{IsPrunedCopy}
 use Rattle.mirror_copy.specs.AskedForCopy.{BlamesFailed, IsInUse, RefusesNote}
 use Rattle.mirror_copy.specs.Damaged.{IsDamaged}
 use Rattle.mirror_copy.specs.Faults.{IsOtherFound}
-use Rattle.mirror_places.specs.declared.places.Places.{Places}
 use Rattle.mirror_copy.specs.declared.fault.BringFault.{BringFault}
 use Rattle.mirror_copy.specs.declared.fault.BringFault.TheVariants as bring
-use Rattle.mirror_follow.specs.Asking.{option_or}
-use Rattle.mirror_follow.specs.Blame.{AsksAny, CountsFollow, CountsFollowFault, PlaceFails, by_shelf, of_candidates}
-use Rattle.mirror_follow.specs.Candidates.{turn_cmp}
-use Rattle.mirror_follow.specs.Ending.{BlamesPlace, EndsAt, EndsFor, EndsRun, GivesNoneBy, HadNone, HasFalseRoot, IsFaultOf, IsFirstFault, IsOfConflict, IsOfEmpty, IsOfOtherRun, KeepsFault, LacksCandidates, RefusesGiven, fault_after, or_fault}
-use Rattle.mirror_follow.specs.GatheredFrom.{AreCandidates, GiveNoneFor}
-use Rattle.mirror_follow.specs.Gathering.{note_of}
-use Rattle.mirror_follow.specs.Shown.{ShowsTurn}
+use Rattle.mirror_candidates.specs.Asking.{option_or}
+use Rattle.mirror_candidates.specs.Requests.{AsksAny, PlaceFails}
+use Rattle.mirror_candidates.specs.Candidates.{note_of, turn_cmp}
+use Rattle.mirror_candidates.specs.GatheredFrom.{AreCandidates, GiveNoneFor, LacksCandidates, RefusesGiven}
+use Rattle.mirror_candidates.specs.declared.candidate.Candidate.{Candidate}
+use Rattle.mirror_candidates.specs.declared.fault.CandidateFault.{CandidateFault}
+use Rattle.mirror_candidates.specs.declared.fault.CandidateFault.TheVariants as none
+use Rattle.mirror_candidates.proofs.Requests.{fails_later, fails_then}
+use Rattle.mirror_follow.specs.Blame.{CountsFollow, CountsFollowFault, by_shelf, of_candidates}
+use Rattle.mirror_follow.specs.Ending.{BlamesPlace, EndsAt, EndsFor, EndsRun, HadNone, HasFalseRoot, IsFaultOf, IsFirstFault, IsOfConflict, IsOfEmpty, IsOfOtherRun, KeepsFault, fault_after, or_fault}
+use Rattle.mirror_follow.specs.Turning.{ShowsTurn}
 use Rattle.mirror_follow.specs.Standing.{HasStanding, HoldsNoCopy, HoldsNoSmaller, IsCopyNow, IsCopyOfRun, IsFoundCopy, IsHeadOf, KnowsAfter, RecordsNone}
 use Rattle.mirror_follow.specs.Taken.{HasTakenRun, IsGrown, SaysTurn}
-use Rattle.mirror_follow.specs.declared.candidate.Candidate.{Candidate}
-use Rattle.mirror_follow.specs.declared.fault.CandidateFault.{CandidateFault}
-use Rattle.mirror_follow.specs.declared.fault.CandidateFault.TheVariants as none
 use Rattle.mirror_follow.specs.declared.fault.FollowFault.{FollowFault}
 use Rattle.mirror_follow.specs.declared.fault.FollowFault.TheVariants as fault
-use Rattle.mirror_follow.specs.declared.report.Run.{Run}
-use Rattle.mirror_follow.specs.declared.report.Outcome.{Outcome}
-use Rattle.mirror_follow.specs.declared.report.Outcome.TheVariants as turn
-use Rattle.mirror_follow.proofs.Blame.{fails_brought, fails_later, fails_then}
+use Rattle.mirror_follow.specs.declared.run.Run.{Run}
+use Rattle.mirror_follow.specs.declared.run.Outcome.{Outcome}
+use Rattle.mirror_follow.specs.declared.run.Outcome.TheVariants as turn
+use Rattle.mirror_follow.proofs.Blame.{fails_brought}
 use Rattle.mirror_follow.proofs.Standing.{standing_as, standing_none}
 use Rattle.mirror_follow.proofs.TurnOrder.{element}
 
@@ -357,32 +358,20 @@ module _ (digest : List ℕ → List ℕ) {S : Type 0} (may : S → Path → Opt
   ends_run (Some note) fault.OutOfMemory is = tt
 
   -- there are no candidates
-  none_given : (e : FollowFault) → GivesNoneBy may origin keys x y e → Ends None e
-  none_given fault.NoCheckpoint h = h
-  none_given (fault.Head f) h = h
-  none_given fault.CopyDamaged h = absurd h
-  none_given fault.CopyInUse h = absurd h
-  none_given fault.ShelfFault h = tt
-  none_given fault.Contradiction h = absurd h
-  none_given fault.Collision h = h
-  none_given fault.NoFile h = absurd h
-  none_given fault.Source h = (h.0, inl h.1)
-  none_given fault.OutOfMemory h = tt
+  none_given : (e : CandidateFault) → GiveNoneFor may origin keys x y e → Ends None (of_candidates e)
+  none_given none.NoCheckpoint h = h
+  none_given (none.Head f) h = h
+  none_given none.Source h = (h.0, inl h.1)
+  none_given none.OutOfMemory h = tt
 
-  one_given : (note : List ℕ) (e : FollowFault) → RefusesGiven origin keys note e → Ends (Some note) e
-  one_given note fault.NoCheckpoint h = h
-  one_given note (fault.Head f) h = h
-  one_given note fault.CopyDamaged h = absurd h
-  one_given note fault.CopyInUse h = absurd h
-  one_given note fault.ShelfFault h = tt
-  one_given note fault.Contradiction h = absurd h
-  one_given note fault.Collision h = h
-  one_given note fault.NoFile h = absurd h
-  one_given note fault.Source h = absurd h
-  one_given note fault.OutOfMemory h = tt
+  one_given : (note : List ℕ) (e : CandidateFault) → RefusesGiven origin keys note e → Ends (Some note) (of_candidates e)
+  one_given note none.NoCheckpoint h = h
+  one_given note (none.Head f) h = h
+  one_given note none.Source h = absurd h
+  one_given note none.OutOfMemory h = tt
 
-  pub ends_lacking : (given : Option (List ℕ)) (e : FollowFault) → LacksCandidates may origin keys x y given e →
-      Ends given e
+  pub ends_lacking : (given : Option (List ℕ)) (e : CandidateFault) → LacksCandidates may origin keys x y given e →
+      Ends given (of_candidates e)
   ends_lacking None e h = none_given e h
   ends_lacking (Some note) e h = one_given note e h
 
@@ -452,10 +441,8 @@ was_empty digest origin x first cs run h found none =
     none_found_first (Some f) grown found = absurd grown
 
 -- at a fault without candidates, the shelf did not fail
-pub none_of_places : {S : Type 0} (may : S → Path → Option (List ℕ) → Type 0) (origin : List ℕ) (keys : List Key)
-    (x y : Places S) (e : CandidateFault) → GiveNoneFor may origin keys x y e → (e ≡ none.Source → PlaceFails x y) →
-    GivesNoneBy may origin keys x y (of_candidates e)
-none_of_places may origin keys x y none.NoCheckpoint h fails = h
-none_of_places may origin keys x y (none.Head f) h fails = h
-none_of_places may origin keys x y none.Source h fails = (fails refl, h)
-none_of_places may origin keys x y none.OutOfMemory h fails = tt
+pub none_counts : (a b : ℕ) (e : CandidateFault) → b ≡ a → CountsFollowFault a b (of_candidates e)
+none_counts a b none.NoCheckpoint h = h
+none_counts a b (none.Head f) h = h
+none_counts a b none.Source h = h
+none_counts a b none.OutOfMemory h = h

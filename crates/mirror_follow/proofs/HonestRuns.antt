@@ -4,30 +4,31 @@ use Rattle.std.proofs.lemmas.List.{append-nil, nil_from_length}
 use Rattle.std.proofs.Math.Seq.{take-append_seam}
 use Rattle.std.specs.List.{Contains}
 use Rattle.std.specs.List.Sorted.{IsSorted}
-use Rattle.signed_note.specs.Keys.{Key}
 use Rattle.tlog_hash.specs.Tree.{mth}
 use Rattle.tlog_tiles.specs.declared.paths.Path.{Path}
+use Rattle.signed_note.specs.Keys.{Key}
 use Rattle.mirror_sources.specs.Recorded.{KeepsRecord}
 use Rattle.mirror_folders.specs.Shelf.{Put}
+use Rattle.mirror_places.specs.declared.places.Places.{Places}
 use Rattle.mirror_copy.specs.Moments.{InTheEnd}
 use Rattle.mirror_copy.specs.OneHonest.{IsHonestFor}
-use Rattle.mirror_places.specs.declared.places.Places.{Places}
-use Rattle.mirror_follow.specs.Asking.{option_or}
-use Rattle.mirror_follow.specs.Blame.{AsksAny}
-use Rattle.mirror_follow.specs.Candidates.{turn_cmp}
-use Rattle.mirror_follow.specs.Ending.{EndsAt, GivesNoneBy, LacksCandidates, RefusesGiven}
-use Rattle.mirror_follow.specs.GatheredFrom.{AreCandidates, GiveCandidates, GiveNone}
+use Rattle.mirror_candidates.specs.Asking.{option_or}
+use Rattle.mirror_candidates.specs.Requests.{AsksAny}
+use Rattle.mirror_candidates.specs.Candidates.{IsOnePoint, turn_cmp}
+use Rattle.mirror_candidates.specs.GatheredFrom.{AreCandidates, GiveCandidates, GiveNone, GiveNoneFor, LacksCandidates, RefusesGiven}
+use Rattle.mirror_candidates.specs.declared.candidate.Candidate.{Candidate}
+use Rattle.mirror_candidates.specs.declared.fault.CandidateFault.{CandidateFault}
+use Rattle.mirror_candidates.specs.declared.fault.CandidateFault.TheVariants as none
+use Rattle.mirror_candidates.proofs.Requests.{any_same}
+use Rattle.mirror_follow.specs.Ending.{EndsAt}
 use Rattle.mirror_follow.specs.OneHonest.{HasNone, HasPart, HasReached, HasSize, HoldsPartOrNone, IsFirstPoint, IsHonestAmong, IsHonestFirst, IsHonestListed, IsHonestRun, IsOfShelfOrMemory, KeepsPoint, ReachesLog, ReachesSize}
-use Rattle.mirror_follow.specs.Says.{IsOnePoint}
 use Rattle.mirror_follow.specs.Standing.{HadCopy, HoldsNoCopy, IsCopyOfRun, IsCopyRead, PrunedAs, PrunedUnder, size_of_copy}
 use Rattle.mirror_follow.specs.Taken.{IsLargerThan}
-use Rattle.mirror_follow.specs.declared.candidate.Candidate.{Candidate}
-use Rattle.mirror_follow.specs.declared.fault.CandidateFault.{CandidateFault}
+use Rattle.mirror_follow.specs.Blame.{of_candidates}
 use Rattle.mirror_follow.specs.declared.fault.FollowFault.{FollowFault}
 use Rattle.mirror_follow.specs.declared.fault.FollowFault.TheVariants as fault
 use Rattle.mirror_follow.specs.declared.report.Followed.{Followed}
-use Rattle.mirror_follow.specs.declared.report.Run.{Run}
-use Rattle.mirror_follow.proofs.Blame.{any_same}
+use Rattle.mirror_follow.specs.declared.run.Run.{Run}
 use Rattle.mirror_follow.proofs.Ending.{ends_so}
 use Rattle.mirror_follow.proofs.OneHonest.{honest_part, never_ends, not_refused}
 
@@ -40,43 +41,31 @@ module _ {S : Type 0} (may : S → Path → Option (List ℕ) → Type 0) (origi
   no_candidates : (f : CandidateFault) → GiveNone may origin keys x y f → GiveCandidates may origin keys x y []
   no_candidates f n = record { answers = n.answers; answer_each = n.answer_each; are_of = n.are_of }
 
-  places_give : (e : FollowFault) → GivesNoneBy may origin keys x y e →
-      (GiveCandidates may origin keys x y [] → ⊥) → IsOfShelfOrMemory e
-  places_give fault.NoCheckpoint h some = absurd (some (no_candidates _ h))
-  places_give (fault.Head f) h some = absurd (some (no_candidates _ h))
-  places_give fault.CopyDamaged h some = absurd h
-  places_give fault.CopyInUse h some = absurd h
-  places_give fault.ShelfFault h some = inl refl
-  places_give fault.Contradiction h some = absurd h
-  places_give fault.Collision h some = absurd h
-  places_give fault.NoFile h some = absurd h
-  places_give fault.Source h some = absurd (some (no_candidates _ h.1))
-  places_give fault.OutOfMemory h some = inr refl
+  places_give : (e : CandidateFault) → GiveNoneFor may origin keys x y e →
+      (GiveCandidates may origin keys x y [] → ⊥) → IsOfShelfOrMemory (of_candidates e)
+  places_give none.NoCheckpoint h some = absurd (some (no_candidates _ h))
+  places_give (none.Head f) h some = absurd (some (no_candidates _ h))
+  places_give none.Source h some = absurd (some (no_candidates _ h.1))
+  places_give none.OutOfMemory h some = inr refl
 
-  given_opens : (note : List ℕ) (e : FollowFault) → RefusesGiven origin keys note e → (cs : List Candidate) →
-      AreCandidates may origin keys x y (Some note) cs → IsOfShelfOrMemory e
-  given_opens note fault.NoCheckpoint h cs are = absurd h
-  given_opens note (fault.Head f) h cs are =
+  given_opens : (note : List ℕ) (e : CandidateFault) → RefusesGiven origin keys note e → (cs : List Candidate) →
+      AreCandidates may origin keys x y (Some note) cs → IsOfShelfOrMemory (of_candidates e)
+  given_opens note none.NoCheckpoint h cs are = absurd h
+  given_opens note (none.Head f) h cs are =
       absurd (not_refused note origin keys are.candidate.size.0 are.candidate.root f are.opens.is_open h.1 h.0)
-  given_opens note fault.CopyDamaged h cs are = absurd h
-  given_opens note fault.CopyInUse h cs are = absurd h
-  given_opens note fault.ShelfFault h cs are = inl refl
-  given_opens note fault.Contradiction h cs are = absurd h
-  given_opens note fault.Collision h cs are = absurd h
-  given_opens note fault.NoFile h cs are = absurd h
-  given_opens note fault.Source h cs are = absurd h
-  given_opens note fault.OutOfMemory h cs are = inr refl
+  given_opens note none.Source h cs are = absurd h
+  given_opens note none.OutOfMemory h cs are = inr refl
 
   -- if the greatest candidate is an honest place's, or one of the candidates is, there are candidates
-  pub some_given : (digest : List ℕ → List ℕ) (puts : Option (List Put)) (given : Option (List ℕ)) (e : FollowFault) →
+  pub some_given : (digest : List ℕ → List ℕ) (puts : Option (List Put)) (given : Option (List ℕ)) (e : CandidateFault) →
       LacksCandidates may origin keys x y given e →
-      IsHonestRun digest may puts x y origin (AreCandidates may origin keys x y given) → IsOfShelfOrMemory e
+      IsHonestRun digest may puts x y origin (AreCandidates may origin keys x y given) → IsOfShelfOrMemory (of_candidates e)
   some_given digest puts None e lacks h = places_give e lacks (λ none. h.greatest [] none none_sorted)
   some_given digest puts (Some note) e lacks h = given_opens note e lacks h.some.0 h.some.1
 
-  pub one_given : (digest : List ℕ → List ℕ) (puts held : Option (List Put)) (given : Option (List ℕ)) (e : FollowFault) →
+  pub one_given : (digest : List ℕ → List ℕ) (puts held : Option (List Put)) (given : Option (List ℕ)) (e : CandidateFault) →
       LacksCandidates may origin keys x y given e →
-      IsHonestAmong digest may puts x y origin held (AreCandidates may origin keys x y given) → IsOfShelfOrMemory e
+      IsHonestAmong digest may puts x y origin held (AreCandidates may origin keys x y given) → IsOfShelfOrMemory (of_candidates e)
   one_given digest puts held None e lacks h =
       places_give e lacks (λ none. let o = h.among [] none in absurd (let lt : o.listed.0 < 0 = o.listed.1 in omega (arith, lt)))
   one_given digest puts held (Some note) e lacks h = given_opens note e lacks h.some.0 h.some.1

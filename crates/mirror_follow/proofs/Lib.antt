@@ -1,13 +1,7 @@
-pub mod FirstRoots
-pub mod ForkLines
-pub mod Gathering
-pub mod Asking
 pub mod Runs
 pub mod Kept
-pub mod Checked
 pub mod Standing
 pub mod Blame
-pub mod GatheredFrom
 pub mod CopyReads
 pub mod Renoted
 pub mod Ending
@@ -16,10 +10,9 @@ pub mod Turning
 pub mod TurnOrder
 pub mod Taken
 pub mod Settled
-pub mod Agreeing
 pub mod Noted
 pub mod Split
-pub mod Lines
 pub mod OneHonest
 pub mod HonestRuns
 pub mod Sparing
+pub mod Adding

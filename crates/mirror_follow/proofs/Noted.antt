@@ -5,16 +5,15 @@ use Rattle.tlog_hash.specs.Tree.{mth}
 use Rattle.mirror_folders.specs.Shelf.{Put}
 use Rattle.mirror_copy.specs.Copies.{IsCopy}
 use Rattle.mirror_copy.specs.Pruned.{IsPrunedCopy}
-use Rattle.mirror_follow.specs.Candidates.{turn_cmp}
-use Rattle.mirror_follow.specs.Gathering.{note_of}
-use Rattle.mirror_follow.specs.Lines.{AreLines}
+use Rattle.mirror_candidates.specs.Candidates.{note_of, turn_cmp}
+use Rattle.mirror_candidates.specs.Lines.{AreLines}
+use Rattle.mirror_candidates.specs.declared.candidate.Candidate.{Candidate}
+use Rattle.mirror_candidates.specs.declared.fork_line.ForkLine.{ForkLine}
 use Rattle.mirror_follow.specs.Says.{HasLeastInTheEnd, HasLeastNote, IsNoteOfOne, IsNoteUpTo, IsOldNote, IsUpToOld, Says, SettlesEach}
 use Rattle.mirror_follow.specs.Standing.{HadCopy, IsCopyOfRun, IsCopyRead, IsFoundCopy, PrunedUnder, StandsUnder}
 use Rattle.mirror_follow.specs.Taken.{HasTaken, HasTakenRun, IsGrown, IsOneOf}
-use Rattle.mirror_follow.specs.declared.candidate.Candidate.{Candidate}
 use Rattle.mirror_follow.specs.declared.report.Followed.{Followed}
-use Rattle.mirror_follow.specs.declared.report.ForkLine.{ForkLine}
-use Rattle.mirror_follow.specs.declared.report.Run.{Run}
+use Rattle.mirror_follow.specs.declared.run.Run.{Run}
 use Rattle.mirror_follow.proofs.Standing.{end_weaker}
 
 up_to_old : (first : Option Candidate) (c : Candidate) (note : List ℕ) (n : ℕ) → IsCopyRead note n first →

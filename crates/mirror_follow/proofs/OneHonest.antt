@@ -6,12 +6,12 @@ use Rattle.std.proofs.lemmas.List.Elements.{Contains-append_left, Contains-push_
 use Rattle.std.proofs.Math.Seq.{take-append-add}
 use Rattle.std.specs.List.{Contains}
 use Rattle.std.specs.List.Sorted.{IsSorted}
-use Rattle.signed_note.specs.Keys.{Key}
-use Rattle.tlog_checkpoint.specs.declared.Checkpoint.{Checkpoint}
 use Rattle.tlog_hash.specs.Tree.{mth}
 use Rattle.tlog_hash.proofs.Trees.{mth-none}
 use Rattle.tlog_tiles.specs.declared.paths.Path.{Path}
 use Rattle.tlog_tiles.specs.declared.paths.Path.TheVariants as path
+use Rattle.tlog_checkpoint.specs.declared.Checkpoint.{Checkpoint}
+use Rattle.signed_note.specs.Keys.{Key}
 use Rattle.mirror_model.specs.Heads.{IsOpenHead}
 use Rattle.mirror_model.specs.Refusals.{ReadsHead}
 use Rattle.mirror_model.specs.declared.fault.TakeFault.{TakeFault}
@@ -19,33 +19,31 @@ use Rattle.mirror_model.specs.declared.fault.TakeFault.TheVariants as taking
 use Rattle.mirror_model.proofs.RefusedHeads.{head_notes_are_read_once, open_heads_are_read}
 use Rattle.mirror_sources.specs.Recorded.{AddsToRecord}
 use Rattle.mirror_folders.specs.Shelf.{Put, RecordsSome}
-use Rattle.mirror_copy.specs.OneHonest.{HoldsFirst, HoldsNone, HoldsPruned, IsHonestFor, IsHonestNote}
-use Rattle.mirror_copy.specs.Pruned.{IsPrunedCopy}
+use Rattle.log_reader.proofs.Kept.{kept_once}
 use Rattle.mirror_places.specs.TruePlaces.{IsTruePlace}
-use Rattle.mirror_copy.specs.Taken.{FilesAreClear, MayTake, WasPut}
 use Rattle.mirror_places.specs.Giving.{MayGive}
 use Rattle.mirror_places.specs.declared.places.Places.{Places}
-use Rattle.mirror_copy.proofs.OneHonest.{edges_clear}
 use Rattle.mirror_places.proofs.Giving.{part_weaker}
-use Rattle.mirror_follow.specs.Blame.{AsksAny}
+use Rattle.mirror_copy.specs.OneHonest.{HoldsFirst, HoldsNone, HoldsPruned, IsHonestFor, IsHonestNote}
+use Rattle.mirror_copy.specs.Pruned.{IsPrunedCopy}
+use Rattle.mirror_copy.specs.Taken.{FilesAreClear, MayTake, WasPut}
+use Rattle.mirror_copy.proofs.OneHonest.{edges_clear}
+use Rattle.mirror_candidates.specs.Requests.{AsksAny}
+use Rattle.mirror_candidates.specs.Candidates.{IsOnePoint, note_of, turn_cmp}
+use Rattle.mirror_candidates.specs.declared.candidate.Candidate.{Candidate}
+use Rattle.mirror_candidates.proofs.Requests.{any_same, any_then}
 use Rattle.mirror_follow.specs.Ending.{EndsAt, EndsRun, HasFalseRoot}
-use Rattle.mirror_follow.specs.Gathering.{note_of}
 use Rattle.mirror_follow.specs.OneHonest.{HasNone, HasPart, HasReached, HasSize, HoldsPart, HoldsPartOrNone, IsHonestFirst, IsHonestListed, IsHonestTurn, IsOfShelfOrMemory, KeepsPoint, StepsUp}
-use Rattle.mirror_follow.specs.Candidates.{turn_cmp}
 use Rattle.mirror_follow.specs.Runs.{KeepsEach}
-use Rattle.mirror_follow.specs.Says.{IsOnePoint}
-use Rattle.mirror_follow.specs.Standing.{HadCopy, HasStanding, HoldsNoCopy, IsCopyNow, IsCopyRead, IsCopyOfRun, IsHeadOf, KnowsAfter, PrunedAs, StandsOrNone}
+use Rattle.mirror_follow.specs.Standing.{HadCopy, HasStanding, HoldsNoCopy, IsCopyNow, IsCopyOfRun, IsCopyRead, IsHeadOf, KnowsAfter, PrunedAs, StandsOrNone}
 use Rattle.mirror_follow.specs.Taken.{IsAbove, IsLargerThan, IsRepeat, SaysTurn}
-use Rattle.mirror_follow.specs.declared.candidate.Candidate.{Candidate}
 use Rattle.mirror_follow.specs.declared.fault.FollowFault.{FollowFault}
 use Rattle.mirror_follow.specs.declared.fault.FollowFault.TheVariants as fault
-use Rattle.mirror_follow.specs.declared.report.Outcome.{Outcome}
-use Rattle.mirror_follow.specs.declared.report.Outcome.TheVariants as turn
-use Rattle.mirror_follow.proofs.Blame.{any_same, any_then}
+use Rattle.mirror_follow.specs.declared.run.Outcome.{Outcome}
+use Rattle.mirror_follow.specs.declared.run.Outcome.TheVariants as turn
 use Rattle.mirror_follow.proofs.Runs.{each_none, each_then}
 use Rattle.mirror_follow.proofs.Standing.{standing_as, standing_none}
 use Rattle.mirror_follow.proofs.TurnOrder.{again, falls, none_above}
-use Rattle.log_reader.proofs.Kept.{kept_once}
 
 -- ---- an honest place, call after call
 

@@ -1,40 +1,38 @@
 -- A copy whose note was replaced by another one of its size and root.
-use Rattle.std.proofs.Common.{◌≡◌, ◌≢◌, ◌⊎◌, inl, inr, ℕ, ◌<◌, List, [], ◌∷◌, ◌++◌, length, Option, Some, None}
-use Rattle.std.proofs.Common.{refl, sym, subst, ◌∙◌, ap, arith, length-append}
+use Rattle.std.proofs.Common.{◌≡◌, ◌≢◌, ◌⊎◌, inl, inr, ℕ, ◌<◌, List, [], ◌∷◌, ◌++◌, length, Option, Some, None, refl, sym, subst, ◌∙◌, ap, arith, length-append}
 use Rattle.std.specs.List.{Contains}
 use Rattle.std.proofs.lemmas.Bool.{cases_lt}
 use Rattle.std.proofs.lemmas.List.{append-nil, nil_from_length}
 use Rattle.std.proofs.lemmas.List.Elements.{All-cons, All-contains, All-nil}
+use Rattle.std.specs.Prelude.{Ok}
 use Rattle.tlog_hash.specs.Tree.{mth}
 use Rattle.tlog_tiles.specs.declared.paths.Path.{Path}
 use Rattle.tlog_tiles.specs.declared.paths.Path.TheVariants.{Checkpoint, Tile, Entries}
 use Rattle.tlog_tiles.specs.Tiles.{IsWithin}
+use Rattle.tlog_tiles.proofs.EdgeLemmas.{contains_one}
 use Rattle.mirror_model.specs.Heads.{IsHead}
 use Rattle.mirror_model.proofs.HeadNotes.{head_once}
 use Rattle.mirror_sources.specs.Recorded.{AddsToRecord}
+use Rattle.mirror_sources.specs.Files.{full_of}
+use Rattle.mirror_sources.specs.Honest.{true_bytes}
 use Rattle.mirror_folders.specs.Shelf.{Put, HasPut, Stands, RecordsRead}
 use Rattle.log_paths.specs.Holding.{IsMoment}
 use Rattle.log_paths.specs.Files.{paths_of, served_bytes}
 use Rattle.log_paths.proofs.AllFiles.{files_are_all}
-use Rattle.log_paths.proofs.Standing.{stands_more}
+use Rattle.log_paths.proofs.Standing.{stands_more, has_after}
+use Rattle.log_reader.specs.Holding.{IsTreeFile}
 use Rattle.mirror_copy.specs.Copies.{IsCopy}
 use Rattle.mirror_copy.specs.Moments.{AtEachMoment, InTheEnd, IsBroughtTo, IsGrownCopy, KeepsCopy, PutsBeyond}
 use Rattle.mirror_copy.specs.Pruned.{HasGivenWay, IsGrownPruned, IsPrunedCopy, LeavesPruned}
-use Rattle.log_paths.proofs.Standing.{has_after}
-use Rattle.mirror_sources.specs.Files.{full_of}
-use Rattle.mirror_sources.specs.Honest.{true_bytes}
-use Rattle.log_reader.specs.Holding.{IsTreeFile}
-use Rattle.tlog_tiles.proofs.EdgeLemmas.{contains_one}
-use Rattle.std.specs.Prelude.{Ok}
 use Rattle.mirror_copy.proofs.CopyMoments.{copy_files}
 use Rattle.mirror_copy.proofs.TipReads.{stands_one}
 use Rattle.mirror_copy.proofs.WholeMoments.{none_found}
-use Rattle.mirror_follow.specs.Gathering.{note_of}
+use Rattle.mirror_candidates.specs.Candidates.{note_of}
+use Rattle.mirror_candidates.specs.declared.candidate.Candidate.{Candidate}
 use Rattle.mirror_follow.specs.Renoting.{IsNotePut}
 use Rattle.mirror_follow.specs.Runs.{KeepsUnder}
 use Rattle.mirror_follow.specs.Standing.{EachIsBrought, IsHeadOf}
 use Rattle.mirror_follow.proofs.Runs.{each_one}
-use Rattle.mirror_follow.specs.declared.candidate.Candidate.{Candidate}
 
 -- at each moment of one put, nothing was put yet, or the put was made
 moments_are : (held : List Put) (put : Put) (now : List Put) → IsMoment held (held ++ put ∷ []) now →

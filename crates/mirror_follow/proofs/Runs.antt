@@ -1,7 +1,6 @@
 -- Runs that bring a copy to one note after the other.
-use Rattle.std.proofs.Common.{◌≡◌, ◌≢◌, ◌⊎◌, ℕ, ◌≤◌, List, [], ◌++◌, length, take, drop, Option, Some, None, refl, sym, ap, subst, ◌∙◌, inl, inr, arith}
-use Rattle.std.proofs.Common.{◌<◌, get_or, map, All, append_assoc, length-append, take-append-drop}
-use Rattle.std.specs.Prelude.{Contains}
+use Rattle.std.proofs.Common.{◌≡◌, ◌≢◌, ◌⊎◌, ℕ, ◌≤◌, List, [], ◌++◌, length, take, drop, Option, Some, None, refl, sym, ap, subst, ◌∙◌, inl, inr, arith, ◌<◌, get_or, map, All, append_assoc, length-append, take-append-drop}
+use Rattle.std.specs.Prelude.{Contains, Result}
 use Rattle.std.proofs.Math.ListN.{get_or-map}
 use Rattle.std.proofs.Math.Seq.{take-append_seam}
 use Rattle.std.proofs.lemmas.Bool.{cases_lt}
@@ -12,21 +11,19 @@ use Rattle.tlog_tiles.specs.declared.paths.Path.TheVariants.{Checkpoint, Tile, E
 use Rattle.tlog_tiles.specs.Tiles.{IsWithin}
 use Rattle.mirror_sources.specs.Recorded.{AddsToRecord, KeepsRecord}
 use Rattle.mirror_folders.specs.Shelf.{Put, HasPut, Stands}
-use Rattle.log_paths.specs.Holding.{IsMoment}
+use Rattle.log_paths.specs.Holding.{IsMoment, HoldsFiles}
 use Rattle.log_paths.specs.FileLaws.{IsFileOf}
 use Rattle.log_paths.specs.Files.{served_bytes}
-use Rattle.log_paths.specs.Holding.{HoldsFiles}
 use Rattle.log_paths.proofs.AllFiles.{files_are_all}
 use Rattle.log_paths.proofs.Standing.{stands_more}
+use Rattle.mirror_places.proofs.Prefixes.{within_more}
 use Rattle.mirror_copy.specs.Copies.{IsCopy}
 use Rattle.mirror_copy.specs.Moments.{AtEachMoment, IsGrownCopy, KeepsCopy, PutsBeyond}
 use Rattle.mirror_copy.specs.Pruned.{IsGrownPruned, IsPrunedCopy, LeavesPruned}
-use Rattle.std.specs.Prelude.{Result}
 use Rattle.mirror_copy.proofs.Growth.{adds_then}
-use Rattle.mirror_places.proofs.Prefixes.{within_more}
 use Rattle.mirror_copy.proofs.WholeMoments.{at_kept, beyond_same, whole_same}
-use Rattle.mirror_follow.specs.Gathering.{note_of}
-use Rattle.mirror_follow.specs.declared.candidate.Candidate.{Candidate}
+use Rattle.mirror_candidates.specs.Candidates.{note_of}
+use Rattle.mirror_candidates.specs.declared.candidate.Candidate.{Candidate}
 use Rattle.mirror_follow.specs.Runs.{IsGrownUnder, IsPrunedUnder, KeepsCopies, KeepsEach, KeepsPrunedCopies, KeepsPrunedCopy, RunsKeepCopies}
 
 -- ---- moments of two calls

@@ -3,14 +3,16 @@ use Rattle.std.proofs.Common.{◌≡◌, ◌⊎◌, inl, inr, ℕ, ◌<◌, ◌�
 use Rattle.std.specs.List.Sorted.{IsPermutation}
 use Rattle.std.proofs.lemmas.List.Elements.{All-contains}
 use Rattle.std.proofs.lemmas.List.Sorted.{All-permutation, Contains-permutation}
-use Rattle.mirror_follow.specs.Agreeing.{Agrees}
-use Rattle.mirror_follow.specs.Says.{IsBehind, IsInSomeLine, IsLarger, IsOnePoint, IsSettled, SettlesEach, point_of_copy}
-use Rattle.mirror_follow.specs.Shown.{point_of}
+use Rattle.mirror_candidates.specs.Agreeing.{Agrees}
+use Rattle.mirror_candidates.specs.Lines.{IsInSomeLine}
+use Rattle.mirror_candidates.specs.Candidates.{IsOnePoint, point_of}
+use Rattle.mirror_candidates.specs.declared.candidate.Candidate.{Candidate}
+use Rattle.mirror_candidates.specs.declared.fork_line.ForkLine.{ForkLine}
+use Rattle.mirror_candidates.proofs.LineLists.{lines_kept}
+use Rattle.mirror_follow.specs.Says.{IsBehind, IsLarger, IsSettled, SettlesEach, point_of_copy}
 use Rattle.mirror_follow.specs.Taken.{HasTaken, IsAgreed, IsBehindTest, IsBeyond, IsLacked, IsLeft, IsReached, IsReported, IsSplit, KeepsFirst, SplitsLacked}
-use Rattle.mirror_follow.specs.declared.candidate.Candidate.{Candidate}
 use Rattle.mirror_follow.specs.declared.report.Followed.{Followed}
-use Rattle.mirror_follow.specs.declared.report.ForkLine.{ForkLine}
-use Rattle.mirror_follow.proofs.Taken.{in_some_line, lines_kept}
+use Rattle.mirror_follow.proofs.Taken.{in_some_line}
 
 pair_same : (a b : Candidate) → IsOnePoint a b → ◌≡◌ {A = ℕ × List ℕ} (a.size.0, a.root) (b.size.0, b.root)
 pair_same a b p = λ i. (p.0 i, p.1 i)

@@ -2,30 +2,31 @@
 use Rattle.std.proofs.Common.{◌≡◌, ◌≢◌, ◌⊎◌, inl, inr, ℕ, ◌<◌, List, [], ◌∷◌, length, take, get_or, Option, Some, None, Result, Ok, Err, IfErr, IfOk, OnOk, refl, sym, ap, subst, ◌∙◌, arith, length-take}
 use Rattle.std.proofs.lemmas.Bool.{cases_lt}
 use Rattle.std.specs.List.Sorted.{IsSorted}
-use Rattle.signed_note.specs.Keys.{Key}
 use Rattle.tlog_tiles.specs.declared.paths.Path.{Path}
 use Rattle.mirror_sources.specs.Recorded.{KeepsRecord}
 use Rattle.mirror_folders.specs.Shelf.{Put}
+use Rattle.mirror_places.specs.declared.places.Places.{Places}
 use Rattle.mirror_copy.specs.AskedForCopy.{AsksFiles, AsksForCopy, AsksNothing, BlamesFailed}
 use Rattle.mirror_copy.specs.Pruned.{HadSize}
 use Rattle.mirror_copy.specs.declared.fault.BringFault.{BringFault}
 use Rattle.mirror_copy.specs.declared.fault.BringFault.TheVariants as bring
-use Rattle.mirror_places.specs.declared.places.Places.{Places}
-use Rattle.mirror_follow.specs.Asking.{option_or}
-use Rattle.mirror_follow.specs.Blame.{AsksAny}
-use Rattle.mirror_follow.specs.Candidates.{turn_cmp}
-use Rattle.mirror_follow.specs.Ending.{EndsRun, GivesNoneBy, IsFirstFault, KeepsFault, LacksCandidates, RefusesGiven, fault_after, or_fault}
-use Rattle.mirror_follow.specs.Gathering.{note_of}
+use Rattle.mirror_candidates.specs.Asking.{option_or}
+use Rattle.mirror_candidates.specs.Requests.{AsksAny}
+use Rattle.mirror_candidates.specs.Candidates.{note_of, turn_cmp}
+use Rattle.mirror_candidates.specs.declared.fault.CandidateFault.{CandidateFault}
+use Rattle.mirror_candidates.specs.declared.fault.CandidateFault.TheVariants as none
+use Rattle.mirror_candidates.specs.declared.candidate.Candidate.{Candidate}
+use Rattle.mirror_candidates.proofs.Requests.{any_same, any_then}
+use Rattle.mirror_follow.specs.Ending.{EndsRun, IsFirstFault, KeepsFault, fault_after, or_fault}
+use Rattle.mirror_follow.specs.Blame.{of_candidates}
 use Rattle.mirror_follow.specs.OneHonest.{StepsUp}
 use Rattle.mirror_follow.specs.Sparing.{SparesAt, SparesBringing, SparesGreatest}
 use Rattle.mirror_follow.specs.Standing.{IsCopyNow, KnowsAfter}
-use Rattle.mirror_follow.specs.declared.candidate.Candidate.{Candidate}
 use Rattle.mirror_follow.specs.declared.fault.FollowFault.{FollowFault}
 use Rattle.mirror_follow.specs.declared.fault.FollowFault.TheVariants as fault
-use Rattle.mirror_follow.specs.declared.report.Run.{Run}
-use Rattle.mirror_follow.specs.declared.report.Outcome.{Outcome}
-use Rattle.mirror_follow.specs.declared.report.Outcome.TheVariants as turn
-use Rattle.mirror_follow.proofs.Blame.{any_same, any_then}
+use Rattle.mirror_follow.specs.declared.run.Run.{Run}
+use Rattle.mirror_follow.specs.declared.run.Outcome.{Outcome}
+use Rattle.mirror_follow.specs.declared.run.Outcome.TheVariants as turn
 use Rattle.mirror_follow.proofs.OneHonest.{same_at}
 
 module _ (digest : List ℕ → List ℕ) {S : Type 0} (may : S → Path → Option (List ℕ) → Type 0) (failed : S → ℕ)
@@ -214,11 +215,11 @@ pub ends_spares : (A B Q : Type 0) (e : FollowFault) → EndsRun A B e → e ≡
 ends_spares A B Q e h is = absurd (subst (EndsRun A B) is h)
 
 -- the requests for candidates do not end by NoFile
-pub lacks_spares : {S : Type 0} (may : S → Path → Option (List ℕ) → Type 0) (origin : List ℕ) (keys : List Key) (x y : Places S)
-    (Q : Type 0) (given : Option (List ℕ)) (e : FollowFault) → LacksCandidates may origin keys x y given e →
-    e ≡ fault.NoFile → Q
-lacks_spares may origin keys x y Q None e h is = absurd (subst (GivesNoneBy may origin keys x y) is h)
-lacks_spares may origin keys x y Q (Some note) e h is = absurd (subst (RefusesGiven origin keys note) is h)
+pub lacks_spares : (Q : Type 0) (e : CandidateFault) → of_candidates e ≡ fault.NoFile → Q
+lacks_spares Q none.NoCheckpoint is = absurd (cc is)
+lacks_spares Q (none.Head f) is = absurd (cc is)
+lacks_spares Q none.Source is = absurd (cc is)
+lacks_spares Q none.OutOfMemory is = absurd (cc is)
 
 -- an outcome that is kept
 pub same_spares : {E : Type 0} (r : Result Outcome E) (t : Outcome) (P : Type 0) → IfOk r (λ now. now ≡ t) →

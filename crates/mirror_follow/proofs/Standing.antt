@@ -7,21 +7,21 @@ use Rattle.mirror_model.specs.Heads.{IsHead}
 use Rattle.mirror_model.proofs.HeadNotes.{head_once}
 use Rattle.mirror_sources.specs.Recorded.{KeepsRecord}
 use Rattle.mirror_folders.specs.Shelf.{Put, HasPut, Stands, RecordsRead}
+use Rattle.log_paths.proofs.AllFiles.{files_are_all}
 use Rattle.mirror_copy.specs.Copies.{IsCopy}
 use Rattle.mirror_copy.specs.Moments.{CopyStays, InTheEnd, IsBroughtTo, IsGrownCopy}
 use Rattle.mirror_copy.specs.Pruned.{HadSize, IsGrownPruned, IsPrunedCopy, LeavesPruned}
 use Rattle.mirror_copy.proofs.PrunedFiles.{copies_are_pruned}
 use Rattle.mirror_copy.proofs.PrunedMoments.{leaves_same}
 use Rattle.mirror_copy.proofs.Stays.{stays_same}
-use Rattle.log_paths.proofs.AllFiles.{files_are_all}
 use Rattle.mirror_copy.proofs.TipReads.{stands_has, stands_one}
 use Rattle.mirror_copy.proofs.WholeMoments.{copy_found, none_found}
-use Rattle.mirror_follow.specs.Gathering.{note_of}
-use Rattle.mirror_follow.specs.Standing.{EachIsBrought, EachStays, HadCopy, HasCopy, HasPruned, HasStanding, IsCopyNow, IsCopyOfRun, IsFollowed, IsFoundCopy, IsHeadOf, IsSame, KnowsAfter, PrunedAs, PrunedUnder, StandsAfter, StandsAs, StandsOrNone, StandsUnder, size_of_copy}
-use Rattle.mirror_follow.specs.declared.candidate.Candidate.{Candidate}
+use Rattle.mirror_candidates.specs.Candidates.{IsSame, note_of}
+use Rattle.mirror_candidates.specs.declared.candidate.Candidate.{Candidate}
+use Rattle.mirror_follow.specs.Standing.{EachIsBrought, EachStays, HadCopy, HasCopy, HasPruned, HasStanding, IsCopyNow, IsCopyOfRun, IsFollowed, IsFoundCopy, IsHeadOf, KnowsAfter, PrunedAs, PrunedUnder, StandsAfter, StandsAs, StandsOrNone, StandsUnder, size_of_copy}
 use Rattle.mirror_follow.specs.declared.report.Followed.{Followed}
-use Rattle.mirror_follow.specs.declared.report.Outcome.{Outcome}
-use Rattle.mirror_follow.specs.declared.report.Outcome.TheVariants as turn
+use Rattle.mirror_follow.specs.declared.run.Outcome.{Outcome}
+use Rattle.mirror_follow.specs.declared.run.Outcome.TheVariants as turn
 
 -- a fact at the end, and its consequence
 pub end_weaker : (w : Option (List Put)) (so also : List Put → Type 0) → ((now : List Put) → so now → also now) →

@@ -1,40 +1,30 @@
 -- The facts about the candidates, turn after turn.
-use Rattle.std.proofs.Common.{◌≡◌, ◌≢◌, ◌⊎◌, inl, inr, ℕ, ◌+◌, ◌<◌, ◌≤◌, Bool, true, false, List, [], ◌∷◌, ◌++◌, length, get_or, take, All, Contains, Option, Some, None, refl, sym, ap, subst, ◌∙◌, arith, true≢false}
-use Rattle.std.proofs.Common.{Result, Ok, Err, IfOk, IfSome, OnOk}
+use Rattle.std.proofs.Common.{◌≡◌, ◌≢◌, ◌⊎◌, inl, inr, ℕ, ◌+◌, ◌<◌, ◌≤◌, Bool, true, false, List, [], ◌∷◌, ◌++◌, length, get_or, take, All, Contains, Option, Some, None, refl, sym, ap, subst, ◌∙◌, arith, true≢false, Result, Ok, Err, IfOk, IfSome, OnOk}
 use Rattle.std.specs.List.Sorted.{IsSorted}
 use Rattle.std.proofs.lemmas.Bool.{cases_lt}
 use Rattle.std.proofs.lemmas.List.{take_all, take_more}
 use Rattle.std.proofs.lemmas.List.Elements.{All-contains, All-nil, All-push, All-weaker, Contains-append_left, Contains-push}
 use Rattle.tlog_proof.specs.declared.proof.Proof.{Proof}
-use Rattle.mirror_follow.specs.Agreeing.{Agrees}
-use Rattle.mirror_follow.specs.Candidates.{turn_cmp}
-use Rattle.mirror_follow.specs.Gathering.{note_of}
-use Rattle.mirror_follow.specs.Lines.{AreLines, IsFirstOrListed, IsListed}
-use Rattle.mirror_follow.specs.Says.{IsInLine, IsInSomeLine, IsNoteUpTo, IsOnePoint}
-use Rattle.mirror_follow.specs.Shown.{AreFork, ShowsTurn, point_of}
-use Rattle.mirror_follow.specs.Standing.{IsSame, KnowsAfter}
-use Rattle.mirror_follow.specs.Taken.{AddsLacked, HasTaken, HasTakenRun, IsAbove, IsAdded, IsAgreed, IsBeyond, IsGrown, IsLacked, IsLargerThan, IsNextOf, IsNoted, IsOneOf, IsReached, IsRepeat, IsReported, IsUnder, KeepsFirst, KeepsLines, MarksReached, SaysTurn, or_agreed}
-use Rattle.mirror_follow.specs.declared.candidate.Candidate.{Candidate}
-use Rattle.mirror_follow.specs.declared.report.ForkLine.{ForkLine}
-use Rattle.mirror_follow.specs.declared.report.Run.{Run}
-use Rattle.mirror_follow.specs.declared.report.Outcome.{Outcome}
-use Rattle.mirror_follow.specs.declared.report.Outcome.TheVariants as turn
-use Rattle.mirror_follow.proofs.Lines.{lines_forked, lines_more, lines_none, listed_more, listed_now}
+use Rattle.mirror_candidates.specs.Agreeing.{Agrees}
+use Rattle.mirror_candidates.specs.Candidates.{IsOnePoint, IsSame, note_of, point_of, turn_cmp}
+use Rattle.mirror_candidates.specs.Lines.{AreLines, IsFirstOrListed, IsInLine, IsInSomeLine, IsListed, KeepsLines}
+use Rattle.mirror_candidates.specs.Shown.{AreFork}
+use Rattle.mirror_candidates.specs.declared.candidate.Candidate.{Candidate}
+use Rattle.mirror_candidates.specs.declared.fork_line.ForkLine.{ForkLine}
+use Rattle.mirror_candidates.proofs.Lines.{lines_more, lines_none, listed_more, listed_now}
+use Rattle.mirror_candidates.proofs.LineLists.{lines_kept}
+use Rattle.mirror_candidates.proofs.Points.{one_back, one_of_same, one_then, point_same}
+use Rattle.mirror_follow.specs.Says.{IsNoteUpTo}
+use Rattle.mirror_follow.specs.Turning.{ShowsTurn}
+use Rattle.mirror_follow.specs.Standing.{KnowsAfter}
+use Rattle.mirror_follow.specs.Taken.{AddsLacked, HasTaken, HasTakenRun, IsAbove, IsAdded, IsAgreed, IsBeyond, IsGrown, IsLacked, IsLargerThan, IsNextOf, IsNoted, IsOneOf, IsReached, IsRepeat, IsReported, IsUnder, KeepsFirst, MarksReached, SaysTurn, or_agreed}
+use Rattle.mirror_follow.specs.declared.run.Run.{Run}
+use Rattle.mirror_follow.specs.declared.run.Outcome.{Outcome}
+use Rattle.mirror_follow.specs.declared.run.Outcome.TheVariants as turn
+use Rattle.mirror_follow.proofs.Adding.{lines_forked}
 use Rattle.mirror_follow.proofs.TurnOrder.{again, element, next_of, note_itself, note_upto}
 
 -- ---- points
-
-pub one_back : (a b : Candidate) → IsOnePoint a b → IsOnePoint b a
-one_back a b p = (sym p.0, sym p.1)
-
-pub one_then : (a b c : Candidate) → IsOnePoint a b → IsOnePoint b c → IsOnePoint a c
-one_then a b c p q = (p.0 ∙ q.0, p.1 ∙ q.1)
-
-pub one_of_same : (a b : Candidate) → IsSame a b → IsOnePoint a b
-one_of_same a b s = (sym s.size_is, sym s.root_is)
-
-pub point_same : (a b : Candidate) → IsOnePoint a b → point_of a ≡ point_of b
-point_same a b p = λ i. record { size = p.0 i; root = p.1 i }
 
 in_line : (a b : Candidate) (line : ForkLine) → IsOnePoint a b → IsInLine b line → IsInLine a line
 in_line a b line p (inl q) = inl (one_then a b line.small p q)
@@ -42,9 +32,6 @@ in_line a b line p (inr q) = inr (one_then a b line.large p q)
 
 pub in_some_line : (lines : List ForkLine) (a b : Candidate) → IsOnePoint a b → IsInSomeLine lines b → IsInSomeLine lines a
 in_some_line lines a b p q = record { line = q.line; listed = q.listed; is_in = in_line a b q.line p q.is_in }
-
-pub lines_kept : (old new : List ForkLine) (a : Candidate) → KeepsLines old new → IsInSomeLine old a → IsInSomeLine new a
-lines_kept old new a kept q = record { line = q.line; listed = kept q.line q.listed; is_in = q.is_in }
 
 lacked_as : (lacked : List Candidate) (a b : Candidate) → IsOnePoint a b → IsLacked lacked b → IsLacked lacked a
 lacked_as lacked a b p q = record { other = q.other; listed = q.listed; same = one_then a b q.other p q.same }

@@ -1,6 +1,5 @@
 -- The order of the candidates' turns.
-use Rattle.std.proofs.Common.{◌≡◌, ℕ, ◌-◌, ◌<◌, ◌≤◌, Bool, true, false, List, [], ◌∷◌, length, get_or, take, Some, refl, sym, ap, subst, ◌∙◌, arith, true≢false, length-take}
-use Rattle.std.proofs.Common.{Ordering, Less, Equal, Greater, nat_cmp, is_lt, is_gt}
+use Rattle.std.proofs.Common.{◌≡◌, ℕ, ◌-◌, ◌<◌, ◌≤◌, Bool, true, false, List, [], ◌∷◌, length, get_or, take, Some, refl, sym, ap, subst, ◌∙◌, arith, true≢false, length-take, Ordering, Less, Equal, Greater, nat_cmp, is_lt, is_gt}
 use Rattle.std.specs.Cmp.{IsTotalOrder, then_total, on_total, back_total, nat_cmp_total, tied_itself}
 use Rattle.std.specs.Cmp.Lexicographic.{slice_cmp, slice_partial_cmp, lists_agrees, nat_list_cmp_total}
 use Rattle.std.specs.FinSet.{nat_cmp-IsAntisymmetric, slice_cmp-IsAntisymmetric}
@@ -11,11 +10,10 @@ use Rattle.std.proofs.lemmas.Cmp.{by_ranked, ranked, upto}
 use Rattle.std.proofs.lemmas.List.{get_or_default, get_or-take}
 use Rattle.std.proofs.lemmas.List.Elements.{Contains-get_or}
 use Rattle.std.proofs.lemmas.List.Sorted.{ranks_by, sorted_far}
-use Rattle.mirror_follow.specs.Candidates.{turn_cmp}
-use Rattle.mirror_follow.specs.Gathering.{note_of}
-use Rattle.mirror_follow.specs.Says.{IsNoteUpTo, IsOnePoint}
+use Rattle.mirror_candidates.specs.Candidates.{IsOnePoint, note_of, turn_cmp}
+use Rattle.mirror_candidates.specs.declared.candidate.Candidate.{Candidate}
+use Rattle.mirror_follow.specs.Says.{IsNoteUpTo}
 use Rattle.mirror_follow.specs.Taken.{IsNextOf, IsRepeat}
-use Rattle.mirror_follow.specs.declared.candidate.Candidate.{Candidate}
 
 turn_total : IsTotalOrder turn_cmp
 turn_total =

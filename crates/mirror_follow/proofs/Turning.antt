@@ -1,17 +1,14 @@
 -- A run of turns, turn after turn.
-use Rattle.std.proofs.Common.{◌≡◌, ◌≢◌, ℕ, List, [], Option, IfSome, refl, sym, subst, ◌∙◌}
+use Rattle.std.proofs.Common.{◌≡◌, ℕ, List, [], Option, IfSome, refl, sym, subst, ◌∙◌}
 use Rattle.std.proofs.lemmas.List.Elements.{All-nil}
 use Rattle.mirror_folders.specs.Shelf.{Put}
-use Rattle.mirror_follow.specs.Blame.{CountsFollowFault, IsOfTheRun}
-use Rattle.mirror_follow.specs.Shown.{ShowsEach, ShowsLine}
+use Rattle.mirror_candidates.specs.Shown.{ShowsEach, ShowsLine}
+use Rattle.mirror_candidates.specs.declared.candidate.Candidate.{Candidate}
 use Rattle.mirror_follow.specs.Standing.{IsCopyOfRun, IsHeadOf, KnowsAfter, StandsAfter, size_of_copy}
 use Rattle.mirror_follow.specs.Turning.{ContinuesRun, IsRunFrom}
-use Rattle.mirror_follow.specs.declared.candidate.Candidate.{Candidate}
-use Rattle.mirror_follow.specs.declared.fault.FollowFault.{FollowFault}
-use Rattle.mirror_follow.specs.declared.fault.FollowFault.TheVariants.{Source, ShelfFault}
 use Rattle.mirror_follow.specs.declared.fault.FollowFault.TheVariants as fault
-use Rattle.mirror_follow.specs.declared.report.Run.{Run}
-use Rattle.mirror_follow.specs.declared.report.Outcome.{Outcome}
+use Rattle.mirror_follow.specs.declared.run.Run.{Run}
+use Rattle.mirror_follow.specs.declared.run.Outcome.{Outcome}
 use Rattle.mirror_follow.proofs.Standing.{head_after, known_after}
 
 module _ (digest : List ℕ → List ℕ) (origin : List ℕ) where
@@ -52,30 +49,3 @@ module _ (digest : List ℕ → List ℕ) (origin : List ℕ) where
     had_is = n.had_is ∙ r.had_is;
     shows = n.shows r.shows;
   }
-
--- ---- faults
-
--- a fault other than the shelf's
-pub counts_other : (n : ℕ) (e : FollowFault) → e ≢ ShelfFault → CountsFollowFault n n e
-counts_other n fault.NoCheckpoint other = refl
-counts_other n (fault.Head f) other = refl
-counts_other n fault.CopyDamaged other = refl
-counts_other n fault.CopyInUse other = refl
-counts_other n fault.ShelfFault other = absurd (other refl)
-counts_other n fault.Contradiction other = refl
-counts_other n fault.Collision other = refl
-counts_other n fault.NoFile other = refl
-counts_other n fault.Source other = refl
-counts_other n fault.OutOfMemory other = refl
-
-pub of_the_run : (n : ℕ) (e : FollowFault) → IsOfTheRun e → CountsFollowFault n n e
-of_the_run n e is = counts_other n e (λ same. subst IsOfTheRun same is)
-
-pub no_source : (e : FollowFault) → IsOfTheRun e → e ≢ Source
-no_source e is same = subst IsOfTheRun same is
-
-pub no_shelf : (e : FollowFault) → IsOfTheRun e → e ≢ ShelfFault
-no_shelf e is same = subst IsOfTheRun same is
-
-pub counts_same : (n m : ℕ) (e : FollowFault) → m ≡ n → e ≢ ShelfFault → CountsFollowFault n m e
-counts_same n m e same other = subst (λ k. CountsFollowFault n k e) (sym same) (counts_other n e other)

@@ -1,21 +1,14 @@
 -- The causes of the faults of a run.
-use Rattle.std.specs.Prelude.{◌≡◌, ◌⊎◌, ℕ, ◌<◌, ◌≤◌, List, get_or, length, Option, Some, None, Result, Ok, Err, ⊤}
-use Rattle.tlog_tiles.specs.declared.paths.Path.{Path}
-use Rattle.tlog_tiles.specs.declared.paths.Path.TheVariants.{Checkpoint}
+use Rattle.std.specs.Prelude.{◌≡◌, ℕ, Result, Ok, Err}
 use Rattle.mirror_sources.specs.Recorded.{one_more}
 use Rattle.mirror_folders.specs.declared.shelf.ShelfError.{ShelfError}
 use Rattle.mirror_folders.specs.declared.shelf.ShelfError.TheVariants as shelf
 use Rattle.copy_reader.specs.declared.fault.CopyFault.{CopyFault}
 use Rattle.copy_reader.specs.declared.fault.CopyFault.TheVariants as reading
-use Rattle.mirror_places.specs.PlaceGets.{AsksEach}
-use Rattle.mirror_places.specs.declared.place.Place.{Place}
-use Rattle.mirror_places.specs.declared.places.Places.{Places}
-use Rattle.mirror_follow.specs.declared.fault.CandidateFault.{CandidateFault}
-use Rattle.mirror_follow.specs.declared.fault.CandidateFault.TheVariants as candidate
+use Rattle.mirror_candidates.specs.declared.fault.CandidateFault.{CandidateFault}
+use Rattle.mirror_candidates.specs.declared.fault.CandidateFault.TheVariants as candidate
 use Rattle.mirror_follow.specs.declared.fault.FollowFault.{FollowFault}
-use Rattle.mirror_follow.specs.declared.fault.FollowFault.TheVariants.{NoCheckpoint, Head, CopyDamaged, CopyInUse}
-use Rattle.mirror_follow.specs.declared.fault.FollowFault.TheVariants.{ShelfFault, Contradiction, Collision, NoFile}
-use Rattle.mirror_follow.specs.declared.fault.FollowFault.TheVariants.{Source, OutOfMemory}
+use Rattle.mirror_follow.specs.declared.fault.FollowFault.TheVariants.{NoCheckpoint, Head, CopyDamaged, CopyInUse, ShelfFault, Contradiction, Collision, NoFile, Source, OutOfMemory}
 
 -- the fault of a run for a fault of the shelf
 abbrev pub by_shelf : ShelfError → FollowFault
@@ -54,40 +47,3 @@ CountsFollowFault old new OutOfMemory = new ≡ old
 abbrev pub CountsFollow : {T : Type 0} → ℕ → ℕ → Result T FollowFault → Type 0
 CountsFollow old new (Ok x) = new ≡ old
 CountsFollow old new (Err e) = CountsFollowFault old new e
-
--- the fault is neither a place's nor the shelf's
-abbrev pub IsOfTheRun : FollowFault → Type 0
-IsOfTheRun NoCheckpoint = ⊤
-IsOfTheRun (Head fault) = ⊤
-IsOfTheRun CopyDamaged = ⊤
-IsOfTheRun CopyInUse = ⊤
-IsOfTheRun ShelfFault = ⊥
-IsOfTheRun Contradiction = ⊤
-IsOfTheRun Collision = ⊤
-IsOfTheRun NoFile = ⊤
-IsOfTheRun Source = ⊥
-IsOfTheRun OutOfMemory = ⊤
-
--- a place failed, or had been given up after 8 failures
-pub record PlaceFails {S : Type 0} (old new : Places S) : Type 0 where
-  pub index : ℕ
-  pub none : Place S
-  pub failed : ((get_or old.list.items index none).failures < (get_or new.list.items index none).failures)
-      ⊎ (8 ≤ (get_or old.list.items index none).failures)
-
-module _ {S : Type 0} (may : S → Path → Option (List ℕ) → Type 0) where
-  -- a place may give the note as its checkpoint
-  pub record MayGive (places : Places S) (note : List ℕ) : Type 0 where
-    pub index : ℕ
-    pub listed : index < length places.list.items
-    pub gives : (none : Place S) → may (get_or places.list.items index none).source Checkpoint (Some note)
-
-  -- the note is the given one, or else one that a place may give
-  abbrev pub IsGivenOrMayGive : Option (List ℕ) → Places S → List ℕ → Type 0
-  IsGivenOrMayGive None places note = MayGive places note
-  IsGivenOrMayGive (Some given) places note = note ≡ given
-
--- the places may get requests for any files
-abbrev pub AsksAny : {S : Type 0} → (S → Path → Option (List ℕ) → Type 0) → (S → ℕ) → (S → Option (List Path)) →
-    Places S → Places S → Type 0
-AsksAny may failed asked old new = AsksEach may failed asked (λ path. ⊤) old new

@@ -1,29 +1,25 @@
 -- The reasons why a call of `follow` ends with a fault.
-use Rattle.std.specs.Prelude.{◌≡◌, ◌≢◌, ◌⊎◌, ℕ, List, [], ◌∷◌, Option, Some, None, Err, ⊤}
+use Rattle.std.specs.Prelude.{◌≡◌, ◌≢◌, ◌⊎◌, ℕ, List, [], ◌∷◌, Option, Some, None, ⊤}
 use Rattle.std.specs.List.Sorted.{IsSorted}
-use Rattle.signed_note.specs.Keys.{Key}
 use Rattle.tlog_tiles.specs.declared.paths.Path.{Path}
 use Rattle.tlog_tiles.specs.declared.paths.Path.TheVariants.{Checkpoint}
+use Rattle.signed_note.specs.Keys.{Key}
+use Rattle.mirror_model.specs.declared.fault.TakeFault.TheVariants as take
 use Rattle.mirror_folders.specs.Shelf.{Put, RecordsRead}
 use Rattle.mirror_places.specs.declared.places.Places.{Places}
 use Rattle.mirror_copy.specs.declared.fault.BringFault.{BringFault}
 use Rattle.mirror_copy.specs.declared.fault.BringFault.TheVariants as bring
-use Rattle.mirror_model.specs.Refusals.{ReadsHead}
-use Rattle.mirror_model.specs.declared.fault.TakeFault.{TakeFault}
-use Rattle.mirror_model.specs.declared.fault.TakeFault.TheVariants as take
-use Rattle.mirror_follow.specs.Blame.{PlaceFails}
-use Rattle.mirror_follow.specs.Candidates.{turn_cmp}
-use Rattle.mirror_follow.specs.GatheredFrom.{AreCandidates, GiveNone}
+use Rattle.mirror_candidates.specs.Requests.{PlaceFails}
+use Rattle.mirror_candidates.specs.Candidates.{turn_cmp}
+use Rattle.mirror_candidates.specs.GatheredFrom.{AreCandidates, GiveNone, IsRefused}
+use Rattle.mirror_candidates.specs.declared.candidate.Candidate.{Candidate}
+use Rattle.mirror_candidates.specs.declared.fault.CandidateFault.TheVariants as candidate
 use Rattle.mirror_follow.specs.Standing.{HoldsNoCopy}
-use Rattle.mirror_follow.specs.declared.candidate.Candidate.{Candidate}
-use Rattle.mirror_follow.specs.declared.fault.CandidateFault.TheVariants as candidate
 use Rattle.mirror_follow.specs.declared.fault.FollowFault.{FollowFault}
-use Rattle.mirror_follow.specs.declared.fault.FollowFault.TheVariants.{NoCheckpoint, Head, CopyDamaged, CopyInUse}
-use Rattle.mirror_follow.specs.declared.fault.FollowFault.TheVariants.{ShelfFault, Contradiction, Collision, NoFile}
-use Rattle.mirror_follow.specs.declared.fault.FollowFault.TheVariants.{Source, OutOfMemory}
-use Rattle.mirror_follow.specs.declared.report.Run.{Run}
-use Rattle.mirror_follow.specs.declared.report.Outcome.{Outcome}
-use Rattle.mirror_follow.specs.declared.report.Outcome.TheVariants as turn
+use Rattle.mirror_follow.specs.declared.fault.FollowFault.TheVariants.{NoCheckpoint, Head, CopyDamaged, CopyInUse, ShelfFault, Contradiction, Collision, NoFile, Source, OutOfMemory}
+use Rattle.mirror_follow.specs.declared.run.Run.{Run}
+use Rattle.mirror_follow.specs.declared.run.Outcome.{Outcome}
+use Rattle.mirror_follow.specs.declared.run.Outcome.TheVariants as turn
 
 -- ---- faults of turns
 
@@ -131,43 +127,6 @@ abbrev pub KeepsFault : (List ℕ → List ℕ) → List Candidate → Run → T
 KeepsFault digest done run = run.copy ≡ None → IsFirstFault digest done run.first_fault
 
 -- ---- faults of a whole call
-
--- the note is no candidate, for that reason
-abbrev pub IsRefused : List ℕ → List Key → List ℕ → TakeFault → Type 0
-IsRefused origin keys note fault = (fault ≢ take.OutOfMemory) × ReadsHead note origin keys (Err fault)
-
--- the reason why the given note is no candidate
-abbrev pub RefusesGiven : List ℕ → List Key → List ℕ → FollowFault → Type 0
-RefusesGiven origin keys note NoCheckpoint = ⊥
-RefusesGiven origin keys note (Head fault) = IsRefused origin keys note fault
-RefusesGiven origin keys note CopyDamaged = ⊥
-RefusesGiven origin keys note CopyInUse = ⊥
-RefusesGiven origin keys note ShelfFault = ⊥
-RefusesGiven origin keys note Contradiction = ⊥
-RefusesGiven origin keys note Collision = ⊥
-RefusesGiven origin keys note NoFile = ⊥
-RefusesGiven origin keys note Source = ⊥
-RefusesGiven origin keys note OutOfMemory = ⊤
-
--- the reason why the places give no candidate
-abbrev pub GivesNoneBy : {S : Type 0} → (S → Path → Option (List ℕ) → Type 0) → List ℕ → List Key → Places S →
-    Places S → FollowFault → Type 0
-GivesNoneBy may origin keys old new NoCheckpoint = GiveNone may origin keys old new candidate.NoCheckpoint
-GivesNoneBy may origin keys old new (Head fault) = GiveNone may origin keys old new (candidate.Head fault)
-GivesNoneBy may origin keys old new CopyDamaged = ⊥
-GivesNoneBy may origin keys old new CopyInUse = ⊥
-GivesNoneBy may origin keys old new ShelfFault = ⊥
-GivesNoneBy may origin keys old new Contradiction = ⊥
-GivesNoneBy may origin keys old new Collision = ⊥
-GivesNoneBy may origin keys old new NoFile = ⊥
-GivesNoneBy may origin keys old new Source = PlaceFails old new × GiveNone may origin keys old new candidate.Source
-GivesNoneBy may origin keys old new OutOfMemory = ⊤
-
--- the reason why there is no candidate, with the given note or without one
-abbrev pub LacksCandidates : {S : Type 0} → (S → Path → Option (List ℕ) → Type 0) → List ℕ → List Key →
-    Places S → Places S → Option (List ℕ) → FollowFault → Type 0
-LacksCandidates may origin keys old new None fault = GivesNoneBy may origin keys old new fault
-LacksCandidates may origin keys old new (Some note) fault = RefusesGiven origin keys note fault
 
 module _ (digest : List ℕ → List ℕ) {S : Type 0} (may : S → Path → Option (List ℕ) → Type 0) (origin : List ℕ)
     (keys : List Key) (puts : Option (List Put)) (old new : Places S) where

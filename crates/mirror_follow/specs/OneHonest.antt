@@ -6,20 +6,19 @@ use Rattle.tlog_hash.specs.Tree.{mth}
 use Rattle.tlog_tiles.specs.declared.paths.Path.{Path}
 use Rattle.tlog_tiles.specs.declared.paths.Path.TheVariants.{Checkpoint}
 use Rattle.mirror_folders.specs.Shelf.{HasPut, Put}
+use Rattle.mirror_places.specs.declared.places.Places.{Places}
 use Rattle.mirror_copy.specs.OneHonest.{HoldsFirst, IsHonestFor}
 use Rattle.mirror_copy.specs.Pruned.{IsPrunedCopy}
-use Rattle.mirror_places.specs.declared.places.Places.{Places}
-use Rattle.mirror_follow.specs.Candidates.{turn_cmp}
-use Rattle.mirror_follow.specs.Says.{IsOnePoint}
+use Rattle.mirror_candidates.specs.Candidates.{IsOnePoint, turn_cmp}
+use Rattle.mirror_candidates.specs.declared.candidate.Candidate.{Candidate}
 use Rattle.mirror_follow.specs.Standing.{HadCopy, IsCopyNow, IsCopyOfRun}
 use Rattle.mirror_follow.specs.Taken.{IsAbove, IsLargerThan}
-use Rattle.mirror_follow.specs.declared.candidate.Candidate.{Candidate}
 use Rattle.mirror_follow.specs.declared.fault.FollowFault.{FollowFault}
 use Rattle.mirror_follow.specs.declared.fault.FollowFault.TheVariants.{ShelfFault, OutOfMemory}
 use Rattle.mirror_follow.specs.declared.report.Followed.{Followed}
-use Rattle.mirror_follow.specs.declared.report.Outcome.{Outcome}
-use Rattle.mirror_follow.specs.declared.report.Outcome.TheVariants as turn
-use Rattle.mirror_follow.specs.declared.report.Run.{Run}
+use Rattle.mirror_follow.specs.declared.run.Outcome.{Outcome}
+use Rattle.mirror_follow.specs.declared.run.Outcome.TheVariants as turn
+use Rattle.mirror_follow.specs.declared.run.Run.{Run}
 
 -- the shelf failed, or memory was refused
 abbrev pub IsOfShelfOrMemory : FollowFault → Type 0

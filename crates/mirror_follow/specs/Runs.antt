@@ -1,15 +1,14 @@
 -- A copy that is brought to one note after the other: the content of the shelf at each moment.
 use Rattle.std.specs.Prelude.{◌≡◌, ◌⊎◌, ℕ, All, List, [], ◌++◌, length, map, Contains, Option, Some}
-use Rattle.signed_note.specs.Keys.{Key}
 use Rattle.tlog_tiles.specs.declared.paths.Path.TheVariants.{Checkpoint}
+use Rattle.signed_note.specs.Keys.{Key}
 use Rattle.mirror_sources.specs.Recorded.{KeepsRecord}
 use Rattle.mirror_folders.specs.Shelf.{Put, HasPut}
 use Rattle.mirror_copy.specs.Copies.{IsCopy}
 use Rattle.mirror_copy.specs.Moments.{AtEachMoment, IsGrownCopy, KeepsCopy, PutsBeyond}
 use Rattle.mirror_copy.specs.Pruned.{IsPrunedCopy, OfPrunedCopies}
-use Rattle.mirror_follow.specs.Candidates.{IsCandidate}
-use Rattle.mirror_follow.specs.Gathering.{note_of}
-use Rattle.mirror_follow.specs.declared.candidate.Candidate.{Candidate}
+use Rattle.mirror_candidates.specs.Candidates.{IsCandidate, note_of}
+use Rattle.mirror_candidates.specs.declared.candidate.Candidate.{Candidate}
 
 module _ (digest : List ℕ → List ℕ) (origin : List ℕ) (notes : List (List ℕ)) where
   -- under one of the notes, the shelf has a copy of entries that begin with these. Each file of these entries, except the

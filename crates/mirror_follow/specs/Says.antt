@@ -1,45 +1,27 @@
 -- The facts about the candidates that an answer states.
-use Rattle.std.specs.Prelude.{◌≡◌, ◌⊎◌, ◌↔◌, ℕ, ◌<◌, ◌≤◌, false, List, [], ◌∷◌, ◌++◌, length, All, Contains}
-use Rattle.std.specs.Prelude.{Option, None, Some, ⊤}
+use Rattle.std.specs.Prelude.{◌≡◌, ◌⊎◌, ◌↔◌, ℕ, ◌<◌, ◌≤◌, false, List, [], ◌∷◌, ◌++◌, length, All, Contains, Option, None, Some, ⊤}
 use Rattle.std.specs.Cmp.Lexicographic.{slice_cmp}
 use Rattle.std.specs.List.Sorted.{IsSorted}
 use Rattle.std.specs.Ordering.{is_gt, nat_cmp}
 use Rattle.tlog_hash.specs.Tree.{mth}
 use Rattle.tlog_tiles.specs.declared.paths.Path.TheVariants.{Checkpoint}
-use Rattle.mirror_folders.specs.Shelf.{Put, HasPut}
 use Rattle.mirror_model.specs.Forks.{Point}
+use Rattle.mirror_folders.specs.Shelf.{Put, HasPut}
 use Rattle.mirror_copy.specs.Copies.{IsCopy}
 use Rattle.mirror_copy.specs.Moments.{InTheEnd}
 use Rattle.mirror_copy.specs.Pruned.{IsPrunedCopy, OfPrunedCopies}
-use Rattle.mirror_follow.specs.Agreeing.{Agrees}
-use Rattle.mirror_follow.specs.Candidates.{turn_cmp}
-use Rattle.mirror_follow.specs.Gathering.{note_of}
-use Rattle.mirror_follow.specs.Lines.{AreLines}
-use Rattle.mirror_follow.specs.Shown.{point_of}
+use Rattle.mirror_candidates.specs.Agreeing.{Agrees}
+use Rattle.mirror_candidates.specs.Candidates.{note_of, point_of, turn_cmp}
+use Rattle.mirror_candidates.specs.Lines.{AreLines, IsInSomeLine}
+use Rattle.mirror_candidates.specs.declared.candidate.Candidate.{Candidate}
 use Rattle.mirror_follow.specs.Standing.{IsFoundCopy}
-use Rattle.mirror_follow.specs.declared.candidate.Candidate.{Candidate}
 use Rattle.mirror_follow.specs.declared.report.Followed.{Followed}
-use Rattle.mirror_follow.specs.declared.report.ForkLine.{ForkLine}
 
 -- ---- candidates
 
 -- the note is the other note, or its bytes come before those of the other
 abbrev pub IsNoteUpTo : List ℕ → List ℕ → Type 0
 IsNoteUpTo note other = is_gt (slice_cmp nat_cmp note other) ≡ false
-
--- two candidates have one size and root
-abbrev pub IsOnePoint : Candidate → Candidate → Type 0
-IsOnePoint first second = (first.size.0 ≡ second.size.0) × (first.root ≡ second.root)
-
--- a checkpoint of the line has the size and root of the candidate
-abbrev pub IsInLine : Candidate → ForkLine → Type 0
-IsInLine candidate line = IsOnePoint candidate line.small ⊎ IsOnePoint candidate line.large
-
--- some line has such a checkpoint
-pub record IsInSomeLine (lines : List ForkLine) (candidate : Candidate) : Type 0 where
-  pub line : ForkLine
-  pub listed : Contains lines line
-  pub is_in : IsInLine candidate line
 
 -- ---- lines
 

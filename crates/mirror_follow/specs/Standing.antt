@@ -2,17 +2,17 @@
 use Rattle.std.specs.Prelude.{◌≡◌, ℕ, ◌≤◌, List, [], ◌++◌, length, Option, Some, None}
 use Rattle.tlog_hash.specs.Tree.{mth}
 use Rattle.tlog_tiles.specs.declared.paths.Path.TheVariants.{Checkpoint}
-use Rattle.mirror_folders.specs.Shelf.{Put, HasPut, RecordsRead}
 use Rattle.mirror_model.specs.Heads.{IsHead}
+use Rattle.mirror_folders.specs.Shelf.{Put, HasPut, RecordsRead}
 use Rattle.copy_reader.specs.WholeCopies.{HasFilesOf}
 use Rattle.mirror_copy.specs.Copies.{IsCopy}
 use Rattle.mirror_copy.specs.Moments.{CopyStays, InTheEnd, IsBroughtTo}
 use Rattle.mirror_copy.specs.Pruned.{HadSize, IsGrownPruned, IsPrunedCopy, OfPrunedCopies}
-use Rattle.mirror_follow.specs.Gathering.{note_of}
-use Rattle.mirror_follow.specs.declared.candidate.Candidate.{Candidate}
+use Rattle.mirror_candidates.specs.Candidates.{IsSame, note_of}
+use Rattle.mirror_candidates.specs.declared.candidate.Candidate.{Candidate}
 use Rattle.mirror_follow.specs.declared.report.Followed.{Followed}
-use Rattle.mirror_follow.specs.declared.report.Outcome.{Outcome}
-use Rattle.mirror_follow.specs.declared.report.Outcome.TheVariants as turn
+use Rattle.mirror_follow.specs.declared.run.Outcome.{Outcome}
+use Rattle.mirror_follow.specs.declared.run.Outcome.TheVariants as turn
 
 -- the note's text is a checkpoint of the origin, of that size and root
 abbrev pub IsHeadOf : List ℕ → Candidate → Type 0
@@ -165,12 +165,6 @@ module _ (digest : List ℕ → List ℕ) (origin : List ℕ) where
         (λ held note entries. InTheEnd new (HasPruned followed.size followed.root entries))
     pub none : (held : List Put) → old ≡ Some held → ¬ HasPut held Checkpoint →
         InTheEnd new (HasCopy followed.size followed.root [])
-
--- two candidates with the same note, size and root
-pub record IsSame (first second : Candidate) : Type 0 where
-  pub size_is : second.size.0 ≡ first.size.0
-  pub root_is : second.root ≡ first.root
-  pub note_is : note_of second ≡ note_of first
 
 -- the copy is that candidate
 pub record IsCopyNow (candidate : Candidate) (copy : Option Candidate) : Type 0 where

@@ -1,31 +1,16 @@
 -- The facts about the candidates that had their turn.
-use Rattle.std.specs.Prelude.{◌≡◌, ◌≢◌, ◌⊎◌, ℕ, ◌-◌, ◌<◌, ◌≤◌, Bool, true, false, List, [], ◌∷◌, ◌++◌, All, Contains}
-use Rattle.std.specs.Prelude.{IfSome, Option, None, Some, ⊤, slice_index_or}
-use Rattle.mirror_follow.specs.Agreeing.{Agrees}
-use Rattle.mirror_follow.specs.Gathering.{note_of}
-use Rattle.mirror_follow.specs.Adding.{AddsFork}
-use Rattle.mirror_follow.specs.Lines.{AreLines, IsFirstOrListed, IsListed}
-use Rattle.mirror_follow.specs.Says.{IsInSomeLine, IsNoteUpTo, IsOnePoint}
-use Rattle.mirror_follow.specs.Shown.{point_of}
-use Rattle.mirror_follow.specs.Standing.{IsSame, size_of_copy}
-use Rattle.mirror_follow.specs.declared.candidate.Candidate.{Candidate}
-use Rattle.mirror_follow.specs.declared.report.ForkLine.{ForkLine}
-use Rattle.mirror_follow.specs.declared.report.Run.{Run}
-use Rattle.mirror_follow.specs.declared.report.Outcome.{Outcome}
-use Rattle.mirror_follow.specs.declared.report.Outcome.TheVariants as turn
-
--- ---- fork lines
-
--- some line has the same two points
-pub record HasLineOf (lines : List ForkLine) (line : ForkLine) : Type 0 where
-  pub same : ForkLine
-  pub listed : Contains lines same
-  pub small_is : IsOnePoint line.small same.small
-  pub large_is : IsOnePoint line.large same.large
-
--- the old lines are still there
-abbrev pub KeepsLines : List ForkLine → List ForkLine → Type 0
-KeepsLines old new = (line : ForkLine) → Contains old line → Contains new line
+use Rattle.std.specs.Prelude.{◌≡◌, ◌≢◌, ◌⊎◌, ℕ, ◌-◌, ◌<◌, ◌≤◌, Bool, true, false, List, [], ◌∷◌, ◌++◌, All, Contains, IfSome, Option, None, Some, ⊤, slice_index_or}
+use Rattle.mirror_candidates.specs.Agreeing.{Agrees}
+use Rattle.mirror_candidates.specs.Candidates.{IsOnePoint, IsSame, note_of, point_of}
+use Rattle.mirror_candidates.specs.Adding.{AddsFork}
+use Rattle.mirror_candidates.specs.Lines.{AreLines, IsFirstOrListed, IsInSomeLine, IsListed, KeepsLines}
+use Rattle.mirror_candidates.specs.declared.candidate.Candidate.{Candidate}
+use Rattle.mirror_candidates.specs.declared.fork_line.ForkLine.{ForkLine}
+use Rattle.mirror_follow.specs.Says.{IsNoteUpTo}
+use Rattle.mirror_follow.specs.Standing.{size_of_copy}
+use Rattle.mirror_follow.specs.declared.run.Run.{Run}
+use Rattle.mirror_follow.specs.declared.run.Outcome.{Outcome}
+use Rattle.mirror_follow.specs.declared.run.Outcome.TheVariants as turn
 
 -- ---- a turn
 

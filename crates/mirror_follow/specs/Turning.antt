@@ -1,10 +1,20 @@
 -- A run of turns: the facts that each turn keeps, and the result.
-use Rattle.std.specs.Prelude.{◌≡◌, ℕ, List, Option, IfSome}
+use Rattle.std.specs.Prelude.{◌≡◌, ℕ, List, Option, IfSome, ⊤}
 use Rattle.mirror_folders.specs.Shelf.{Put}
-use Rattle.mirror_follow.specs.Shown.{ShowsEach}
+use Rattle.mirror_candidates.specs.Shown.{AreFork, ShowsEach}
+use Rattle.mirror_candidates.specs.declared.candidate.Candidate.{Candidate}
 use Rattle.mirror_follow.specs.Standing.{IsCopyOfRun, IsHeadOf, size_of_copy}
-use Rattle.mirror_follow.specs.declared.candidate.Candidate.{Candidate}
-use Rattle.mirror_follow.specs.declared.report.Run.{Run}
+use Rattle.mirror_follow.specs.declared.run.Outcome.{Outcome}
+use Rattle.mirror_follow.specs.declared.run.Outcome.TheVariants as turn
+use Rattle.mirror_follow.specs.declared.run.Run.{Run}
+
+-- if a turn ends with a fork, the copy and the candidate are a fork
+abbrev pub ShowsTurn : (List ℕ → List ℕ) → Option Candidate → Candidate → Outcome → Type 0
+ShowsTurn digest copy candidate turn.Agrees = ⊤
+ShowsTurn digest copy candidate turn.Brought = ⊤
+ShowsTurn digest copy candidate (turn.Forks proof) = IfSome copy (λ held. AreFork digest held candidate proof)
+ShowsTurn digest copy candidate turn.Contradicts = ⊤
+ShowsTurn digest copy candidate (turn.NotHad fault) = ⊤
 
 module _ (digest : List ℕ → List ℕ) (origin : List ℕ) (old new : Option (List Put)) where
   -- a turn continues the run, whose copy is on the shelf

@@ -1,20 +1,20 @@
 //! Follows a log: brings a copy to the newest checkpoint that some places give, and reports the forks that they show.
 #![tactic(auto)]
 
-mod answer;
-mod ask;
-mod candidate;
+mod bring;
+mod compare;
+mod copy;
 mod fault;
-mod files;
-mod gather;
+mod first;
+mod following;
 mod laws;
-mod proving;
+mod renote;
 mod report;
+mod run;
+mod turn;
 mod turns;
 
-pub use ask::ask_candidates;
-pub use candidate::Candidate;
-pub use fault::{CandidateFault, FollowFault};
-pub use laws::{agree_law, fork_line_law, run_law};
-pub use report::{Followed, ForkLine};
-pub use turns::follow;
+pub use fault::FollowFault;
+pub use following::follow;
+pub use laws::run_law;
+pub use report::Followed;

@@ -3,26 +3,26 @@ use Rattle.std.proofs.Common.{◌≡◌, inr, ℕ, List, IfErr, IfOk, Option, So
 use Rattle.std.specs.Io.KnownBytes.{Keeps}
 use Rattle.std.proofs.lemmas.List.Elements.{All-weaker}
 use Rattle.std.proofs.lemmas.Option.{none-some}
-use Rattle.signed_note.specs.Keys.{Key}
 use Rattle.tlog_tiles.specs.declared.paths.Path.{Path}
+use Rattle.signed_note.specs.Keys.{Key}
 use Rattle.mirror_folders.specs.Shelf.{Put}
 use Rattle.mirror_places.specs.declared.places.Places.{Places}
-use Rattle.mirror_follow.specs.Blame.{CountsFollowFault, IsGivenOrMayGive}
+use Rattle.mirror_candidates.specs.Requests.{IsGivenOrMayGive}
+use Rattle.mirror_candidates.specs.GatheredFrom.{AreCandidates}
+use Rattle.mirror_candidates.specs.Candidates.{note_of}
+use Rattle.mirror_candidates.specs.declared.candidate.Candidate.{Candidate}
+use Rattle.mirror_follow.specs.Blame.{CountsFollowFault}
 use Rattle.mirror_follow.specs.Ending.{EndsFor}
 use Rattle.mirror_follow.specs.OneHonest.{IsHonestAmong, IsHonestRun, ReachesLog, ReachesSize}
 use Rattle.mirror_follow.specs.Runs.{FollowsCandidates}
-use Rattle.mirror_follow.specs.GatheredFrom.{AreCandidates}
-use Rattle.mirror_follow.specs.Gathering.{note_of}
 use Rattle.mirror_follow.specs.Says.{Says}
 use Rattle.mirror_follow.specs.Sparing.{SparesGreatest}
 use Rattle.mirror_follow.specs.Standing.{IsFollowed}
-use Rattle.mirror_follow.specs.declared.candidate.Candidate.{Candidate}
 use Rattle.mirror_follow.specs.declared.fault.FollowFault.{FollowFault}
 use Rattle.mirror_follow.specs.declared.fault.FollowFault.TheVariants as following
 use Rattle.mirror_follow.specs.declared.report.Followed.{Followed}
 use Rattle.program_files.specs.Named.{HasContents, NamedFile}
-use Rattle.program_follow.specs.Following.{AreRunCandidates, CopyFollowed, CountsRun, EndsFollowing, Follows, FollowsIn, IsNoteOf}
-use Rattle.program_follow.specs.Following.{HonestSuffices, PrintsSettled, ReachesIn, ReachesRun, ReadsNote, PrintsDone, SufficesForRun}
+use Rattle.program_follow.specs.Following.{AreRunCandidates, CopyFollowed, CountsRun, EndsFollowing, Follows, FollowsIn, IsNoteOf, HonestSuffices, PrintsSettled, ReachesIn, ReachesRun, ReadsNote, PrintsDone, SufficesForRun}
 use Rattle.program_follow.specs.declared.fault.FollowRunFault.{FollowRunFault}
 use Rattle.program_follow.specs.declared.fault.FollowRunFault.TheVariants.{File, OutOfMemory, Follow, WriteFault, Evidence}
 

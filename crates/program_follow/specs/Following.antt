@@ -1,21 +1,22 @@
 -- The files that a run of `follow` reads, its puts into the folder, its output, and the evidence.
 use Rattle.std.specs.Prelude.{◌≡◌, ℕ, All, List, Option, Some, None, Result, Ok, Err, ⊤}
 use Rattle.std.specs.Io.KnownBytes.{Appends, Keeps}
-use Rattle.byte_streams.specs.Streams.{AppendsPrefix}
 use Rattle.tlog_tiles.specs.declared.paths.Path.{Path}
+use Rattle.byte_streams.specs.Streams.{AppendsPrefix}
 use Rattle.signed_note.specs.Keys.{Key}
 use Rattle.mirror_folders.specs.Shelf.{Put}
 use Rattle.mirror_places.specs.declared.places.Places.{Places}
-use Rattle.mirror_follow.specs.Blame.{CountsFollowFault, MayGive}
+use Rattle.mirror_candidates.specs.Requests.{MayGive}
+use Rattle.mirror_candidates.specs.GatheredFrom.{AreCandidates}
+use Rattle.mirror_candidates.specs.Shown.{ShowsLine}
+use Rattle.mirror_candidates.specs.declared.candidate.Candidate.{Candidate}
+use Rattle.mirror_follow.specs.Blame.{CountsFollowFault}
 use Rattle.mirror_follow.specs.Ending.{EndsFor}
-use Rattle.mirror_follow.specs.GatheredFrom.{AreCandidates}
 use Rattle.mirror_follow.specs.OneHonest.{IsHonestAmong, IsHonestRun, IsOfShelfOrMemory, ReachesLog, ReachesSize}
 use Rattle.mirror_follow.specs.Runs.{FollowsCandidates}
 use Rattle.mirror_follow.specs.Says.{Says}
-use Rattle.mirror_follow.specs.Shown.{ShowsLine}
 use Rattle.mirror_follow.specs.Sparing.{SparesGreatest}
 use Rattle.mirror_follow.specs.Standing.{IsFollowed}
-use Rattle.mirror_follow.specs.declared.candidate.Candidate.{Candidate}
 use Rattle.mirror_follow.specs.declared.fault.FollowFault.{FollowFault}
 use Rattle.mirror_follow.specs.declared.fault.FollowFault.TheVariants as following
 use Rattle.mirror_follow.specs.declared.report.Followed.{Followed}

@@ -3,7 +3,7 @@ ghost use Rattle.std.specs.Prelude.{◌≡◌, ◌∷◌, [], IfOk, option_map, 
 ghost use Rattle.std.specs.List.{flat_map};
 ghost use Rattle.program_follow.specs.Evidence.{PutsFiles, evidence_of, fork_files, is_writable_fork, note_file, note_place, proof_file, proof_files, proof_place};
 
-use mirror_follow::{Candidate, ForkLine};
+use mirror_candidates::{Candidate, ForkLine};
 use program_files::{NamedFault, NamedFiles};
 use std::alloc::{AllocError, Global};
 use tlog_proof::{Proof, write_text};

@@ -1,18 +1,18 @@
 //! The command `follow`: brings a copy in a folder to the newest checkpoint of some places.
 ghost use Rattle.std.specs.Prelude.{◌≡◌, ◌⊎◌, All, IfErr, IfOk, Ok, map, option_map};
 ghost use Rattle.tlog_text.specs.Answers.{seen};
-ghost use Rattle.mirror_follow.specs.Blame.{CountsFollow, IsGivenOrMayGive};
+ghost use Rattle.mirror_candidates.specs.Requests.{IsGivenOrMayGive};
+ghost use Rattle.mirror_candidates.specs.GatheredFrom.{AreCandidates};
+ghost use Rattle.mirror_candidates.specs.Shown.{ShowsLine};
+ghost use Rattle.mirror_follow.specs.Blame.{CountsFollow};
 ghost use Rattle.mirror_follow.specs.Ending.{EndsFor};
-ghost use Rattle.mirror_follow.specs.GatheredFrom.{AreCandidates};
 ghost use Rattle.mirror_follow.specs.declared.fault.FollowFault.{FollowFault};
 ghost use Rattle.mirror_follow.specs.OneHonest.{IsHonestAmong, IsHonestRun, ReachesLog, ReachesSize};
 ghost use Rattle.mirror_follow.specs.Runs.{FollowsCandidates};
 ghost use Rattle.mirror_follow.specs.Says.{Says};
-ghost use Rattle.mirror_follow.specs.Shown.{ShowsLine};
 ghost use Rattle.mirror_follow.specs.Sparing.{SparesGreatest};
 ghost use Rattle.mirror_follow.specs.Standing.{IsFollowed};
-ghost use Rattle.program_follow.specs.Following.{AreRunCandidates, CountsRun, EndsFollowing, Follows, FollowsIn, IsNoteOf, PrintsSettled, ReachesIn, SparesFollowing, SufficesForRun};
-ghost use Rattle.program_follow.specs.Following.{ReadsGiven, ReadsNote, PrintsDone};
+ghost use Rattle.program_follow.specs.Following.{AreRunCandidates, CountsRun, EndsFollowing, Follows, FollowsIn, IsNoteOf, PrintsSettled, ReachesIn, SparesFollowing, SufficesForRun, ReadsGiven, ReadsNote, PrintsDone};
 
 use crate::evidence::write_evidence;
 use crate::fault::FollowRunFault;

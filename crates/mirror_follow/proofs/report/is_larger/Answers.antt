@@ -1,4 +1,4 @@
-use Rattle.mirror_follow.proofs.Lines.{adds_of, adds_of_two}
+use Rattle.mirror_follow.proofs.Adding.{adds_of, adds_of_two}
 use Rattle.mirror_follow.proofs.report.is_larger.Goals as goal
 
 pub returns-then-ne-clause-lines : goal.returns-then-ne-clause-lines

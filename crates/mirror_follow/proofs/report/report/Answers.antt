@@ -1,5 +1,5 @@
 use Rattle.std.proofs.Common.{All, refl, subst, sym}
-use Rattle.mirror_follow.specs.Lines.{IsListed}
+use Rattle.mirror_candidates.specs.Lines.{IsListed}
 use Rattle.mirror_follow.specs.Taken.{HasTaken, IsBehindTest, IsOneOf, SplitsLacked}
 use Rattle.mirror_follow.proofs.Settled.{settles}
 use Rattle.mirror_follow.proofs.report.report.Goals as goal

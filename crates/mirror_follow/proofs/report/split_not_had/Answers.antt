@@ -1,6 +1,6 @@
 use Rattle.std.proofs.Common.{arith, subst, sym, take}
 use Rattle.std.proofs.lemmas.List.Elements.{All-get_or}
-use Rattle.mirror_follow.specs.Lines.{IsListed}
+use Rattle.mirror_candidates.specs.Lines.{IsListed}
 use Rattle.mirror_follow.proofs.Split.{split_at}
 use Rattle.mirror_follow.proofs.report.split_not_had.Goals as goal
 

@@ -1,8 +1,8 @@
 use Rattle.std.proofs.Common.{ℕ, All, List, Option, take}
-use Rattle.mirror_follow.specs.Lines.{AreLines, IsFirstOrListed, IsListed}
-use Rattle.mirror_follow.specs.Shown.{ShowsEach}
+use Rattle.mirror_candidates.specs.Lines.{AreLines, IsFirstOrListed, IsListed}
+use Rattle.mirror_candidates.specs.Shown.{ShowsEach}
+use Rattle.mirror_candidates.specs.declared.candidate.Candidate.{Candidate}
 use Rattle.mirror_follow.specs.Taken.{SplitsLacked}
-use Rattle.mirror_follow.specs.declared.candidate.Candidate.{Candidate}
 use Rattle.mirror_follow.proofs.report.split_not_had.Given as goal
 
 -- if each earlier line showed a fork, each line so far does. The candidates so far became fork lines or larger ones

@@ -1,12 +1,11 @@
-use Rattle.mirror_follow.proofs.Blame.{any_same}
-use Rattle.std.proofs.Common.{map, sym, true≢false, ◌∙◌}
+use Rattle.std.proofs.Common.{map, sym, true≢false, ◌∙◌, inl, inr, refl, subst}
 use Rattle.log_reader.proofs.Kept.{kept_once}
-use Rattle.mirror_follow.specs.Gathering.{note_of}
+use Rattle.mirror_candidates.proofs.Requests.{any_same}
+use Rattle.mirror_candidates.specs.Candidates.{note_of}
 use Rattle.mirror_follow.proofs.Ending.{keeps_again, keeps_at}
 use Rattle.mirror_follow.proofs.Runs.{each_none, listed_note}
 use Rattle.mirror_follow.proofs.Taken.{taken_repeat, turn_ok}
 use Rattle.mirror_follow.proofs.Turning.{run_same}
-use Rattle.std.proofs.Common.{inl, inr, refl, subst}
 use Rattle.mirror_follow.specs.OneHonest.{BringsTo, IsHonestTurn}
 use Rattle.mirror_follow.specs.Taken.{IsLargerThan}
 use Rattle.mirror_follow.proofs.OneHonest.{same_at, steps_at}

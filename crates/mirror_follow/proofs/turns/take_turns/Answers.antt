@@ -1,17 +1,16 @@
-use Rattle.std.proofs.Common.{arith, map, refl, List, Option, ◌∙◌}
-use Rattle.log_reader.proofs.Kept.{kept_once}
-use Rattle.mirror_follow.proofs.Blame.{any_same, any_then}
+use Rattle.std.proofs.Common.{arith, map, refl, List, Option, ◌∙◌, ◌<◌, length}
 use Rattle.std.proofs.lemmas.Result.{err_from_is_err_and}
-use Rattle.mirror_follow.proofs.Ending.{ends_so, fails_now, keeps_all, none_first}
 use Rattle.mirror_folders.specs.Shelf.{Put}
+use Rattle.log_reader.proofs.Kept.{kept_once}
+use Rattle.mirror_candidates.proofs.Requests.{any_same, any_then}
+use Rattle.mirror_candidates.specs.Candidates.{note_of}
+use Rattle.mirror_follow.proofs.Ending.{ends_so, fails_now, keeps_all, none_first}
 use Rattle.mirror_follow.specs.Standing.{HasStanding, HoldsNoCopy, IsCopyOfRun}
-use Rattle.mirror_follow.specs.Gathering.{note_of}
 use Rattle.mirror_follow.proofs.Runs.{each_none, each_then}
 use Rattle.mirror_follow.proofs.Taken.{taken_all, taken_begin}
 use Rattle.mirror_follow.proofs.Turning.{run_first, run_then}
 use Rattle.mirror_follow.proofs.OneHonest.{pass_all, reach_all, reach_begin, reach_fails, reach_turn}
 use Rattle.mirror_follow.proofs.TurnOrder.{element}
-use Rattle.std.proofs.Common.{◌<◌, length}
 use Rattle.mirror_follow.proofs.Sparing.{spares_then}
 use Rattle.mirror_follow.proofs.turns.take_turns.Goals as goal
 

@@ -1,9 +1,8 @@
 use Rattle.std.proofs.Common.{◌≡◌, Some, map, take}
 use Rattle.std.specs.List.Sorted.{IsSorted}
-use Rattle.mirror_follow.specs.Blame.{AsksAny, PlaceFails}
-use Rattle.mirror_follow.specs.Candidates.{turn_cmp}
+use Rattle.mirror_candidates.specs.Requests.{AsksAny, PlaceFails}
+use Rattle.mirror_candidates.specs.Candidates.{note_of, turn_cmp}
 use Rattle.mirror_follow.specs.Ending.{KeepsFault}
-use Rattle.mirror_follow.specs.Gathering.{note_of}
 use Rattle.mirror_follow.specs.Runs.{KeepsEach}
 use Rattle.mirror_follow.specs.Taken.{HasTakenRun}
 use Rattle.mirror_follow.specs.Turning.{IsRunFrom}

@@ -1,0 +1,14 @@
+pub mod FirstRoots
+pub mod ForkLines
+pub mod Agreeing
+pub mod Gathering
+pub mod Asking
+pub mod Requests
+pub mod Opened
+pub mod GatheredFrom
+pub mod TwoReads
+pub mod Checked
+pub mod Shown
+pub mod Points
+pub mod LineLists
+pub mod Lines

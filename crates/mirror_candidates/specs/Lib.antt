@@ -1,0 +1,11 @@
+pub mod Candidates
+pub mod Gathering
+pub mod Requests
+pub mod Asking
+pub mod GatheredFrom
+pub mod Forks
+pub mod Agreeing
+pub mod Checked
+pub mod Shown
+pub mod Lines
+pub mod Adding

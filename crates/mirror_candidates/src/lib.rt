@@ -1,0 +1,25 @@
+//! Candidates: the notes that the places of a run give, opened, told apart and put in order.
+//!
+//! ```text
+//! let candidates = candidates_of(alloc, "ex", &keys, &mut places, None)?; // places over 3 and over 257 entries: the candidate of 257 is first
+//! ask_proof::<Sha256Tree, ListSource<Sha256Tree>>(alloc, &mut places, &candidates[1], &candidates[0])? // the proof of their fork, if there is one
+//! ```
+#![tactic(auto)]
+
+mod ask;
+mod candidate;
+mod candidates;
+mod fault;
+mod files;
+mod fork_line;
+mod gather;
+mod laws;
+mod proving;
+
+pub use ask::ask_candidates;
+pub use candidate::Candidate;
+pub use candidates::candidates_of;
+pub use fault::CandidateFault;
+pub use fork_line::{ForkLine, add_fork};
+pub use laws::{agree_law, fork_line_law};
+pub use proving::{ask_proof, fork_proof};

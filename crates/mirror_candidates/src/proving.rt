@@ -1,0 +1,178 @@
+//! Proofs of forks.
+ghost use Rattle.std.specs.Prelude.{◌≡◌, ◌↔◌, ◌<◌, IfOk, IfSome, IsTrue, None, Some, ⊤};
+ghost use Rattle.std.specs.List.{AllByRecursion};
+ghost use Rattle.tlog_text.specs.Hash.{Is32Bytes};
+ghost use Rattle.tlog_proof.specs.Text.{HasHashes};
+ghost use Rattle.mirror_sources.specs.Source.{StaysWithin};
+ghost use Rattle.mirror_sources.specs.Recorded.{KeepsRecord};
+ghost use Rattle.log_reader.specs.Faults.{CountsFailure};
+ghost use Rattle.log_reader.specs.Holding.{ReadsLog};
+ghost use Rattle.mirror_places.specs.AskedOnce.{AsksMore};
+ghost use Rattle.mirror_candidates.specs.Agreeing.{Agrees};
+ghost use Rattle.mirror_candidates.specs.Candidates.{point_of};
+ghost use Rattle.mirror_candidates.specs.Checked.{HasFirstRoot};
+ghost use Rattle.mirror_candidates.specs.Requests.{AsksAny};
+ghost use Rattle.mirror_candidates.specs.Shown.{ShowsLarger};
+
+use crate::candidate::Candidate;
+use crate::files::{ReadFiles, ask_files, proof_paths};
+use log_reader::{LogReader, ReadFault};
+use mirror_places::Places;
+use mirror_sources::Source;
+use std::alloc::{AllocError, Global};
+use tlog_hash::{Hash, TreeHash};
+use tlog_proof::Proof;
+
+// Whether the first root of a proof is that hash.
+fn has_first_root(proof: &Proof, root: &Hash) -> bool
+    ensures { IsTrue result ↔ HasFirstRoot root.now proof.now }
+{
+    match proof {
+        Proof::Inclusion { .. } => false,
+        Proof::Consistency { first_root, .. } => *first_root == *root,
+    }
+}
+
+// The number of bytes of a hash, which is 32.
+fn hash_len(hash: &Hash) -> usize
+    ensures { Is32Bytes hash.now }
+{
+    hash.as_slice().len()
+}
+
+// Each hash of a path has 32 bytes.
+fn see_path(path: &[Hash])
+    ensures { AllByRecursion Is32Bytes path.now }
+{
+    for hash in path {
+        hash_len(hash);
+    }
+}
+
+// Each hash of a proof has 32 bytes. The body does nothing: the contract states what follows from the type.
+fn see_hashes(proof: &Proof)
+    ensures { HasHashes proof.now }
+{
+    match proof {
+        Proof::Inclusion {
+            root,
+            leaf,
+            path,
+            ..
+        } => {
+            hash_len(root);
+            hash_len(leaf);
+            see_path(path.as_slice());
+        }
+        Proof::Consistency {
+            first_root,
+            second_root,
+            path,
+            ..
+        } => {
+            hash_len(first_root);
+            hash_len(second_root);
+            see_path(path.as_slice());
+        }
+    }
+}
+
+// The proof from the smaller point into the log of the larger one, if its first root differs from the smaller root.
+#[tactic(auto, using(crate::proofs::Checked::checked_fork, crate::proofs::Checked::checked_agree, log_reader::proofs::Kept::kept_twice))]
+fn checked_proof<H: TreeHash, S: Source>(
+    alloc: Global,
+    files: &mut S,
+    small: &Candidate,
+    large: &Candidate,
+) -> Result<Option<Proof>, ReadFault>
+    requires some { 0 < small.now.size.0 }
+    requires less { small.now.size.0 < large.now.size.0 }
+    ensures later { StaysWithin (S.may_answer files.old) (S.may_answer files.new) }
+    ensures kept { KeepsRecord (S.files files.old) (S.files files.new) }
+    ensures counted { CountsFailure (S.failed files.old) (S.failed files.new) result }
+    ensures honest { ReadsLog H.digest large.now.size.0 large.now.root (S.may_answer files.old)
+        result (λ _ _. ⊤) }
+    ensures fork { IfOk result (λ found. IfSome found
+        (λ proof. ShowsLarger H.digest small.now large.now (Some proof))) }
+    ensures agrees { IfOk result (λ found. found ≡ None
+        → Agrees H.digest (point_of small.now) (point_of large.now)) }
+{
+    let root = large.root;
+    let mut reader: LogReader<H> = LogReader::open(alloc, files, large.size.0, &root)?;
+    let proof = reader.consistency(alloc, files, small.size.0)?;
+    see_hashes(&proof);
+    if has_first_root(&proof, &small.root) {
+        Ok(None)
+    } else {
+        Ok(Some(proof))
+    }
+}
+
+/// The proof that a log of the larger candidate does not begin with the smaller one. It is made from files that lead to the larger root.
+/// None: the log begins with it, or the smaller candidate has no entries, or it is not smaller.
+///
+/// ```text
+/// fork_proof::<Sha256Tree, ListSource<Sha256Tree>>(alloc, &mut source, &small, &large)? // Some(proof): no log has both
+/// ```
+///
+/// # Errors
+///
+/// Those of `LogReader::open` and `LogReader::consistency`: a file is missing or false, the source failed, or memory was refused.
+#[tactic(auto, using(log_reader::proofs::Kept::kept_once))]
+pub fn fork_proof<H: TreeHash, S: Source>(
+    alloc: Global,
+    files: &mut S,
+    small: &Candidate,
+    large: &Candidate,
+) -> Result<Option<Proof>, ReadFault>
+    ensures later { StaysWithin (S.may_answer files.old) (S.may_answer files.new) }
+    ensures kept { KeepsRecord (S.files files.old) (S.files files.new) }
+    ensures counted { CountsFailure (S.failed files.old) (S.failed files.new) result }
+    ensures honest { ReadsLog H.digest large.now.size.0 large.now.root (S.may_answer files.old)
+        result (λ _ _. ⊤) }
+    ensures fork { IfOk result (λ found. IfSome found
+        (λ proof. ShowsLarger H.digest small.now large.now (Some proof))) }
+    ensures agrees { IfOk result (λ found. found ≡ None → 0 < small.now.size.0
+        → small.now.size.0 < large.now.size.0
+        → Agrees H.digest (point_of small.now) (point_of large.now)) }
+{
+    if small.size.0 == 0 || small.size.0 >= large.size.0 {
+        return Ok(None);
+    }
+    checked_proof::<H, S>(alloc, files, small, large)
+}
+
+/// The proof that a larger candidate contradicts a smaller one, made from files of one of the places. None: no place has these files. For
+/// what a place was asked when a copy was brought from the one to the other, its answer is used.
+///
+/// ```text
+/// ask_proof::<Sha256Tree, ListSource<Sha256Tree>>(alloc, &mut places, &copy, &larger)? // Some(proof): no log has both
+/// ```
+///
+/// # Errors
+///
+/// `AllocError`: memory was refused.
+pub fn ask_proof<H: TreeHash, S: Source + Drop>(
+    alloc: Global,
+    places: &mut Places<S>,
+    smaller: &Candidate,
+    larger: &Candidate,
+) -> Result<Option<Proof>, AllocError>
+    ensures asks { AsksAny S.may_answer S.failed S.asked places.old places.new }
+    ensures more { AsksMore S.asked places.old places.new }
+    ensures proof { IfOk result (λ found. IfSome found
+        (λ proof. ShowsLarger H.digest smaller.now larger.now (Some proof))) }
+{
+    let (first, size) = places.ends();
+    let paths = proof_paths(alloc, first, size)?;
+    for i in 0..places.list().len() {
+        let mut files = ask_files(alloc, places, i, &paths)?;
+        match fork_proof::<H, ReadFiles>(alloc, &mut files, smaller, larger) {
+            Ok(Some(proof)) => return Ok(Some(proof)),
+            Ok(None) => {}
+            Err(ReadFault::OutOfMemory) => return Err(AllocError),
+            Err(_) => {}
+        }
+    }
+    Ok(None)
+}

@@ -1,0 +1,160 @@
+//! A copy that is brought to a larger candidate.
+ghost use Rattle.std.specs.Prelude.{◌≡◌, ◌≢◌, ◌<◌, ℕ, IfErr, IfOk, List, Option, Some, ⊤};
+ghost use Rattle.mirror_folders.specs.Shelf.{Put};
+ghost use Rattle.mirror_places.specs.AskedOnce.{AsksEachOnce, AsksMore};
+ghost use Rattle.mirror_places.specs.EndTiles.{IsKept};
+ghost use Rattle.mirror_copy.specs.Conflicts.{HasConflict, IsConflict};
+ghost use Rattle.mirror_copy.specs.Faults.{CountsFault};
+ghost use Rattle.mirror_copy.specs.OneHonest.{IsShelfOrMemory};
+ghost use Rattle.mirror_candidates.specs.Requests.{AsksAny, PlaceFails};
+ghost use Rattle.mirror_candidates.specs.Candidates.{note_of};
+ghost use Rattle.mirror_candidates.specs.declared.candidate.Candidate.{Candidate};
+ghost use Rattle.mirror_follow.specs.Blame.{CountsFollow};
+ghost use Rattle.mirror_follow.specs.Ending.{EndsAt, EndsRun, IsOfConflict, IsOfOtherRun};
+ghost use Rattle.mirror_follow.specs.OneHonest.{IsBroughtOr, IsHonestTurn};
+ghost use Rattle.mirror_follow.specs.Runs.{KeepsUnder};
+ghost use Rattle.mirror_follow.specs.Turning.{ShowsTurn};
+ghost use Rattle.mirror_follow.specs.Sparing.{SparesBringing};
+ghost use Rattle.mirror_follow.specs.Standing.{EachStays, HasStanding, HoldsNoCopy, HoldsNoSmaller, IsHeadOf, StandsAfter};
+ghost use Rattle.mirror_follow.specs.Taken.{IsLargerThan, SaysTurn};
+
+use crate::fault::FollowFault;
+use crate::run::Outcome;
+use mirror_candidates::{Candidate, ask_proof};
+use mirror_copy::{BringFault, bring_copy};
+use mirror_folders::ReadableShelf;
+use mirror_places::Places;
+use mirror_sources::Source;
+use std::alloc::{AllocError, Global};
+use tlog_hash::TreeHash;
+
+// The meaning of a fault of `bring_copy`: the outcome for the candidate, or the fault that ends the run.
+fn turn_of(fault: BringFault) -> Result<Outcome, FollowFault>
+    ensures after { IfOk result (λ turn. (digest : List ℕ → List ℕ) (origin : List ℕ)
+        (candidate : Candidate) (old new : Option (List Put)) → EachStays digest origin old new
+        → StandsAfter digest origin candidate old new turn) }
+    ensures counted { (old new : ℕ) → CountsFault old new fault → CountsFollow old new result }
+    ensures source { IfOk result (λ turn. turn ≡ Outcome.NotHad FollowFault.Source
+        → fault ≡ BringFault.Source) }
+    ensures ends { IfErr result
+        (EndsRun (fault ≡ BringFault.CopyDamaged) (IsOfOtherRun fault)) }
+    ensures shows { IfOk result (λ turn. (digest : List ℕ → List ℕ) (copy : Option Candidate)
+        (candidate : Candidate) → ShowsTurn digest copy candidate turn) }
+    ensures says { IfOk result (λ turn. (digest : List ℕ → List ℕ) (copy : Option Candidate)
+        (candidate : Candidate) → IsLargerThan copy candidate
+        → SaysTurn digest copy candidate turn) }
+    ensures suffices { IsShelfOrMemory fault → IsBroughtOr result }
+    ensures no_file { IfOk result (λ turn. turn ≡ Outcome.NotHad FollowFault.NoFile
+        → fault ≡ BringFault.NoFile) }
+    ensures conflicts { IfOk result (λ turn. IsOfConflict turn → IsConflict fault) }
+{
+    match fault {
+        BringFault::Contradiction => Ok(Outcome::Contradicts),
+        BringFault::NoFile => Ok(Outcome::NotHad(FollowFault::NoFile)),
+        BringFault::Source => Ok(Outcome::NotHad(FollowFault::Source)),
+        BringFault::Collision => Ok(Outcome::NotHad(FollowFault::Collision)),
+        // A candidate is a checkpoint of the origin and larger than the copy that was read, so another run changed the copy.
+        BringFault::BadCheckpoint => Err(FollowFault::CopyInUse),
+        BringFault::NotLarger => Err(FollowFault::CopyInUse),
+        BringFault::CopyDamaged => Err(FollowFault::CopyDamaged),
+        BringFault::CopyInUse => Err(FollowFault::CopyInUse),
+        BringFault::ShelfFault => Err(FollowFault::ShelfFault),
+        BringFault::OutOfMemory => Err(FollowFault::OutOfMemory),
+    }
+}
+
+/// Brings the copy to a larger candidate.
+pub(crate) fn bring<H: TreeHash, D: ReadableShelf, S: Source + Drop>(
+    alloc: Global,
+    origin: &str,
+    shelf: &mut D,
+    places: &mut Places<S>,
+    candidate: &Candidate,
+) -> Result<Outcome, FollowFault>
+    requires { IsHeadOf origin.now candidate.now }
+    ensures keeps { KeepsUnder H.digest origin.now (note_of candidate.now) (D.puts shelf.old)
+        (D.puts shelf.new) }
+    ensures counted { CountsFollow (D.failed shelf.old) (D.failed shelf.new) result }
+    ensures after { IfOk result (λ turn. StandsAfter H.digest origin.now candidate.now
+        (D.puts shelf.old) (D.puts shelf.new) turn) }
+    ensures asks { AsksAny S.may_answer S.failed S.asked places.old places.new }
+    ensures once { AsksEachOnce S.asked (IsKept places.new) places.old places.new }
+    ensures source { IfOk result (λ turn. turn ≡ Outcome.NotHad FollowFault.Source
+        → PlaceFails places.old places.new) }
+    ensures ends { IfErr result (EndsRun (HoldsNoCopy H.digest origin.now (D.puts shelf.old))
+        (HoldsNoSmaller H.digest origin.now candidate.now.size.0 (D.puts shelf.old))) }
+    ensures shows { IfOk result (λ turn. (digest : List ℕ → List ℕ) (copy : Option Candidate)
+        (candidate : Candidate) → ShowsTurn digest copy candidate turn) }
+    ensures says { IfOk result (λ turn. (digest : List ℕ → List ℕ) (copy : Option Candidate)
+        (candidate : Candidate) → IsLargerThan copy candidate
+        → SaysTurn digest copy candidate turn) }
+    ensures suffices { IsHonestTurn H.digest S.may_answer (D.puts shelf.old) places.old places.new
+        origin.now candidate.now → IsBroughtOr result }
+    ensures spares { IfOk result (λ turn. turn ≡ Outcome.NotHad FollowFault.NoFile
+        → SparesBringing H.digest S.may_answer S.failed S.asked origin.now (D.puts shelf.old)
+        places.old places.new (note_of candidate.now)) }
+    ensures conflicts { IfOk result (λ turn. IsOfConflict turn
+        → HasConflict H.digest origin.now (note_of candidate.now) (D.puts shelf.old)) }
+{
+    match bring_copy::<H, D, S>(alloc, origin, shelf, places, &candidate.note) {
+        Ok(_) => Ok(Outcome::Brought),
+        Err(fault) => turn_of(fault),
+    }
+}
+
+// The turn of a candidate that contradicts the copy. It is a fork if one of the places has the files of the proof.
+fn contradict<H: TreeHash, S: Source + Drop>(
+    alloc: Global,
+    places: &mut Places<S>,
+    copy: &Candidate,
+    candidate: &Candidate,
+) -> Result<Outcome, AllocError>
+    requires { copy.now.size.0 < candidate.now.size.0 }
+    ensures after { IfOk result (λ turn. (digest : List ℕ → List ℕ) (origin : List ℕ)
+        (old new : Option (List Put)) → EachStays digest origin old new
+        → StandsAfter digest origin candidate.now old new turn) }
+    ensures asks { AsksAny S.may_answer S.failed S.asked places.old places.new }
+    ensures more { AsksMore S.asked places.old places.new }
+    ensures source { IfOk result (λ turn. turn ≢ Outcome.NotHad FollowFault.Source) }
+    ensures shows { IfOk result (ShowsTurn H.digest (Some copy.now) candidate.now) }
+    ensures says { IfOk result (SaysTurn H.digest (Some copy.now) candidate.now) }
+{
+    match ask_proof::<H, S>(alloc, places, copy, candidate)? {
+        Some(proof) => Ok(Outcome::Forks(Some(proof))),
+        None => Ok(Outcome::Contradicts),
+    }
+}
+
+/// The turn of a candidate that is larger than the copy. No place is asked twice for a path, also if it is a fork.
+pub(crate) fn take_larger<H: TreeHash, D: ReadableShelf, S: Source + Drop>(
+    alloc: Global,
+    origin: &str,
+    shelf: &mut D,
+    places: &mut Places<S>,
+    copy: &Candidate,
+    candidate: &Candidate,
+) -> Result<Outcome, FollowFault>
+    requires head { IsHeadOf origin.now candidate.now }
+    requires larger { copy.now.size.0 < candidate.now.size.0 }
+    ensures keeps { KeepsUnder H.digest origin.now (note_of candidate.now) (D.puts shelf.old)
+        (D.puts shelf.new) }
+    ensures counted { CountsFollow (D.failed shelf.old) (D.failed shelf.new) result }
+    ensures after { IfOk result (λ turn. StandsAfter H.digest origin.now candidate.now
+        (D.puts shelf.old) (D.puts shelf.new) turn) }
+    ensures asks { AsksAny S.may_answer S.failed S.asked places.old places.new }
+    ensures once { AsksEachOnce S.asked (λ k path. ⊤) places.old places.new }
+    ensures source { IfOk result (λ turn. turn ≡ Outcome.NotHad FollowFault.Source
+        → PlaceFails places.old places.new) }
+    ensures ends { IfErr result
+        (EndsAt (¬ HasStanding H.digest origin.now (Some copy.now) (D.puts shelf.old))) }
+    ensures shows { IfOk result (ShowsTurn H.digest (Some copy.now) candidate.now) }
+    ensures says { IfOk result (SaysTurn H.digest (Some copy.now) candidate.now) }
+    ensures suffices { IsHonestTurn H.digest S.may_answer (D.puts shelf.old) places.old places.new
+        origin.now candidate.now → IsBroughtOr result }
+{
+    let turn = bring::<H, D, S>(alloc, origin, shelf, places, candidate)?;
+    match turn {
+        Outcome::Contradicts => Ok(contradict::<H, S>(alloc, places, copy, candidate)?),
+        turn => Ok(turn),
+    }
+}
