@@ -4,8 +4,7 @@ ghost use Rattle.std.specs.Prelude.{◌≡◌};
 use crate::run_env::RunEnv;
 use program_env::why::{FailedStreams, Why};
 use program_env::{Error, RunFault};
-use program_parser::BadWord;
-use program_words::CommandFault;
+use program_words::{BadWord, CommandFault};
 use std::alloc::Global;
 
 /// The answer of a run. It also writes a line on the fault if the words ask for it.

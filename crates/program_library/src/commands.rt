@@ -2,10 +2,10 @@
 use crate::keys::{Keys, key_lines};
 use crate::run_env::{RunEnv, WatchedEnv};
 use copy_commands::{audit, follow};
+use note_keys::KeyLine;
 use program_env::why::{FailedStreams, Why, print_why};
 use program_env::{Env, Error, Failing, RunFiles, RunFolders};
 use program_words::Command;
-use note_keys::KeyLine;
 use state_commands::{
     build, check, compare, entries, export, forks, merge, missing, notes, prove, pull, root, serve,
     status, take,

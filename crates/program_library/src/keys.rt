@@ -3,9 +3,9 @@ ghost use Rattle.std.specs.Prelude.{map, option_map, string_bytes};
 ghost use Rattle.tlog_text.specs.Answers.{seen};
 ghost use Rattle.program_library.specs.Runs.{FindsKeys, NamesKeyFile, ReadsJoined, ReadsKeyLines};
 
+use note_keys::{KeyFileFault, KeyLine, join_pins, read_keys};
 use program_env::why::{Why, of_named};
 use program_env::{Error, RunFault, RunFiles};
-use note_keys::{KeyFileFault, KeyLine, join_pins, read_keys};
 use program_parser::read_line;
 use signed_note::Verifier;
 use std::alloc::Global;
