@@ -40,14 +40,25 @@ pub(crate) fn flush_files<R: Files>(
 ) -> io::Result<()> {
     let mut inner = BTreeSet::new(alloc);
     for path in paths {
-        let place = file_path(alloc, folder, path)?;
-        flush_file(files, place.as_str())?;
-        add_between(alloc, &mut inner, folder, folder_of(place.as_str()))?;
+        flush_path(files, alloc, &mut inner, folder, path)?;
     }
     for place in &inner {
         flush_folder(files, place.as_str())?;
     }
     Ok(())
+}
+
+// Flushes a file of a log in a folder, and adds the folders between them.
+fn flush_path<R: Files>(
+    files: &R,
+    alloc: Global,
+    inner: &mut BTreeSet<String>,
+    folder: &str,
+    path: &Path,
+) -> io::Result<()> {
+    let place = file_path(alloc, folder, path)?;
+    flush_file(files, place.as_str())?;
+    add_between(alloc, inner, folder, folder_of(place.as_str()))
 }
 
 // Adds a folder and those above it, but not the outer one. If a folder was added before, all those above it were added
