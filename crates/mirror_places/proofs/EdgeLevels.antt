@@ -1,5 +1,5 @@
 -- The edge rows of a place are requested level by level, so no path twice.
-use Rattle.std.proofs.Common.{◌≡◌, ◌≢◌, ℕ, ◌+◌, ◌<◌, ◌≤◌, List, Option, inl, inr, refl, sym, subst, ap, ◌∙◌, arith}
+use Rattle.std.proofs.Common.{◌≡◌, ◌≢◌, ℕ, ◌+◌, ◌≤◌, List, Option, inl, inr, refl, sym, subst, ap, ◌∙◌, arith}
 use Rattle.tlog_shape.specs.Edge.{edge_index_of, width_of}
 use Rattle.tlog_tiles.specs.Edge.{level_of}
 use Rattle.tlog_tiles.specs.declared.paths.Path.{Path}

@@ -1,5 +1,5 @@
 -- The files that places may give, call after call.
-use Rattle.std.proofs.Common.{◌≡◌, ◌≤◌, inl, inr, ℕ, List, length, Option, Some, arith}
+use Rattle.std.proofs.Common.{inl, inr, ℕ, List, Option, Some, arith}
 use Rattle.tlog_tiles.specs.declared.paths.Path.{Path}
 use Rattle.mirror_sources.specs.Files.{full_of}
 use Rattle.log_reader.specs.EdgeRows.{Edge, row_at}

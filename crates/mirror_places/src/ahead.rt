@@ -39,12 +39,11 @@ fn paths_from(alloc: Global, first: u64, bundles: u64) -> Result<Vec<Path>, Allo
     Ok(paths)
 }
 
-/// Before a bundle is requested that the shelf lacks or has damaged, gives the place that is first in turn a hint of it and of the
-/// files after it.
+/// Before a bundle is requested, gives the place that is first in turn a hint of it and of the files after it.
 ///
-/// Files are put from left to right. So a shelf without the bundle lacks the later files too, and a run that completes a copy requests
-/// no file that stands. A bundle on the shelf may be damaged, though: then the hint may name files that stand, and their replies are
-/// dropped. Before a tile there is no hint: bundles below it may stand. There is no hint if memory is refused.
+/// Files are requested from left to right, and only those that the caller lacks. So it lacks the later files too, unless the bundle was
+/// damaged: then the hint may name files that it has, and their replies are dropped. Before a tile there is no hint: the caller may have
+/// bundles below it. There is no hint if memory is refused.
 pub(crate) fn expect_from<S: Source + Drop>(
     alloc: Global,
     places: &mut Places<S>,

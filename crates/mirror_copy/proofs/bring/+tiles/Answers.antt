@@ -24,6 +24,10 @@ use Rattle.mirror_copy.proofs.Between.{bundle_between, child_to, once_child, onc
 use Rattle.mirror_places.specs.AskedOnce.{AsksOnce}
 use Rattle.mirror_copy.specs.Asked.{IsFullBetween}
 use Rattle.mirror_copy.proofs.Exits.{counted_exit, err_exit}
+use Rattle.mirror_copy.proofs.Exits.{counted_last, early_exit, no_place}
+use Rattle.mirror_copy.specs.Conflicts.{ConflictPutsNothing, IsNoConflict}
+use Rattle.mirror_copy.specs.Faults.{BlamesPlaces, IsOfNoPlace}
+use Rattle.mirror_copy.specs.Growing.{BringsTile, IsKnown}
 use Rattle.mirror_copy.proofs.bring.+tiles.Goals as goal
 
 pub bring_row-returns-in_default-clause-brings : goal.bring_row-returns-in_default-clause-brings
@@ -476,3 +480,72 @@ pub bring_tile-returns-in_err-bring_row-clause-empty : goal.bring_tile-returns-i
 bring_tile-returns-in_err-bring_row-clause-empty g t c =
     err_exit _ c.from_residual-in_err-bring_row.result c.in_err-bring_row.field-0.0 c.from_residual-in_err-bring_row.ensures
     c.in_err-bring_row.ensures.empty
+
+pub bring_tile-returns-then-level-eq0-clause-counted : goal.bring_tile-returns-then-level-eq0-clause-counted
+bring_tile-returns-then-level-eq0-clause-counted g t c =
+    c.bring_bundle.ensures.counted
+
+pub bring_tile-returns-then-level-eq0-clause-asks : goal.bring_tile-returns-then-level-eq0-clause-asks
+bring_tile-returns-then-level-eq0-clause-asks g t c =
+    c.bring_bundle.ensures.asks
+
+pub bring_tile-returns-then-level-eq0-clause-blames : goal.bring_tile-returns-then-level-eq0-clause-blames
+bring_tile-returns-then-level-eq0-clause-blames g t c =
+    c.bring_bundle.ensures.blames
+
+pub bring_tile-returns-then-level-eq0-clause-taken : goal.bring_tile-returns-then-level-eq0-clause-taken
+bring_tile-returns-then-level-eq0-clause-taken g t c =
+    c.bring_bundle.ensures.taken
+
+pub bring_tile-returns-then-level-eq0-clause-empty : goal.bring_tile-returns-then-level-eq0-clause-empty
+bring_tile-returns-then-level-eq0-clause-empty g t c =
+    c.bring_bundle.ensures.empty
+
+pub bring_tile-returns-then-level-eq0-clause-early : goal.bring_tile-returns-then-level-eq0-clause-early
+bring_tile-returns-then-level-eq0-clause-early g t c =
+    let zero : c.args.level ≡ 0 = omega arith in
+    let start : c.args.index * 256 ≡ c.args.index * 256 ^ (c.args.level + 1) =
+    ap (λ l. c.args.index * 256 ^ (l + 1)) (sym zero) in
+    let x = g.D.Shelf.puts c.args.shelf.now in
+    let y = g.D.Shelf.puts c.bring_bundle.new.shelf in
+    subst (λ n. ConflictPutsNothing n c.args.tip.now.size x y c.bring_bundle.result) start c.bring_bundle.ensures.early
+
+pub bring_tile-returns-then-level-eq0-clause-brings : goal.bring_tile-returns-then-level-eq0-clause-brings
+bring_tile-returns-then-level-eq0-clause-brings g t c =
+    λ known is.
+    let zero : c.args.level ≡ 0 = omega arith in
+    let start : c.args.index * 256 ≡ c.args.index * 256 ^ (c.args.level + 1) =
+    ap (λ l. c.args.index * 256 ^ (l + 1)) (sym zero) in
+    let x = g.D.Shelf.puts c.args.shelf.now in
+    let y = g.D.Shelf.puts c.bring_bundle.new.shelf in
+    subst (λ l. BringsTile g.H.TreeHash.digest c.args.tip.now l c.args.index c.args.hash.now known x y c.bring_bundle.result) (sym zero)
+    (c.bring_bundle.ensures.brings known (subst (λ n. IsKnown g.H.TreeHash.digest c.args.tip.now n known) (sym start) is))
+
+pub bring_tile-returns-clause-counted : goal.bring_tile-returns-clause-counted
+bring_tile-returns-clause-counted g t c =
+    counted_last c.keep.result (g.D.Shelf.failed c.args.shelf.now) (g.D.Shelf.failed c.bring_row.new.shelf) (g.D.Shelf.failed c.keep.new.shelf)
+    (c.in_ok-bring_row.ensures.counted ∙ c.in_ok-found.ensures.counted) c.keep.ensures.counted
+
+pub bring_tile-returns-clause-blames : goal.bring_tile-returns-clause-blames
+bring_tile-returns-clause-blames g t c =
+    err_weaker c.keep.result IsOfNoPlace (BlamesPlaces c.bring_row.new.places) (no_place c.bring_row.new.places)
+    c.keep.ensures.places
+
+pub bring_tile-returns-clause-early : goal.bring_tile-returns-clause-early
+bring_tile-returns-clause-early g t c =
+    early_result (c.args.index * 256 ^ (c.args.level + 1)) c.args.tip.now.size (g.D.Shelf.puts c.args.shelf.now)
+    (g.D.Shelf.puts c.keep.new.shelf) c.keep.result c.keep.ensures.fault
+
+pub bring_tile-returns-clause-empty : goal.bring_tile-returns-clause-empty
+bring_tile-returns-clause-empty g t c =
+    err_weaker c.keep.result IsNoConflict _ (λ e h is. h) c.keep.ensures.fault
+
+pub bring_tile-returns-in_err-bring_row-clause-early : goal.bring_tile-returns-in_err-bring_row-clause-early
+bring_tile-returns-in_err-bring_row-clause-early g t c =
+    let start = c.args.index * 256 ^ (c.args.level + 1) in
+    let m = c.args.tip.now.size in
+    let x = g.D.Shelf.puts c.args.shelf.now in
+    let w = g.D.Shelf.puts c.find.new.shelf in
+    let y = g.D.Shelf.puts c.bring_row.new.shelf in
+    early_exit c.from_residual-in_err-bring_row.result c.in_err-bring_row.field-0.0 c.from_residual-in_err-bring_row.ensures start m x y
+    (early_later (Unit {0}) (Unit {0}) start start m x w y c.in_err-bring_row.field-0.0 (λ h. (h, c.find.ensures.same)) c.in_err-bring_row.ensures.early)

@@ -102,3 +102,28 @@ returns-in_err-bundle-clause-counted g c =
 pub returns-in_err-bundle-clause-tip : goal.returns-in_err-bundle-clause-tip
 returns-in_err-bundle-clause-tip g c =
     IfOk-from_err c.from_residual-in_err-bundle.result _ c.from_residual-in_err-bundle.ensures.0
+
+pub returns-in_default-3-clause-same : goal.returns-in_default-3-clause-same
+returns-in_default-3-clause-same g c =
+    kept_then (g.D.Shelf.puts c.args.shelf.now) (g.D.Shelf.puts c.read.new.self) (g.D.Shelf.puts c.edge_on_shelf.new.shelf) c.read.ensures.same
+    c.edge_on_shelf.ensures.same
+
+pub returns-in_default-3-clause-counted : goal.returns-in_default-3-clause-counted
+returns-in_default-3-clause-counted g c =
+    c.in_ok-edge.ensures.counted ∙ c.in_ok-checkpoint.ensures.counted
+
+pub returns-in_err-bundle-clause-same : goal.returns-in_err-bundle-clause-same
+returns-in_err-bundle-clause-same g c =
+    kept_then (g.D.Shelf.puts c.args.shelf.now) (g.D.Shelf.puts c.edge_on_shelf.new.shelf) (g.D.Shelf.puts c.bundle_on_shelf.new.shelf)
+    (kept_then (g.D.Shelf.puts c.args.shelf.now) (g.D.Shelf.puts c.read.new.self) (g.D.Shelf.puts c.edge_on_shelf.new.shelf) c.read.ensures.same
+    c.edge_on_shelf.ensures.same) c.bundle_on_shelf.ensures.same
+
+pub returns-clause-same : goal.returns-clause-same
+returns-clause-same g c =
+    kept_then (g.D.Shelf.puts c.args.shelf.now) (g.D.Shelf.puts c.edge_on_shelf.new.shelf) (g.D.Shelf.puts c.bundle_on_shelf.new.shelf)
+    (kept_then (g.D.Shelf.puts c.args.shelf.now) (g.D.Shelf.puts c.read.new.self) (g.D.Shelf.puts c.edge_on_shelf.new.shelf) c.read.ensures.same
+    c.edge_on_shelf.ensures.same) c.bundle_on_shelf.ensures.same
+
+pub returns-clause-counted : goal.returns-clause-counted
+returns-clause-counted g c =
+    c.in_ok-bundle.ensures.counted ∙ (c.in_ok-edge.ensures.counted ∙ c.in_ok-checkpoint.ensures.counted)

@@ -12,6 +12,12 @@ use Rattle.mirror_copy.proofs.Finishing.{copy_brought, ends_brought, left_put, t
 use Rattle.mirror_copy.proofs.Between.{once_below, once_to_edge}
 use Rattle.mirror_copy.proofs.Exits.{counted_exit, early_exit, err_exit, no_place}
 use Rattle.mirror_copy.proofs.Earlier.{early_result}
+use Rattle.std.proofs.Common.{◌*◌, arith}
+use Rattle.tlog_shape.specs.Edge.{edge_index_of}
+use Rattle.mirror_copy.proofs.Exits.{counted_last}
+use Rattle.mirror_copy.proofs.Earlier.{early_later}
+use Rattle.mirror_copy.proofs.Spared.{err_weaker}
+use Rattle.mirror_copy.specs.Conflicts.{IsNoConflict}
 use Rattle.mirror_copy.proofs.to_edge.bring_to_edge.Goals as goal
 
 pub returns-in_err-bring_edge_bundle-clause-brings : goal.returns-in_err-bring_edge_bundle-clause-brings
@@ -210,3 +216,34 @@ returns-in_err-put_edge_tiles-clause-early g c =
     c.from_residual-in_err-put_edge_tiles.result
     (err_exit _ c.from_residual-in_err-put_edge_tiles.result c.in_err-put_edge_tiles.field-0.0
     c.from_residual-in_err-put_edge_tiles.ensures c.in_err-put_edge_tiles.ensures.fault)
+
+pub returns-clause-counted : goal.returns-clause-counted
+returns-clause-counted g c =
+    counted_last c.put_last.result (g.D.Shelf.failed c.args.shelf.now) (g.D.Shelf.failed c.put_edge_tiles.new.shelf) (g.D.Shelf.failed c.put_last.new.shelf)
+    (c.in_ok-put_edge_tiles.ensures.counted ∙ (c.in_ok-bring_edge_bundle.ensures.counted ∙ c.in_ok-bring_levels.ensures.counted))
+    c.put_last.ensures.counted
+
+pub returns-clause-early : goal.returns-clause-early
+returns-clause-early g c =
+    early_result 0 c.args.tip.now.size (g.D.Shelf.puts c.args.shelf.now) (g.D.Shelf.puts c.put_last.new.shelf) c.put_last.result
+    c.put_last.ensures.fault
+
+pub returns-clause-empty : goal.returns-clause-empty
+returns-clause-empty g c =
+    err_weaker c.put_last.result IsNoConflict _ (λ e h is. h) c.put_last.ensures.fault
+
+pub returns-in_err-bring_levels-clause-brings : goal.returns-in_err-bring_levels-clause-brings
+returns-in_err-bring_levels-clause-brings g c =
+    λ known is.
+    let p = err_from_is_err_and c.from_residual.result c.from_residual.ensures.1 in
+    rw p.1 (c.in_err-bring_levels.ensures.brings known is)
+
+pub returns-in_err-bring_edge_bundle-clause-early : goal.returns-in_err-bring_edge_bundle-clause-early
+returns-in_err-bring_edge_bundle-clause-early g c =
+    let m = c.args.tip.now.size in
+    let x = g.D.Shelf.puts c.args.shelf.now in
+    let y = g.D.Shelf.puts c.bring_levels.new.shelf in
+    let z = g.D.Shelf.puts c.bring_edge_bundle.new.shelf in
+    early_exit c.from_residual-in_err-bring_edge_bundle.result c.in_err-bring_edge_bundle.field-0.0 c.from_residual-in_err-bring_edge_bundle.ensures 0 m x z
+    (early_later (Unit {0}) (Unit {0}) 0 (edge_index_of c.args.edge.now.size 0 * 256) m x y z c.in_err-bring_edge_bundle.field-0.0
+    (λ within. (omega arith, c.in_ok-bring_levels.ensures.none within)) c.in_err-bring_edge_bundle.ensures.early)
