@@ -24,7 +24,6 @@ use tlog_proof::Proof;
 use tlog_tiles::Path;
 
 /// The proof that the copy does not begin with a smaller candidate. None: it does, or the candidate has no entries.
-#[tactic(auto, using(copy_reader::proofs::ShelfSources::same_shelf))]
 pub(crate) fn read_proof<H: TreeHash, D: ReadableShelf>(
     alloc: Global,
     shelf: &mut D,

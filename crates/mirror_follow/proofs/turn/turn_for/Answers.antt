@@ -98,3 +98,41 @@ returns-then-candidate-copy-clause-suffices g c = λ larger h.
     let lt : c.in-Some.copy.size.0 < c.args.candidate.now.size.0 =
     subst (λ o. IsLargerThan o c.args.candidate.now) c.in-Some.is larger in
     absurd (omega (arith, lt, c.if-candidate-copy.true))
+
+-- ---- a turn over the copy
+
+pub returns-then-has_lesser_note-clause-ends : goal.returns-then-has_lesser_note-clause-ends
+returns-then-has_lesser_note-clause-ends g c =
+    subst
+    (λ o. IfErr c.renote.result
+    (EndsAt (HasStanding g.H.TreeHash.digest c.args.origin.now o (g.D.Shelf.puts c.args.shelf.now) → ⊥)))
+    (sym c.in-Some.is) c.renote.ensures.ends
+
+pub returns-then-candidate-copy-clause-ends : goal.returns-then-candidate-copy-clause-ends
+returns-then-candidate-copy-clause-ends g c =
+    subst
+    (λ o. IfErr c.compare.result
+    (EndsAt (HasStanding g.H.TreeHash.digest c.args.origin.now o (g.D.Shelf.puts c.args.shelf.now) → ⊥)))
+    (sym c.in-Some.is) c.compare.ensures.ends
+
+pub returns-clause-ends : goal.returns-clause-ends
+returns-clause-ends g c =
+    subst
+    (λ o. IfErr c.take_larger.result
+    (EndsAt (HasStanding g.H.TreeHash.digest c.args.origin.now o (g.D.Shelf.puts c.args.shelf.now) → ⊥)))
+    (sym c.in-Some.is) c.take_larger.ensures.ends
+
+pub returns-then-has_lesser_note-clause-shows : goal.returns-then-has_lesser_note-clause-shows
+returns-then-has_lesser_note-clause-shows g c =
+    subst (λ o. IfOk c.renote.result (ShowsTurn g.H.TreeHash.digest o c.args.candidate.now)) (sym c.in-Some.is)
+    c.renote.ensures.shows
+
+pub returns-then-candidate-copy-clause-shows : goal.returns-then-candidate-copy-clause-shows
+returns-then-candidate-copy-clause-shows g c =
+    subst (λ o. IfOk c.compare.result (ShowsTurn g.H.TreeHash.digest o c.args.candidate.now)) (sym c.in-Some.is)
+    c.compare.ensures.shows
+
+pub returns-clause-shows : goal.returns-clause-shows
+returns-clause-shows g c =
+    subst (λ o. IfOk c.take_larger.result (ShowsTurn g.H.TreeHash.digest o c.args.candidate.now)) (sym c.in-Some.is)
+    c.take_larger.ensures.shows
