@@ -117,8 +117,8 @@ fn add_line(lines: &mut Vec<ForkLine>, line: ForkLine) -> Result<(), AllocError>
     Ok(())
 }
 
-/// Adds the fork of two candidates to rising lines, if there is no line of the same two sizes and roots. The proof leads from the smaller one
-/// into the larger one.
+/// Adds the fork of two candidates to rising lines, if there is no line of the same two sizes and roots. The proof leads from the smaller
+/// candidate into the larger one.
 ///
 /// ```text
 /// add_fork(alloc, &mut lines, &copy, &candidate, Some(proof))?; // lines rise strictly, also now

@@ -1,8 +1,8 @@
 //! Candidates: the notes that the places of a run give, opened, told apart and put in order.
 //!
 //! ```text
-//! let candidates = candidates_of(alloc, "ex", &keys, &mut places, None)?; // places over 3 and over 257 entries: the candidate of 257 is first
-//! ask_proof::<Sha256Tree, ListSource<Sha256Tree>>(alloc, &mut places, &candidates[1], &candidates[0])? // the proof of their fork, if there is one
+//! let candidates = candidates_of(alloc, "ex", &keys, &mut places, None)?; // places over 3 and over 257 entries: first that of 257
+//! ask_proof::<Sha256Tree, ListSource<Sha256Tree>>(alloc, &mut places, &candidates[1], &candidates[0])? // a proof of their fork, if any
 //! ```
 #![tactic(auto)]
 
