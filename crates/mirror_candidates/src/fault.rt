@@ -4,24 +4,32 @@ ghost use Rattle.mirror_candidates.specs.declared.fault.CandidateFault.TheVarian
 
 use mirror_model::TakeFault;
 use std::alloc::{AllocError, AllocFailed};
-use thiserror::Error;
+use std::fmt;
 
 /// The reason why places give no candidate. It prints as its variant's name, or as the name of the fault inside.
-#[derive(Debug, Drop, PartialEq, Eq, Clone, Copy, Error)]
+#[derive(Debug, Drop, PartialEq, Eq, Clone, Copy)]
 pub enum CandidateFault {
     /// The first place lacks a checkpoint, and no place gives a candidate.
-    #[error("NoCheckpoint")]
     NoCheckpoint,
     /// The checkpoint of the first place, or the given note, is no candidate.
-    #[error("{0}")]
     Head(TakeFault),
     /// A place failed.
-    #[error("Source")]
     Source,
     /// Memory was refused.
-    #[error("OutOfMemory")]
     OutOfMemory,
 }
+
+/// Prints the name of the innermost variant. A derived one takes the checker seconds more.
+impl fmt::Display for CandidateFault {
+    fn fmt<W: fmt::Write>(&self, f: &mut fmt::Formatter<W>) -> fmt::Result {
+        match self {
+            CandidateFault::Head(fault) => fmt::Display::fmt(fault, f),
+            _ => fmt::Debug::fmt(self, f),
+        }
+    }
+}
+
+impl std::error::Error for CandidateFault {}
 
 impl From<AllocError> for CandidateFault {
     ghost from_gives = { λ _ e. e ≡ OutOfMemory };

@@ -8,42 +8,41 @@ use mirror_folders::ShelfError;
 use mirror_places::Places;
 use mirror_sources::Source;
 use std::alloc::{AllocError, AllocFailed};
-use thiserror::Error;
+use std::fmt;
 
 /// The reason why a copy was not brought to a checkpoint. It prints as its variant's name.
-#[derive(Debug, Drop, PartialEq, Eq, Clone, Copy, Error)]
+#[derive(Debug, Drop, PartialEq, Eq, Clone, Copy)]
 pub enum BringFault {
     /// The bytes are not a note whose text is a checkpoint of the origin.
-    #[error("BadCheckpoint")]
     BadCheckpoint,
     /// The shelf has a checkpoint, but not a copy of a log of the origin.
-    #[error("CopyDamaged")]
     CopyDamaged,
     /// The copy has at least as many entries as the checkpoint.
-    #[error("NotLarger")]
     NotLarger,
     /// A row of the larger tree does not begin with the copy's row.
-    #[error("Contradiction")]
     Contradiction,
     /// The rows begin with the copy's rows, but the bundle does not begin with the copy's bundle.
-    #[error("Collision")]
     Collision,
     /// Neither the shelf nor a place has a file that verifies. No place failed in this call.
-    #[error("NoFile")]
     NoFile,
     /// Neither the shelf nor a place has a file that verifies. A place failed in this call.
-    #[error("Source")]
     Source,
     /// The shelf's checkpoint changed since it was read first.
-    #[error("CopyInUse")]
     CopyInUse,
     /// The shelf failed.
-    #[error("ShelfFault")]
     ShelfFault,
     /// Memory was refused.
-    #[error("OutOfMemory")]
     OutOfMemory,
 }
+
+/// Prints the name of the variant. A derived one takes the checker seconds more.
+impl fmt::Display for BringFault {
+    fn fmt<W: fmt::Write>(&self, f: &mut fmt::Formatter<W>) -> fmt::Result {
+        fmt::Debug::fmt(self, f)
+    }
+}
+
+impl std::error::Error for BringFault {}
 
 impl From<ShelfError> for BringFault {
     ghost from_gives = { λ e f. f ≡ by_shelf e };

@@ -3,25 +3,30 @@ ghost use Rattle.std.specs.Prelude.{◌≡◌};
 ghost use Rattle.mirror_export.specs.Faults.{of_shelf, update_of_shelf};
 
 use mirror_folders::ShelfError;
-use thiserror::Error;
+use std::fmt;
 
 /// Why an export ends early. It prints its variant's name.
 /// A mirror that holds only a note serves nothing, and the fault is `NothingComplete`.
-#[derive(Debug, Drop, PartialEq, Eq, Clone, Copy, Error)]
+#[derive(Debug, Drop, PartialEq, Eq, Clone, Copy)]
 pub enum ExportFault {
     /// Nothing is served.
-    #[error("NothingComplete")]
     NothingComplete,
     /// A checkpoint is on the shelf.
-    #[error("ShelfInUse")]
     ShelfInUse,
     /// The shelf failed.
-    #[error("ShelfFault")]
     ShelfFault,
     /// Memory was refused.
-    #[error("OutOfMemory")]
     OutOfMemory,
 }
+
+/// Prints the name of the variant. A derived one takes the checker seconds more.
+impl fmt::Display for ExportFault {
+    fn fmt<W: fmt::Write>(&self, f: &mut fmt::Formatter<W>) -> fmt::Result {
+        fmt::Debug::fmt(self, f)
+    }
+}
+
+impl std::error::Error for ExportFault {}
 
 impl From<ShelfError> for ExportFault {
     ghost from_gives = { λ e f. f ≡ of_shelf e };
@@ -36,21 +41,26 @@ impl From<ShelfError> for ExportFault {
 
 /// Why an update ends early. It prints its variant's name.
 /// For a folder with the checkpoint of another log the fault is `OtherLog`.
-#[derive(Debug, Drop, PartialEq, Eq, Clone, Copy, Error)]
+#[derive(Debug, Drop, PartialEq, Eq, Clone, Copy)]
 pub enum UpdateFault {
     /// Nothing is served.
-    #[error("NothingComplete")]
     NothingComplete,
     /// The served log does not extend the folder's checkpoint.
-    #[error("OtherLog")]
     OtherLog,
     /// The shelf failed.
-    #[error("ShelfFault")]
     ShelfFault,
     /// Memory was refused.
-    #[error("OutOfMemory")]
     OutOfMemory,
 }
+
+/// Prints the name of the variant. A derived one takes the checker seconds more.
+impl fmt::Display for UpdateFault {
+    fn fmt<W: fmt::Write>(&self, f: &mut fmt::Formatter<W>) -> fmt::Result {
+        fmt::Debug::fmt(self, f)
+    }
+}
+
+impl std::error::Error for UpdateFault {}
 
 impl From<ShelfError> for UpdateFault {
     ghost from_gives = { λ e f. f ≡ update_of_shelf e };

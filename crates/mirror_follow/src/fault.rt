@@ -8,42 +8,44 @@ use mirror_candidates::CandidateFault;
 use mirror_folders::ShelfError;
 use mirror_model::TakeFault;
 use std::alloc::{AllocError, AllocFailed};
-use thiserror::Error;
+use std::fmt;
 
 /// The reason why a call of `follow` ended early. It prints as its variant's name, or as the name of the fault inside.
-#[derive(Debug, Drop, PartialEq, Eq, Clone, Copy, Error)]
+#[derive(Debug, Drop, PartialEq, Eq, Clone, Copy)]
 pub enum FollowFault {
     /// The first place lacks a checkpoint, and no place gives a candidate.
-    #[error("NoCheckpoint")]
     NoCheckpoint,
     /// The given note is no candidate. Or no place gives a candidate, and this is the reason for the first place's checkpoint.
-    #[error("{0}")]
     Head(TakeFault),
     /// The shelf has a checkpoint, but not a copy of a log of the origin.
-    #[error("CopyDamaged")]
     CopyDamaged,
     /// The shelf's checkpoint changed since it was read first.
-    #[error("CopyInUse")]
     CopyInUse,
     /// The shelf failed.
-    #[error("ShelfFault")]
     ShelfFault,
     /// The greatest candidate has size 0, and its root is not the hash of the empty list.
-    #[error("Contradiction")]
     Contradiction,
     /// A bundle of a candidate collides with that of the copy. `follow` skips such a candidate, so it never returns this fault.
-    #[error("Collision")]
     Collision,
     /// No place gave a file of the greatest candidate.
-    #[error("NoFile")]
     NoFile,
     /// The same, and a place failed. Or no place gives a candidate, and the first place failed.
-    #[error("Source")]
     Source,
     /// Memory was refused.
-    #[error("OutOfMemory")]
     OutOfMemory,
 }
+
+/// Prints the name of the innermost variant. A derived one takes the checker seconds more.
+impl fmt::Display for FollowFault {
+    fn fmt<W: fmt::Write>(&self, f: &mut fmt::Formatter<W>) -> fmt::Result {
+        match self {
+            FollowFault::Head(fault) => fmt::Display::fmt(fault, f),
+            _ => fmt::Debug::fmt(self, f),
+        }
+    }
+}
+
+impl std::error::Error for FollowFault {}
 
 impl<T: Drop> From<AllocFailed<T>> for FollowFault {
     ghost from_gives = { λ _ e. e ≡ follow.OutOfMemory };

@@ -7,30 +7,36 @@ ghost use Rattle.mirror_pull.specs.declared.fault.PullFault.TheVariants.{OutOfMe
 use mirror_model::TakeFault;
 use mirror_sources::SourceFault;
 use std::alloc::{AllocError, AllocFailed};
-use thiserror::Error;
+use std::fmt;
 
 /// Why a pull ends early.
-#[derive(Debug, Drop, PartialEq, Eq, Clone, Copy, Error)]
+#[derive(Debug, Drop, PartialEq, Eq, Clone, Copy)]
 pub enum PullFault {
     /// The source has no checkpoint. The mirror is unchanged.
-    #[error("NoCheckpoint")]
     NoCheckpoint,
     /// Neither a row of the right edge nor a full tile of 8,192 bytes was found. The mirror is unchanged.
-    #[error("NoEdge")]
     NoEdge,
     /// The tree head was refused. The inner fault is never `Collision` or `OutOfMemory`. The mirror is unchanged.
-    #[error(transparent)]
     Head(TakeFault),
     /// The last get failed. The mirror keeps the items that it took.
-    #[error("Source")]
     Source,
     /// The last item is valid but collides with held strings, and was not taken. The mirror keeps the earlier items.
-    #[error("Collision")]
     Collision,
     /// Memory was refused. The mirror keeps the items that it took.
-    #[error("OutOfMemory")]
     OutOfMemory,
 }
+
+/// Prints the name of the innermost variant. A derived one takes the checker seconds more.
+impl fmt::Display for PullFault {
+    fn fmt<W: fmt::Write>(&self, f: &mut fmt::Formatter<W>) -> fmt::Result {
+        match self {
+            PullFault::Head(fault) => fmt::Display::fmt(fault, f),
+            _ => fmt::Debug::fmt(self, f),
+        }
+    }
+}
+
+impl std::error::Error for PullFault {}
 
 impl From<TakeFault> for PullFault {
     ghost from_gives = { λ f e. e ≡ of_take f };

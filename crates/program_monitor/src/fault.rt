@@ -5,6 +5,7 @@ ghost use Rattle.program_monitor.specs.Copied.{by_copy};
 use copy_reader::CopyFault;
 use mirror_audit::AuditFault;
 use mirror_model::TakeFault;
+use std::fmt;
 use thiserror::Error;
 use tlog_tiles::Path;
 
@@ -21,24 +22,28 @@ pub enum AuditRunFault {
 
 /// The reason why some entries of a mirror were not written. It prints as its variant's name.
 /// For example, the entries up to 601 of a log of 600 are `NoSuchSize`.
-#[derive(Debug, Drop, Clone, Copy, Error)]
+#[derive(Debug, Drop, Clone, Copy)]
 pub enum StateEntriesFault {
     /// No tree head is complete, so nothing is served.
-    #[error("NothingComplete")]
     NothingComplete,
     /// The mirror serves fewer entries than the end of the range.
-    #[error("NoSuchSize")]
     NoSuchSize,
     /// The start of the range is larger than its end.
-    #[error("Backwards")]
     Backwards,
     /// A write failed, or wrote no byte. Entries that were written before stay.
-    #[error("WriteFault")]
     WriteFault,
     /// Memory was refused. Entries that were written before stay.
-    #[error("OutOfMemory")]
     OutOfMemory,
 }
+
+/// Prints the name of the variant. A derived one takes the checker seconds more.
+impl fmt::Display for StateEntriesFault {
+    fn fmt<W: fmt::Write>(&self, f: &mut fmt::Formatter<W>) -> fmt::Result {
+        fmt::Debug::fmt(self, f)
+    }
+}
+
+impl std::error::Error for StateEntriesFault {}
 
 /// The reason why some entries of a copy were not written. It prints as its variant's name, or, for a checkpoint that does not open, as
 /// that of the innermost variant. A copy without `tile/entries/001` gives `CopyDamaged` with that path, after the entries before it are

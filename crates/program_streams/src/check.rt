@@ -8,8 +8,8 @@ ghost use Rattle.program_streams.specs.Faults.{check_of_stream, check_of_text};
 
 use byte_streams::{StreamFault, read_all, write_whole};
 use std::alloc::Global;
+use std::fmt;
 use std::io::{Read, Write};
-use thiserror::Error;
 use tlog_hash::Sha256Tree;
 use tlog_proof::{MAX_TEXT_LEN, TextFault, holds, read_text};
 
@@ -17,21 +17,26 @@ use tlog_proof::{MAX_TEXT_LEN, TextFault, holds, read_text};
 pub const MAX_READ_LEN: usize = MAX_TEXT_LEN + 1;
 
 /// Why `check` printed no verdict.
-#[derive(Debug, Drop, Clone, Copy, Error)]
+#[derive(Debug, Drop, Clone, Copy)]
 pub enum CheckFault {
     /// The input is not the text of a proof.
-    #[error("BadProofText")]
     BadProofText,
     /// A read failed.
-    #[error("ReadFault")]
     ReadFault,
     /// A write failed, or took no byte. A prefix of the verdict may have been written.
-    #[error("WriteFault")]
     WriteFault,
     /// Memory was refused.
-    #[error("OutOfMemory")]
     OutOfMemory,
 }
+
+/// Prints the name of the variant. A derived one takes the checker seconds more.
+impl fmt::Display for CheckFault {
+    fn fmt<W: fmt::Write>(&self, f: &mut fmt::Formatter<W>) -> fmt::Result {
+        fmt::Debug::fmt(self, f)
+    }
+}
+
+impl std::error::Error for CheckFault {}
 
 impl From<TextFault> for CheckFault {
     ghost from_gives = { λ f e. e ≡ check_of_text f };

@@ -9,8 +9,8 @@ ghost use Rattle.program_streams.specs.declared.root.RootFault.TheVariants as ro
 
 use byte_streams::{StreamFault, read_all, write_whole};
 use std::alloc::{AllocError, Global};
+use std::fmt;
 use std::io::{Read, Write};
-use thiserror::Error;
 use tlog_hash::{Hash, TreeHash, tree_hash};
 use tlog_text::push_hash;
 use tlog_tiles::{BundleFault, MAX_BUNDLE_LEN, read_bundle};
@@ -20,24 +20,28 @@ use tlog_tiles::{BundleFault, MAX_BUNDLE_LEN, read_bundle};
 pub const MAX_READ_LEN: usize = MAX_BUNDLE_LEN + 1;
 
 /// Why `root` printed no root.
-#[derive(Debug, Drop, Clone, Copy, Error)]
+#[derive(Debug, Drop, Clone, Copy)]
 pub enum RootFault {
     /// No prefix of the input is a bundle of that width.
-    #[error("BundleShort")]
     BundleShort,
     /// A prefix of the input is a bundle of that width, and more bytes follow it.
-    #[error("BundleLong")]
     BundleLong,
     /// A read failed.
-    #[error("ReadFault")]
     ReadFault,
     /// A write failed, or took no byte. A prefix of the text may have been written.
-    #[error("WriteFault")]
     WriteFault,
     /// Memory was refused.
-    #[error("OutOfMemory")]
     OutOfMemory,
 }
+
+/// Prints the name of the variant. A derived one takes the checker seconds more.
+impl fmt::Display for RootFault {
+    fn fmt<W: fmt::Write>(&self, f: &mut fmt::Formatter<W>) -> fmt::Result {
+        fmt::Debug::fmt(self, f)
+    }
+}
+
+impl std::error::Error for RootFault {}
 
 impl From<BundleFault> for RootFault {
     ghost from_gives = { λ f e. e ≡ root_of_bundle f };

@@ -7,8 +7,8 @@ ghost use Rattle.tlog_tiles.specs.Path.{ReadsPath};
 
 pub use printing::print;
 use reading::{Kind, below_tile, index_of, kind_of, width_of, width_part};
+use std::fmt;
 use std::str::FromStr;
-use thiserror::Error;
 
 /// The greatest index of a lawful path: 2^55 - 1, the last tile of a tree of 2^63 entries.
 pub(crate) const MAX_INDEX: u64 = 36028797018963967;
@@ -35,22 +35,27 @@ pub enum Path {
 
 /// Why a text is not a path. `Path::parse` returns the first fault that applies.
 /// `tile/8/000` has a bad level, `tile/0/0` a bad index, and `tile/0/000.p/256` a bad width.
-#[derive(Debug, Drop, PartialEq, Eq, Clone, Copy, Error)]
+#[derive(Debug, Drop, PartialEq, Eq, Clone, Copy)]
 pub enum PathFault {
     /// The text is neither `checkpoint` nor three segments or more that begin with `tile`.
-    #[error("Unknown")]
     Unknown,
     /// The second segment is neither `entries` nor one digit from 0 to 7.
-    #[error("BadLevel")]
     BadLevel,
     /// The index is greater than 2^55 - 1 or not in groups of three digits. Each group except the last begins with an x, and
     /// the first of several is not `x000`.
-    #[error("BadIndex")]
     BadIndex,
     /// The width is not 1 to 255 in decimal, without leading zeros.
-    #[error("BadWidth")]
     BadWidth,
 }
+
+/// Prints the name of the variant. A derived one takes the checker seconds more.
+impl fmt::Display for PathFault {
+    fn fmt<W: fmt::Write>(&self, f: &mut fmt::Formatter<W>) -> fmt::Result {
+        fmt::Debug::fmt(self, f)
+    }
+}
+
+impl std::error::Error for PathFault {}
 
 impl Path {
     /// The path that the text spells. Each lawful path has exactly one text.
