@@ -3,8 +3,9 @@ ghost use Rattle.std.specs.Prelude.{map, option_map, string_bytes};
 ghost use Rattle.tlog_text.specs.Answers.{seen};
 ghost use Rattle.program_library.specs.Runs.{FindsKeys, NamesKeyFile, ReadsJoined, ReadsKeyLines};
 
-use program_env::why::{Why, of_named};
-use program_env::{Error, RunFault, RunFiles};
+use program_env::{Error, RunFault};
+use program_whys::RunFiles;
+use program_whys::why::{Why, of_named};
 use program_words::read_line;
 use signed_note::{KeyFileFault, KeyLine, Verifier, join_pins, read_keys};
 use std::alloc::Global;

@@ -1,7 +1,7 @@
 //! What a run needs of its environment.
 use crate::keys::Keys;
 use program_env::Error;
-use program_env::why::{FailedStreams, Why};
+use program_whys::why::{FailedStreams, Why};
 use program_words::Command;
 use signed_note::KeyLine;
 use std::alloc::Global;
