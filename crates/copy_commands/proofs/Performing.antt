@@ -1,5 +1,5 @@
 -- How a command over copies ends, given the answer of its call. The answers of the commands cite one lemma each.
-use Rattle.std.proofs.Common.{◌≡◌, ℕ, List, Option, Result, Ok, Err, IfErr, IfOk, Some, None, map}
+use Rattle.std.proofs.Common.{◌≡◌, ℕ, List, Result, Ok, Err, IfErr, IfOk, map}
 use Rattle.std.proofs.Common.{inl, refl, subst}
 use Rattle.std.specs.Borrow.{Bor}
 use Rattle.std.specs.Io.KnownBytes.{Keeps}
@@ -10,28 +10,18 @@ use Rattle.program_copies.specs.Comparisons.{ReportsCompared}
 use Rattle.copy_reader.specs.Copies.{LeavesPuts}
 use Rattle.program_copies.specs.Printed.{Prints, IsWriteFault as IsPrintFault}
 use Rattle.program_copies.specs.declared.fault.CopyAskFault.{CopyAskFault}
-use Rattle.tlog_tiles.specs.declared.paths.Path.{Path}
-use Rattle.mirror_places.specs.declared.places.Places.{Places}
-use Rattle.program_files.specs.Named.{NamedFile}
-use Rattle.program_follow.specs.Following.{IsNoteOf}
-use Rattle.program_follow.specs.declared.fault.FollowRunFault.{FollowRunFault}
-use Rattle.program_follow.specs.declared.fault.FollowRunFault.TheVariants as follow
-use Rattle.program_monitor.specs.declared.fault.AuditRunFault.{AuditRunFault}
-use Rattle.program_monitor.specs.declared.fault.AuditRunFault.TheVariants as audit
 use Rattle.program_monitor.specs.declared.fault.CopyEntriesFault.{CopyEntriesFault}
 use Rattle.program_monitor.specs.declared.fault.CopyEntriesFault.TheVariants as copied
 use Rattle.program_words.specs.declared.commands.Command.{Command as Order}
 use Rattle.program_words.specs.declared.commands.Command.TheVariants as order
 use Rattle.program_words.specs.declared.parts.CopyArgs.{CopyArgs}
 use Rattle.program_words.specs.declared.commands.compare.CopyCompare.{CopyCompare as CopyCompareWords}
-use Rattle.program_words.specs.declared.commands.follow.Follow.{Follow as FollowWords}
-use Rattle.program_words.specs.declared.commands.audit.Audit.{Audit as AuditWords}
 use Rattle.program_words.specs.declared.commands.entries.CopyEntries.{CopyEntries as CopyEntriesWords}
 use Rattle.program_words.specs.declared.commands.serve.CopyServe.{CopyServe as CopyServeWords}
 use Rattle.program_env.specs.declared.fault.RunFault.{RunFault}
-use Rattle.program_env.specs.declared.fault.RunFault.TheVariants.{Audit, Copy, CopyEntries, Follow}
+use Rattle.program_env.specs.declared.fault.RunFault.TheVariants.{Copy, CopyEntries}
 use Rattle.program_env.specs.declared.fault.RunFault.TheVariants.{OutOfMemory, PortFault, WriteFault}
-use Rattle.program_env.specs.Done.{AuditsSource, DoesAskCopy, Executes, FollowsOne, IsWriteFault, MayFollow, LeavesFiles, LeavesFolders}
+use Rattle.program_env.specs.Done.{DoesAskCopy, Executes, IsWriteFault, LeavesFiles, LeavesFolders}
 use Rattle.program_env.specs.Done.{ServesCopy, WritesCopyEntries}
 use Rattle.program_env.specs.Moment.{Moment}
 use Rattle.program_env.specs.Performing.{Performs}
@@ -75,53 +65,6 @@ prints_compared digest keys key_bytes old new c names lent files answer status_i
     prints_copy digest keys key_bytes old new (order.CopyCompare c) c.copy (Reports c.files.items) files tt
     (λ answer h. h) answer status_is quiet (subst (λ n. Prints (Reports n) old.output new.output answer) lent prints)
     leaves is same
-
--- -- follow
-
-module _ (digest : List ℕ → List ℕ) (keys : List Key) (key_bytes : List ℕ) (old new : Moment) (c : FollowWords) where
-  quiet_follow : (fault : FollowRunFault) → FollowsOne digest keys key_bytes old new c (Err fault) →
-      (¬ IsWriteFault (Follow fault)) → Keeps old.output new.output
-  quiet_follow (follow.File fault) h other = h.0.text
-  quiet_follow follow.OutOfMemory h other = h.0.text
-  quiet_follow (follow.Follow fault) h other = h.0.text
-  quiet_follow follow.WriteFault h other = absurd (other tt)
-  quiet_follow (follow.Evidence fault) h other = absurd (other tt)
-
-  -- a copy was followed
-  pub follows : (answer : Result ℕ FollowRunFault) → IfOk answer IsStatus → FollowsOne digest keys key_bytes old new c answer →
-      (is : Result ℕ RunFault) → is ≡ result_map_both (λ status. status) (λ fault. Follow fault) answer →
-      Performs digest keys key_bytes old new (order.Follow c) is
-  follows (Ok status) status_is h is same =
-      rw same (performs_done digest keys key_bytes old new (order.Follow c) tt tt status status_is h)
-  follows (Err fault) status_is h is same =
-      rw same (performs digest keys key_bytes old new (order.Follow c) tt tt (Err (Follow fault)) tt
-      (quiet_follow fault h) h)
-
--- a note that a place or the file may give may be followed
-pub may_follow : {S : Type 0} (may : S → Path → Option (List ℕ) → Type 0) (recorded : Option (List NamedFile))
-    (name : Option (List ℕ)) (places : Places S) (note : List ℕ) → IsNoteOf may recorded name places note →
-    MayFollow recorded name note
-may_follow may recorded None places note h = tt
-may_follow may recorded (Some name) places note h = h
-
--- -- audit
-
-module _ (digest : List ℕ → List ℕ) (keys : List Key) (key_bytes : List ℕ) (old new : Moment) (c : AuditWords)
-    (files : new.files ≡ old.files) (folders : new.puts ≡ old.puts) where
-  quiet_audit : (fault : AuditRunFault) → AuditsSource digest keys key_bytes old new c (Err fault) →
-      (¬ IsWriteFault (Audit fault)) → Keeps old.output new.output
-  quiet_audit (audit.Audit fault) h other = h.2
-  quiet_audit audit.WriteFault h other = absurd (other tt)
-
-  -- a source was audited
-  pub audits : (answer : Result ℕ AuditRunFault) → AuditsSource digest keys key_bytes old new c answer →
-      (is : Result ℕ RunFault) → is ≡ result_map_both (λ status. status) (λ fault. Audit fault) answer →
-      Performs digest keys key_bytes old new (order.Audit c) is
-  audits (Ok status) h is same =
-      rw same (performs_done digest keys key_bytes old new (order.Audit c) files folders status (inl h.0) h)
-  audits (Err fault) h is same =
-      rw same (performs digest keys key_bytes old new (order.Audit c) files folders (Err (Audit fault)) tt
-      (quiet_audit fault h) h)
 
 -- -- entries
 

@@ -4,10 +4,11 @@ ghost use Rattle.std.specs.Result.{result_map_both};
 
 use mirror_model::TakeFault;
 use program_copies::{CopyAskFault, CopyFault};
-use program_env::served::{copy_size, of_heads, of_note, of_proof};
-use program_env::why::{Why, of_folder};
-use program_env::{Env, Error, RunFault, RunFiles, RunFolders};
+use program_env::{Env, Error, RunFault};
 use program_reports::{AskFault, ReportFault};
+use program_whys::served::{copy_size, of_heads, of_note, of_proof};
+use program_whys::why::{Why, of_folder};
+use program_whys::{RunFiles, RunFolders};
 use program_words::CopyArgs;
 use std::alloc::Global;
 use tlog_proof::Ask;

@@ -6,7 +6,8 @@ ghost use Rattle.program_env.specs.Performing.{Performs};
 
 use crate::asking::asked;
 use program_copies::compare_copy;
-use program_env::{Env, Error, RunFiles, RunFolders};
+use program_env::{Env, Error};
+use program_whys::{RunFiles, RunFolders};
 use program_words::Command;
 use program_words::commands::compare::CopyCompare;
 use signed_note::Verifier;

@@ -6,11 +6,12 @@ ghost use Rattle.program_env.specs.Envs.{IsSameEnv, moment};
 ghost use Rattle.program_env.specs.Performing.{Performs};
 
 use crate::asking::{of_file, of_head};
-use program_env::served::{copy_size, of_backwards, of_size};
-use program_env::why::{Why, of_folder, of_origin};
-use program_env::{Env, Error, RunFault, RunFiles, RunFolders};
+use program_env::{Env, Error, RunFault};
 use program_heads::check_origin;
 use program_monitor::{CopyEntriesFault, EntryRange, entries_of_copy};
+use program_whys::served::{copy_size, of_backwards, of_size};
+use program_whys::why::{Why, of_folder, of_origin};
+use program_whys::{RunFiles, RunFolders};
 use program_words::Command;
 use program_words::commands::entries::CopyEntries;
 use signed_note::Verifier;

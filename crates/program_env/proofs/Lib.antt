@@ -1,3 +1,1 @@
-pub mod Written
 pub mod Performing
-mod Whys

@@ -15,7 +15,6 @@ use Rattle.program_env.specs.Done.{Executes, IsWriteFault, LeavesFiles, LeavesFo
 use Rattle.program_env.specs.Moment.{Moment}
 use Rattle.program_env.specs.Performing.{Performs}
 use Rattle.program_env.specs.Works.{IsStatus, PrintsPort}
-use Rattle.program_env.proofs.Written.{keeps_itself}
 
 -- the output is unchanged for every fault except the write fault, also under its name as a `RunFault`
 quiet_under : {E : Type 0} (name : E → RunFault) (write fault : E) (old new : Option (List ℕ)) →

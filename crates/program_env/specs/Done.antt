@@ -27,7 +27,6 @@ use Rattle.program_files.specs.Named.{HasContents, NamedFile}
 use Rattle.program_reports.specs.declared.question.Question.{Question}
 use Rattle.program_reports.specs.declared.question.Question.TheVariants as question
 use Rattle.program_reports.specs.declared.reports.Report.{Report as Printout}
-use Rattle.tlog_tiles.specs.declared.paths.Path.{Path}
 use Rattle.program_commands.specs.Answers.{done, failed}
 use Rattle.program_commands.specs.Exported.{ExportsFile}
 use Rattle.program_commands.specs.Updated.{UpdatesFile}

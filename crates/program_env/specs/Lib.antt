@@ -6,5 +6,4 @@ pub mod Builds
 pub mod Named
 pub mod Done
 pub mod Performing
-pub mod Whys
 pub mod FaultLines

@@ -1,7 +1,7 @@
 -- The meaning of each answer of a command over a state file, for that file and for standard output. Only contracts of private
 -- functions cite `ComparesView` and `connection_fault`.
 use Rattle.std.specs.Prelude.{◌≡◌, ◌≢◌, ◌⊎◌, ℕ, List, [], ◌++◌, Option, Some, None, Result, Ok, Err}
-use Rattle.std.specs.Prelude.{codes, ⊤}
+use Rattle.std.specs.Prelude.{codes}
 use Rattle.std.specs.Fmt.{decimal}
 use Rattle.std.specs.Io.KnownBytes.{Appends, Keeps}
 use Rattle.byte_streams.specs.Streams.{AppendsPrefix}
@@ -14,7 +14,6 @@ use Rattle.program_reports.specs.Comparisons.{AnswersCompared}
 use Rattle.program_reports.specs.Questions.{AnswersQuestion}
 use Rattle.program_reports.specs.declared.question.Question.{Question}
 use Rattle.program_reports.specs.declared.fault.AskFault.{AskFault}
-use Rattle.program_reports.specs.declared.fault.AskFault.TheVariants as ask
 use Rattle.program_heads.specs.HeadFiles.{ReadsHeads}
 use Rattle.program_commands.specs.States.{OpensFile}
 use Rattle.program_heads.specs.declared.fault.HeadFilesFault.{HeadFilesFault}

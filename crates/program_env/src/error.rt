@@ -1,10 +1,10 @@
 //! Why a command was not done, and what the reason is about.
 ghost use Rattle.std.specs.Prelude.{◌≡◌};
 
-use crate::failing::RunFiles;
 use crate::fault::RunFault;
-use crate::why::{Why, of_state};
 use program_commands::StateFault;
+use program_whys::RunFiles;
+use program_whys::why::{Why, of_state};
 use std::alloc::Global;
 use std::marker::Model;
 

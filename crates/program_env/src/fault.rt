@@ -1,5 +1,6 @@
 //! Why a command was not done.
 use mirror_pull::PullFault;
+use note_keys::KeyFileFault;
 use program_commands::{
     ExportFileFault, MergeFilesFault, NotesFault, StateFault, TakeFilesFault, UpdateFileFault,
 };
@@ -11,7 +12,6 @@ use program_monitor::{AuditRunFault, CopyEntriesFault, StateEntriesFault};
 use program_reports::AskFault;
 use program_streams::{CheckFault, RootFault};
 use program_words::CommandFault;
-use note_keys::KeyFileFault;
 use std::fmt;
 use thiserror::Error;
 use tlog_build::{BuildFault, EntriesFault};

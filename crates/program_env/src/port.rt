@@ -6,10 +6,10 @@ ghost use Rattle.program_env.specs.Works.{PrintsPort, connection_fault, listenin
 
 use crate::error::Error;
 use crate::fault::RunFault;
-use crate::front::write_front;
-use crate::why::Why;
 use byte_streams::write_whole;
 use mirror_server::HttpFault;
+use program_whys::why::Why;
+use program_whys::write_front;
 use std::alloc::{AllocError, Global};
 use std::io::{self, Write};
 

@@ -9,6 +9,7 @@ use Rattle.node_store.specs.Strings.{Has}
 use Rattle.mirror_model.specs.View.{View}
 use Rattle.mirror_model.proofs.StringSets.{decide_has}
 use Rattle.tlog_mirror.specs.Restored.{IsOpenNote}
+use Rattle.mirror_pull.proofs.Gains.{grows_same}
 use Rattle.mirror_pull.specs.Taking.{Grows, PullsTo}
 use Rattle.mirror_pull.specs.declared.fault.PullFault.{PullFault}
 use Rattle.mirror_pull.specs.declared.fault.PullFault.TheVariants as pull
@@ -16,7 +17,6 @@ use Rattle.mirror_pull.specs.declared.pulling.Pulled.{Pulled}
 use Rattle.program_files.specs.Named.{NamedFile}
 use Rattle.program_commands.specs.States.{BeginsWith}
 use Rattle.program_library.specs.RunLaws.{PulledStatesAreLoaded}
-use Rattle.state_commands.proofs.Keeping.{grows_by_nothing}
 
 module _ (digest : List ℕ → List ℕ) (origin : List ℕ) (keys : List Key) where
   -- the view has this origin, and its notes open under the keys
@@ -48,15 +48,12 @@ module _ (digest : List ℕ → List ℕ) (origin : List ℕ) (keys : List Key) 
     ];
   }
 
-  same_grown : (start v : View) → v ≡ start → Grows keys start v
-  same_grown start v is = subst (Grows keys start) (sym is) (grows_by_nothing keys start)
-
   pulls_grow : (start v : View) (answer : Result Pulled PullFault) → PullsTo digest keys start v answer →
       Grows keys start v
   pulls_grow start v (Ok p) h = h.0
-  pulls_grow start v (Err pull.NoCheckpoint) h = same_grown start v h
-  pulls_grow start v (Err pull.NoEdge) h = same_grown start v h
-  pulls_grow start v (Err (pull.Head f)) h = same_grown start v h.1
+  pulls_grow start v (Err pull.NoCheckpoint) h = grows_same keys start v h
+  pulls_grow start v (Err pull.NoEdge) h = grows_same keys start v h
+  pulls_grow start v (Err (pull.Head f)) h = grows_same keys start v h.1
   pulls_grow start v (Err pull.Source) h = h
   pulls_grow start v (Err pull.Collision) h = h
   pulls_grow start v (Err pull.OutOfMemory) h = h

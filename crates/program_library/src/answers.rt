@@ -2,8 +2,8 @@
 ghost use Rattle.std.specs.Prelude.{◌≡◌};
 
 use crate::run_env::RunEnv;
-use program_env::why::{FailedStreams, Why};
 use program_env::{Error, RunFault};
+use program_whys::why::{FailedStreams, Why};
 use program_words::{BadWord, CommandFault};
 use std::alloc::Global;
 

@@ -1,15 +1,14 @@
 //! The list of the commands.
 use crate::keys::{Keys, key_lines};
 use crate::run_env::{RunEnv, WatchedEnv};
-use copy_commands::{audit, follow};
 use note_keys::KeyLine;
-use program_env::why::{FailedStreams, Why, print_why};
-use program_env::{Env, Error, Failing, RunFiles, RunFolders};
+use place_commands::{audit, follow};
+use program_env::{Env, Error};
+use program_whys::why::{FailedStreams, Why, print_why};
+use program_whys::{Failing, RunFiles, RunFolders};
 use program_words::Command;
-use state_commands::{
-    build, check, compare, entries, export, forks, merge, missing, notes, prove, pull, root, serve,
-    status, take,
-};
+use report_commands::{check, compare, entries, forks, missing, prove, root, serve, status};
+use state_commands::{build, export, merge, notes, pull, take};
 use std::alloc::Global;
 use std::fs::Files;
 use std::io::{Read, Write};

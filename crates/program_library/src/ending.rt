@@ -4,7 +4,8 @@ ghost use Rattle.byte_streams.specs.Streams.{AppendsPrefix};
 ghost use Rattle.program_library.specs.Endings.{PrintsEnding, IsFaultLine, PrintsRun, message_bytes};
 
 use byte_streams::write_whole;
-use program_env::{RunFault, write_front};
+use program_env::RunFault;
+use program_whys::write_front;
 use program_words::CommandFault;
 use std::alloc::{AllocError, Global};
 use std::io::Write;

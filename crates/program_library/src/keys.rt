@@ -4,9 +4,10 @@ ghost use Rattle.tlog_text.specs.Answers.{seen};
 ghost use Rattle.program_library.specs.Runs.{FindsKeys, NamesKeyFile, ReadsJoined, ReadsKeyLines};
 
 use note_keys::{KeyFileFault, KeyLine, join_pins, read_keys};
-use program_env::why::{Why, of_named};
-use program_env::{Error, RunFault, RunFiles};
+use program_env::{Error, RunFault};
 use program_parser::read_line;
+use program_whys::RunFiles;
+use program_whys::why::{Why, of_named};
 use signed_note::Verifier;
 use std::alloc::Global;
 

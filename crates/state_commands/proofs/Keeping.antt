@@ -4,7 +4,7 @@ use Rattle.std.specs.Prelude.{◌≢◌}
 use Rattle.signed_note.specs.Keys.{Key}
 use Rattle.mirror_model.specs.View.{View, IsSubview}
 use Rattle.mirror_model.proofs.Views.{within_itself}
-use Rattle.mirror_pull.specs.Taking.{Grows, PullsTo}
+use Rattle.mirror_pull.specs.Taking.{PullsTo}
 use Rattle.mirror_pull.specs.declared.fault.PullFault.{PullFault}
 use Rattle.mirror_pull.specs.declared.fault.PullFault.TheVariants as pull
 use Rattle.mirror_pull.specs.declared.pulling.Pulled.{Pulled}
@@ -13,15 +13,6 @@ use Rattle.program_files.specs.declared.fault.NamedFault.{NamedFault}
 use Rattle.program_commands.specs.Saved.{IsSaved}
 use Rattle.program_commands.specs.States.{SavesFile}
 use Rattle.program_env.specs.Pulls.{IsHeld, IsKept, LeavesEarly, SavesPulled}
-
--- an unchanged mirror has grown by nothing
-pub grows_by_nothing : (keys : List Key) (v : View) → Grows keys v v
-grows_by_nothing keys v =
-    record {
-      grows = within_itself v;
-      one_note = λ note other has also new newer. absurd (new has);
-      good = λ note has new. absurd (new has);
-    }
 
 -- a mirror loses nothing in a pull that ends early
 pub pulled_within : (digest : List ℕ → List ℕ) (keys : List Key) (old new : View) (fault : PullFault) →

@@ -1,6 +1,2 @@
 mod Built
-mod Compares
-mod Asking
-pub mod Keeping
-mod Answering
-mod Writing
+mod Keeping

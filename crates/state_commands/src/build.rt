@@ -7,12 +7,13 @@ ghost use Rattle.program_env.specs.Performing.{Performs};
 
 use mirror_export::ExportFault;
 use mirror_progress::Task;
-use program_env::why::{Why, of_folder, of_origin};
-use program_env::{Env, Error, RunFault, RunFiles, RunFolders, report_end, report_puts};
+use note_keys::read_keys;
+use program_env::{Env, Error, RunFault, report_end, report_puts};
 use program_heads::check_origin;
+use program_whys::why::{Why, of_folder, of_origin};
+use program_whys::{RunFiles, RunFolders};
 use program_words::Command;
 use program_words::commands::build::Build;
-use note_keys::read_keys;
 use signed_note::Verifier;
 use std::alloc::Global;
 use std::io::{Read, Write};

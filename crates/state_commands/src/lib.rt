@@ -1,25 +1,14 @@
-//! The commands of `tlogmirror` that use states, other files, or only standard input: one module for each command.
+//! The commands of `tlogmirror` that change a state, or write files from a state or of a new log: one module for each command.
 //!
 //! ```text
-//! state_commands::status::run(&mut env, &key_bytes, &keys, &words)? // 0, or 3 if nothing is served
+//! state_commands::pull::run(&mut env, &key_bytes, &keys, &words)? // 0, or 3 if the pull is partial
 //! ```
 #![tactic(auto)]
 
-mod ask;
 pub mod build;
-pub mod check;
-mod clients;
-pub mod compare;
-pub mod entries;
 pub mod export;
-pub mod forks;
 pub mod merge;
-pub mod missing;
 pub mod notes;
-pub mod prove;
 pub mod pull;
 mod pulling;
-pub mod root;
-pub mod serve;
-pub mod status;
 pub mod take;

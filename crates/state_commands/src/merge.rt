@@ -5,8 +5,9 @@ ghost use Rattle.program_env.specs.Envs.{IsSameEnv, moment};
 ghost use Rattle.program_env.specs.Performing.{Performs};
 
 use program_commands::{MergeFilesFault, run_merge};
-use program_env::why::{Why, of_named, of_state};
-use program_env::{Env, Error, RunFault, RunFiles, RunFolders};
+use program_env::{Env, Error, RunFault};
+use program_whys::why::{Why, of_named, of_state};
+use program_whys::{RunFiles, RunFolders};
 use program_words::Command;
 use program_words::commands::merge::Merge;
 use signed_note::Verifier;

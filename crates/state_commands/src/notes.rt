@@ -5,9 +5,10 @@ ghost use Rattle.program_env.specs.Envs.{IsSameEnv, moment};
 ghost use Rattle.program_env.specs.Performing.{Performs};
 
 use program_commands::{NotesFault, run_notes};
-use program_env::why::{Why, of_named, of_state};
-use program_env::{Env, Error, RunFault, RunFiles, RunFolders};
+use program_env::{Env, Error, RunFault};
 use program_files::NamedFault;
+use program_whys::why::{Why, of_named, of_state};
+use program_whys::{RunFiles, RunFolders};
 use program_words::Command;
 use program_words::commands::notes::Notes;
 use signed_note::Verifier;

@@ -7,9 +7,10 @@ ghost use Rattle.program_env.specs.Envs.{IsSameEnv, moment};
 ghost use Rattle.program_env.specs.Performing.{Performs};
 
 use program_commands::{ItemFiles, TakeFilesFault, run_take};
-use program_env::served::{of_edge_count, of_edge_length, of_note};
-use program_env::why::{Why, of_named, of_state};
-use program_env::{Env, Error, RunFault, RunFiles, RunFolders};
+use program_env::{Env, Error, RunFault};
+use program_whys::served::{of_edge_count, of_edge_length, of_note};
+use program_whys::why::{Why, of_named, of_state};
+use program_whys::{RunFiles, RunFolders};
 use program_words::Command;
 use program_words::commands::take::{Kind, Take};
 use signed_note::Verifier;

@@ -1,0 +1,180 @@
+//! The command `audit`: it reads a complete log at a place, file by file.
+ghost use Rattle.std.specs.Prelude.{◌≡◌, map};
+ghost use Rattle.std.specs.Result.{result_map_both};
+ghost use Rattle.sha2.specs.Sha256.{sha256};
+ghost use Rattle.program_env.specs.Envs.{IsSameEnv, moment};
+ghost use Rattle.program_env.specs.Performing.{Performs};
+ghost use Rattle.program_monitor.specs.Audits.{RunsAudit};
+
+use crate::any::{AnySource, FailingPlace};
+use crate::places::source_of;
+use mirror_audit::AuditFault;
+use mirror_progress::{CountingSource, Progress, StandardError, Task};
+use mirror_sources::Source;
+use program_env::{Env, Error, RunFault};
+use program_heads::check_origin;
+use program_monitor::{AuditRunFault, run_audit};
+use program_whys::places::{of_edge, of_file, of_refused, of_source};
+use program_whys::why::{Why, of_origin};
+use program_whys::{Failing, RunFiles, RunFolders, WatchedSource};
+use program_words::commands::audit::Audit;
+use program_words::{Command, Place};
+use signed_note::Verifier;
+use std::alloc::Global;
+use std::fs::Files;
+use std::io::{Read, Write};
+use std::net::{Net, TcpStream};
+use std::rt::Clock;
+use tlog_hash::Sha256Tree;
+use tlog_tiles::Path;
+
+/// Reads a complete log at the place, file by file, and prints its size and root if every file has its true bytes.
+///
+/// # Errors
+///
+/// `BadOrigin` before anything is read; then those of `run_audit`.
+pub fn run<R, F: RunFiles, D: RunFolders, I: Read, O: Write, E: Write>(
+    env: &mut Env<'_, '_, '_, '_, R, F, D, I, O, E>,
+    key_bytes: &[u8],
+    keys: &[Box<dyn Verifier>],
+    audit: &Audit<'_>,
+) -> Result<u8, Error>
+where
+    R: Files + Clock + Eprint + Net<Stream = TcpStream>,
+    ensures same { IsSameEnv env.old env.new }
+    ensures does { Performs sha256 (map (λ k. key k) keys.now) key_bytes.now
+        (moment F.puts D.held D.puts I.remaining O.contents env.old)
+        (moment F.puts D.held D.puts I.remaining O.contents env.new)
+        (Command.Audit audit.now) result }
+{
+    match check_origin(env.alloc, audit.log.origin) {
+        Ok(()) => {}
+        Err(fault) => {
+            let why = of_origin(env.alloc, fault);
+            return Err(Error::new(RunFault::Origin(fault), why));
+        }
+    }
+    match source_of(env.rt, env.alloc, &audit.place, audit.ahead as usize) {
+        Ok(source) => audit_any(env, key_bytes, keys, audit, source),
+        Err(_) => Err(Error::no_memory()),
+    }
+}
+
+// Audits this source.
+fn audit_any<R, F: RunFiles, D: RunFolders, I: Read, O: Write, E: Write, S: FailingPlace + Drop>(
+    env: &mut Env<'_, '_, '_, '_, R, F, D, I, O, E>,
+    key_bytes: &[u8],
+    keys: &[Box<dyn Verifier>],
+    audit: &Audit<'_>,
+    source: S,
+) -> Result<u8, Error>
+where
+    R: Clock + Eprint,
+    ensures same { IsSameEnv env.old env.new }
+    ensures does { Performs sha256 (map (λ k. key k) keys.now) key_bytes.now
+        (moment F.puts D.held D.puts I.remaining O.contents env.old)
+        (moment F.puts D.held D.puts I.remaining O.contents env.new)
+        (Command.Audit audit.now) result }
+{
+    let source = WatchedSource::new(env.alloc, AnySource::new(source));
+    let (answer, source) = audit_source(env.rt, env.alloc, audit, keys, source, env.output);
+    audited(env.alloc, audit, source, answer)
+}
+
+// The answer of the command from the answer of the audit.
+fn audited<S: Source + Failing + Drop>(
+    alloc: Global,
+    words: &Audit<'_>,
+    source: WatchedSource<S>,
+    answer: Result<u8, AuditRunFault>,
+) -> Result<u8, Error>
+    ensures { result ≡ result_map_both (λ status. status) (λ fault. RunFault.Audit fault) answer }
+{
+    match answer {
+        Ok(status) => Ok(status),
+        Err(fault) => {
+            let why = why_of(alloc, &words.place, &source, fault);
+            Err(Error::new(RunFault::Audit(fault), why))
+        }
+    }
+}
+
+// Audits the source, and reports the progress if the words ask for it. Returns the source, too.
+fn audit_source<S: Source + Drop, R: Clock + Eprint, W: Write>(
+    rt: &R,
+    alloc: Global,
+    words: &Audit<'_>,
+    keys: &[Box<dyn Verifier>],
+    source: S,
+    output: &mut W,
+) -> (Result<u8, AuditRunFault>, S)
+    ensures { RunsAudit sha256 words.now.log.origin.now (map (λ k. key k) keys.now)
+        (S.may_answer source) (S.may_answer result.1) (S.asked source) (S.asked result.1)
+        (W.contents output.old) (W.contents output.new) result.0 }
+{
+    if words.progress {
+        audit_counted(rt, alloc, words.log.origin, keys, source, output)
+    } else {
+        audit_silent(alloc, words.log.origin, keys, source, output)
+    }
+}
+
+// Audits the source, without progress reports. Returns the source, too.
+fn audit_silent<S: Source + Drop, W: Write>(
+    alloc: Global,
+    origin: &str,
+    keys: &[Box<dyn Verifier>],
+    mut source: S,
+    output: &mut W,
+) -> (Result<u8, AuditRunFault>, S)
+    ensures { RunsAudit sha256 origin.now (map (λ k. key k) keys.now) (S.may_answer source)
+        (S.may_answer result.1) (S.asked source) (S.asked result.1) (W.contents output.old)
+        (W.contents output.new) result.0 }
+{
+    let answer = run_audit::<Sha256Tree, S, W>(alloc, origin, keys, &mut source, output);
+    (answer, source)
+}
+
+// Audits the source, with progress reports. Returns the source, too.
+fn audit_counted<S: Source + Drop, R: Clock + Eprint, W: Write>(
+    rt: &R,
+    alloc: Global,
+    origin: &str,
+    keys: &[Box<dyn Verifier>],
+    source: S,
+    output: &mut W,
+) -> (Result<u8, AuditRunFault>, S)
+    ensures { RunsAudit sha256 origin.now (map (λ k. key k) keys.now) (S.may_answer source)
+        (S.may_answer result.1) (S.asked source) (S.asked result.1) (W.contents output.old)
+        (W.contents output.new) result.0 }
+{
+    let mut progress = Progress::new(alloc, rt, StandardError::new(rt));
+    progress.begin(Task::Audit);
+    let mut source = CountingSource::new(source, progress);
+    let answer = run_audit::<Sha256Tree, _, W>(alloc, origin, keys, &mut source, output);
+    if answer.is_ok() {
+        source.progress.report_done();
+    }
+    (answer, source.into_source())
+}
+
+// The thing that the fault is about: a file of the place.
+fn why_of<S: Failing + Drop>(
+    alloc: Global,
+    place: &Place<'_>,
+    source: &WatchedSource<S>,
+    fault: AuditRunFault,
+) -> Option<Why> {
+    match fault {
+        AuditRunFault::WriteFault => Some(Why::Output),
+        AuditRunFault::Audit(fault) => match fault {
+            AuditFault::NoFile(path) => of_file(alloc, place, &path, "not found"),
+            AuditFault::FalseFile(path) => of_file(alloc, place, &path, "false"),
+            AuditFault::NoCheckpoint => of_file(alloc, place, &Path::Checkpoint, "not found"),
+            AuditFault::Head(fault) => of_refused(alloc, place, source, fault),
+            AuditFault::NoEdge => of_edge(alloc, place, source),
+            AuditFault::Source => of_source(alloc, place, source),
+            AuditFault::OutOfMemory => None,
+        },
+    }
+}

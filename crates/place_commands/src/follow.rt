@@ -1,0 +1,188 @@
+//! The command `follow`: it brings a copy to the newest checkpoint of its places.
+ghost use Rattle.std.specs.Prelude.{◌≡◌, map};
+ghost use Rattle.std.specs.Result.{result_map_both};
+ghost use Rattle.sha2.specs.Sha256.{sha256};
+ghost use Rattle.program_env.specs.Envs.{IsSameEnv, moment};
+ghost use Rattle.program_env.specs.Performing.{Performs};
+
+use crate::places::places_of;
+use mirror_follow::FollowFault;
+use mirror_places::Places;
+use mirror_sources::Source;
+use program_env::{Env, Error, RunFault};
+use program_follow::{FollowRunFault, Following, WatchedPlace, places_why, run_follow};
+use program_heads::check_origin;
+use program_whys::served::of_note;
+use program_whys::why::{Why, of_folder, of_named, of_origin};
+use program_whys::{RunFiles, RunFolders, write_front};
+use program_words::Command;
+use program_words::commands::follow::Follow;
+use signed_note::Verifier;
+use std::alloc::Global;
+use std::fs::Files;
+use std::io::{Read, Write};
+use std::net::{Net, TcpStream};
+use std::rt::Clock;
+use tlog_hash::Sha256Tree;
+use tlog_tiles::Path;
+
+/// Brings the copy in the folder to the newest checkpoint of the places, and prints the result. The status is 3 if there is a
+/// fork, or a checkpoint that could not be reached. With `--why`, a line on standard error names the first fault of each place.
+///
+/// # Errors
+///
+/// `BadOrigin` before anything is read; then those of `run_follow`.
+pub fn run<R, F: RunFiles, D: RunFolders, I: Read, O: Write, E: Write>(
+    env: &mut Env<'_, '_, '_, '_, R, F, D, I, O, E>,
+    key_bytes: &[u8],
+    keys: &[Box<dyn Verifier>],
+    follow: &Follow<'_>,
+) -> Result<u8, Error>
+where
+    R: Files + Clock + Net<Stream = TcpStream>,
+    ensures same { IsSameEnv env.old env.new }
+    ensures does { Performs sha256 (map (λ k. key k) keys.now) key_bytes.now
+        (moment F.puts D.held D.puts I.remaining O.contents env.old)
+        (moment F.puts D.held D.puts I.remaining O.contents env.new)
+        (Command.Follow follow.now) result }
+{
+    match check_origin(env.alloc, follow.copy.log.origin) {
+        Ok(()) => {}
+        Err(fault) => {
+            let why = of_origin(env.alloc, fault);
+            return Err(Error::new(RunFault::Origin(fault), why));
+        }
+    }
+    match places_of(env.rt, env.alloc, &follow.places, follow.ahead as usize) {
+        Ok(places) => follow_among(env, key_bytes, keys, follow, places),
+        Err(_) => Err(Error::no_memory()),
+    }
+}
+
+// Follows these places.
+fn follow_among<R, F: RunFiles, D: RunFolders, I: Read, O: Write, E: Write, S: WatchedPlace + Drop>(
+    env: &mut Env<'_, '_, '_, '_, R, F, D, I, O, E>,
+    key_bytes: &[u8],
+    keys: &[Box<dyn Verifier>],
+    follow: &Follow<'_>,
+    mut places: Places<S>,
+) -> Result<u8, Error>
+    ensures same { IsSameEnv env.old env.new }
+    ensures does { Performs sha256 (map (λ k. key k) keys.now) key_bytes.now
+        (moment F.puts D.held D.puts I.remaining O.contents env.old)
+        (moment F.puts D.held D.puts I.remaining O.contents env.new)
+        (Command.Follow follow.now) result }
+{
+    let following = Following {
+        origin: follow.copy.log.origin,
+        folder: follow.copy.folder,
+        checkpoint: follow.checkpoint,
+        forks: follow.forks,
+        progress: follow.progress,
+    };
+    let answer = run_follow::<Sha256Tree, F, D, S, O>(
+        &mut env.files,
+        &mut env.folders,
+        env.alloc,
+        keys,
+        &following,
+        &mut places,
+        env.output,
+    );
+    write_places(
+        follow.why,
+        env.alloc,
+        follow.copy.log.origin,
+        keys,
+        &places,
+        env.errors,
+    );
+    let lacked = lacked_of(places);
+    followed(env, follow, lacked, answer)
+}
+
+// The path of the file that no place gave, if there is one. Drops the places.
+fn lacked_of<S: Source + Drop>(places: Places<S>) -> Option<Path> {
+    let lacked = places.lacked();
+    drop(places);
+    lacked
+}
+
+// The answer of the command from the answer of the follower.
+fn followed<R, F: RunFiles, D: RunFolders, I, O, E>(
+    env: &Env<'_, '_, '_, '_, R, F, D, I, O, E>,
+    follow: &Follow<'_>,
+    lacked: Option<Path>,
+    answer: Result<u8, FollowRunFault>,
+) -> Result<u8, Error>
+    ensures { result ≡ result_map_both (λ status. status) (λ fault. RunFault.Follow fault) answer }
+{
+    match answer {
+        Ok(status) => Ok(status),
+        Err(fault) => {
+            let why = why_of(env, follow, lacked, fault);
+            Err(Error::new(RunFault::Follow(fault), why))
+        }
+    }
+}
+
+// The thing that the fault is about: a named file, the given note, a file of the folder, or the folder.
+fn why_of<R, F: RunFiles, D: RunFolders, I, O, E>(
+    env: &Env<'_, '_, '_, '_, R, F, D, I, O, E>,
+    follow: &Follow<'_>,
+    lacked: Option<Path>,
+    fault: FollowRunFault,
+) -> Option<Why> {
+    match fault {
+        FollowRunFault::File(fault) | FollowRunFault::Evidence(fault) => {
+            of_named(env.alloc, &env.files, fault)
+        }
+        FollowRunFault::WriteFault => Some(Why::Output),
+        FollowRunFault::OutOfMemory => None,
+        FollowRunFault::Follow(FollowFault::Head(fault)) => {
+            of_note(env.alloc, &env.files, follow.checkpoint?, fault)
+        }
+        FollowRunFault::Follow(fault) => why_of_copy(env, follow.copy.folder, lacked, fault),
+    }
+}
+
+// The thing that a fault of the copy or of its places is about.
+fn why_of_copy<R, F: RunFiles, D: RunFolders, I, O, E>(
+    env: &Env<'_, '_, '_, '_, R, F, D, I, O, E>,
+    folder: &str,
+    lacked: Option<Path>,
+    fault: FollowFault,
+) -> Option<Why> {
+    match fault {
+        FollowFault::CopyDamaged | FollowFault::CopyInUse => Why::of_thing(env.alloc, folder),
+        FollowFault::ShelfFault => of_folder(env.alloc, &env.folders, folder),
+        FollowFault::Contradiction => {
+            Why::of_reason(
+                env.alloc,
+                "checkpoint",
+                "no entries, and not the empty list's root",
+            )
+        }
+        FollowFault::NoFile | FollowFault::Source => {
+            let path = lacked?;
+            Why::of_made(env.alloc, format!(in env.alloc; "{path}"))
+        }
+        _ => None,
+    }
+}
+
+// Writes the fault of each place if the words ask for it, or a prefix of that text if the stream fails.
+fn write_places<S: WatchedPlace + Drop, E: Write>(
+    asked: bool,
+    alloc: Global,
+    origin: &str,
+    keys: &[Box<dyn Verifier>],
+    places: &Places<S>,
+    errors: &mut E,
+) {
+    if asked {
+        if let Ok(text) = places_why(alloc, origin, keys, places) {
+            write_front(errors, text.as_bytes());
+        }
+    }
+}

@@ -1,0 +1,66 @@
+//! The places that a command names, as sources.
+ghost use Rattle.std.specs.Prelude.{◌≡◌, IfOk};
+
+use mirror_client::TcpDial;
+use mirror_folders::DirSource;
+use mirror_places::Places;
+use mirror_sources::Source;
+use program_follow::PlaceSource;
+use program_whys::places::{place_name, server_of};
+use program_words::Place;
+use std::alloc::{AllocError, Global};
+use std::fs::Files;
+use std::net::{Net, TcpStream};
+use std::rt::Clock;
+
+/// A place of the system: a folder, or a server over TCP.
+pub(crate) type SystemPlace<'a, R> = PlaceSource<'a, R, TcpDial<&'a R>>;
+
+/// The source at a place. A server gets at most `ahead` requests ahead.
+pub(crate) fn source_of<'a, R: Files + Clock + Net<Stream = TcpStream>>(
+    rt: &'a R,
+    alloc: Global,
+    place: &'a Place<'a>,
+    ahead: usize,
+) -> Result<SystemPlace<'a, R>, AllocError> {
+    let name = place_name(alloc, place)?;
+    match place {
+        Place::Folder(folder) => {
+            let source = DirSource::new(rt, alloc, folder);
+            PlaceSource::of_folder(alloc, &name, source)
+        }
+        Place::Server {
+            host,
+            prefix,
+            address,
+            port,
+        } => {
+            let source = server_of(rt, alloc, (host, prefix), (address, *port), ahead)?;
+            PlaceSource::of_server(alloc, &name, source)
+        }
+    }
+}
+
+// The places with one more, unless something failed.
+fn with_place<S: Source + Drop>(
+    places: Result<Places<S>, AllocError>,
+    place: Result<S, AllocError>,
+) -> Result<Places<S>, AllocError> {
+    let mut places = places?;
+    places.add(place?)?;
+    Ok(places)
+}
+
+/// The places, in order.
+pub(crate) fn places_of<'a, R: Files + Clock + Net<Stream = TcpStream>>(
+    rt: &'a R,
+    alloc: Global,
+    words: &'a [Place<'a>],
+    ahead: usize,
+) -> Result<Places<SystemPlace<'a, R>>, AllocError> {
+    let mut places = Ok(Places::new(alloc));
+    for place in words {
+        places = with_place(places, source_of(rt, alloc, place, ahead));
+    }
+    places
+}

@@ -1,0 +1,4 @@
+mod Asking
+mod Compares
+mod Writing
+mod Answering
