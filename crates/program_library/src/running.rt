@@ -2,7 +2,7 @@
 ghost use Rattle.std.specs.Prelude.{◌≡◌, IfErr, IfOk, List, map, string_bytes, ℕ};
 ghost use Rattle.std.specs.Io.KnownBytes.{Keeps};
 ghost use Rattle.sha2.specs.Sha256.{sha256};
-ghost use Rattle.program_parser.specs.Commands.{AsksFor};
+ghost use Rattle.program_parser.specs.Program.{AsksFor};
 ghost use Rattle.program_parser.specs.Lines.{IsLine};
 ghost use Rattle.program_env.specs.Done.{IsDoable, IsWriteFault};
 ghost use Rattle.program_env.specs.Performing.{Ends};

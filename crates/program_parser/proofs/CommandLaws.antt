@@ -11,7 +11,8 @@ use Rattle.clap.specs.declared.error.kind.ErrorKind.TheVariants as kind
 use Rattle.clap.proofs.OnLiterals.{clap_on_literals}
 use Rattle.tlog_text.proofs.Decimals.{decimal_here}
 use Rattle.program_words.specs.Spelling.{IsNumberIn}
-use Rattle.program_parser.specs.Commands.{AsksFor, Says, faults, mirror_app, name_of}
+use Rattle.program_parser.specs.Program.{AsksFor, faults, mirror_app}
+use Rattle.program_words.specs.Commands.{Says, name_of}
 use Rattle.program_parser.specs.Laws.{IsOneOf, LawfulWordsName, WordsAskForOneName, command_names}
 use Rattle.program_words.specs.declared.commands.Command.TheVariants.{Root, Check}
 

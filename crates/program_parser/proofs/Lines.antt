@@ -9,9 +9,11 @@ use Rattle.clap.specs.declared.error.Error.{Error}
 use Rattle.clap.specs.declared.parser.matches.ArgMatches.{ArgMatches}
 use Rattle.clap.specs.declared.parser.matches.ArgMatches.TheViews.{out-ArgMatches, out-SubCommand}
 use Rattle.clap.specs.declared.parser.matches.SubCommand.{SubCommand}
-use Rattle.program_parser.specs.Commands.{Calls, HasFlag, Says, faults, mirror_app, name_of}
+use Rattle.program_parser.specs.Program.{Calls, faults, mirror_app}
+use Rattle.program_words.specs.Commands.{HasFlag, Says, name_of}
 use Rattle.program_words.specs.Refusals.{ReadsPart}
-use Rattle.program_parser.specs.Readings.{AsksWhy, IsSaid, Reads, ReadsKeyFile, IsFaultOf, no_keys}
+use Rattle.program_parser.specs.Readings.{AsksWhy, Reads, ReadsKeyFile, IsFaultOf, no_keys}
+use Rattle.program_words.specs.Readings.{IsSaid}
 use Rattle.program_words.specs.declared.commands.Command.{Command}
 use Rattle.program_words.specs.declared.fault.CommandFault.{CommandFault}
 use Rattle.program_words.specs.declared.fault.CommandFault.TheVariants.{Help, Words, BadArgument, OutOfMemory}

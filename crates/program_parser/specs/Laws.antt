@@ -2,7 +2,8 @@
 use Rattle.std.specs.Prelude.{◌≡◌, ◌⊎◌, List, [], ◌∷◌, map}
 use Rattle.clap.specs.Words.{Row, Text}
 use Rattle.program_words.specs.declared.commands.Command.{Command}
-use Rattle.program_parser.specs.Commands.{AsksFor, Calls, Says, command_apps, faults, name_of}
+use Rattle.program_parser.specs.Program.{AsksFor, Calls, faults}
+use Rattle.program_words.specs.Commands.{Says, command_apps, name_of}
 
 -- the names of the commands
 abbrev pub command_names : List Text

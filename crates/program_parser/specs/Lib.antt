@@ -1,5 +1,5 @@
-pub mod App
-pub mod Commands
+pub mod Parser
+pub mod Program
 pub mod Readings
 pub mod Laws
 pub mod Lines

@@ -1,27 +1,13 @@
-//! The readers of the commands. Each command has a file with its reader.
+//! Reads the command of a name.
 ghost use Rattle.clap.specs.Words.{found_of, rows_of};
 ghost use Rattle.program_words.specs.Refusals.{JudgesPart};
-ghost use Rattle.program_parser.specs.Readings.{IsSaid};
-
-mod audit;
-mod build;
-mod check;
-mod compare;
-mod entries;
-mod export;
-mod follow;
-mod forks;
-mod merge;
-mod missing;
-mod notes;
-mod prove;
-mod pull;
-mod root;
-mod serve;
-mod status;
-mod take;
+ghost use Rattle.program_words.specs.Readings.{IsSaid};
 
 use clap::ArgMatches;
+use program_words::commands::{
+    audit, build, check, compare, entries, export, follow, forks, merge, missing, notes, prove,
+    pull, root, serve, status, take,
+};
 use program_words::{BadWord, Command, Refusals};
 use std::alloc::Global;
 

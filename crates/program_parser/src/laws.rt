@@ -5,7 +5,7 @@ ghost use Rattle.clap.specs.declared.error.kind.ErrorKind.TheVariants.{
   DisplayVersion,
   MissingRequiredArgument,
 };
-ghost use Rattle.program_parser.specs.Commands.{AsksFor, faults};
+ghost use Rattle.program_parser.specs.Program.{AsksFor, faults};
 ghost use Rattle.program_parser.specs.Laws.{LawfulWordsName, WordsAskForOneName};
 ghost use Rattle.program_words.specs.declared.commands.Command.TheVariants.{Root, Check};
 

@@ -1,4 +1,4 @@
-//! The command line of `tlogmirror`: the words of each command, and their meaning.
+//! The command line of `tlogmirror`: its parser, and the words that ask for a command.
 //!
 //! `read_line` reads the words after the program's name. It gives the command with its options, and the
 //! name of the key file.
@@ -14,8 +14,6 @@
 mod commands;
 mod laws;
 mod parser;
-mod parts;
-mod place;
 mod program;
 mod words;
 

@@ -1,7 +1,8 @@
 //! Makes the parser of a command from its command line: its name, its help, and a table of its arguments.
 ghost use Rattle.std.specs.Prelude.{◌≡◌, IfOk, Some, false, map};
 ghost use Rattle.clap.specs.Words.{App, new_app, rule_of, with_rule};
-ghost use Rattle.program_parser.specs.App.{IsParserOf, argument_of, argument_rule, base_rules, line_app, with_rules};
+ghost use Rattle.program_parser.specs.Parser.{IsParserOf, argument_of, base_rules, line_app, with_rules};
+ghost use Rattle.program_words.specs.App.{argument_rule};
 
 use clap::{Arg, ArgAction};
 use program_words::{Argument, Base, CommandLine, ORIGIN, WHY};

@@ -1,15 +1,13 @@
 //! Makes the parser of the program of the command lines of all commands.
 ghost use Rattle.std.specs.Prelude.{IfOk, map};
 ghost use Rattle.clap.specs.Words.{App, with_subcommand};
-ghost use Rattle.program_parser.specs.App.{IsParserOf, line_app, named_app, program_app, with_commands};
-ghost use Rattle.program_parser.specs.Commands.{first_app, mirror_app, second_app};
+ghost use Rattle.program_parser.specs.Parser.{IsParserOf, line_app};
+ghost use Rattle.program_parser.specs.Program.{named_app, program_app, with_commands};
+ghost use Rattle.program_parser.specs.Program.{first_app, mirror_app, second_app};
 
 use crate::parser::parser_of;
 use program_words::CommandLine;
-use program_words::commands::{
-    PROGRAM, VERSION, audit, build, check, compare, entries, export, follow, forks, merge, missing,
-    notes, prove, pull, root, serve, status, take,
-};
+use program_words::commands::{FIRST_LINES, LAST_LINES, PROGRAM, SECOND_LINES, VERSION};
 use std::alloc::{AllocError, Global};
 
 // The parser of the program, with its name, its help and its version.
@@ -75,43 +73,19 @@ fn with_commands<'a>(
 fn first_parser<'a>(alloc: Global) -> Result<clap::Command<'a>, AllocError>
     ensures { IfOk result (IsParserOf first_app) }
 {
-    // An array in the body, not a constant: for a constant of all of them the checker reaches its limit.
-    let lines = [
-        &root::LINE,
-        &check::LINE,
-        &build::LINE,
-        &take::LINE,
-        &merge::LINE,
-        &pull::LINE,
-    ];
-    with_commands(alloc, program_parser(alloc), &lines)
+    with_commands(alloc, program_parser(alloc), FIRST_LINES)
 }
 
 // The same with the next commands.
 fn second_parser<'a>(alloc: Global) -> Result<clap::Command<'a>, AllocError>
     ensures { IfOk result (IsParserOf second_app) }
 {
-    let lines = [
-        &follow::LINE,
-        &audit::LINE,
-        &status::LINE,
-        &missing::LINE,
-        &forks::LINE,
-        &compare::LINE,
-    ];
-    with_commands(alloc, first_parser(alloc), &lines)
+    with_commands(alloc, first_parser(alloc), SECOND_LINES)
 }
 
 /// The parser of the program's command line.
 pub(crate) fn parser<'a>(alloc: Global) -> Result<clap::Command<'a>, AllocError>
     ensures { IfOk result (IsParserOf mirror_app) }
 {
-    let lines = [
-        &prove::LINE,
-        &entries::LINE,
-        &export::LINE,
-        &notes::LINE,
-        &serve::LINE,
-    ];
-    with_commands(alloc, second_parser(alloc), &lines)
+    with_commands(alloc, second_parser(alloc), LAST_LINES)
 }

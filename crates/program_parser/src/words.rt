@@ -1,17 +1,18 @@
 //! Reads the words of a command line.
 ghost use Rattle.std.specs.Prelude.{◌≡◌, ◌↔◌, IfErr, IfOk, IsTrue, codes, map, option_map, string_bytes};
 ghost use Rattle.clap.specs.Words.{first_of, found_of, kind_of, rows_of};
-ghost use Rattle.program_parser.specs.Commands.{Calls, HasFlag};
+ghost use Rattle.program_parser.specs.Program.{Calls};
+ghost use Rattle.program_words.specs.Commands.{HasFlag};
 ghost use Rattle.program_words.specs.Refusals.{ReadsPart};
-ghost use Rattle.program_parser.specs.Readings.{IsMatched, IsSaid, Reads, ReadsKeyFile, IsFaultOf, no_keys};
+ghost use Rattle.program_parser.specs.Readings.{IsMatched, Reads, ReadsKeyFile, IsFaultOf, no_keys};
+ghost use Rattle.program_words.specs.Readings.{IsSaid};
 ghost use Rattle.program_parser.specs.Lines.{IsLine};
 
 use crate::commands::command_of;
-use crate::parts::has_flag;
 use crate::program::parser;
 use clap::ArgMatches;
 use clap::error::ErrorKind;
-use program_words::{BadWord, Command, CommandFault, Refusals, judged};
+use program_words::{BadWord, Command, CommandFault, Refusals, has_flag, judged};
 use std::alloc::Global;
 
 // The fault of the program for an error of `clap`.

@@ -1,3 +1,4 @@
 pub mod Named
 pub mod Judging
 mod Places
+pub mod Refusing

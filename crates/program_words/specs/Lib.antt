@@ -1,2 +1,5 @@
 pub mod Spelling
 pub mod Refusals
+pub mod App
+pub mod Commands
+pub mod Readings

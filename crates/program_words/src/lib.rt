@@ -1,10 +1,8 @@
-//! What the commands of `tlogmirror` are: the options of each, with its command line and its help. Also what words spell, and
-//! which word is bad. `program_parser` reads the words of a command line.
+//! What the commands of `tlogmirror` are: the options of each, with its command line, its help and its reader. Also what words
+//! spell, and which word is bad. `program_parser` finds the options in the words of a command line.
 //!
 //! ```text
-//! let root = Command::Root(Root { width: 200 });                       // root --width 200
-//! number_in("200", 0, 256)                                             // Some(200)
-//! place_or_bad(alloc, "http", "log.example:80/2026", &mut refusals)    // host log.example:80, prefix /2026, port 80
+//! root::read(&found, &mut refusals)    // Command::Root(Root { width: 200 }), of the options of `root --width 200`
 //! ```
 #![tactic(auto)]
 
@@ -20,8 +18,7 @@ mod refusals;
 pub use bad::BadWord;
 pub use commands::Command;
 pub use fault::CommandFault;
-pub use line::{AHEAD, Argument, Base, CommandLine, FIRST_STATE, ORIGIN, PROGRESS, WHY};
-pub use number::number_in;
-pub use parts::{CopyArgs, Log, OutputArgs, StateArgs};
-pub use place::{Place, place_or_bad, places_or_bad};
+pub use line::{Argument, Base, CommandLine, ORIGIN, WHY};
+pub use parts::{CopyArgs, Log, OutputArgs, StateArgs, has_flag};
+pub use place::Place;
 pub use refusals::{Refusals, judged};

@@ -59,20 +59,20 @@ pub const WHY: Argument<'static> = Argument::Flag(
 );
 
 /// The state file to begin with, for a command that writes a state.
-pub const FIRST_STATE: Argument<'static> = Argument::Choice(
+pub(crate) const FIRST_STATE: Argument<'static> = Argument::Choice(
     "state",
     "S",
     "The file of the state to begin with; nothing where it is left out",
 );
 
 /// Whether lines report the progress, for each command that may work for long.
-pub const PROGRESS: Argument<'static> = Argument::Flag(
+pub(crate) const PROGRESS: Argument<'static> = Argument::Flag(
     "progress",
     "Reports progress on standard error, by a line a second at most",
 );
 
 /// The number of requests that may be sent ahead, for each command that reads a log at a place.
-pub const AHEAD: Argument<'static> = Argument::Choice(
+pub(crate) const AHEAD: Argument<'static> = Argument::Choice(
     "ahead",
     "N",
     "How many requests may be sent ahead to a server, 0 to 64; 6 where it is left out",

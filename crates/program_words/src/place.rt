@@ -1,12 +1,16 @@
 //! The places of a log's files.
 ghost use Rattle.std.specs.Prelude.{◌≡◌, ◌≢◌, ◌++◌, ◌∷◌, ◌↔◌, ℕ, ◌<◌, IfNone, IfOk, IfSome, IsTrue, codes, length, map, option_map, slice_index};
+ghost use Rattle.clap.specs.Words.{found_of, rows_of};
 ghost use Rattle.program_words.specs.Refusals.{JudgesPart};
 ghost use Rattle.program_words.specs.Spelling.{ArePlaces, FindsPart, IsEmptyOrSlash, IsHostAndPrefix, IsPlace, colon};
 ghost use Rattle.mirror_client.specs.Site.{slash};
+ghost use Rattle.program_words.specs.Readings.{IsPlaceGiven};
 
 use crate::bad::{bad_place, bad_places};
 use crate::number::number_in;
+use crate::parts::word_of;
 use crate::refusals::Refusals;
+use clap::ArgMatches;
 use mirror_client::{Site, SiteFault};
 use std::alloc::{AllocError, Global};
 
@@ -104,7 +108,7 @@ pub(crate) fn place_of<'a>(
 /// ```text
 /// place_or_bad(alloc, "http", "log.example:80/2026", &mut refusals)   // host log.example:80, prefix /2026, port 80
 /// ```
-pub fn place_or_bad<'a>(
+pub(crate) fn place_or_bad<'a>(
     alloc: Global,
     kind: &str,
     word: &'a str,
@@ -149,7 +153,7 @@ fn places_of<'a>(alloc: Global, words: &[&'a str]) -> Result<Option<Vec<Place<'a
 
 /// The places that the words name, two words for each. If they name none, the first bad word is noted; if memory was refused,
 /// that is noted.
-pub fn places_or_bad<'a>(
+pub(crate) fn places_or_bad<'a>(
     alloc: Global,
     words: &[&'a str],
     refusals: &mut Refusals,
@@ -168,4 +172,18 @@ pub fn places_or_bad<'a>(
             Vec::new(alloc)
         }
     }
+}
+
+/// Reads the place from the options.
+pub(crate) fn place_given<'a>(
+    alloc: Global,
+    found: &ArgMatches<'a>,
+    refusals: &mut Refusals,
+) -> Place<'a>
+    ensures { JudgesPart (IsPlaceGiven (rows_of (found_of found.now))) refusals.old refusals.new
+        result }
+{
+    let kind = word_of(found, "kind", refusals);
+    let word = word_of(found, "place", refusals);
+    place_or_bad(alloc, kind, word, refusals)
 }

@@ -1,7 +1,16 @@
 //! `audit`: verifies a complete log at a place, file by file.
+ghost use Rattle.std.specs.Prelude.{codes};
+ghost use Rattle.clap.specs.Words.{found_of, rows_of};
+ghost use Rattle.program_words.specs.Refusals.{JudgesPart};
+ghost use Rattle.program_words.specs.Readings.{IsSaid};
+
+use crate::commands::Command;
 use crate::line::{AHEAD, Argument, Base, CommandLine, PROGRESS};
-use crate::parts::Log;
-use crate::place::Place;
+use crate::parts::{Log, ahead_of, has_flag, log_of};
+use crate::place::{Place, place_given};
+use crate::refusals::Refusals;
+use clap::ArgMatches;
+use std::alloc::Global;
 
 /// `audit`: verifies a complete log at a place, file by file.
 #[derive(Drop, Clone, Copy)]
@@ -62,3 +71,20 @@ pub const LINE: CommandLine<'static> = CommandLine {
         ),
     ],
 };
+
+/// Reads the command from its options.
+pub fn read<'a>(alloc: Global, found: &ArgMatches<'a>, refusals: &mut Refusals) -> Command<'a>
+    ensures { JudgesPart (IsSaid (codes "audit") (rows_of (found_of found.now))) refusals.old
+        refusals.new result }
+{
+    let log = log_of(found, refusals);
+    let ahead = ahead_of(found, refusals);
+    let progress = has_flag(found, "progress");
+    let place = place_given(alloc, found, refusals);
+    Command::Audit(Audit {
+        log,
+        ahead,
+        progress,
+        place,
+    })
+}

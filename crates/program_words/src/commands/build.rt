@@ -1,6 +1,14 @@
 //! `build`: makes a log from the entries on standard input.
+ghost use Rattle.std.specs.Prelude.{codes};
+ghost use Rattle.clap.specs.Words.{found_of, rows_of};
+ghost use Rattle.program_words.specs.Refusals.{JudgesPart};
+ghost use Rattle.program_words.specs.Readings.{IsSaid};
+
+use crate::commands::Command;
 use crate::line::{Argument, Base, CommandLine, ORIGIN, PROGRESS, WHY};
-use crate::parts::Log;
+use crate::parts::{Log, has_flag, log_of, word_of};
+use crate::refusals::Refusals;
+use clap::ArgMatches;
 
 /// `build`: makes a log from the entries on standard input.
 #[derive(Drop, Clone, Copy)]
@@ -52,3 +60,18 @@ pub const LINE: CommandLine<'static> = CommandLine {
         PROGRESS,
     ],
 };
+
+/// Reads the command from its options.
+pub fn read<'a>(found: &ArgMatches<'a>, refusals: &mut Refusals) -> Command<'a>
+    ensures { JudgesPart (IsSaid (codes "build") (rows_of (found_of found.now))) refusals.old
+        refusals.new result }
+{
+    let log = log_of(found, refusals);
+    let folder = word_of(found, "dir", refusals);
+    let progress = has_flag(found, "progress");
+    Command::Build(Build {
+        log,
+        folder,
+        progress,
+    })
+}

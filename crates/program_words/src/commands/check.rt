@@ -1,5 +1,13 @@
 //! `check`: verifies the proof on standard input. It has no options.
+ghost use Rattle.std.specs.Prelude.{codes};
+ghost use Rattle.clap.specs.Words.{found_of, rows_of};
+ghost use Rattle.program_words.specs.Refusals.{JudgesPart};
+ghost use Rattle.program_words.specs.Readings.{IsSaid};
+
+use crate::commands::Command;
 use crate::line::{Base, CommandLine};
+use crate::refusals::Refusals;
+use clap::ArgMatches;
 
 // The text of the long help: input, output, statuses, faults and an example.
 const HELP: &str = "\
@@ -23,3 +31,11 @@ pub const LINE: CommandLine<'static> = CommandLine {
     base: Base::Nothing,
     arguments: &[],
 };
+
+/// Reads the command, which has no options.
+pub fn read<'a>(_found: &ArgMatches<'a>, _refusals: &mut Refusals) -> Command<'a>
+    ensures { JudgesPart (IsSaid (codes "check") (rows_of (found_of _found.now))) _refusals.old
+        _refusals.new result }
+{
+    Command::Check
+}

@@ -1,6 +1,15 @@
 //! `compare`: compares checkpoints with the served one of a mirror, or with a copy.
+ghost use Rattle.std.specs.Prelude.{codes};
+ghost use Rattle.clap.specs.Words.{found_of, rows_of};
+ghost use Rattle.program_words.specs.Refusals.{JudgesPart};
+ghost use Rattle.program_words.specs.Readings.{IsSaid};
+
+use crate::commands::Command;
 use crate::line::{Argument, Base, CommandLine};
-use crate::parts::{CopyArgs, StateArgs};
+use crate::parts::{CopyArgs, Source, StateArgs, files_of, source_of};
+use crate::refusals::Refusals;
+use clap::ArgMatches;
+use std::alloc::Global;
 
 /// `compare --state`: compares checkpoints with the served one.
 #[derive(Drop)]
@@ -52,3 +61,16 @@ pub const LINE: CommandLine<'static> = CommandLine {
         "The signed notes that are compared; those of the state where none is named",
     )],
 };
+
+/// Reads the command for a state or a copy from its options.
+pub fn read<'a>(alloc: Global, found: &ArgMatches<'a>, refusals: &mut Refusals) -> Command<'a>
+    ensures { JudgesPart (IsSaid (codes "compare") (rows_of (found_of found.now))) refusals.old
+        refusals.new result }
+{
+    let source = source_of(found, refusals);
+    let files = files_of(alloc, found, refusals);
+    match source {
+        Source::State(mirror) => Command::Compare(Compare { mirror, files }),
+        Source::Copy(copy) => Command::CopyCompare(CopyCompare { copy, files }),
+    }
+}

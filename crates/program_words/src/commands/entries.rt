@@ -1,6 +1,15 @@
 //! `entries`: writes a range of entries that a mirror serves, or that a copy has.
+ghost use Rattle.std.specs.Prelude.{codes};
+ghost use Rattle.clap.specs.Words.{found_of, rows_of};
+ghost use Rattle.program_words.specs.Commands.{IsEntryRange};
+ghost use Rattle.program_words.specs.Refusals.{JudgesPart};
+ghost use Rattle.program_words.specs.Readings.{IsSaid};
+
+use crate::commands::Command;
 use crate::line::{Argument, Base, CommandLine};
-use crate::parts::{CopyArgs, StateArgs};
+use crate::parts::{CopyArgs, Source, StateArgs, has_flag, size_of, source_of};
+use crate::refusals::Refusals;
+use clap::ArgMatches;
 
 /// A range of entries and the format of the output.
 #[derive(Drop, Clone, Copy)]
@@ -59,3 +68,27 @@ pub const LINE: CommandLine<'static> = CommandLine {
         Argument::Place("to", "TO", "The index behind the last entry"),
     ],
 };
+
+// Reads the range from the options.
+fn range_of(found: &ArgMatches<'_>, refusals: &mut Refusals) -> EntryRange
+    ensures { JudgesPart (IsEntryRange (rows_of (found_of found.now))) refusals.old refusals.new
+        result }
+{
+    let from = size_of(found, "from", "FROM", refusals);
+    let to = size_of(found, "to", "TO", refusals);
+    let base64 = has_flag(found, "base64");
+    EntryRange { from, to, base64 }
+}
+
+/// Reads the command for a state or a copy from its options.
+pub fn read<'a>(found: &ArgMatches<'a>, refusals: &mut Refusals) -> Command<'a>
+    ensures { JudgesPart (IsSaid (codes "entries") (rows_of (found_of found.now))) refusals.old
+        refusals.new result }
+{
+    let source = source_of(found, refusals);
+    let range = range_of(found, refusals);
+    match source {
+        Source::State(mirror) => Command::Entries(Entries { mirror, range }),
+        Source::Copy(copy) => Command::CopyEntries(CopyEntries { copy, range }),
+    }
+}

@@ -1,6 +1,14 @@
 //! `export` and `export --update`: write the served files to a folder.
+ghost use Rattle.std.specs.Prelude.{codes};
+ghost use Rattle.clap.specs.Words.{found_of, rows_of};
+ghost use Rattle.program_words.specs.Refusals.{JudgesPart};
+ghost use Rattle.program_words.specs.Readings.{IsSaid};
+
+use crate::commands::Command;
 use crate::line::{Argument, Base, CommandLine, PROGRESS};
-use crate::parts::StateArgs;
+use crate::parts::{StateArgs, has_flag, state_args, word_of};
+use crate::refusals::Refusals;
+use clap::ArgMatches;
 
 /// `export` and `export --update`: write the served files to a folder.
 #[derive(Drop, Clone, Copy)]
@@ -45,3 +53,23 @@ pub const LINE: CommandLine<'static> = CommandLine {
         PROGRESS,
     ],
 };
+
+/// Reads the command from its options, with or without `--update`.
+pub fn read<'a>(found: &ArgMatches<'a>, refusals: &mut Refusals) -> Command<'a>
+    ensures { JudgesPart (IsSaid (codes "export") (rows_of (found_of found.now))) refusals.old
+        refusals.new result }
+{
+    let mirror = state_args(found, refusals);
+    let folder = word_of(found, "dir", refusals);
+    let progress = has_flag(found, "progress");
+    let export = Export {
+        mirror,
+        folder,
+        progress,
+    };
+    if has_flag(found, "update") {
+        Command::Update(export)
+    } else {
+        Command::Export(export)
+    }
+}

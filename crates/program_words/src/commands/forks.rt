@@ -1,5 +1,14 @@
 //! `forks`: prints the forks between a mirror's heads. It has only the options of every command over a state.
+ghost use Rattle.std.specs.Prelude.{codes};
+ghost use Rattle.clap.specs.Words.{found_of, rows_of};
+ghost use Rattle.program_words.specs.Refusals.{JudgesPart};
+ghost use Rattle.program_words.specs.Readings.{IsSaid};
+
+use crate::commands::Command;
 use crate::line::{Base, CommandLine};
+use crate::parts::state_args;
+use crate::refusals::Refusals;
+use clap::ArgMatches;
 
 // The text of the long help: input, output, statuses, faults and an example.
 const HELP: &str = "\
@@ -20,3 +29,11 @@ pub const LINE: CommandLine<'static> = CommandLine {
     base: Base::State,
     arguments: &[],
 };
+
+/// Reads the command from its options.
+pub fn read<'a>(found: &ArgMatches<'a>, refusals: &mut Refusals) -> Command<'a>
+    ensures { JudgesPart (IsSaid (codes "forks") (rows_of (found_of found.now))) refusals.old
+        refusals.new result }
+{
+    Command::Forks(state_args(found, refusals))
+}

@@ -1,6 +1,14 @@
 //! `merge`: merges a second mirror into a first.
+ghost use Rattle.std.specs.Prelude.{codes};
+ghost use Rattle.clap.specs.Words.{found_of, rows_of};
+ghost use Rattle.program_words.specs.Refusals.{JudgesPart};
+ghost use Rattle.program_words.specs.Readings.{IsSaid};
+
+use crate::commands::Command;
 use crate::line::{Argument, Base, CommandLine};
-use crate::parts::OutputArgs;
+use crate::parts::{OutputArgs, output_args, word_of};
+use crate::refusals::Refusals;
+use clap::ArgMatches;
 
 /// `merge`: merges a second mirror into a first.
 #[derive(Drop, Clone, Copy)]
@@ -34,3 +42,18 @@ pub const LINE: CommandLine<'static> = CommandLine {
         Argument::Place("b", "B", "The file of the state that is taken into it"),
     ],
 };
+
+/// Reads the command from its options.
+pub fn read<'a>(found: &ArgMatches<'a>, refusals: &mut Refusals) -> Command<'a>
+    ensures { JudgesPart (IsSaid (codes "merge") (rows_of (found_of found.now))) refusals.old
+        refusals.new result }
+{
+    let mirror = output_args(found, refusals);
+    let first = word_of(found, "a", refusals);
+    let second = word_of(found, "b", refusals);
+    Command::Merge(Merge {
+        mirror,
+        first,
+        second,
+    })
+}

@@ -1,6 +1,14 @@
 //! `notes`: writes the notes of a mirror to a folder.
+ghost use Rattle.std.specs.Prelude.{codes};
+ghost use Rattle.clap.specs.Words.{found_of, rows_of};
+ghost use Rattle.program_words.specs.Refusals.{JudgesPart};
+ghost use Rattle.program_words.specs.Readings.{IsSaid};
+
+use crate::commands::Command;
 use crate::line::{Argument, Base, CommandLine};
-use crate::parts::StateArgs;
+use crate::parts::{StateArgs, state_args, word_of};
+use crate::refusals::Refusals;
+use clap::ArgMatches;
 
 /// `notes`: writes the notes of a mirror to a folder.
 #[derive(Drop, Clone, Copy)]
@@ -30,3 +38,13 @@ pub const LINE: CommandLine<'static> = CommandLine {
     base: Base::State,
     arguments: &[Argument::Option("dir", "D", "The folder that is written")],
 };
+
+/// Reads the command from its options.
+pub fn read<'a>(found: &ArgMatches<'a>, refusals: &mut Refusals) -> Command<'a>
+    ensures { JudgesPart (IsSaid (codes "notes") (rows_of (found_of found.now))) refusals.old
+        refusals.new result }
+{
+    let mirror = state_args(found, refusals);
+    let folder = word_of(found, "dir", refusals);
+    Command::Notes(Notes { mirror, folder })
+}

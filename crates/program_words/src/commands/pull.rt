@@ -1,7 +1,16 @@
 //! `pull`: fetches what is missing.
+ghost use Rattle.std.specs.Prelude.{codes};
+ghost use Rattle.clap.specs.Words.{found_of, rows_of};
+ghost use Rattle.program_words.specs.Refusals.{JudgesPart};
+ghost use Rattle.program_words.specs.Readings.{IsSaid};
+
+use crate::commands::Command;
 use crate::line::{AHEAD, Argument, Base, CommandLine, FIRST_STATE, PROGRESS};
-use crate::parts::OutputArgs;
-use crate::place::Place;
+use crate::parts::{OutputArgs, ahead_of, has_flag, output_args};
+use crate::place::{Place, place_given};
+use crate::refusals::Refusals;
+use clap::ArgMatches;
+use std::alloc::Global;
 
 /// `pull`: fetches what is missing.
 #[derive(Drop, Clone, Copy)]
@@ -75,3 +84,24 @@ pub const LINE: CommandLine<'static> = CommandLine {
         ),
     ],
 };
+
+/// Reads the command from its options.
+pub fn read<'a>(alloc: Global, found: &ArgMatches<'a>, refusals: &mut Refusals) -> Command<'a>
+    ensures { JudgesPart (IsSaid (codes "pull") (rows_of (found_of found.now))) refusals.old
+        refusals.new result }
+{
+    let mirror = output_args(found, refusals);
+    let state = found.get_str("state");
+    let keep = has_flag(found, "keep");
+    let ahead = ahead_of(found, refusals);
+    let progress = has_flag(found, "progress");
+    let place = place_given(alloc, found, refusals);
+    Command::Pull(Pull {
+        mirror,
+        state,
+        keep,
+        ahead,
+        progress,
+        place,
+    })
+}

@@ -1,6 +1,15 @@
 //! `status`: prints the heads of a mirror, or the checkpoint of a copy. It has only the options of every command over one of
 //! these.
+ghost use Rattle.std.specs.Prelude.{codes};
+ghost use Rattle.clap.specs.Words.{found_of, rows_of};
+ghost use Rattle.program_words.specs.Refusals.{JudgesPart};
+ghost use Rattle.program_words.specs.Readings.{IsSaid};
+
+use crate::commands::Command;
 use crate::line::{Base, CommandLine};
+use crate::parts::{Source, source_of};
+use crate::refusals::Refusals;
+use clap::ArgMatches;
 
 // The text of the long help: input, output, statuses, faults and an example.
 const HELP: &str = "\
@@ -20,3 +29,14 @@ pub const LINE: CommandLine<'static> = CommandLine {
     base: Base::StateOrCopy,
     arguments: &[],
 };
+
+/// Reads the command for a state or a copy from its options.
+pub fn read<'a>(found: &ArgMatches<'a>, refusals: &mut Refusals) -> Command<'a>
+    ensures { JudgesPart (IsSaid (codes "status") (rows_of (found_of found.now))) refusals.old
+        refusals.new result }
+{
+    match source_of(found, refusals) {
+        Source::State(args) => Command::Status(args),
+        Source::Copy(args) => Command::CopyStatus(args),
+    }
+}

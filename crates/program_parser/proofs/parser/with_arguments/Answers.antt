@@ -1,7 +1,7 @@
 use Rattle.std.proofs.Common.{◌≡◌, ◌∙◌, ℕ, ◌+◌, ◌<◌, List, length, map, drop, get_or, refl, sym, subst, IfOk}
 use Rattle.std.proofs.lemmas.List.{at_drop_all, at_drop_more}
 use Rattle.clap.specs.Words.{App, with_rule}
-use Rattle.program_parser.specs.App.{IsParserOf, argument_of, with_rules}
+use Rattle.program_parser.specs.Parser.{IsParserOf, argument_of, with_rules}
 use Rattle.program_words.specs.declared.line.Argument.{Argument}
 use Rattle.program_parser.proofs.parser.with_arguments.Goals as goal
 

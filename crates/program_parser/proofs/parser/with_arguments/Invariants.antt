@@ -1,6 +1,6 @@
 use Rattle.std.proofs.Common.{◌≡◌, IfOk, map, drop}
 use Rattle.clap.specs.Words.{App}
-use Rattle.program_parser.specs.App.{IsParserOf, argument_of, with_rules}
+use Rattle.program_parser.specs.Parser.{IsParserOf, argument_of, with_rules}
 use Rattle.program_parser.proofs.parser.with_arguments.Given as goal
 
 abbrev pub invariant-loop-given : goal.invariant-loop-given

@@ -1,4 +1,4 @@
-use Rattle.program_parser.specs.App.{program_app}
+use Rattle.program_parser.specs.Program.{program_app}
 use Rattle.program_parser.proofs.program.first_parser.Goals as goal
 
 pub returns : goal.returns

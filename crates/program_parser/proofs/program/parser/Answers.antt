@@ -1,4 +1,4 @@
-use Rattle.program_parser.specs.Commands.{second_app}
+use Rattle.program_parser.specs.Program.{second_app}
 use Rattle.program_parser.proofs.program.parser.Goals as goal
 
 pub returns : goal.returns

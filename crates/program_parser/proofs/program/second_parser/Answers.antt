@@ -1,4 +1,4 @@
-use Rattle.program_parser.specs.Commands.{first_app}
+use Rattle.program_parser.specs.Program.{first_app}
 use Rattle.program_parser.proofs.program.second_parser.Goals as goal
 
 pub returns : goal.returns

@@ -1,7 +1,8 @@
 use Rattle.std.proofs.Common.{◌≡◌, ◌∙◌, ℕ, ◌+◌, ◌<◌, Bor, List, length, map, drop, get_or, refl, sym, subst, IfOk}
 use Rattle.std.proofs.lemmas.List.{at_drop_all, at_drop_more}
 use Rattle.clap.specs.Words.{App, with_subcommand}
-use Rattle.program_parser.specs.App.{IsParserOf, line_app, with_commands}
+use Rattle.program_parser.specs.Parser.{IsParserOf, line_app}
+use Rattle.program_parser.specs.Program.{with_commands}
 use Rattle.program_words.specs.declared.line.CommandLine.{CommandLine}
 use Rattle.program_parser.proofs.program.with_commands.Goals as goal
 

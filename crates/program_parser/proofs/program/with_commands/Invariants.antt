@@ -1,6 +1,7 @@
 use Rattle.std.proofs.Common.{◌≡◌, IfOk, map, drop}
 use Rattle.clap.specs.Words.{App}
-use Rattle.program_parser.specs.App.{IsParserOf, line_app, with_commands}
+use Rattle.program_parser.specs.Parser.{IsParserOf, line_app}
+use Rattle.program_parser.specs.Program.{with_commands}
 use Rattle.program_parser.proofs.program.with_commands.Given as goal
 
 abbrev pub invariant-loop-line : goal.invariant-loop-line

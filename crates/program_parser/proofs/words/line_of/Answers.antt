@@ -1,9 +1,9 @@
 use Rattle.std.proofs.Common.{codes, option_map, subst, sym}
 use Rattle.clap.specs.Words.{found_of, rows_of}
 use Rattle.program_words.specs.Refusals.{ReadsPart}
-use Rattle.program_parser.specs.Readings.{IsSaid}
+use Rattle.program_words.specs.Readings.{IsSaid}
 use Rattle.program_words.proofs.Judging.{judged_so}
-use Rattle.program_parser.proofs.Refusing.{given_or_none}
+use Rattle.program_words.proofs.Refusing.{given_or_none}
 use Rattle.program_parser.proofs.words.line_of.Goals as goal
 
 pub returns : goal.returns

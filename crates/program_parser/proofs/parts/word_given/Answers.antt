@@ -1,8 +1,0 @@
-use Rattle.std.proofs.Common.{option_map}
-use Rattle.clap.specs.Words.{found_of}
-use Rattle.program_parser.proofs.Refusing.{given_as}
-use Rattle.program_parser.proofs.parts.word_given.Goals as goal
-
-pub returns : goal.returns
-returns c =
-    given_as (found_of c.args.found.now) c.args.name.now (option_map (λ s. s.now) c.get_str.result) c.get_str.ensures

@@ -1,0 +1,45 @@
+use Rattle.std.proofs.Common.{◌∙◌, List, codes, refl, subst}
+use Rattle.clap.specs.Words.{Row, found_of, rows_of}
+use Rattle.tlog_proof.specs.declared.proof.Ask.{Ask}
+use Rattle.program_words.specs.Commands.{IsAskGiven}
+use Rattle.program_words.specs.Commands.{name_of}
+use Rattle.program_words.specs.Readings.{IsSaid, IsSource}
+use Rattle.program_words.specs.declared.commands.Command.{Command}
+use Rattle.program_words.specs.declared.commands.Command.TheVariants as order
+use Rattle.program_words.specs.declared.parts.Source.{Source}
+use Rattle.program_words.specs.declared.parts.Source.TheVariants as source
+use Rattle.program_words.proofs.Named.{apart}
+use Rattle.program_words.proofs.commands.prove.read.Goals as goal
+
+-- the options of a command with this name
+named : (options : List Row) (command : Command) → IsSaid (codes "prove") options command →
+    (s : Source) × IsSource options s × (ask : Ask) × IsAskGiven options ask
+named options (order.Prove c) said = (source.State c.mirror, said.1.mirror, c.ask, said.1.ask)
+named options (order.CopyProve c) said = (source.Copy c.copy, said.1.copy, c.ask, said.1.ask)
+named options other said = absurd (apart (codes "prove") (codes "prove") (name_of other) refl said.0 refl)
+
+pub returns-in-State : goal.returns-in-State
+returns-in-State c = record {
+  good = λ g.
+      let s1 = c.ask_of-ask.ensures.good g in
+      let s0 = c.source_of-source.ensures.good s1.0 in
+      let args = subst (λ s. IsSource (rows_of (found_of c.args.found.now)) s) c.in-State.is s0.1 in
+      (s0.0, (refl, record { mirror = args; ask = s1.1 }));
+  bad = λ command said.
+      let m = named (rows_of (found_of c.args.found.now)) command said in
+      c.ask_of-ask.ensures.bad m.2 m.3
+      ∙ c.source_of-source.ensures.bad m.0 m.1;
+}
+
+pub returns-in-Copy : goal.returns-in-Copy
+returns-in-Copy c = record {
+  good = λ g.
+      let s1 = c.ask_of-ask.ensures.good g in
+      let s0 = c.source_of-source.ensures.good s1.0 in
+      let args = subst (λ s. IsSource (rows_of (found_of c.args.found.now)) s) c.in-Copy.is s0.1 in
+      (s0.0, (refl, record { copy = args; ask = s1.1 }));
+  bad = λ command said.
+      let m = named (rows_of (found_of c.args.found.now)) command said in
+      c.ask_of-ask.ensures.bad m.2 m.3
+      ∙ c.source_of-source.ensures.bad m.0 m.1;
+}

@@ -1,0 +1,41 @@
+use Rattle.std.proofs.Common.{◌∙◌, List, codes, refl, option_map}
+use Rattle.clap.specs.Words.{Row, found_of, rows_of}
+use Rattle.program_words.specs.Commands.{IsPull, name_of}
+use Rattle.program_words.specs.Readings.{IsSaid}
+use Rattle.program_words.specs.declared.commands.Command.{Command}
+use Rattle.program_words.specs.declared.commands.Command.TheVariants as order
+use Rattle.program_words.specs.declared.commands.pull.Pull.{Pull}
+use Rattle.program_words.proofs.Refusing.{given_or_none}
+use Rattle.program_words.proofs.Named.{apart}
+use Rattle.program_words.proofs.commands.pull.read.Goals as goal
+
+-- a command with this name
+named : (options : List Row) (command : Command) → IsSaid (codes "pull") options command → (c : Pull) × IsPull options c
+named options (order.Pull c) said = (c, said.1)
+named options other said = absurd (apart (codes "pull") (codes "pull") (name_of other) refl said.0 refl)
+
+pub returns : goal.returns
+returns c = record {
+  good = λ g.
+      let s2 = c.place_given-place.ensures.good g in
+      let s1 = c.ahead_of-ahead.ensures.good s2.0 in
+      let s0 = c.output_args-mirror.ensures.good s1.0 in (
+        s0.0,
+        (
+          refl,
+          record {
+            mirror = s0.1;
+            state = given_or_none (found_of c.args.found.now) (codes "state") (option_map (λ s. s.now) c.get_str-state.result) c.get_str-state.ensures;
+            keep = c.has_flag-keep.ensures;
+            ahead = s1.1;
+            progress = c.has_flag-progress.ensures;
+            place = s2.1;
+          },
+        ),
+      );
+  bad = λ command said.
+      let m = named (rows_of (found_of c.args.found.now)) command said in
+      c.place_given-place.ensures.bad m.0.place m.1.place
+      ∙ (c.ahead_of-ahead.ensures.bad m.0.ahead m.1.ahead
+      ∙ (c.output_args-mirror.ensures.bad m.0.mirror m.1.mirror));
+}

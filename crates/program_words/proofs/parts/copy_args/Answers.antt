@@ -1,0 +1,13 @@
+use Rattle.std.proofs.Common.{◌∙◌}
+use Rattle.program_words.proofs.parts.copy_args.Goals as goal
+
+pub returns : goal.returns
+returns c = record {
+  good = λ g.
+      let s1 = c.word_of-folder.ensures.part.good g in
+      let s0 = c.log_of-log.ensures.good s1.0 in
+      (s0.0, record { log = s0.1; folder = s1.1 });
+  bad = λ m is.
+      c.word_of-folder.ensures.part.bad m.folder.now is.folder
+      ∙ c.log_of-log.ensures.bad m.log is.log;
+}
