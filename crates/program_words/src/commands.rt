@@ -21,7 +21,7 @@ use crate::line::CommandLine;
 use crate::parts::{CopyArgs, StateArgs};
 
 /// The version of the program, for `-V` and `--version`.
-pub const VERSION: &str = "0.5.6";
+pub const VERSION: &str = "0.5.7";
 
 /// The help of the program, for `-h` and `--help`.
 pub const PROGRAM: &str = "\
