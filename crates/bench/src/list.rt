@@ -7,7 +7,7 @@ use mirror_sources::ListSource;
 use note_keys::{HmacKey, KeyFault};
 use std::alloc::{AllocError, Global};
 use std::time::CpuClock;
-use tlog_hash::{tree_hash, Hash, TreeHash};
+use tlog_hash::{Hash, TreeHash, tree_hash};
 
 /// The origin of the log.
 pub(crate) const ORIGIN: &str = "bench";

@@ -6,7 +6,7 @@ ghost use Rattle.log_reader.specs.Nodes.{AreBelow, hash_below, hash_on_top};
 use crate::edge_rows::EdgeRows;
 use crate::verify::is_same;
 use std::alloc::{AllocError, Global};
-use tlog_hash::{fold, Hash, TreeHash};
+use tlog_hash::{Hash, TreeHash, fold};
 
 /// The hash of the rows so far with one more row above them, which may be empty.
 pub(crate) fn on_top<H: TreeHash>(

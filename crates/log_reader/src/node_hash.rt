@@ -18,7 +18,7 @@ use crate::reader::LogReader;
 use crate::walk::go_to;
 use mirror_sources::Source;
 use std::alloc::{AllocError, Global};
-use tlog_hash::{fold, Hash, TreeHash};
+use tlog_hash::{Hash, TreeHash, fold};
 use tlog_shape::{edge_index, edge_width, is_perfect, top_level};
 
 /// The fold of some hashes of a row. None: the row does not have them.

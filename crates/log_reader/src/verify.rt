@@ -4,7 +4,7 @@ ghost use Rattle.tlog_hash.specs.Tree.{leaf_hash};
 ghost use Rattle.log_reader.specs.Verified.{IsRowOf, HasLeaves, Verifies};
 
 use std::alloc::{AllocError, Global};
-use tlog_hash::{fold, Hash, TreeHash};
+use tlog_hash::{Hash, TreeHash, fold};
 use tlog_tiles::{BundleFault, RowFault, read_bundle, read_row};
 
 /// A full tile of level 1 or above, or a full bundle.

@@ -12,8 +12,8 @@
 use byte_streams::write_whole;
 use mirror_folders::DirSource;
 use mirror_pull::pull;
-use program_reports::{Question, print_report, pulled_text};
 use note_keys::{KeyLine, join_pins, read_keys};
+use program_reports::{Question, print_report, pulled_text};
 use signed_note::Verifier;
 use std::alloc::Global;
 use std::io::Write;

@@ -12,7 +12,7 @@ use mirror_model::TakeFault;
 use mirror_trees::{add_above, add_row};
 use node_store::{AddFault, Store};
 use std::alloc::{AllocError, Global};
-use tlog_hash::{fold, Hash, TreeHash};
+use tlog_hash::{Hash, TreeHash, fold};
 use tlog_shape::edge_width;
 use tlog_tiles::{RowFault, read_row};
 

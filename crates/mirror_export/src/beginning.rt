@@ -6,7 +6,7 @@ use crate::fault::UpdateFault;
 use mirror_served::TopRanges;
 use signed_note::{Note, NoteFault};
 use std::alloc::Global;
-use tlog_checkpoint::{CheckpointFault, read, Checkpoint};
+use tlog_checkpoint::{Checkpoint, CheckpointFault, read};
 use tlog_hash::{Hash, TreeHash};
 use tlog_proof::Ranges;
 

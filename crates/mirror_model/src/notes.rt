@@ -8,7 +8,7 @@ ghost use Rattle.tlog_text.specs.Answers.{seen};
 use crate::fault::TakeFault;
 use signed_note::{Note, NoteFault, Verifier, open_note};
 use std::alloc::{AllocError, Global};
-use tlog_checkpoint::{CheckpointFault, read, Checkpoint};
+use tlog_checkpoint::{Checkpoint, CheckpointFault, read};
 
 /// A note whose text is a checkpoint, with that checkpoint.
 #[derive(Drop)]

@@ -6,7 +6,7 @@ ghost use Rattle.mirror_sources.specs.ListSource.{OpensAnywhere};
 
 use note_keys::{HmacKey, sign};
 use std::alloc::{AllocError, Global};
-use tlog_checkpoint::{Line, Lines, write, Checkpoint};
+use tlog_checkpoint::{Checkpoint, Line, Lines, write};
 use tlog_hash::Hash;
 use tlog_shape::MAX_SIZE;
 

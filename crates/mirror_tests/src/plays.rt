@@ -5,7 +5,7 @@ use signed_note::Verifier;
 use std::alloc::{AllocError, Global};
 use std::process::Abort;
 use std::test::Fail;
-use tlog_hash::{Sha256Tree, Hash, TreeHash};
+use tlog_hash::{Hash, Sha256Tree, TreeHash};
 use tlog_mirror::{Bytes, Event, Item, Mirror, Rows, TakeFault};
 
 // The note of a log of one entry, which is its number.

@@ -3,7 +3,7 @@ use crate::given::take_head;
 use std::alloc::{AllocError, Global};
 use std::process::Abort;
 use std::test::Fail;
-use tlog_hash::{Sha256Tree, Hash, TreeHash};
+use tlog_hash::{Hash, Sha256Tree, TreeHash};
 use tlog_mirror::Mirror;
 
 // Settles a mirror, which then remembers the given number of marks. If memory is refused, as by

@@ -11,7 +11,7 @@ use byte_streams::{StreamFault, read_all, write_whole};
 use std::alloc::{AllocError, Global};
 use std::fmt;
 use std::io::{Read, Write};
-use tlog_hash::{tree_hash, Hash, TreeHash};
+use tlog_hash::{Hash, TreeHash, tree_hash};
 use tlog_text::push_hash;
 use tlog_tiles::{BundleFault, MAX_BUNDLE_LEN, read_bundle};
 

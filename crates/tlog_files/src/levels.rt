@@ -5,7 +5,7 @@ ghost use Rattle.tlog_hash.specs.Tree.{fold_of, leaf_hash, mth};
 ghost use Rattle.tlog_files.specs.Layout.{AreFullRows, AreRowsOver, IsRootOver};
 
 use std::alloc::{AllocError, Global};
-use tlog_hash::{fold, Hash, TreeHash};
+use tlog_hash::{Hash, TreeHash, fold};
 use tlog_tiles::write_row;
 
 fn leaf_hashes<H: TreeHash>(alloc: Global, entries: &[&[u8]]) -> Result<Vec<Hash>, AllocError>

@@ -1,6 +1,6 @@
 //! The numbers of trees and tiles (`tlog_shape`), worked out by hand.
 
-use tlog_shape::{edge_index, edge_width, split, top_level, MAX_SIZE};
+use tlog_shape::{MAX_SIZE, edge_index, edge_width, split, top_level};
 
 const SPLITS: [(u64, u64); 5] = [
     (2, 1),
