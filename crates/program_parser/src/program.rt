@@ -1,4 +1,4 @@
-//! Makes the parser of the program of command lines.
+//! Makes the parser of the program from the command lines of commands.
 ghost use Rattle.std.specs.Prelude.{IfOk, map};
 ghost use Rattle.clap.specs.Words.{App, with_subcommand};
 ghost use Rattle.program_parser.specs.Parser.{IsParserOf, line_app};
