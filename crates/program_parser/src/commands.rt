@@ -1,15 +1,64 @@
-//! Reads the command of a name.
+//! The list of the commands: the parser of all of them, and the reader of each.
+ghost use Rattle.std.specs.Prelude.{IfOk};
 ghost use Rattle.clap.specs.Words.{found_of, rows_of};
 ghost use Rattle.program_words.specs.Refusals.{JudgesPart};
 ghost use Rattle.program_words.specs.Readings.{IsSaid};
+ghost use Rattle.program_parser.specs.Parser.{IsParserOf};
+ghost use Rattle.program_parser.specs.Program.{first_app, mirror_app, second_app};
 
+use crate::program::{program_parser, with_commands};
 use clap::ArgMatches;
 use program_words::commands::{
     audit, build, check, compare, entries, export, follow, forks, merge, missing, notes, prove,
     pull, root, serve, status, take,
 };
 use program_words::{BadWord, Command, Refusals};
-use std::alloc::Global;
+use std::alloc::{AllocError, Global};
+
+// The parser of the program, with the first of its commands: in three parts they are checked in less time than at once.
+fn first_parser<'a>(alloc: Global) -> Result<clap::Command<'a>, AllocError>
+    ensures { IfOk result (IsParserOf first_app) }
+{
+    // Arrays in the bodies, not constants: for one of all of them the checker reaches its limit, and three take it longer.
+    let lines = [
+        &root::LINE,
+        &check::LINE,
+        &build::LINE,
+        &take::LINE,
+        &merge::LINE,
+        &pull::LINE,
+    ];
+    with_commands(alloc, program_parser(alloc), &lines)
+}
+
+// The same with the next commands.
+fn second_parser<'a>(alloc: Global) -> Result<clap::Command<'a>, AllocError>
+    ensures { IfOk result (IsParserOf second_app) }
+{
+    let lines = [
+        &follow::LINE,
+        &audit::LINE,
+        &status::LINE,
+        &missing::LINE,
+        &forks::LINE,
+        &compare::LINE,
+    ];
+    with_commands(alloc, first_parser(alloc), &lines)
+}
+
+/// The parser of the program's command line.
+pub(crate) fn parser<'a>(alloc: Global) -> Result<clap::Command<'a>, AllocError>
+    ensures { IfOk result (IsParserOf mirror_app) }
+{
+    let lines = [
+        &prove::LINE,
+        &entries::LINE,
+        &export::LINE,
+        &notes::LINE,
+        &serve::LINE,
+    ];
+    with_commands(alloc, second_parser(alloc), &lines)
+}
 
 /// Reads the command of this name from its options.
 pub(crate) fn command_of<'a>(

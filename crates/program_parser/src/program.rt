@@ -1,13 +1,12 @@
-//! Makes the parser of the program of the command lines of all commands.
+//! Makes the parser of the program from the command lines of commands.
 ghost use Rattle.std.specs.Prelude.{IfOk, map};
 ghost use Rattle.clap.specs.Words.{App, with_subcommand};
 ghost use Rattle.program_parser.specs.Parser.{IsParserOf, line_app};
 ghost use Rattle.program_parser.specs.Program.{named_app, program_app, with_commands};
-ghost use Rattle.program_parser.specs.Program.{first_app, mirror_app, second_app};
 
 use crate::parser::parser_of;
 use program_words::CommandLine;
-use program_words::commands::{FIRST_LINES, LAST_LINES, PROGRAM, SECOND_LINES, VERSION};
+use program_words::commands::{PROGRAM, VERSION};
 use std::alloc::{AllocError, Global};
 
 // The parser of the program, with its name, its help and its version.
@@ -20,8 +19,8 @@ fn named_parser<'a>(alloc: Global) -> Result<clap::Command<'a>, AllocError>
         .bin_name("tlogmirror")
 }
 
-// The parser of the program, without commands.
-fn program_parser<'a>(alloc: Global) -> Result<clap::Command<'a>, AllocError>
+/// The parser of the program, without commands.
+pub(crate) fn program_parser<'a>(alloc: Global) -> Result<clap::Command<'a>, AllocError>
     ensures { IfOk result (IsParserOf program_app) }
 {
     let program = named_parser(alloc)?
@@ -53,8 +52,8 @@ fn with_command<'a>(
     }
 }
 
-// The parser with these subcommands, in order, unless it is an error.
-fn with_commands<'a>(
+/// The parser with these subcommands, in order, unless it is an error.
+pub(crate) fn with_commands<'a>(
     alloc: Global,
     parser: Result<clap::Command<'a>, AllocError>,
     lines: &[&CommandLine<'a>],
@@ -67,25 +66,4 @@ fn with_commands<'a>(
         made = with_command(alloc, made, line);
     }
     made
-}
-
-// The parser of the program, with the first of its commands: in three parts they are checked in less time than at once.
-fn first_parser<'a>(alloc: Global) -> Result<clap::Command<'a>, AllocError>
-    ensures { IfOk result (IsParserOf first_app) }
-{
-    with_commands(alloc, program_parser(alloc), FIRST_LINES)
-}
-
-// The same with the next commands.
-fn second_parser<'a>(alloc: Global) -> Result<clap::Command<'a>, AllocError>
-    ensures { IfOk result (IsParserOf second_app) }
-{
-    with_commands(alloc, first_parser(alloc), SECOND_LINES)
-}
-
-/// The parser of the program's command line.
-pub(crate) fn parser<'a>(alloc: Global) -> Result<clap::Command<'a>, AllocError>
-    ensures { IfOk result (IsParserOf mirror_app) }
-{
-    with_commands(alloc, second_parser(alloc), LAST_LINES)
 }

@@ -8,8 +8,7 @@ ghost use Rattle.program_parser.specs.Readings.{IsMatched, Reads, ReadsKeyFile, 
 ghost use Rattle.program_words.specs.Readings.{IsSaid};
 ghost use Rattle.program_parser.specs.Lines.{IsLine};
 
-use crate::commands::command_of;
-use crate::program::parser;
+use crate::commands::{command_of, parser};
 use clap::ArgMatches;
 use clap::error::ErrorKind;
 use program_words::{BadWord, Command, CommandFault, Refusals, has_flag, judged};

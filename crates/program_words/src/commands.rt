@@ -17,7 +17,6 @@ pub mod serve;
 pub mod status;
 pub mod take;
 
-use crate::line::CommandLine;
 use crate::parts::{CopyArgs, StateArgs};
 
 /// The version of the program, for `-V` and `--version`.
@@ -80,36 +79,6 @@ And of any: Collision, two different strings share a digest, so keep the state a
 WriteFault, standard output could not be written, and a part may have been; OutOfMemory.
 
 Documents: README.md; docs/OPERATING.md, with each fault and what to do; docs/FORMATS.md.";
-
-/// The command lines of the first commands, in the order in which the parser lists them. They stand in three lists: for one of
-/// all of them the checker reaches its limit.
-pub const FIRST_LINES: &[&CommandLine<'static>] = &[
-    &root::LINE,
-    &check::LINE,
-    &build::LINE,
-    &take::LINE,
-    &merge::LINE,
-    &pull::LINE,
-];
-
-/// The command lines of the next commands.
-pub const SECOND_LINES: &[&CommandLine<'static>] = &[
-    &follow::LINE,
-    &audit::LINE,
-    &status::LINE,
-    &missing::LINE,
-    &forks::LINE,
-    &compare::LINE,
-];
-
-/// The command lines of the last commands.
-pub const LAST_LINES: &[&CommandLine<'static>] = &[
-    &prove::LINE,
-    &entries::LINE,
-    &export::LINE,
-    &notes::LINE,
-    &serve::LINE,
-];
 
 /// A command with its options.
 #[derive(Drop)]
