@@ -1,5 +1,5 @@
 mod Doable
 mod MadeKeys
-mod Keyed
+pub mod Keyed
 mod Signers
 mod PulledStates

@@ -53,13 +53,6 @@ no_lines fault = Err fault
 abbrev pub no_name : CommandFault → Result (Option (List ℕ)) CommandFault
 no_name fault = Err fault
 
--- the meaning of each answer of the finder of the key file's name for the words
-abbrev pub NamesKeyFile : List (List ℕ) → Result (Option (List ℕ)) RunFault → Type 0
-NamesKeyFile words (Ok name) = ReadsKeyFile words (Ok name)
-NamesKeyFile words (Err (Command fault)) = ReadsKeyFile words (no_name fault)
-NamesKeyFile words (Err OutOfMemory) = ⊤
-NamesKeyFile words (Err other) = ⊥
-
 -- the result of a file that was not read
 abbrev pub no_bytes : NamedFault → Result (List ℕ) NamedFault
 no_bytes fault = Err fault

@@ -8,7 +8,7 @@ use program_words::{BadWord, CommandFault};
 use std::alloc::Global;
 
 /// The answer of a run. It also writes a line on the fault if the words ask for it.
-pub(crate) fn printed<C: RunEnv>(
+pub fn printed<C: RunEnv>(
     env: &mut C,
     asked: bool,
     answer: Result<u8, Error>,
@@ -30,7 +30,7 @@ pub(crate) fn printed<C: RunEnv>(
 }
 
 /// The words are those of no command, and this word is bad.
-pub(crate) fn refused(alloc: Global, bad: Option<BadWord>, fault: CommandFault) -> Error
+pub fn refused(alloc: Global, bad: Option<BadWord>, fault: CommandFault) -> Error
     ensures { result ≡ RunFault.Command fault }
 {
     let why = match bad {

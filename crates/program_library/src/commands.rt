@@ -101,20 +101,8 @@ where
     }
 }
 
-impl<
-    'r,
-    'i,
-    'o,
-    'e,
-    R,
-    F: RunFiles,
-    D: RunFolders,
-    I: Read + Failing,
-    O: Write + Failing,
-    E: Write,
-> WatchedEnv for Env<'r, 'i, 'o, 'e, R, F, D, I, O, E>
-where
-    R: Files + Clock + Eprint + Net<Stream = TcpStream, Listener = TcpListener>,
+impl<'r, 'i, 'o, 'e, R, F, D, I: Failing, O: Failing, E> WatchedEnv
+    for Env<'r, 'i, 'o, 'e, R, F, D, I, O, E>
 {
     fn failed_streams(&self) -> FailedStreams {
         FailedStreams {

@@ -10,16 +10,15 @@
 mod answers;
 mod commands;
 mod ending;
-mod given;
 mod keys;
 mod laws;
 mod run_env;
 mod running;
 mod system;
 
+pub use answers::{printed, refused};
 pub use ending::{Message, ProgramEnd, Stream, ending_of, print_ending};
-pub use given::run_words;
-pub use keys::{Keys, key_file};
+pub use keys::Keys;
 pub use laws::{pulled_state_law, signing_key_law};
 pub use program_env::{Env, RunFault};
 pub use program_streams::{CheckFault, RootFault, run_check, run_root};

@@ -58,8 +58,9 @@ pub trait RunEnv {
         ensures moment { moment self.new ≡ moment self.old };
 }
 
-/// An environment that keeps why a standard stream failed.
-pub trait WatchedEnv: RunEnv {
+/// An environment that keeps why a standard stream failed. It does not stand on `RunEnv`: what it needs of an `Env` would be checked
+/// twice for each call of `run`.
+pub trait WatchedEnv {
     /// The failures of the standard streams.
     fn failed_streams(&self) -> FailedStreams;
 }

@@ -30,7 +30,7 @@ use signed_note::Verifier;
 /// evidence last.
 ///
 /// With `--why`, one line on `errors` names the thing that the fault is about. It includes what the system said of a stream.
-pub fn run<C: WatchedEnv>(env: &mut C, words: &[String]) -> Result<u8, RunFault>
+pub fn run<C: RunEnv + WatchedEnv>(env: &mut C, words: &[String]) -> Result<u8, RunFault>
     ensures same { (C.input env.new ≡ C.input env.old) × (C.output env.new ≡ C.output env.old)
         × (C.errors env.new ≡ C.errors env.old) }
     ensures answer { RunsKeyed sha256 (map string_bytes words.now)

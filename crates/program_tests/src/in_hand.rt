@@ -1,5 +1,5 @@
 //! Commands with given keys, which no run of the program shows.
-use program_library::run_words;
+use program_calls::run_words;
 use std::alloc::{AllocError, Global};
 use std::process::Abort;
 use std::test::Fail;

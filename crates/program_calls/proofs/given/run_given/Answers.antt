@@ -2,7 +2,7 @@ use Rattle.std.proofs.Common.{◌∙◌, inl, map, refl}
 use Rattle.std.specs.Prelude.{string_bytes}
 use Rattle.program_library.proofs.Keyed.{line_doable}
 use Rattle.program_whys.proofs.Written.{keeps_itself}
-use Rattle.program_library.proofs.given.run_given.Goals as goal
+use Rattle.program_calls.proofs.given.run_given.Goals as goal
 
 pub obey-answer-requires : goal.obey-answer-requires
 obey-answer-requires g c = line_doable (map string_bytes c.args.words.now) c.in-Ok.line c.in-Ok.ensures.line

@@ -1,4 +1,4 @@
-use Rattle.program_library.proofs.given.run_words.Goals as goal
+use Rattle.program_calls.proofs.given.run_words.Goals as goal
 
 pub returns-clause-answer : goal.returns-clause-answer
 returns-clause-answer g c = c.run_words_on.ensures.answer.2

@@ -1,5 +1,5 @@
 use Rattle.std.proofs.Common.{rules, ◌≡◌}
-use Rattle.program_library.proofs.given.run_words_on.Goals as goal
+use Rattle.program_calls.proofs.given.run_words_on.Goals as goal
 
 pub returns-clause-answer : goal.returns-clause-answer
 returns-clause-answer g c =

@@ -9,12 +9,9 @@ ghost use Rattle.program_env.specs.Performing.{Ends};
 ghost use Rattle.program_library.specs.Runs.{Runs};
 ghost use Rattle.program_env.specs.Works.{IsStatus};
 
-use crate::answers::{printed, refused};
-use crate::keys::Keys;
-use crate::run_env::RunEnv;
-use crate::system::system_folders;
 use program_env::{Env, Error, RunFault};
 use program_files::SystemFiles;
+use program_library::{Keys, RunEnv, printed, refused, system_folders};
 use program_parser::{Line, read_line};
 use program_whys::why::FailedStreams;
 use program_whys::{RunFiles, RunFolders};
@@ -59,12 +56,8 @@ where
 {
     let files = SystemFiles::new(rt, alloc);
     let folders = system_folders(rt, alloc);
-    let keys = Keys {
-        bytes: key_bytes,
-        verifiers: keys,
-    };
     run_words_on(
-        rt, alloc, files, folders, &keys, words, input, output, errors,
+        rt, alloc, files, folders, key_bytes, keys, words, input, output, errors,
     )
 }
 
@@ -75,7 +68,8 @@ fn run_words_on<R, F: RunFiles + Drop, D: RunFolders + Drop, I: Read, O: Write, 
     alloc: Global,
     files: F,
     folders: D,
-    keys: &Keys<'_>,
+    key_bytes: &[u8],
+    keys: &[Box<dyn Verifier>],
     words: &[String],
     input: &mut I,
     output: &mut O,
@@ -84,7 +78,7 @@ fn run_words_on<R, F: RunFiles + Drop, D: RunFolders + Drop, I: Read, O: Write, 
 where
     R: Files + Clock + Eprint + Net<Stream = TcpStream, Listener = TcpListener>,
     ensures answer { (left : F) × (left_folders : D) × Runs sha256
-        (map (λ k. key k) keys.now.verifiers.now) keys.now.bytes.now (map string_bytes words.now)
+        (map (λ k. key k) keys.now) key_bytes.now (map string_bytes words.now)
         (seen_of F.puts D.held D.puts files folders (I.remaining input.old)
         (O.contents output.old))
         (seen_of F.puts D.held D.puts left left_folders (I.remaining input.new)
@@ -102,16 +96,21 @@ where
         output,
         errors,
     };
-    let answer = run_given(&mut env, keys, words);
+    let answer = run_given(&mut env, key_bytes, keys, words);
     env.let_go();
     answer
 }
 
 // Runs the same over any environment.
-fn run_given<C: RunEnv>(env: &mut C, keys: &Keys<'_>, words: &[String]) -> Result<u8, RunFault>
+fn run_given<C: RunEnv>(
+    env: &mut C,
+    key_bytes: &[u8],
+    keys: &[Box<dyn Verifier>],
+    words: &[String],
+) -> Result<u8, RunFault>
     ensures same { (C.input env.new ≡ C.input env.old) × (C.output env.new ≡ C.output env.old)
         × (C.errors env.new ≡ C.errors env.old) }
-    ensures answer { Runs sha256 (map (λ k. key k) keys.now.verifiers.now) keys.now.bytes.now
+    ensures answer { Runs sha256 (map (λ k. key k) keys.now) key_bytes.now
         (map string_bytes words.now) (C.moment env.old) (C.moment env.new) result }
     ensures status { IfOk result IsStatus }
     ensures quiet { IfErr result (λ fault. (¬ IsWriteFault fault)
@@ -120,7 +119,7 @@ fn run_given<C: RunEnv>(env: &mut C, keys: &Keys<'_>, words: &[String]) -> Resul
     match read_line(env.alloc(), words) {
         Ok(line) => {
             let asked = line.why;
-            let answer = obey(env, keys, line);
+            let answer = obey(env, key_bytes, keys, line);
             printed(env, asked, answer, FailedStreams::none())
         }
         Err(fault) => Err(RunFault::Command(fault)),
@@ -128,19 +127,30 @@ fn run_given<C: RunEnv>(env: &mut C, keys: &Keys<'_>, words: &[String]) -> Resul
 }
 
 // Runs the command of the line.
-fn obey<C: RunEnv>(env: &mut C, keys: &Keys<'_>, line: Line<'_>) -> Result<u8, Error>
+fn obey<C: RunEnv>(
+    env: &mut C,
+    key_bytes: &[u8],
+    keys: &[Box<dyn Verifier>],
+    line: Line<'_>,
+) -> Result<u8, Error>
     requires { IfOk line.command IsDoable }
     ensures same { (C.input env.new ≡ C.input env.old) × (C.output env.new ≡ C.output env.old)
         × (C.errors env.new ≡ C.errors env.old) }
     ensures runs { (words : List (List ℕ)) → IsLine words line.entry → Runs sha256
-        (map (λ k. key k) keys.now.verifiers.now) keys.now.bytes.now words (C.moment env.old)
+        (map (λ k. key k) keys.now) key_bytes.now words (C.moment env.old)
         (C.moment env.new) result }
     ensures ends { Ends (C.moment env.old).output (C.moment env.new).output result }
 {
     let bad = line.bad;
     let asked = line.command;
     match asked {
-        Ok(command) => env.run_command(keys, &command),
+        Ok(command) => {
+            let keys = Keys {
+                bytes: key_bytes,
+                verifiers: keys,
+            };
+            env.run_command(&keys, &command)
+        }
         Err(fault) => Err(refused(env.alloc(), bad, fault)),
     }
 }
