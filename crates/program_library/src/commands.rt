@@ -39,60 +39,38 @@ where
     }
 
     fn run_command(&mut self, keys: &Keys<'_>, command: &Command<'_>) -> Result<u8, Error> {
+        // Read once: each read in an arm costs the checker as much as the call.
+        let (bytes, verifiers) = (keys.bytes, keys.verifiers);
         match command {
-            Command::Root(root) => root::run(self, keys.bytes, keys.verifiers, root),
-            Command::Check => check::run(self, keys.bytes, keys.verifiers),
-            Command::Build(build) => build::run(self, keys.bytes, keys.verifiers, build),
-            Command::Take(take) => take::run(self, keys.bytes, keys.verifiers, take),
-            Command::Merge(merge) => merge::run(self, keys.bytes, keys.verifiers, merge),
-            Command::Pull(pull) => pull::run(self, keys.bytes, keys.verifiers, pull),
-            Command::Follow(follow) => follow::run(self, keys.bytes, keys.verifiers, follow),
-            Command::Audit(audit) => audit::run(self, keys.bytes, keys.verifiers, audit),
-            Command::Status(status) => status::run(self, keys.bytes, keys.verifiers, status),
+            Command::Root(root) => root::run(self, bytes, verifiers, root),
+            Command::Check => check::run(self, bytes, verifiers),
+            Command::Build(build) => build::run(self, bytes, verifiers, build),
+            Command::Take(take) => take::run(self, bytes, verifiers, take),
+            Command::Merge(merge) => merge::run(self, bytes, verifiers, merge),
+            Command::Pull(pull) => pull::run(self, bytes, verifiers, pull),
+            Command::Follow(follow) => follow::run(self, bytes, verifiers, follow),
+            Command::Audit(audit) => audit::run(self, bytes, verifiers, audit),
+            Command::Status(status) => status::run(self, bytes, verifiers, status),
             Command::CopyStatus(status) => copy_commands::status::run(
-                self,
-                keys.bytes,
-                keys.verifiers,
-                status,
+                self, bytes, verifiers, status,
             ),
-            Command::Missing(missing) => missing::run(self, keys.bytes, keys.verifiers, missing),
-            Command::Forks(forks) => forks::run(self, keys.bytes, keys.verifiers, forks),
-            Command::Compare(compare) => compare::run(self, keys.bytes, keys.verifiers, compare),
+            Command::Missing(missing) => missing::run(self, bytes, verifiers, missing),
+            Command::Forks(forks) => forks::run(self, bytes, verifiers, forks),
+            Command::Compare(compare) => compare::run(self, bytes, verifiers, compare),
             Command::CopyCompare(compare) => copy_commands::compare::run(
-                self,
-                keys.bytes,
-                keys.verifiers,
-                compare,
+                self, bytes, verifiers, compare,
             ),
-            Command::Prove(prove) => prove::run(self, keys.bytes, keys.verifiers, prove),
-            Command::CopyProve(prove) => copy_commands::prove::run(
-                self,
-                keys.bytes,
-                keys.verifiers,
-                prove,
-            ),
-            Command::Entries(entries) => entries::run(self, keys.bytes, keys.verifiers, entries),
+            Command::Prove(prove) => prove::run(self, bytes, verifiers, prove),
+            Command::CopyProve(prove) => copy_commands::prove::run(self, bytes, verifiers, prove),
+            Command::Entries(entries) => entries::run(self, bytes, verifiers, entries),
             Command::CopyEntries(entries) => copy_commands::entries::run(
-                self,
-                keys.bytes,
-                keys.verifiers,
-                entries,
+                self, bytes, verifiers, entries,
             ),
-            Command::Export(export) => export::run(self, keys.bytes, keys.verifiers, export),
-            Command::Update(update) => export::run_with_update(
-                self,
-                keys.bytes,
-                keys.verifiers,
-                update,
-            ),
-            Command::Notes(notes) => notes::run(self, keys.bytes, keys.verifiers, notes),
-            Command::Serve(serve) => serve::run(self, keys.bytes, keys.verifiers, serve),
-            Command::CopyServe(serve) => copy_commands::serve::run(
-                self,
-                keys.bytes,
-                keys.verifiers,
-                serve,
-            ),
+            Command::Export(export) => export::run(self, bytes, verifiers, export),
+            Command::Update(update) => export::run_with_update(self, bytes, verifiers, update),
+            Command::Notes(notes) => notes::run(self, bytes, verifiers, notes),
+            Command::Serve(serve) => serve::run(self, bytes, verifiers, serve),
+            Command::CopyServe(serve) => copy_commands::serve::run(self, bytes, verifiers, serve),
         }
     }
 
@@ -102,8 +80,7 @@ where
 }
 
 impl<'r, 'i, 'o, 'e, R, F, D, I: Failing, O: Failing, E> WatchedEnv
-    for Env<'r, 'i, 'o, 'e, R, F, D, I, O, E>
-{
+    for Env<'r, 'i, 'o, 'e, R, F, D, I, O, E> {
     fn failed_streams(&self) -> FailedStreams {
         FailedStreams {
             input: self.input.last_failed(),
