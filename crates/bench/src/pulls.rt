@@ -2,7 +2,7 @@
 use crate::clock::{now, report_since, resident_bytes, tell};
 use crate::list::{entries_of, hash_tree, source_of};
 use mirror_pull::{PullFault, Pulled, pull};
-use mirror_sources::ListSource;
+use list_source::ListSource;
 use signed_note::Verifier;
 use std::alloc::{AllocError, Global};
 use std::rt::Files;

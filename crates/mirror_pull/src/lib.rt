@@ -19,5 +19,5 @@ pub use fault::PullFault;
 pub use laws::{
     fetched_once_law, front_round_law, front_rounds_law, no_round_law, pull_growth_law,
 };
-pub use mirror_sources::{ListSource, Source, SourceFault};
+pub use mirror_sources::{Source, SourceFault};
 pub use pulling::{Pulled, pull};

@@ -3,4 +3,3 @@ pub mod Source
 pub mod Files
 pub mod Replies
 pub mod Honest
-pub mod ListSource

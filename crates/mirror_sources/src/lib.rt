@@ -4,15 +4,11 @@
 //! requested and how often a get failed. They also define an honest source.
 //!
 //! ```text
-//! let mut source: ListSource<Sha256Tree> = ListSource::new(alloc, "ex", entries, key)?;
-//! source.get(&Path::Checkpoint)?;                        // a note of the whole list, signed by the key
-//! source.get(&Path::Entries { index: 0, width: 3 })?;    // the bundle of the first three entries
+//! source.get(&Path::Checkpoint)?;                        // the note, or None
+//! source.get(&Path::Entries { index: 0, width: 3 })?;    // the bundle of the first three entries, or None
 //! ```
 #![tactic(auto)]
 
-mod head;
-mod list;
 mod source;
 
-pub use list::ListSource;
 pub use source::{Source, SourceFault};

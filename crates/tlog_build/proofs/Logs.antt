@@ -9,7 +9,7 @@ use Rattle.mirror_model.specs.Refusals.{ReadsHead}
 use Rattle.mirror_model.specs.declared.fault.TakeFault.{TakeFault}
 use Rattle.mirror_pull.specs.Answering.{of_take}
 use Rattle.mirror_pull.proofs.HeadsRead.{read_fault}
-use Rattle.mirror_sources.specs.ListSource.{IsHonestAnywhere}
+use Rattle.list_source.specs.ListSource.{IsHonestAnywhere}
 use Rattle.mirror_sources.specs.Recorded.{KeepsRecord}
 use Rattle.mirror_pull.specs.declared.fault.PullFault.{PullFault}
 use Rattle.mirror_pull.specs.declared.fault.PullFault.TheVariants as pull

@@ -5,7 +5,7 @@ use Rattle.signed_note.specs.Keys.{Key}
 use Rattle.tlog_hash.specs.Tree.{mth}
 use Rattle.tlog_tiles.specs.declared.paths.Path.TheVariants.{Checkpoint}
 use Rattle.mirror_model.specs.Origin.{IsOrigin}
-use Rattle.mirror_sources.specs.ListSource.{OpensAnywhere}
+use Rattle.list_source.specs.ListSource.{OpensAnywhere}
 use Rattle.mirror_sources.specs.Recorded.{KeepsRecord, AddsToRecord}
 use Rattle.mirror_folders.specs.Shelf.{Put, RecordsNone, RecordsSome}
 use Rattle.log_paths.specs.Files.{paths_of, files_at}

@@ -14,7 +14,7 @@ use crate::putting::put_files;
 use mirror_export::ExportFault;
 use mirror_folders::Shelf;
 use mirror_pull::PullFault;
-use mirror_sources::ListSource;
+use list_source::ListSource;
 use note_keys::HmacKey;
 use signed_note::Verifier;
 use std::alloc::Global;

@@ -9,7 +9,7 @@ ghost use Rattle.tlog_build.specs.Building.{PutsFiles};
 use log_paths::{files_law, log_paths};
 use mirror_export::ExportFault;
 use mirror_folders::{Shelf, ShelfError};
-use mirror_sources::ListSource;
+use list_source::ListSource;
 use std::alloc::Global;
 use tlog_hash::TreeHash;
 use tlog_tiles::Path;

@@ -1,5 +1,5 @@
 use Rattle.std.proofs.Common.{◌≡◌, map, take}
-use Rattle.mirror_sources.proofs.list.lent_entries.Given as goal
+use Rattle.list_source.proofs.list.lent_entries.Given as goal
 
 -- the entries up to here are borrowed
 abbrev pub invariant-loop-entry : goal.invariant-loop-entry

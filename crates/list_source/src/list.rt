@@ -3,10 +3,10 @@ ghost use Rattle.std.specs.Prelude.{◌≡◌, [], map, IfOk, option_map};
 ghost use Rattle.note_keys.specs.Keys.{secret_key};
 ghost use Rattle.mirror_model.specs.Origin.{IsOrigin};
 ghost use Rattle.mirror_model.specs.TrueLaws.{AreShort};
-ghost use Rattle.mirror_sources.specs.ListSource.{IsListAnswer, IsHonestAnywhere};
+ghost use Rattle.list_source.specs.ListSource.{IsListAnswer, IsHonestAnywhere};
 
 use crate::head::head_note;
-use crate::source::{Source, SourceFault};
+use mirror_sources::{Source, SourceFault};
 use note_keys::HmacKey;
 use std::alloc::{AllocError, Global};
 use std::marker::Model;
@@ -34,7 +34,7 @@ pub struct ListSource<H: TreeHash> {
 }
 
 impl<H: TreeHash> Model for ListSource<H> {
-    ghost use Rattle.mirror_sources.specs.ListSource.{AskedLog};
+    ghost use Rattle.list_source.specs.ListSource.{AskedLog};
 
     ghost Value = { AskedLog };
 
@@ -114,7 +114,7 @@ impl<H: TreeHash> ListSource<H> {
 
 impl<H: TreeHash> Source for ListSource<H> {
     ghost use Rattle.std.specs.Prelude.{Some};
-    ghost use Rattle.mirror_sources.specs.ListSource.{IsListAnswer};
+    ghost use Rattle.list_source.specs.ListSource.{IsListAnswer};
 
     ghost may_answer = { λ s. IsListAnswer H.digest s.entries s.note };
 

@@ -12,7 +12,7 @@ use Rattle.mirror_model.specs.Heads.{IsOpenHead}
 use Rattle.mirror_model.specs.TrueLaws.{AreShort}
 use Rattle.mirror_sources.specs.Honest.{true_bytes, IsTrueAnswer}
 use Rattle.std.specs.Prelude.{IfSome, IfNone}
-use Rattle.mirror_sources.specs.ListSource.{IsPartAnswer, IsListAnswer, IsHonestAnywhere, OpensAnywhere}
+use Rattle.list_source.specs.ListSource.{IsPartAnswer, IsListAnswer, IsHonestAnywhere, OpensAnywhere}
 
 module _ (digest : List ℕ → List ℕ) (entries : List (List ℕ)) where
   true_answer : (path : Path) → IsWithin (length entries) path → (answer : Option (List ℕ)) →

@@ -2,9 +2,9 @@ use Rattle.std.proofs.Common.{All, ℕ, List, ◌<◌, ◌^◌, map, length, ap,
 use Rattle.note_keys.specs.Keys.{secret_key}
 use Rattle.tlog_hash.specs.Tree.{mth}
 use Rattle.mirror_model.specs.TrueLaws.{AreShort}
-use Rattle.mirror_sources.specs.ListSource.{OpensAnywhere}
-use Rattle.mirror_sources.proofs.Answering.{honest, all_of_map}
-use Rattle.mirror_sources.proofs.list.ListSource.new.Goals as goal
+use Rattle.list_source.specs.ListSource.{OpensAnywhere}
+use Rattle.list_source.proofs.Answering.{honest, all_of_map}
+use Rattle.list_source.proofs.list.ListSource.new.Goals as goal
 
 pub new-requires : goal.new-requires
 new-requires g c = record {

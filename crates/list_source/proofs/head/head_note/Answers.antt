@@ -2,8 +2,8 @@ use Rattle.std.proofs.Common.{◌≡◌, [], map, string_bytes, ap, ◌∙◌, s
 use Rattle.tlog_checkpoint.specs.Grammar.{IsCheckpoint}
 use Rattle.note_keys.specs.Keys.{secret_key}
 use Rattle.note_keys.specs.Signing.{signed_line}
-use Rattle.mirror_sources.proofs.Texts.{origin_line, checkpoint_text, opens_more}
-use Rattle.mirror_sources.proofs.head.head_note.Goals as goal
+use Rattle.list_source.proofs.Texts.{origin_line, checkpoint_text, opens_more}
+use Rattle.list_source.proofs.head.head_note.Goals as goal
 
 pub write-requires : goal.write-requires
 write-requires c = record {

@@ -2,7 +2,7 @@
 ghost use Rattle.std.specs.Prelude.{◌≤◌, IfOk};
 ghost use Rattle.note_keys.specs.Keys.{secret_key};
 ghost use Rattle.mirror_model.specs.Origin.{IsOrigin};
-ghost use Rattle.mirror_sources.specs.ListSource.{OpensAnywhere};
+ghost use Rattle.list_source.specs.ListSource.{OpensAnywhere};
 
 use note_keys::{HmacKey, sign};
 use std::alloc::{AllocError, Global};
