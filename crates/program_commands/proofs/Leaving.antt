@@ -6,7 +6,7 @@ use Rattle.mirror_model.specs.View.{View}
 use Rattle.program_files.specs.Named.{NamedFile}
 use Rattle.program_commands.specs.Takes.{LeavesTaken, MakesTaken, TakesHeld}
 use Rattle.program_files.specs.declared.fault.NamedFault.{NamedFault}
-use Rattle.program_commands.specs.States.{BeginsWith, OpensFile}
+use Rattle.program_states.specs.States.{BeginsWith, OpensFile}
 use Rattle.program_commands.specs.NoteFiles.{HasHeads, HeadNote, files_of}
 use Rattle.program_commands.specs.Notes.{PutsHeads, PutsNotes, Reorders, WritesNotes, WritesThese, notes_put, notes_stopped}
 use Rattle.program_commands.specs.declared.fault.NotesFault.{NotesFault}

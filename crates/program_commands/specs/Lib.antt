@@ -1,7 +1,5 @@
 pub mod Answers
-pub mod States
 pub mod Gained
-pub mod Saved
 pub mod Takes
 pub mod Merges
 pub mod Exported

@@ -8,7 +8,7 @@ use Rattle.mirror_model.specs.View.{View}
 use Rattle.program_files.specs.Named.{NamedFile}
 use Rattle.program_commands.specs.Answers.{failed}
 use Rattle.program_files.specs.Named.{FailsToPut}
-use Rattle.program_commands.specs.States.{OpensFile, WritesState}
+use Rattle.program_states.specs.States.{OpensFile, WritesState}
 use Rattle.program_commands.specs.declared.fault.MergeFilesFault.{MergeFilesFault}
 use Rattle.program_commands.specs.declared.fault.MergeFilesFault.TheVariants.{First, Second, Merge}
 use Rattle.program_commands.specs.declared.fault.MergeFilesFault.TheVariants.{Out}

@@ -9,7 +9,7 @@ use Rattle.program_files.specs.Named.{NamedFile}
 use Rattle.program_commands.specs.NoteFiles.{HeadNote, HasHeads, files_of}
 use Rattle.program_files.specs.Named.{RecordsFault, contents_of}
 use Rattle.program_files.specs.declared.named.TheConstants.{MAX_FILE_LEN}
-use Rattle.program_commands.specs.States.{OpensFile}
+use Rattle.program_states.specs.States.{OpensFile}
 use Rattle.program_files.specs.declared.fault.NamedFault.{NamedFault}
 use Rattle.program_files.specs.declared.fault.NamedFault.TheVariants as named
 use Rattle.program_commands.specs.declared.fault.NotesFault.{NotesFault}

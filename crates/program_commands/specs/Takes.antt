@@ -12,7 +12,7 @@ use Rattle.tlog_mirror.specs.Judged.{JudgesItem}
 use Rattle.program_files.specs.Named.{NamedFile}
 use Rattle.program_commands.specs.Answers.{done, failed}
 use Rattle.program_files.specs.Named.{FailsToPut, FailsToRead, HasContents, HaveContents}
-use Rattle.program_commands.specs.States.{BeginsWith, WritesState}
+use Rattle.program_states.specs.States.{BeginsWith, WritesState}
 use Rattle.program_commands.specs.declared.item.ItemFiles.{ItemFiles}
 use Rattle.program_commands.specs.declared.item.ItemFiles.TheVariants.{Head, Tile, Bundle}
 use Rattle.program_commands.specs.declared.fault.TakeFilesFault.{TakeFilesFault}

@@ -9,7 +9,7 @@ use Rattle.mirror_export.specs.declared.fault.UpdateFault.{UpdateFault}
 use Rattle.mirror_export.specs.declared.fault.UpdateFault.TheVariants.{NothingComplete}
 use Rattle.program_files.specs.Named.{NamedFile}
 use Rattle.program_commands.specs.Answers.{done, failed}
-use Rattle.program_commands.specs.States.{OpensFile}
+use Rattle.program_states.specs.States.{OpensFile}
 use Rattle.program_commands.specs.declared.fault.UpdateFileFault.{UpdateFileFault}
 use Rattle.program_commands.specs.declared.fault.UpdateFileFault.TheVariants.{State, OutOfMemory}
 use Rattle.program_commands.specs.declared.fault.UpdateFileFault.TheVariants.{Update}

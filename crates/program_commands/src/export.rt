@@ -3,13 +3,13 @@ ghost use Rattle.std.specs.Prelude.{ℕ, List, Option, map};
 ghost use Rattle.signed_note.specs.Keys.{Key};
 ghost use Rattle.program_files.specs.Named.{NamedFile};
 ghost use Rattle.program_commands.specs.Exported.{CountsFileExport, ExportsFile};
-ghost use Rattle.program_commands.specs.States.{OpensFile};
+ghost use Rattle.program_states.specs.States.{OpensFile};
 
 use crate::fault::ExportFileFault;
-use crate::state::open_state;
 use mirror_export::export;
 use mirror_progress::CountedFolders;
 use program_files::NamedFiles;
+use program_states::open_state;
 use signed_note::Verifier;
 use std::alloc::Global;
 use tlog_hash::TreeHash;

@@ -1,23 +1,9 @@
 //! Why a command over named files is not done.
 use mirror_export::{ExportFault, UpdateFault};
-use mirror_state::LoadFault;
 use program_files::NamedFault;
+use program_states::StateFault;
 use thiserror::Error;
-use tlog_mirror::{MergeFault, NewFault, TakeFault};
-
-/// Why a state file gave no mirror. It prints the name of the innermost variant.
-#[derive(Debug, Drop, Clone, Copy, Error)]
-pub enum StateFault {
-    /// The origin is invalid.
-    #[error(transparent)]
-    Origin(NewFault),
-    /// The file was not read.
-    #[error(transparent)]
-    File(NamedFault),
-    /// The bytes of the file are not a valid state.
-    #[error(transparent)]
-    Load(LoadFault),
-}
+use tlog_mirror::{MergeFault, TakeFault};
 
 /// Why no item was taken. The variants are in the order of the checks. It prints the name of the innermost variant.
 #[derive(Debug, Drop, Clone, Copy, Error)]

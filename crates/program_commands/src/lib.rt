@@ -16,20 +16,16 @@ mod laws;
 mod merge;
 mod note_list;
 mod notes;
-mod state;
 mod take;
 mod update;
 
 pub use export::run_export;
-pub use fault::{
-    ExportFileFault, MergeFilesFault, NotesFault, StateFault, TakeFilesFault, UpdateFileFault,
-};
+pub use fault::{ExportFileFault, MergeFilesFault, NotesFault, TakeFilesFault, UpdateFileFault};
 pub use gained::{HeldCounts, has_gained, holding_of};
 pub use item::ItemFiles;
 pub use laws::{kept_files_law, standing_notes_law};
 pub use merge::run_merge;
 pub use note_list::{NoteFile, note_files};
 pub use notes::run_notes;
-pub use state::{open_or_new, open_state, open_to_save, write_state};
 pub use take::run_take;
 pub use update::run_update;

@@ -2,11 +2,11 @@
 ghost use Rattle.std.specs.Prelude.{ℕ, List, map};
 ghost use Rattle.tlog_text.specs.Answers.{seen};
 ghost use Rattle.program_commands.specs.Merges.{LeavesMerged, MakesMerged};
-ghost use Rattle.program_commands.specs.States.{OpensFile};
+ghost use Rattle.program_states.specs.States.{OpensFile};
 
 use crate::fault::MergeFilesFault;
-use crate::state::{open_state, write_state};
 use program_files::NamedFiles;
+use program_states::{open_state, write_state};
 use signed_note::Verifier;
 use std::alloc::Global;
 use tlog_hash::TreeHash;

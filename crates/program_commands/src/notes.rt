@@ -3,12 +3,12 @@ ghost use Rattle.std.specs.Prelude.{◌≡◌, ◌<◌, ℕ, IfOk, IfSome, List,
 ghost use Rattle.signed_note.specs.Keys.{Key};
 ghost use Rattle.program_commands.specs.NoteFiles.{head_note, note_file};
 ghost use Rattle.program_commands.specs.Notes.{PutsHeads, PutsNotes, PutsOne, Reorders, WritesNotes, in_folder, note_place};
-ghost use Rattle.program_commands.specs.States.{OpensFile};
+ghost use Rattle.program_states.specs.States.{OpensFile};
 
 use crate::fault::NotesFault;
 use crate::note_list::{HeadNote, NoteFile, file_at, files_of, head_notes};
-use crate::state::open_state;
 use program_files::{NamedFault, NamedFiles};
+use program_states::open_state;
 use signed_note::Verifier;
 use std::alloc::{AllocError, Global};
 use tlog_hash::TreeHash;

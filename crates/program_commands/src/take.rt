@@ -7,8 +7,8 @@ ghost use Rattle.program_commands.specs.declared.item.ItemFiles.TheVariants.{Bun
 
 use crate::fault::TakeFilesFault;
 use crate::item::ItemFiles;
-use crate::state::{open_or_new, write_state};
 use program_files::{NamedFiles, read_files};
+use program_states::{open_or_new, write_state};
 use signed_note::Verifier;
 use std::alloc::Global;
 use tlog_hash::TreeHash;

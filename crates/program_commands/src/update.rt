@@ -2,14 +2,14 @@
 ghost use Rattle.std.specs.Prelude.{ℕ, List, Option, map};
 ghost use Rattle.signed_note.specs.Keys.{Key};
 ghost use Rattle.program_files.specs.Named.{NamedFile};
-ghost use Rattle.program_commands.specs.States.{OpensFile};
+ghost use Rattle.program_states.specs.States.{OpensFile};
 ghost use Rattle.program_commands.specs.Updated.{CountsFileUpdate, UpdatesFile};
 
 use crate::fault::UpdateFileFault;
-use crate::state::open_state;
 use mirror_export::update;
 use mirror_progress::CountedFolders;
 use program_files::NamedFiles;
+use program_states::open_state;
 use signed_note::Verifier;
 use std::alloc::Global;
 use tlog_hash::TreeHash;

@@ -4,7 +4,7 @@ use Rattle.std.proofs.Common.{inl, inr, refl, subst, sym}
 use Rattle.std.specs.Io.KnownBytes.{Keeps}
 use Rattle.std.specs.Result.{result_map_both}
 use Rattle.mirror_model.specs.View.{View}
-use Rattle.program_commands.specs.States.{OpensFile}
+use Rattle.program_states.specs.States.{OpensFile}
 use Rattle.signed_note.specs.Keys.{Key}
 use Rattle.program_words.specs.declared.commands.Command.{Command as Order}
 use Rattle.program_words.specs.declared.commands.serve.Serve.{Serve as ServeWords}

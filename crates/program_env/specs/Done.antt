@@ -41,7 +41,7 @@ use Rattle.program_env.specs.declared.fault.RunFault.TheVariants.{Root, Check, T
 use Rattle.program_env.specs.declared.fault.RunFault.TheVariants.{Update, Notes, Ask, PortFault}
 use Rattle.program_env.specs.declared.fault.RunFault.TheVariants.{WriteFault, OutOfMemory, State, Origin}
 use Rattle.program_env.specs.declared.fault.RunFault.TheVariants.{Follow, Audit, StateEntries, CopyEntries, Copy}
-use Rattle.program_commands.specs.States.{OpensFile}
+use Rattle.program_states.specs.States.{OpensFile}
 use Rattle.program_follow.specs.Following.{Follows, ReadsGiven}
 use Rattle.program_follow.specs.declared.fault.FollowRunFault.{FollowRunFault}
 use Rattle.program_follow.specs.declared.fault.FollowRunFault.TheVariants as follow

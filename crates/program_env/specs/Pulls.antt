@@ -18,8 +18,8 @@ use Rattle.program_reports.specs.Pulling.{IsPulledStatus, pulled_lines}
 use Rattle.program_files.specs.Named.{NamedFile}
 use Rattle.program_files.specs.Named.{FailsToPut}
 use Rattle.program_files.specs.declared.fault.NamedFault.{NamedFault}
-use Rattle.program_commands.specs.Saved.{IsSaved}
-use Rattle.program_commands.specs.States.{BeginsWith, SavesFile, WritesState}
+use Rattle.program_states.specs.Saved.{IsSaved}
+use Rattle.program_states.specs.States.{BeginsWith, SavesFile, WritesState}
 use Rattle.program_env.specs.declared.fault.RunFault.{RunFault}
 use Rattle.program_env.specs.declared.fault.RunFault.TheVariants.{WriteFault, Out, OutOfMemory, Pull}
 use Rattle.program_env.specs.declared.fault.RunFault.TheVariants.{State}

@@ -15,7 +15,7 @@ use Rattle.program_reports.specs.Questions.{AnswersQuestion}
 use Rattle.program_reports.specs.declared.question.Question.{Question}
 use Rattle.program_reports.specs.declared.fault.AskFault.{AskFault}
 use Rattle.program_heads.specs.HeadFiles.{ReadsHeads}
-use Rattle.program_commands.specs.States.{OpensFile}
+use Rattle.program_states.specs.States.{OpensFile}
 use Rattle.program_heads.specs.declared.fault.HeadFilesFault.{HeadFilesFault}
 use Rattle.program_env.specs.declared.fault.RunFault.{RunFault}
 use Rattle.program_env.specs.declared.fault.RunFault.TheVariants.{State, Ask, PortFault, Heads, OutOfMemory}

@@ -2,7 +2,7 @@
 ghost use Rattle.std.specs.Prelude.{◌≡◌};
 
 use crate::fault::RunFault;
-use program_commands::StateFault;
+use program_states::StateFault;
 use program_whys::RunFiles;
 use program_whys::why::{Why, of_state};
 use std::alloc::Global;

@@ -2,7 +2,7 @@
 use mirror_pull::PullFault;
 use note_keys::KeyFileFault;
 use program_commands::{
-    ExportFileFault, MergeFilesFault, NotesFault, StateFault, TakeFilesFault, UpdateFileFault,
+    ExportFileFault, MergeFilesFault, NotesFault, TakeFilesFault, UpdateFileFault,
 };
 use program_copies::CopyAskFault;
 use program_files::NamedFault;
@@ -10,6 +10,7 @@ use program_follow::FollowRunFault;
 use program_heads::HeadFilesFault;
 use program_monitor::{AuditRunFault, CopyEntriesFault, StateEntriesFault};
 use program_reports::AskFault;
+use program_states::StateFault;
 use program_streams::{CheckFault, RootFault};
 use program_words::CommandFault;
 use std::fmt;

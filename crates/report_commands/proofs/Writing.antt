@@ -5,7 +5,7 @@ use Rattle.std.specs.Io.KnownBytes.{Keeps}
 use Rattle.std.specs.Result.{result_map_both}
 use Rattle.signed_note.specs.Keys.{Key}
 use Rattle.mirror_model.specs.View.{View}
-use Rattle.program_commands.specs.States.{OpensFile}
+use Rattle.program_states.specs.States.{OpensFile}
 use Rattle.program_monitor.specs.Served.{AnswersServed}
 use Rattle.program_monitor.specs.declared.fault.StateEntriesFault.{StateEntriesFault}
 use Rattle.program_monitor.specs.declared.fault.StateEntriesFault.TheVariants as entries

@@ -6,9 +6,9 @@ ghost use Rattle.sha2.specs.Sha256.{sha256};
 ghost use Rattle.program_env.specs.Done.{IsWriteFault};
 ghost use Rattle.program_env.specs.Works.{AsksState, IsStatus};
 
-use program_commands::open_state;
 use program_env::{Error, RunFault};
 use program_reports::{AskFault, Question, ReportFault, print_report};
+use program_states::open_state;
 use program_whys::RunFiles;
 use program_whys::served::{of_proof, of_unheld};
 use program_whys::why::{Why, of_state};

@@ -9,10 +9,10 @@ ghost use Rattle.program_env.specs.Performing.{Performs};
 ghost use Rattle.program_env.specs.Works.{ComparesState, ComparesView, FindsHeads, IsStatus};
 
 use crate::ask::{asked, why_of_report};
-use program_commands::open_state;
 use program_env::{Env, Error, RunFault};
 use program_heads::{HeadFilesFault, read_heads};
 use program_reports::print_comparison;
+use program_states::open_state;
 use program_whys::served::of_heads;
 use program_whys::why::of_state;
 use program_whys::{RunFiles, RunFolders};

@@ -6,9 +6,9 @@ ghost use Rattle.program_env.specs.Envs.{IsSameEnv, moment};
 ghost use Rattle.program_env.specs.Performing.{Performs};
 
 use crate::ask::served_size;
-use program_commands::open_state;
 use program_env::{Env, Error, RunFault};
 use program_monitor::{EntryRange, StateEntriesFault, entries_of_state};
+use program_states::open_state;
 use program_whys::served::{of_backwards, of_size};
 use program_whys::why::{Why, of_state};
 use program_whys::{RunFiles, RunFolders};

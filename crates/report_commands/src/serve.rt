@@ -8,8 +8,8 @@ ghost use Rattle.program_env.specs.Performing.{Performs};
 ghost use Rattle.program_env.specs.Works.{PrintsPort};
 
 use crate::clients::Clients;
-use program_commands::open_state;
 use program_env::{Env, Error, RunFault, port_fault, print_fault, print_port};
+use program_states::open_state;
 use program_whys::why::of_state;
 use program_whys::{RunFiles, RunFolders};
 use program_words::Command;

@@ -10,8 +10,8 @@ use Rattle.mirror_pull.specs.declared.fault.PullFault.TheVariants as pull
 use Rattle.mirror_pull.specs.declared.pulling.Pulled.{Pulled}
 use Rattle.program_files.specs.Named.{NamedFile}
 use Rattle.program_files.specs.declared.fault.NamedFault.{NamedFault}
-use Rattle.program_commands.specs.Saved.{IsSaved}
-use Rattle.program_commands.specs.States.{SavesFile}
+use Rattle.program_states.specs.Saved.{IsSaved}
+use Rattle.program_states.specs.States.{SavesFile}
 use Rattle.program_env.specs.Pulls.{IsHeld, IsKept, LeavesEarly, SavesPulled}
 
 -- a mirror loses nothing in a pull that ends early

@@ -12,8 +12,8 @@ use Rattle.tlog_mirror.specs.declared.fault.NewFault.TheVariants as made
 use Rattle.program_files.specs.Named.{NamedFile}
 use Rattle.program_files.specs.Named.{FailsToPut, ReadsFile, HasContents}
 use Rattle.program_files.specs.declared.fault.NamedFault.{NamedFault}
-use Rattle.program_commands.specs.declared.fault.StateFault.{StateFault}
-use Rattle.program_commands.specs.declared.fault.StateFault.TheVariants.{Origin, File, Load}
+use Rattle.program_states.specs.declared.fault.StateFault.{StateFault}
+use Rattle.program_states.specs.declared.fault.StateFault.TheVariants.{Origin, File, Load}
 
 module _ (digest : List ℕ → List ℕ) (origin : List ℕ) (keys : List Key)
     (recorded : Option (List NamedFile)) where

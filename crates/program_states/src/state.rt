@@ -2,8 +2,8 @@
 ghost use Rattle.std.specs.Prelude.{◌≡◌, ◌↔◌, IfOk, IsTrue, Some, map, option_map};
 ghost use Rattle.mirror_state.specs.StateText.{StateText};
 ghost use Rattle.tlog_text.specs.Answers.{seen};
-ghost use Rattle.program_commands.specs.Saved.{HoldsState, IsSaved};
-ghost use Rattle.program_commands.specs.States.{BeginsWith, OpensFile, SavesFile};
+ghost use Rattle.program_states.specs.Saved.{HoldsState, IsSaved};
+ghost use Rattle.program_states.specs.States.{BeginsWith, OpensFile, SavesFile};
 
 use crate::fault::StateFault;
 use mirror_state::{LoadFault, is_as_saved, load_bytes, refused_note, save};

@@ -1,5 +1,5 @@
 use Rattle.std.proofs.Common.{rules}
-use Rattle.program_commands.proofs.state.open_as_saved.Goals as goal
+use Rattle.program_states.proofs.state.open_as_saved.Goals as goal
 
 pub returns-in-Ok-load_bytes-clause-opens : goal.returns-in-Ok-load_bytes-clause-opens
 returns-in-Ok-load_bytes-clause-opens g c =
