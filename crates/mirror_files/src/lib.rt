@@ -1,5 +1,5 @@
 //! Files of a mirror and of a log: the text of a state, a log as a folder, and a mirror exported into one. It has no
-//! code of its own: it re-exports items of its parts `mirror_state`, `mirror_folders`, `log_paths`
+//! code of its own: it re-exports items of its parts `state_text`, `mirror_state`, `mirror_folders`, `log_paths`
 //! and `mirror_export`.
 //!
 //! ```text
@@ -19,6 +19,7 @@ pub use mirror_folders::{
     ShelfError, replace_file,
 };
 pub use mirror_state::{
-    LoadFault, RefusedNote, SaveFault, cut_law, load, load_bytes, load_law, loaded_text_law,
-    old_state_law, one_answer_law, one_text_law, refused_note, save, saved_law, state_text_law,
+    LoadFault, RefusedNote, SaveFault, load, load_bytes, load_law, loaded_text_law, old_state_law,
+    refused_note, save, saved_law,
 };
+pub use state_text::{cut_law, one_answer_law, one_text_law, state_text_law};

@@ -1,13 +1,8 @@
-pub mod ItemLemmas
-pub mod ListLemmas
-pub mod BodyLemmas
-pub mod OneText
-mod Listed
-mod OneLoad
-mod Loaded
-mod ListedItems
-mod OpenedNotes
-mod Gathered
-pub mod Putting
-mod Saved
-mod RefusedNotes
+pub mod Listed
+pub mod HeldNotes
+pub mod KeptNotes
+pub mod OpenedNotes
+pub mod Loaded
+pub mod OneLoad
+pub mod RefusedNotes
+pub mod Saved

@@ -1,10 +1,9 @@
 -- The content of a state text, as a view.
-use Rattle.std.proofs.Common.{◌≡◌, ◌⊎◌, inl, inr, ℕ, zero, suc, ◌≤◌, List, [], ◌∷◌, ◌++◌, length, map, All, refl, sym}
-use Rattle.std.proofs.Common.{ap, subst, ◌∙◌, arith, length-append}
+use Rattle.std.proofs.Common.{◌≡◌, ◌⊎◌, inl, inr, ℕ, ◌≤◌, List, [], ◌∷◌, ◌++◌, length, map, All, refl, sym}
+use Rattle.std.proofs.Common.{ap, subst, arith, length-append}
 use Rattle.std.specs.FinSet as set
 use Rattle.std.specs.List.{Contains}
-use Rattle.std.proofs.lemmas.List.{length-map, get_or-map}
-use Rattle.std.proofs.lemmas.List.Elements.{All-contains, All-nil, All-contains_itself, All-weaker}
+use Rattle.std.proofs.lemmas.List.Elements.{All-contains_itself, All-weaker}
 use Rattle.std.proofs.lemmas.List.Elements.{Contains-append_left, Contains-append_right, Contains-append_cases}
 use Rattle.signed_note.specs.Keys.{Key}
 use Rattle.node_store.specs.Strings.{Has, AllTagged, NoClash, IsTagged}
@@ -13,28 +12,10 @@ use Rattle.mirror_model.specs.View.{View}
 use Rattle.mirror_model.specs.Complete.{HasEdge}
 use Rattle.mirror_model.proofs.StringSets.{same_strings, listed_from_has, has_from_listed}
 use Rattle.tlog_mirror.specs.Restored.{IsOpenNote}
-use Rattle.mirror_state.specs.StateText.{Parts, VersionTwo, VersionOne, StateText, OldStateText}
-use Rattle.mirror_state.specs.Loading.{listed_notes, listed_view, IsStateString, HasState, HasStrings, HasNoCollision}
-
--- ---- items
-
-pub nothing_in : {X : Type 0} (y : X) → Contains {X = X} [] y → ⊥
-nothing_in {X} y c = All-contains {X = X} (λ z. ⊥) [] y (All-nil {X = X} (λ z. ⊥)) c
-
-pub mapped : {X Y : Type 0} (f : X → Y) (xs : List X) (x : X) → Contains xs x → Contains (map f xs) (f x)
-mapped f xs x (k, lt, is) = (k, omega (arith, length-map xs f, lt), get_or-map f xs k x (f x) lt ∙ ap f is)
-
-pub record IsMapped {X Y : Type 0} (f : X → Y) (xs : List X) (y : Y) : Type 0 where
-  pub from : X
-  pub is_in : Contains xs from
-  pub is : f from ≡ y
-
-pub from_mapped : {X Y : Type 0} (f : X → Y) (xs : List X) (y : Y) → Contains (map f xs) y → IsMapped f xs y
-from_mapped f [] y c = absurd (nothing_in y c)
-from_mapped f (x ∷ xs) y (zero, lt, is) = record { from = x; is_in = (0, omega arith, refl); is = is }
-from_mapped f (x ∷ xs) y (suc k, lt, is) =
-    let r = from_mapped f xs y (k, omega (arith, lt), is) in
-    record { from = r.from; is_in = (suc r.is_in.0, omega (arith, r.is_in.1), r.is_in.2); is = r.is }
+use Rattle.state_text.specs.StateText.{Parts, VersionTwo, VersionOne, StateText, OldStateText}
+use Rattle.state_text.specs.Content.{listed_notes, listed_view, IsStateString, HasStrings}
+use Rattle.mirror_state.specs.Loading.{HasState, HasNoCollision}
+use Rattle.state_text.proofs.Mapped.{IsMapped, from_mapped, mapped}
 
 -- ---- the strings of version 2
 

@@ -16,19 +16,22 @@ use Rattle.mirror_model.specs.Item.{row_of}
 use Rattle.mirror_model.proofs.StringSets.{listed_from_has, has_from_listed}
 use Rattle.tlog_mirror.specs.Adding.{with_notes}
 use Rattle.tlog_mirror.specs.Restored.{IsOpenNote, strings_alone}
-use Rattle.mirror_state.specs.Items.{IsItem}
-use Rattle.mirror_state.specs.declared.items.Form.TheVariants.{Short, Hashes}
-use Rattle.mirror_state.specs.StateText.{Parts, VersionTwo, VersionOne, StateText, OldStateText}
-use Rattle.mirror_state.specs.Loading.{listed_origin, listed_notes, listed_strings, listed_view, IsStateString}
-use Rattle.mirror_state.specs.Loading.{HasState, HasStrings, HasOpenNotes, HasNoCollision, Loads}
-use Rattle.mirror_state.specs.LoadSteps.{AreListable, ChecksLists, ChecksNotes, KeepsNotes}
+use Rattle.state_text.specs.Items.{IsItem}
+use Rattle.state_text.specs.declared.items.Form.TheVariants.{Short, Hashes}
+use Rattle.state_text.specs.StateText.{Parts, VersionTwo, VersionOne, StateText, OldStateText}
+use Rattle.state_text.specs.Content.{listed_origin, listed_notes, listed_strings, listed_view, IsStateString}
+use Rattle.mirror_state.specs.Loading.{HasState, HasOpenNotes, HasNoCollision, Loads}
+use Rattle.state_text.specs.Content.{HasStrings}
+use Rattle.state_text.specs.Storing.{AreListable}
+use Rattle.state_text.specs.Checking.{ChecksLists}
+use Rattle.mirror_state.specs.LoadSteps.{ChecksNotes, KeepsNotes}
 use Rattle.mirror_state.specs.Refused.{IsFirstNot, RefusesUnheld}
-use Rattle.mirror_state.specs.declared.fault.LoadFault.{LoadFault}
-use Rattle.mirror_state.specs.declared.fault.LoadFault.TheVariants.{StateMagic, StateShort, StateLong, StateDigest}
-use Rattle.mirror_state.specs.declared.fault.LoadFault.TheVariants.{OtherOrigin, StateOrder, StateString, StateHead}
-use Rattle.mirror_state.specs.declared.fault.LoadFault.TheVariants.{Collision, StateEdge, ReadFault, OutOfMemory}
+use Rattle.state_text.specs.declared.fault.LoadFault.{LoadFault}
+use Rattle.state_text.specs.declared.fault.LoadFault.TheVariants.{StateMagic, StateShort, StateLong, StateDigest}
+use Rattle.state_text.specs.declared.fault.LoadFault.TheVariants.{OtherOrigin, StateOrder, StateString, StateHead}
+use Rattle.state_text.specs.declared.fault.LoadFault.TheVariants.{Collision, StateEdge, ReadFault, OutOfMemory}
 use Rattle.mirror_state.proofs.Listed.{both, has_entry, has_pair, either, entry_in, pair_in}
-use Rattle.mirror_state.proofs.ListedItems.{union_none}
+use Rattle.state_text.proofs.ListedItems.{union_none}
 
 -- ---- the listed strings
 

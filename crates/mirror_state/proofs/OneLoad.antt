@@ -1,5 +1,5 @@
 -- All the bytes have one answer of a loader.
-use Rattle.std.proofs.Common.{◌≡◌, ◌≢◌, ◌⊎◌, inl, inr, ℕ, zero, suc, ◌<◌, List, ◌++◌, All, Result, Ok, Err, refl, sym}
+use Rattle.std.proofs.Common.{◌≡◌, ◌≢◌, ◌⊎◌, inl, inr, ℕ, zero, suc, ◌<◌, List, All, Result, Ok, Err, refl, sym}
 use Rattle.std.proofs.Common.{ap, subst, ◌∙◌, arith}
 use Rattle.std.proofs.lemmas.Bool.{cases_lt}
 use Rattle.std.proofs.lemmas.List.Elements.{All-contains}
@@ -8,25 +8,23 @@ use Rattle.node_store.specs.Strings.{NoClash}
 use Rattle.mirror_model.specs.View.{View}
 use Rattle.mirror_model.specs.Complete.{HasEdge}
 use Rattle.mirror_model.proofs.StringSets.{clash_contradicts}
-use Rattle.mirror_model.proofs.Listing.{same_lists, notes_are_listed_once}
-use Rattle.std.specs.Ordering.{nat_cmp}
-use Rattle.std.specs.Cmp.Lexicographic.{slice_cmp, nat_list_cmp_total}
 use Rattle.tlog_mirror.specs.Restored.{IsOpenNote}
-use Rattle.mirror_state.specs.StateText.{Parts, VersionTwo, body_text, IsText, StateText}
-use Rattle.sha2.specs.Sha256.{sha256}
-use Rattle.mirror_state.specs.Reading.{ReadsParts}
-use Rattle.mirror_state.specs.declared.parts.PartsFault.{PartsFault}
-use Rattle.mirror_state.specs.declared.parts.PartsFault.TheVariants as reading
-use Rattle.mirror_state.specs.Loading.{listed_origin, listed_notes, listed_view, AllRise, AllTaggedWell, HasOrigin}
-use Rattle.mirror_state.specs.Loading.{HasOrder, HasStrings, HasOpenNotes, HasNoCollision, Loads}
-use Rattle.mirror_state.specs.LoadLaws.{IsOfBytes, LoadsHaveOneAnswer, TextsAreLoaded, SavedIsLoaded, ViewHasOneText}
+use Rattle.state_text.specs.StateText.{Parts, IsText, StateText}
+use Rattle.state_text.specs.Reading.{ReadsParts}
+use Rattle.state_text.specs.declared.parts.PartsFault.{PartsFault}
+use Rattle.state_text.specs.declared.parts.PartsFault.TheVariants as reading
+use Rattle.state_text.specs.Content.{listed_origin, listed_notes, listed_view, AllRise, AllTaggedWell, HasOrigin}
+use Rattle.state_text.specs.Content.{HasOrder, HasStrings}
+use Rattle.mirror_state.specs.Loading.{HasOpenNotes, HasNoCollision, Loads}
+use Rattle.mirror_state.specs.LoadLaws.{IsOfBytes, LoadsHaveOneAnswer, TextsAreLoaded, SavedIsLoaded}
 use Rattle.mirror_state.specs.LoadLaws.{OldIsSavedAsNew}
-use Rattle.mirror_state.specs.declared.fault.LoadFault.{LoadFault}
-use Rattle.mirror_state.specs.declared.fault.LoadFault.TheVariants.{StateMagic, StateShort, StateLong, StateDigest}
-use Rattle.mirror_state.specs.declared.fault.LoadFault.TheVariants.{OtherOrigin, StateOrder, StateString, StateHead}
-use Rattle.mirror_state.specs.declared.fault.LoadFault.TheVariants.{Collision, StateEdge, ReadFault, OutOfMemory}
+use Rattle.state_text.specs.declared.fault.LoadFault.{LoadFault}
+use Rattle.state_text.specs.declared.fault.LoadFault.TheVariants.{StateMagic, StateShort, StateLong, StateDigest}
+use Rattle.state_text.specs.declared.fault.LoadFault.TheVariants.{OtherOrigin, StateOrder, StateString, StateHead}
+use Rattle.state_text.specs.declared.fault.LoadFault.TheVariants.{Collision, StateEdge, ReadFault, OutOfMemory}
 use Rattle.mirror_state.proofs.Listed.{in_order}
-use Rattle.mirror_state.proofs.OneText.{text_one, text_has_one_answer}
+use Rattle.state_text.proofs.OneText.{text_one, text_has_one_answer}
+use Rattle.state_text.proofs.OneText.{text_is_one}
 
 renamed : PartsFault → LoadFault
 renamed reading.StateMagic = StateMagic
@@ -219,20 +217,6 @@ pub saved_is_loaded : SavedIsLoaded
 saved_is_loaded digest keys v bytes lawful opened text a m p =
     texts_are_loaded digest v.origin keys bytes v
     (record { text = inl text; lawful = lawful; origin_is = refl; opened = opened }) a m p
-
-abbrev whole : Parts → List ℕ
-whole parts = body_text parts ++ sha256 (body_text parts)
-
-pub text_is_one : ViewHasOneText
-text_is_one v a b s t =
-    let notes : s.notes ≡ t.notes = notes_are_listed_once v s.notes t.notes s.notes_are t.notes_are in
-    let pairs : s.pairs ≡ t.pairs =
-    same_lists (slice_cmp nat_cmp) nat_list_cmp_total.antisymm s.pairs t.pairs s.pairs_rise t.pairs_rise
-    (λ z c. (t.pairs_are z).1 ((s.pairs_are z).0 c)) (λ z c. (s.pairs_are z).1 ((t.pairs_are z).0 c)) in
-    let entries : s.entries ≡ t.entries =
-    same_lists (slice_cmp nat_cmp) nat_list_cmp_total.antisymm s.entries t.entries s.entries_rise t.entries_rise
-    (λ z c. (t.entries_are z).1 ((s.entries_are z).0 c)) (λ z c. (s.entries_are z).1 ((t.entries_are z).0 c)) in
-    s.is_text.text ∙ (λ i. whole (VersionTwo v.origin (notes i) (pairs i) (entries i))) ∙ sym t.is_text.text
 
 pub old_is_saved_as_new : OldIsSavedAsNew
 old_is_saved_as_new digest origin keys v loaded old new saved h text loads s t =

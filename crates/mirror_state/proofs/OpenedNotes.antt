@@ -17,7 +17,8 @@ use Rattle.tlog_mirror.proofs.RestoredMirrors.{open_note}
 use Rattle.tlog_mirror.proofs.TakenHeads.{open_is_head}
 use Rattle.mirror_state.specs.Loading.{HasUnheld}
 use Rattle.mirror_state.specs.LoadSteps.{AreOpened, IsOpened, head_bytes}
-use Rattle.mirror_state.proofs.ListedItems.{all_more, bytes_of, edge_moves, edge_moves_back, listed_all, more_taken}
+use Rattle.state_text.proofs.ListedItems.{all_more, bytes_of, listed_all, more_taken}
+use Rattle.mirror_state.proofs.KeptNotes.{edge_moves, edge_moves_back}
 
 -- ---- one note
 

@@ -1,7 +1,6 @@
 -- The note of a state text for which the text is not loaded.
 use Rattle.std.proofs.Common.{◌≡◌, ◌≢◌, inl, inr, ℕ, ◌<◌, ◌^◌, true, false, List, [], length, take, All}
 use Rattle.std.proofs.Common.{get_or, Option, Some, None, Result, Ok, Err, Bor, refl, ap, subst, ◌∙◌, arith}
-use Rattle.std.proofs.Common.{◌++◌, append_assoc, codes}
 use Rattle.std.specs.Prelude.{◌↔◌, IsTrue, IfOk, IfSome, IfNone, option_map}
 use Rattle.std.specs.FinSet as set
 use Rattle.std.proofs.lemmas.Option.{slice_get-get_or, slice_get_within}
@@ -19,16 +18,18 @@ use Rattle.tlog_mirror.specs.Restored.{IsOpenNote, KeepsHeld, strings_alone}
 use Rattle.tlog_mirror.specs.declared.fault.RestoreFault.{RestoreFault}
 use Rattle.tlog_mirror.specs.declared.fault.RestoreFault.TheVariants as restoring
 use Rattle.tlog_mirror.proofs.RestoredMirrors.{not_open, open_note}
-use Rattle.mirror_state.specs.StateText.{Parts, VersionTwo, VersionOne, AreParts}
-use Rattle.mirror_state.specs.Loading.{listed_notes, listed_strings, listed_view, HasStrings, Loads}
+use Rattle.state_text.specs.StateText.{Parts, VersionTwo, VersionOne, AreParts}
+use Rattle.state_text.specs.Content.{listed_notes, listed_strings, listed_view, HasStrings}
+use Rattle.mirror_state.specs.Loading.{Loads}
 use Rattle.mirror_state.specs.LoadLaws.{IsOfBytes}
-use Rattle.mirror_state.specs.LoadSteps.{ChecksLists}
+use Rattle.state_text.specs.Checking.{ChecksLists}
 use Rattle.mirror_state.specs.Refused.{FindsAt, IsFirstNot, Refuses, RefusesNone}
-use Rattle.mirror_state.specs.declared.fault.LoadFault.{LoadFault}
-use Rattle.mirror_state.specs.declared.fault.LoadFault.TheVariants.{StateMagic, StateShort, StateLong, StateDigest}
-use Rattle.mirror_state.specs.declared.fault.LoadFault.TheVariants.{OtherOrigin, StateOrder, StateString, StateHead}
-use Rattle.mirror_state.specs.declared.fault.LoadFault.TheVariants.{Collision, StateEdge, ReadFault, OutOfMemory}
-use Rattle.mirror_state.proofs.ListedItems.{bytes_of, item_at, same_len, edge_moves_back, never_bad}
+use Rattle.state_text.specs.declared.fault.LoadFault.{LoadFault}
+use Rattle.state_text.specs.declared.fault.LoadFault.TheVariants.{StateMagic, StateShort, StateLong, StateDigest}
+use Rattle.state_text.specs.declared.fault.LoadFault.TheVariants.{OtherOrigin, StateOrder, StateString, StateHead}
+use Rattle.state_text.specs.declared.fault.LoadFault.TheVariants.{Collision, StateEdge, ReadFault, OutOfMemory}
+use Rattle.state_text.proofs.ListedItems.{bytes_of, item_at, same_len}
+use Rattle.mirror_state.proofs.KeptNotes.{edge_moves_back, never_bad}
 use Rattle.mirror_state.proofs.Loaded.{loaded, unheld_first}
 use Rattle.mirror_state.proofs.OneLoad.{one_load}
 
@@ -141,7 +142,7 @@ module _ (digest : List ℕ → List ℕ) (origin : List ℕ) (keys : List Key) 
       (with_notes old later) (refl, none))
   edges_judged (Err e) found none = tt
 
--- ---- names
+-- ---- numbers
 
 -- a number of 64 bits can count the notes
 few_notes : (parts : Parts) → AreParts parts → length (listed_notes parts) < 2 ^ 64
@@ -162,12 +163,3 @@ index_fits digest origin keys bytes index note (inl closed) =
 index_fits digest origin keys bytes index note (inr unheld) =
     index_within (HasEdge digest (listed_view unheld.parts)) unheld.parts index note
     unheld.has_no_collision.has_open_notes.has_strings.has_order.has_origin.is_text.are_parts unheld.is_first
-
--- a name, as it is assembled
-pub name_joined : (digits front : List ℕ) →
-    ((codes "checkpoint " ++ (digits ++ codes " ")) ++ front) ++ codes ".."
-    ≡ codes "checkpoint " ++ (digits ++ (codes " " ++ (front ++ codes "..")))
-name_joined digits front =
-    ap (λ (x : List ℕ). codes "checkpoint " ++ x)
-    (append_assoc (digits ++ codes " ") front (codes "..")
-    ∙ append_assoc digits (codes " ") (front ++ codes ".."))

@@ -1,56 +1,31 @@
 -- A complete state is written.
-use Rattle.std.proofs.Common.{◌≡◌, inl, inr, ℕ, ◌<◌, ◌≤◌, ◌^◌, List, [], ◌∷◌, ◌++◌, length, map, Result, Ok}
-use Rattle.std.proofs.Common.{Err, Option, Some, None, refl, sym, subst, arith}
+use Rattle.std.proofs.Common.{◌≡◌, inl, inr, ℕ, ◌<◌, ◌≤◌, ◌^◌, List, ◌∷◌, length, map, Ok}
+use Rattle.std.specs.Borrow.{Bor}
+use Rattle.std.proofs.Common.{Err, Option, Some, None, refl, subst, arith}
 use Rattle.std.specs.declared.vec.Vec.{Vec}
 use Rattle.std.proofs.lemmas.List.{length-map}
-use Rattle.std.proofs.lemmas.List.{append-nil}
 use Rattle.std.proofs.lemmas.List.Elements.{All-contains_itself, All-weaker}
 use Rattle.std.specs.Io.KnownBytes.{Appends, Keeps}
 use Rattle.std.specs.List.{Contains}
-use Rattle.sha2.specs.Sha256.{sha256}
-use Rattle.sha2.specs.Hashers.{Holds256}
 use Rattle.byte_streams.specs.Streams.{AppendsPrefix}
 use Rattle.byte_streams.specs.declared.fault.StreamFault.{StreamFault}
 use Rattle.mirror_model.specs.Listed.{ListsNotes}
 use Rattle.mirror_model.specs.Marks.{IsSound, State}
-use Rattle.mirror_state.specs.declared.items.Form.TheVariants.{Short, Long, Hashes}
-use Rattle.mirror_state.specs.declared.page.Page.{Page}
-use Rattle.mirror_state.specs.Items.{IsItem}
-use Rattle.mirror_state.specs.Listing.{ListsEach, ListsView}
-use Rattle.mirror_state.specs.declared.listing.Sorted.{Sorted}
+use Rattle.state_text.specs.declared.items.Form.TheVariants.{Short, Long, Hashes}
+use Rattle.state_text.specs.Items.{IsItem}
+use Rattle.state_text.specs.Listing.{ListsEach, ListsStrings}
+use Rattle.state_text.specs.declared.listing.Sorted.{Sorted}
 use Rattle.mirror_state.specs.declared.fault.SaveFault.TheVariants.{WriteFault}
 use Rattle.mirror_state.specs.Saving.{Saves}
-use Rattle.mirror_state.specs.Loading.{IsStateString}
-use Rattle.mirror_state.specs.Putting.{EndsText, IsUnderWay, Puts, WritesText, pair_bytes, state_text}
-use Rattle.mirror_state.specs.StateText.{AreParted, AreParts, VersionTwo, Parts, StateText}
+use Rattle.state_text.specs.Content.{IsStateString}
+use Rattle.state_text.specs.Putting.{WritesText, pair_bytes, state_text}
+use Rattle.state_text.specs.StateText.{AreParted, AreParts, VersionTwo, Parts, StateText}
 use Rattle.mirror_state.proofs.Listed.{state_string}
-use Rattle.mirror_state.proofs.Gathered.{lent_bytes}
-use Rattle.mirror_state.proofs.Putting.{front_longer}
-
--- ---- the text is written, or a prefix of it
-
-appends_nothing : (now : Option (List ℕ)) → Appends now now []
-appends_nothing None = tt
-appends_nothing (Some bytes) = sym (append-nil bytes)
+use Rattle.state_text.proofs.Gathered.{lent_bytes}
 
 pub keeps_itself : (now : Option (List ℕ)) → Keeps now now
 keeps_itself None = tt
 keeps_itself (Some bytes) = refl
-
-nothing_yet : (now : Option (List ℕ)) (held : List ℕ) → held ≡ [] → IsUnderWay now now held []
-nothing_yet now held none = record { written = []; appended = appends_nothing now; text_is = sym none }
-
-pub body_fails : (old new : Option (List ℕ)) (page page' : Page) (body : List ℕ) (fault : StreamFault) →
-    page.held.items ≡ [] → Puts old new page page' body (Err fault) → AppendsPrefix old new (body ++ sha256 body)
-body_fails old new page page' body fault none p =
-    front_longer old new body (sha256 body) (p.writes old [] (nothing_yet old page.held.items none))
-
-pub body_ends : (old mid new : Option (List ℕ))
-    (page page' : Page) (body : List ℕ) (answer : Result (Unit {0}) StreamFault) → page.held.items ≡ [] →
-    Holds256 page.digest [] → Puts old mid page page' body (Ok tt) → EndsText mid new page' answer →
-    WritesText old new (body ++ sha256 body) answer
-body_ends old mid new page page' body answer none hashed p e =
-    e old body (p.writes old [] (nothing_yet old page.held.items none)) (p.hashes [] hashed)
 
 -- ---- the lists are those of the view
 
@@ -117,21 +92,22 @@ few_mapped f v = omega (arith, few v, length-map v.items f)
 
 -- ---- the answers of a saver
 
-module _ (digest : List ℕ → List ℕ) (state : State) (sound : IsSound digest state) (held : Sorted)
-    (lists : ListsView state.view held) where
+module _ (digest : List ℕ → List ℕ) (state : State) (sound : IsSound digest state) {Z : Type 0}
+    (notes : Vec (Bor (List ℕ)) Z) (held : Sorted) (notes_are : ListsNotes state.view (map lent_bytes notes.items))
+    (strings_are : ListsStrings state.view.strings held) where
   abbrev own : Parts
-  own = VersionTwo state.view.origin (map lent_bytes held.notes.items) (map pair_bytes held.pairs.items)
+  own = VersionTwo state.view.origin (map lent_bytes notes.items) (map pair_bytes held.pairs.items)
       (map lent_bytes held.entries.items)
 
   pub own_parts : AreParts own
   own_parts =
-      are_parted digest state sound (map lent_bytes held.notes.items) (map pair_bytes held.pairs.items)
-      (map lent_bytes held.entries.items) lists.notes_are lists.pairs_are lists.entries_are
-      (few_mapped lent_bytes held.notes) (few_mapped pair_bytes held.pairs) (few_mapped lent_bytes held.entries)
+      are_parted digest state sound (map lent_bytes notes.items) (map pair_bytes held.pairs.items)
+      (map lent_bytes held.entries.items) notes_are strings_are.pairs_are strings_are.entries_are
+      (few_mapped lent_bytes notes) (few_mapped pair_bytes held.pairs) (few_mapped lent_bytes held.entries)
 
   own_text : StateText state.view (state_text own)
-  own_text = is_state_text digest state sound (map lent_bytes held.notes.items) (map pair_bytes held.pairs.items)
-      (map lent_bytes held.entries.items) lists.notes_are lists.pairs_are lists.entries_are own_parts
+  own_text = is_state_text digest state sound (map lent_bytes notes.items) (map pair_bytes held.pairs.items)
+      (map lent_bytes held.entries.items) notes_are strings_are.pairs_are strings_are.entries_are own_parts
 
   module _ (old new : Option (List ℕ)) (parts : Parts) (is : parts ≡ own) where
     pub saved_whole : WritesText old new (state_text parts) (Ok tt) → Saves state.view old new (Ok tt)

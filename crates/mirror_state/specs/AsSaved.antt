@@ -3,7 +3,7 @@ use Rattle.std.specs.Prelude.{ℕ, List, Ok}
 use Rattle.signed_note.specs.Keys.{Key}
 use Rattle.mirror_model.specs.View.{View}
 use Rattle.mirror_state.specs.Loading.{Loads}
-use Rattle.mirror_state.specs.StateText.{StateText}
+use Rattle.state_text.specs.StateText.{StateText}
 
 -- for each view that is loaded from the bytes, they are its state text in version 2: a save writes these bytes
 abbrev pub IsAsSaved : List ℕ → Type 0

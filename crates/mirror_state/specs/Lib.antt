@@ -1,13 +1,6 @@
-pub mod Items
-pub mod StateText
-pub mod Reading
-pub mod Stands
-pub mod Laws
 pub mod Loading
 pub mod LoadLaws
 pub mod LoadSteps
 pub mod Saving
-pub mod Putting
-pub mod Listing
 pub mod Refused
 pub mod AsSaved

@@ -5,10 +5,10 @@ use Rattle.node_store.specs.Strings.{Has}
 use Rattle.mirror_model.specs.View.{View}
 use Rattle.mirror_model.specs.Complete.{IsLawful}
 use Rattle.tlog_mirror.specs.Restored.{IsOpenNote}
-use Rattle.mirror_state.specs.StateText.{StateText, OldStateText}
+use Rattle.state_text.specs.StateText.{StateText, OldStateText}
 use Rattle.mirror_state.specs.Loading.{HasState, Loads}
-use Rattle.mirror_state.specs.declared.fault.LoadFault.{LoadFault}
-use Rattle.mirror_state.specs.declared.fault.LoadFault.TheVariants.{ReadFault, OutOfMemory}
+use Rattle.state_text.specs.declared.fault.LoadFault.{LoadFault}
+use Rattle.state_text.specs.declared.fault.LoadFault.TheVariants.{ReadFault, OutOfMemory}
 
 -- the answer is about the bytes: no read failed, and memory was not refused
 pub record IsOfBytes (answer : Result View LoadFault) : Type 0 where
@@ -37,10 +37,6 @@ SavedIsLoaded =
     (digest : List ℕ → List ℕ) (keys : List Key) (v : View) (bytes : List ℕ) → IsLawful digest v →
     ((note : List ℕ) → Has v.notes note → IsOpenNote v.origin keys note) → StateText v bytes →
     (a : Result View LoadFault) → IsOfBytes a → Loads digest v.origin keys bytes a → a ≡ Ok v
-
--- a view has one text that is saved
-abbrev pub ViewHasOneText : Type 0
-ViewHasOneText = (v : View) (a b : List ℕ) → StateText v a → StateText v b → a ≡ b
 
 -- a view that was loaded from version 1 is saved as version 2 of the same view
 abbrev pub OldIsSavedAsNew : Type 0

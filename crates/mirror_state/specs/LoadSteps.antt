@@ -1,9 +1,9 @@
 -- The answers of the steps of a loader. The contracts of private functions cite these words; the definition of a
 -- loader's answers needs none of them.
-use Rattle.std.specs.Prelude.{◌≡◌, ℕ, ◌≤◌, List, ◌∷◌, length, map, All, Result, Ok, Err, ⊤}
+use Rattle.std.specs.Prelude.{◌≡◌, ℕ, List, map, All, Result, Ok, Err, ⊤}
 use Rattle.std.specs.FinSet as set
 use Rattle.signed_note.specs.Keys.{Key}
-use Rattle.node_store.specs.Strings.{Strings, NoClash}
+use Rattle.node_store.specs.Strings.{NoClash}
 use Rattle.mirror_model.specs.Complete.{HasEdge}
 use Rattle.mirror_model.specs.Strings.{HasClash}
 use Rattle.mirror_model.specs.View.{View}
@@ -17,84 +17,20 @@ use Rattle.tlog_mirror.specs.Adding.{with_notes}
 use Rattle.mirror_model.specs.declared.notes.HeadNote.{HeadNote}
 use Rattle.tlog_mirror.specs.Opened.{SaysHead}
 use Rattle.tlog_mirror.specs.Restored.{IsOpenNote, strings_alone}
-use Rattle.mirror_state.specs.StateText.{Parts, VersionTwo, VersionOne}
-use Rattle.mirror_state.specs.Reading.{ReadsParts}
-use Rattle.mirror_state.specs.declared.parts.PartsFault.{PartsFault}
-use Rattle.mirror_state.specs.declared.parts.PartsFault.TheVariants as reading
-use Rattle.mirror_state.specs.declared.loading.Kind.{Kind}
-use Rattle.mirror_state.specs.declared.loading.Kind.TheVariants.{Entries, Pairs, Strings as Tags}
-use Rattle.mirror_state.specs.Loading.{IsStateString, HasStrings, IsOfOtherOrigin, IsDisordered}
-use Rattle.mirror_state.specs.Loading.{HasBadString, HasClosed, HasUnheld}
-use Rattle.mirror_state.specs.declared.fault.LoadFault.{LoadFault}
-use Rattle.mirror_state.specs.declared.fault.LoadFault.TheVariants.{StateMagic, StateShort}
-use Rattle.mirror_state.specs.declared.fault.LoadFault.TheVariants.{StateLong, StateDigest}
-use Rattle.mirror_state.specs.declared.fault.LoadFault.TheVariants.{OtherOrigin, StateOrder}
-use Rattle.mirror_state.specs.declared.fault.LoadFault.TheVariants.{StateString, StateHead}
-use Rattle.mirror_state.specs.declared.fault.LoadFault.TheVariants.{Collision, StateEdge, ReadFault}
-use Rattle.mirror_state.specs.declared.fault.LoadFault.TheVariants.{OutOfMemory}
+use Rattle.mirror_state.specs.Loading.{HasClosed, HasUnheld}
+use Rattle.state_text.specs.declared.fault.LoadFault.{LoadFault}
+use Rattle.state_text.specs.declared.fault.LoadFault.TheVariants.{StateMagic, StateShort}
+use Rattle.state_text.specs.declared.fault.LoadFault.TheVariants.{StateLong, StateDigest}
+use Rattle.state_text.specs.declared.fault.LoadFault.TheVariants.{OtherOrigin, StateOrder}
+use Rattle.state_text.specs.declared.fault.LoadFault.TheVariants.{StateString, StateHead}
+use Rattle.state_text.specs.declared.fault.LoadFault.TheVariants.{Collision, StateEdge, ReadFault}
+use Rattle.state_text.specs.declared.fault.LoadFault.TheVariants.{OutOfMemory}
 
 -- the fault of a loader if its reader does not give all its bytes
 abbrev pub stream_fault_of : StreamFault → LoadFault
 stream_fault_of streams.ReadFault = ReadFault
 stream_fault_of streams.WriteFault = ReadFault
 stream_fault_of streams.OutOfMemory = OutOfMemory
-
--- the fault of a loader if the lists cannot be read
-abbrev pub load_fault_of : PartsFault → LoadFault
-load_fault_of reading.StateMagic = StateMagic
-load_fault_of reading.StateShort = StateShort
-load_fault_of reading.StateLong = StateLong
-load_fault_of reading.StateDigest = StateDigest
-load_fault_of reading.OutOfMemory = OutOfMemory
-
--- each answer of a reader of lists is right about them; it decides all that needs neither a digest nor keys
-abbrev pub ChecksLists : List ℕ → List ℕ → Result Parts LoadFault → Type 0
-ChecksLists origin bytes (Ok parts) = HasStrings origin bytes parts
-ChecksLists origin bytes (Err StateMagic) = ReadsParts bytes (Err reading.StateMagic)
-ChecksLists origin bytes (Err StateShort) = ReadsParts bytes (Err reading.StateShort)
-ChecksLists origin bytes (Err StateLong) = ReadsParts bytes (Err reading.StateLong)
-ChecksLists origin bytes (Err StateDigest) = ReadsParts bytes (Err reading.StateDigest)
-ChecksLists origin bytes (Err OtherOrigin) = IsOfOtherOrigin origin bytes
-ChecksLists origin bytes (Err StateOrder) = IsDisordered origin bytes
-ChecksLists origin bytes (Err StateString) = HasBadString origin bytes
-ChecksLists origin bytes (Err StateHead) = ⊥
-ChecksLists origin bytes (Err Collision) = ⊥
-ChecksLists origin bytes (Err StateEdge) = ⊥
-ChecksLists origin bytes (Err ReadFault) = ⊥
-ChecksLists origin bytes (Err OutOfMemory) = ⊤
-
--- the ways to list strings: as entries, as pairs of hashes, or with their tags
-abbrev pub tagged_as : Kind → List ℕ → List ℕ
-tagged_as Entries item = 0 ∷ item
-tagged_as Pairs item = 1 ∷ item
-tagged_as Tags item = item
-
--- the item can be listed in that way
-abbrev pub IsListable : Kind → List ℕ → Type 0
-IsListable Entries item = length item ≤ 65535
-IsListable Pairs item = length item ≡ 64
-IsListable Tags item = IsStateString item
-
--- all strings of a state text can be listed in its way
-abbrev pub AreListable : Parts → Type 0
-AreListable (VersionTwo origin notes pairs entries) =
-    All (IsListable Entries) entries × All (IsListable Pairs) pairs
-AreListable (VersionOne origin notes strings) = All (IsListable Tags) strings
-
--- each answer of adding strings to a set is right: they are added, if none collides
-abbrev pub AddsListed : (List ℕ → List ℕ) → Strings → List (List ℕ) → Result (Unit {0}) AddFault →
-    Strings → Type 0
-AddsListed digest old strings (Ok done) new =
-    (new ≡ set.union old (set.from_list strings)) × NoClash digest new
-AddsListed digest old strings (Err adding.Collision) new =
-    HasClash digest (set.union old (set.from_list strings))
-AddsListed digest old strings (Err adding.OutOfMemory) new = ⊤
-
--- each answer of making a set of strings is right: the strings are the set, if none collides
-abbrev pub MakesStore : (List ℕ → List ℕ) → List (List ℕ) → Result Strings AddFault → Type 0
-MakesStore digest strings (Ok made) = (made ≡ set.from_list strings) × NoClash digest made
-MakesStore digest strings (Err adding.Collision) = HasClash digest (set.from_list strings)
-MakesStore digest strings (Err adding.OutOfMemory) = ⊤
 
 -- each answer of making a mirror of strings, without notes, is right about them
 abbrev pub MakesMirror : (List ℕ → List ℕ) → List ℕ → List (List ℕ) → Result View AddFault → Type 0

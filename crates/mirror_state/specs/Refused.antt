@@ -1,17 +1,15 @@
 -- The note of a state text for which the text is not loaded.
-use Rattle.std.specs.Prelude.{◌≡◌, ℕ, ◌+◌, ◌⊎◌, List, ◌++◌, take, slice_get, codes, All, Option}
+use Rattle.std.specs.Prelude.{◌≡◌, ℕ, ◌⊎◌, List, take, slice_get, All, Option}
 use Rattle.std.specs.Prelude.{Some, None, Result, Ok, Err, ⊤}
-use Rattle.std.specs.Fmt.{decimal}
-use Rattle.tlog_text.specs.Hash.{base64_of}
 use Rattle.signed_note.specs.Keys.{Key}
 use Rattle.mirror_model.specs.Complete.{HasEdge}
-use Rattle.mirror_model.specs.Heads.{IsHead}
 use Rattle.tlog_mirror.specs.Restored.{IsOpenNote}
-use Rattle.mirror_state.specs.StateText.{Parts}
-use Rattle.mirror_state.specs.Loading.{listed_notes, listed_view, HasStrings, HasNoCollision}
+use Rattle.state_text.specs.StateText.{Parts}
+use Rattle.state_text.specs.Content.{listed_notes, listed_view, HasStrings}
+use Rattle.mirror_state.specs.Loading.{HasNoCollision}
 use Rattle.mirror_state.specs.Loading.{HasBadNote, LacksEdge}
-use Rattle.mirror_state.specs.declared.refused.RefusedNote.{RefusedNote}
-use Rattle.mirror_state.specs.declared.refused.RefusedNote.TheVariants as refused
+use Rattle.state_text.specs.declared.naming.RefusedNote.{RefusedNote}
+use Rattle.state_text.specs.Naming.{NamesNote}
 
 -- the item is at that index of the list, and it is the first one without the property P
 pub record IsFirstNot (P : List ℕ → Type 0) (items : List (List ℕ)) (index : ℕ) (item : List ℕ)
@@ -19,25 +17,6 @@ pub record IsFirstNot (P : List ℕ → Type 0) (items : List (List ℕ)) (index
   pub passed : All P (take index items)
   pub is_there : slice_get items index ≡ Some item
   pub fails : ¬ P item
-
--- the name of a checkpoint: its size, and the first three bytes of its root in base64, which are the first four
--- characters of the root's base64
-abbrev pub checkpoint_name : ℕ → List ℕ → List ℕ
-checkpoint_name size root =
-    codes "checkpoint " ++ (decimal size ++ (codes " " ++ (base64_of (take 3 root) ++ codes "..")))
-
--- the text of a name
-abbrev pub note_name : RefusedNote → List ℕ
-note_name (refused.Checkpoint size root) = checkpoint_name size root
-note_name (refused.Note number) = codes "note " ++ decimal number
-
--- the name of the note at that index: the size and the root of its checkpoint, for every signer and log. If it is no
--- checkpoint, its name is its number; the first number is 1
-abbrev pub NamesNote : ℕ → List ℕ → RefusedNote → Type 0
-NamesNote index note (refused.Checkpoint size root) =
-    (origin : List ℕ) × IsHead note origin size root
-NamesNote index note (refused.Note number) =
-    (number ≡ index + 1) × ((origin : List ℕ) (size : ℕ) (root : List ℕ) → ¬ IsHead note origin size root)
 
 module _ (digest : List ℕ → List ℕ) (origin : List ℕ) (keys : List Key) (bytes : List ℕ) where
   -- the bytes are a state text that is right up to its notes, and that note is the first one that does not open

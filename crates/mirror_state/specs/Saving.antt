@@ -3,7 +3,7 @@ use Rattle.std.specs.Prelude.{ℕ, List, Option, Result, Ok, Err}
 use Rattle.std.specs.Io.KnownBytes.{Appends, Keeps}
 use Rattle.byte_streams.specs.Streams.{AppendsPrefix}
 use Rattle.mirror_model.specs.View.{View}
-use Rattle.mirror_state.specs.StateText.{StateText}
+use Rattle.state_text.specs.StateText.{StateText}
 use Rattle.mirror_state.specs.declared.fault.SaveFault.{SaveFault}
 use Rattle.mirror_state.specs.declared.fault.SaveFault.TheVariants.{WriteFault, OutOfMemory}
 

@@ -1,24 +1,7 @@
-//! Properties of state texts, as laws of the definitions that the contracts cite.
+//! Properties of loaded states, as laws of the definitions that the contracts cite.
 //!
 //! A law is the contract of a function with an empty body: it consists of its proof.
-ghost use Rattle.mirror_state.specs.Laws.{NoTextBeginsAnother, TextListsOneState, TextsHaveOneAnswer};
-ghost use Rattle.mirror_state.specs.LoadLaws.{LoadsHaveOneAnswer, OldIsSavedAsNew, SavedIsLoaded, ViewHasOneText, TextsAreLoaded};
-
-/// Bytes have one answer as a state text, apart from `OutOfMemory`: they determine the lists, and the refusals exclude
-/// one another.
-pub fn one_answer_law()
-    ensures { TextsHaveOneAnswer }
-{}
-
-/// A state text lists only one state.
-pub fn one_text_law()
-    ensures { TextListsOneState }
-{}
-
-/// No state text is a strict prefix of another: a text that is cut off is not read as a state text.
-pub fn cut_law()
-    ensures { NoTextBeginsAnother }
-{}
+ghost use Rattle.mirror_state.specs.LoadLaws.{LoadsHaveOneAnswer, OldIsSavedAsNew, SavedIsLoaded, TextsAreLoaded};
 
 /// All the bytes of a reader have one answer of a loader, apart from failed reads and refused memory: the refusals
 /// exclude one another.
@@ -35,11 +18,6 @@ pub fn loaded_text_law()
 /// Loading a saved text gives the same view, under keys that open all held notes.
 pub fn saved_law()
     ensures { SavedIsLoaded }
-{}
-
-/// A view has one text that is saved.
-pub fn state_text_law()
-    ensures { ViewHasOneText }
 {}
 
 /// A view that was loaded from version 1 is saved as version 2 of the same view.

@@ -1,70 +1,21 @@
 //! The note of a state text for which the text is not loaded.
-ghost use Rattle.std.specs.Prelude.{◌≡◌, ◌↔◌, ◌<◌, ◌++◌, ℕ, List, map, take, option_map, string_bytes, All, IfNone, IfOk, IfSome, IsTrue, OnOk};
+ghost use Rattle.std.specs.Prelude.{◌↔◌, ◌<◌, ℕ, List, map, option_map, All, IfNone, IfOk, IfSome, IsTrue};
 ghost use Rattle.mirror_model.specs.Complete.{HasEdge};
 ghost use Rattle.tlog_mirror.specs.Restored.{IsOpenNote};
-ghost use Rattle.mirror_state.specs.LoadSteps.{AreListable};
-ghost use Rattle.mirror_state.specs.Loading.{HasStrings};
-ghost use Rattle.mirror_state.specs.Refused.{checkpoint_name, note_name, FindsAt, FindsRefused, IsFirstNot, NamesNote};
-ghost use Rattle.mirror_state.specs.Stands.{parts_of};
+ghost use Rattle.state_text.specs.Storing.{AreListable};
+ghost use Rattle.state_text.specs.Content.{HasStrings};
+ghost use Rattle.mirror_state.specs.Refused.{FindsAt, FindsRefused, IsFirstNot};
+ghost use Rattle.state_text.specs.Stands.{parts_of};
 ghost use Rattle.tlog_text.specs.Answers.{seen};
-ghost use Rattle.tlog_text.specs.Hash.{base64_of};
 
-use crate::fault::LoadFault;
-use crate::lists::Lists;
-use crate::loading::{checked_lists, mirror_of};
-use base64::engine::general_purpose::STANDARD;
-use mirror_model::{checkpoint_of, open_head};
+use crate::loading::mirror_of;
+use mirror_model::open_head;
 use node_store::AddFault;
 use signed_note::Verifier;
+use state_text::{Lists, LoadFault, RefusedNote, checked_lists, name_of};
 use std::alloc::{AllocError, Global};
-use tlog_hash::{Hash, TreeHash};
+use tlog_hash::TreeHash;
 use tlog_mirror::{Mirror, RestoreFault, TakeFault};
-
-// The number of a root's bytes that a name has.
-const FRONT_LEN: usize = 3;
-
-/// A note of a state text, for which the text is not loaded.
-#[derive(Drop)]
-pub enum RefusedNote {
-    /// A checkpoint of this size and root; its signer and its log do not matter.
-    Checkpoint(u64, Hash),
-    /// No checkpoint: the number of the note. The first number is 1.
-    Note(usize),
-}
-
-impl RefusedNote {
-    /// Gives `checkpoint 700 uzuW..`, with the size and the first three bytes of the root in base64, or `note 3`.
-    ///
-    /// # Errors
-    ///
-    /// Memory was refused.
-    pub fn name(&self, alloc: Global) -> Result<String, AllocError>
-        ensures { IfOk result (λ text. string_bytes text ≡ note_name self.now) }
-    {
-        match self {
-            RefusedNote::Checkpoint(size, root) => checkpoint_text(alloc, *size, root),
-            RefusedNote::Note(number) => format!(in alloc; "note {number}"),
-        }
-    }
-}
-
-fn checkpoint_text(alloc: Global, size: u64, root: &Hash) -> Result<String, AllocError>
-    ensures { IfOk result (λ text. string_bytes text ≡ checkpoint_name size root.now) }
-{
-    let mut text = format!(in alloc; "checkpoint {size} ")?;
-    push_front(&mut text, root)?;
-    text.push_str("..")?;
-    Ok(text)
-}
-
-// Adds the first bytes of a root.
-#[tactic(auto, unfolding(tlog_text::specs::Hash::base64_of))]
-fn push_front(text: &mut String, root: &Hash) -> Result<(), AllocError>
-    ensures { OnOk result (string_bytes text.new ≡ string_bytes text.old
-        ++ base64_of (take 3 root.now)) }
-{
-    STANDARD.encode_string(&root[..FRONT_LEN], text)
-}
 
 /// The note for which `load_bytes` gives `StateHead` or `StateEdge`. It is the first that does not open, in the order
 /// of the text. If all open, it is the first whose right edge is not held. `None` if it gives neither fault. It takes
@@ -136,20 +87,6 @@ fn refused_in<'a, H: TreeHash>(
         }
         Err(AddFault::Collision) => Ok(None),
         Err(AddFault::OutOfMemory) => Err(AllocError),
-    }
-}
-
-fn name_of(alloc: Global, index: usize, note: &[u8]) -> Result<RefusedNote, AllocError>
-    requires { index < 18446744073709551615 }
-    ensures { IfOk result (λ name. NamesNote index note.now name) }
-{
-    match checkpoint_of(alloc, note)? {
-        Some(checkpoint) => {
-            let size = checkpoint.size;
-            let root = checkpoint.root;
-            Ok(RefusedNote::Checkpoint(size, root))
-        }
-        None => Ok(RefusedNote::Note(index + 1)),
     }
 }
 

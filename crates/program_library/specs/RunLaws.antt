@@ -7,7 +7,7 @@ use Rattle.note_keys.specs.Verifiers.{JoinsPins, key_of}
 use Rattle.note_keys.specs.declared.key_line.KeyLine.{KeyLine}
 use Rattle.mirror_model.specs.View.{View}
 use Rattle.mirror_state.specs.Loading.{Loads}
-use Rattle.mirror_state.specs.StateText.{StateText}
+use Rattle.state_text.specs.StateText.{StateText}
 use Rattle.mirror_pull.specs.declared.fault.PullFault.{PullFault}
 use Rattle.mirror_pull.specs.declared.pulling.Pulled.{Pulled}
 use Rattle.program_files.specs.Named.{NamedFile}

@@ -1,7 +1,7 @@
 -- A file that already has the state of a mirror, so that it need not be written again.
 use Rattle.std.specs.Prelude.{◌≡◌, ℕ, List, Option, Some}
 use Rattle.mirror_model.specs.View.{View}
-use Rattle.mirror_state.specs.StateText.{StateText}
+use Rattle.state_text.specs.StateText.{StateText}
 use Rattle.program_files.specs.Named.{NamedFile, HasContents}
 
 -- the file of that name has the state of the view, in the bytes that a save writes

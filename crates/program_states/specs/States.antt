@@ -5,9 +5,9 @@ use Rattle.signed_note.specs.Keys.{Key}
 use Rattle.mirror_model.specs.Origin.{IsOrigin}
 use Rattle.mirror_model.specs.View.{View, nothing}
 use Rattle.mirror_state.specs.Loading.{Loads}
-use Rattle.mirror_state.specs.StateText.{StateText}
-use Rattle.mirror_state.specs.declared.fault.LoadFault.{LoadFault}
-use Rattle.mirror_state.specs.declared.fault.LoadFault.TheVariants.{ReadFault}
+use Rattle.state_text.specs.StateText.{StateText}
+use Rattle.state_text.specs.declared.fault.LoadFault.{LoadFault}
+use Rattle.state_text.specs.declared.fault.LoadFault.TheVariants.{ReadFault}
 use Rattle.tlog_mirror.specs.declared.fault.NewFault.TheVariants as made
 use Rattle.program_files.specs.Named.{NamedFile}
 use Rattle.program_files.specs.Named.{FailsToPut, ReadsFile, HasContents}

@@ -1,6 +1,6 @@
 //! Reads mirrors from state files, and writes their states.
 ghost use Rattle.std.specs.Prelude.{◌≡◌, ◌↔◌, IfOk, IsTrue, Some, map, option_map};
-ghost use Rattle.mirror_state.specs.StateText.{StateText};
+ghost use Rattle.state_text.specs.StateText.{StateText};
 ghost use Rattle.tlog_text.specs.Answers.{seen};
 ghost use Rattle.program_states.specs.Saved.{HoldsState, IsSaved};
 ghost use Rattle.program_states.specs.States.{BeginsWith, OpensFile, SavesFile};

@@ -1,7 +1,7 @@
 use Rattle.std.proofs.Common.{refl, ◌∙◌}
 use Rattle.std.proofs.lemmas.List.Elements.{All-nil}
 use Rattle.mirror_model.specs.Complete.{HasEdge}
-use Rattle.mirror_state.proofs.ListedItems.{noted_none}
+use Rattle.mirror_state.proofs.KeptNotes.{noted_none}
 use Rattle.mirror_state.proofs.OpenedNotes.{head_edges, head_kept, head_lacks, head_said, heads_kept}
 use Rattle.mirror_state.proofs.loading.keep_all.Goals as goal
 

@@ -2,8 +2,8 @@ use Rattle.std.proofs.Common.{Err, All, refl, subst, sym}
 use Rattle.mirror_model.specs.View.{View}
 use Rattle.tlog_mirror.specs.Opened.{SaysHead}
 use Rattle.mirror_state.specs.LoadSteps.{MakesMirror}
-use Rattle.mirror_state.specs.Loading.{listed_strings}
-use Rattle.mirror_state.specs.Stands.{parts_of}
+use Rattle.state_text.specs.Content.{listed_strings}
+use Rattle.state_text.specs.Stands.{parts_of}
 use Rattle.mirror_state.proofs.Loaded.{clash_recorded, loaded, not_loaded}
 use Rattle.mirror_state.proofs.loading.load_opened.Goals as goal
 

@@ -1,6 +1,6 @@
 use Rattle.std.proofs.Common.{◌∷◌, subst}
 use Rattle.node_store.specs.Strings.{Strings, Has}
-use Rattle.mirror_state.specs.Stands.{parts_of}
+use Rattle.state_text.specs.Stands.{parts_of}
 use Rattle.mirror_state.proofs.Loaded.{listed_short}
 use Rattle.mirror_state.proofs.loading.mirror_of.Goals as goal
 

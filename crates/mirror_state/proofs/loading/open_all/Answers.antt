@@ -1,5 +1,5 @@
 use Rattle.std.proofs.lemmas.Result.{err_from_is_err_and}
-use Rattle.mirror_state.proofs.ListedItems.{one_refused}
+use Rattle.mirror_state.proofs.KeptNotes.{one_refused}
 use Rattle.mirror_state.proofs.OpenedNotes.{all_opened, more_opened, none_opened}
 use Rattle.mirror_state.proofs.loading.open_all.Goals as goal
 

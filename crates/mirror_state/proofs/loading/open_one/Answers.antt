@@ -1,4 +1,4 @@
-use Rattle.mirror_state.proofs.ListedItems.{note_checked}
+use Rattle.mirror_state.proofs.KeptNotes.{note_checked}
 use Rattle.mirror_state.proofs.OpenedNotes.{one_opened}
 use Rattle.mirror_state.proofs.loading.open_one.Goals as goal
 

@@ -1,4 +1,4 @@
-use Rattle.mirror_state.proofs.ListedItems.{one_opens, all_open}
+use Rattle.mirror_state.proofs.KeptNotes.{one_opens, all_open}
 use Rattle.mirror_state.proofs.refused.first_closed.Goals as goal
 
 pub loop-i-preserved : goal.loop-i-preserved

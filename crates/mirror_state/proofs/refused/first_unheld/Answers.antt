@@ -2,7 +2,8 @@ use Rattle.std.proofs.Common.{rules, ◌≢◌}
 use Rattle.std.proofs.lemmas.List.Elements.{All-nil}
 use Rattle.mirror_model.specs.Complete.{HasEdge}
 use Rattle.tlog_mirror.specs.declared.fault.RestoreFault.TheVariants as restoring
-use Rattle.mirror_state.proofs.ListedItems.{all_passes, noted_none, kept_view, kept_edges}
+use Rattle.state_text.proofs.ListedItems.{all_passes}
+use Rattle.mirror_state.proofs.KeptNotes.{noted_none, kept_view, kept_edges}
 use Rattle.mirror_state.proofs.RefusedNotes.{first_here, stays_unheld}
 use Rattle.mirror_state.proofs.refused.first_unheld.Goals as goal
 

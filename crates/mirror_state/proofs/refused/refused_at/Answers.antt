@@ -1,8 +1,8 @@
 use Rattle.std.proofs.Common.{rules, ◌≢◌, Err, subst}
-use Rattle.mirror_state.specs.LoadSteps.{ChecksLists}
-use Rattle.mirror_state.specs.Loading.{HasStrings}
-use Rattle.mirror_state.specs.Stands.{parts_of}
-use Rattle.mirror_state.specs.declared.fault.LoadFault.TheVariants as loading
+use Rattle.state_text.specs.Checking.{ChecksLists}
+use Rattle.state_text.specs.Content.{HasStrings}
+use Rattle.state_text.specs.Stands.{parts_of}
+use Rattle.state_text.specs.declared.fault.LoadFault.TheVariants as loading
 use Rattle.mirror_state.proofs.Loaded.{listable}
 use Rattle.mirror_state.proofs.RefusedNotes.{lists_refused}
 use Rattle.mirror_state.proofs.refused.refused_at.Goals as goal

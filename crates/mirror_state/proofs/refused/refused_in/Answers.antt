@@ -1,7 +1,7 @@
 use Rattle.std.proofs.Common.{Err, subst}
 use Rattle.mirror_state.specs.LoadSteps.{MakesMirror}
-use Rattle.mirror_state.specs.Loading.{listed_strings}
-use Rattle.mirror_state.specs.Stands.{parts_of}
+use Rattle.state_text.specs.Content.{listed_strings}
+use Rattle.state_text.specs.Stands.{parts_of}
 use Rattle.mirror_state.proofs.Loaded.{clash_recorded}
 use Rattle.mirror_state.proofs.RefusedNotes.{closed_recorded, edges_judged, strings_clash}
 use Rattle.mirror_state.proofs.refused.refused_in.Goals as goal

@@ -1,0 +1,9 @@
+pub mod ItemLemmas
+pub mod ListLemmas
+pub mod BodyLemmas
+pub mod OneText
+pub mod Mapped
+pub mod ListedItems
+pub mod Gathered
+pub mod Putting
+pub mod Names

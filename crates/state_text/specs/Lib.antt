@@ -1,0 +1,11 @@
+pub mod Items
+pub mod StateText
+pub mod Reading
+pub mod Stands
+pub mod Laws
+pub mod Content
+pub mod Checking
+pub mod Storing
+pub mod Putting
+pub mod Listing
+pub mod Naming
