@@ -17,6 +17,14 @@ use Rattle.copy_reader.specs.declared.fault.CopyFault.TheVariants.{BadOrigin, He
 abbrev pub LeavesPuts : (held old new : Option (List Put)) → Type 0
 LeavesPuts held old new = (new ≡ old) ⊎ KeepsRecord held new
 
+-- the reason why a note does not open as a checkpoint
+abbrev pub RefusesNote : List ℕ → List ℕ → List Key → CopyFault → Type 0
+RefusesNote note origin keys BadOrigin = ⊥
+RefusesNote note origin keys (Head fault) = ReadsHead note origin keys (Err fault)
+RefusesNote note origin keys (CopyDamaged path) = ⊥
+RefusesNote note origin keys ShelfFault = ⊥
+RefusesNote note origin keys OutOfMemory = ⊤
+
 module _ (origin : List ℕ) (keys : List Key) (held : Option (List Put)) where
   -- the checkpoint is a note that opens under the keys, of that origin, size and root
   pub record HasCheckpoint (size : ℕ) (root : List ℕ) : Type 0 where

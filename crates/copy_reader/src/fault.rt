@@ -7,30 +7,48 @@ use log_reader::ReadFault;
 use mirror_folders::ShelfError;
 use mirror_model::TakeFault;
 use std::alloc::{AllocError, AllocFailed};
-use thiserror::Error;
+use std::fmt;
 use tlog_tiles::Path;
 
 /// The reason why a copy is not read. It prints as its variant's name, or as the name of the fault inside.
 /// For example, `CopyDamaged(Path::Tile { level: 0, index: 1, width: 256 })` means that `tile/0/001` is missing or false.
-#[derive(Debug, Drop, PartialEq, Eq, Clone, Copy, Error)]
+#[derive(Drop, Clone, Copy)]
 pub enum CopyFault {
     /// No log can have that origin.
-    #[error("BadOrigin")]
     BadOrigin,
     /// The copy's checkpoint does not open under the keys, or is not one of the origin.
-    #[error(transparent)]
     Head(TakeFault),
     /// The file at the path is missing, or it does not lead to the root of the copy's checkpoint. The path is the checkpoint's if the
     /// rows lead to the root, but a proof made of them does not hold.
-    #[error("CopyDamaged")]
     CopyDamaged(Path),
     /// A file of the copy cannot be read.
-    #[error("ShelfFault")]
     ShelfFault,
     /// Memory was refused.
-    #[error("OutOfMemory")]
     OutOfMemory,
 }
+
+/// Prints the name of the innermost variant. A derived one takes the checker seconds more.
+impl fmt::Display for CopyFault {
+    fn fmt<W: fmt::Write>(&self, f: &mut fmt::Formatter<W>) -> fmt::Result {
+        let name = match self {
+            CopyFault::Head(fault) => return fmt::Display::fmt(fault, f),
+            CopyFault::BadOrigin => "BadOrigin",
+            CopyFault::CopyDamaged(_) => "CopyDamaged",
+            CopyFault::ShelfFault => "ShelfFault",
+            CopyFault::OutOfMemory => "OutOfMemory",
+        };
+        f.write_str(name)
+    }
+}
+
+/// Prints what `Display` prints.
+impl fmt::Debug for CopyFault {
+    fn fmt<W: fmt::Write>(&self, f: &mut fmt::Formatter<W>) -> fmt::Result {
+        fmt::Display::fmt(self, f)
+    }
+}
+
+impl std::error::Error for CopyFault {}
 
 impl From<ShelfError> for CopyFault {
     ghost from_gives = { λ e f. f ≡ by_shelf e };

@@ -1,7 +1,8 @@
 //! A copy is opened: its checkpoint, and a reader of its log.
 ghost use Rattle.std.specs.Prelude.{◌≡◌, IfErr, IfOk, map};
 ghost use Rattle.mirror_sources.specs.Recorded.{KeepsRecord};
-ghost use Rattle.copy_reader.specs.Copies.{OpensCopy};
+ghost use Rattle.mirror_model.specs.Heads.{IsOpenHead};
+ghost use Rattle.copy_reader.specs.Copies.{OpensCopy, RefusesNote};
 ghost use Rattle.copy_reader.specs.Faults.{CountsCopy, CountsRead};
 ghost use Rattle.copy_reader.specs.WholeCopies.{IsOfShelf, OpensWhole, ReadsCopyLog};
 ghost use Rattle.log_reader.specs.Holding.{IsReaderOf};
@@ -44,6 +45,29 @@ pub fn open_reader<H: TreeHash, D: ReadableShelf>(
     Ok(LogReader::open(alloc, &mut files, size, root)?)
 }
 
+// The size and root of the checkpoint in a note, which opens under the keys.
+#[tactic(auto, using(crate::proofs::HeadNotes::opened_head))]
+fn head_in(
+    alloc: Global,
+    origin: &str,
+    keys: &[Box<dyn Verifier>],
+    note: &[u8],
+) -> Result<(u64, Hash), CopyFault>
+    ensures opens { IfOk result
+        (λ head. IsOpenHead note.now origin.now (map (λ k. key k) keys.now) head.0 head.1) }
+    ensures refused { IfErr result
+        (RefusesNote note.now origin.now (map (λ k. key k) keys.now)) }
+{
+    match open_head(alloc, origin, keys, note) {
+        Ok(checkpoint) => {
+            let root = checkpoint.root;
+            Ok((checkpoint.size, root))
+        }
+        Err(TakeFault::OutOfMemory) => Err(CopyFault::OutOfMemory),
+        Err(fault) => Err(CopyFault::Head(fault)),
+    }
+}
+
 /// The log whose checkpoint is on the shelf. The checkpoint opens under the keys, and the rows of its edge lead to its root. None: the
 /// shelf has no checkpoint, so the copy is empty.
 ///
@@ -56,7 +80,7 @@ pub fn open_reader<H: TreeHash, D: ReadableShelf>(
 ///
 /// The first that applies. `ShelfFault`: a file cannot be read. `Head`, with the fault of `check_head`: the checkpoint does not open. Then
 /// the faults of `open_reader`. `BadOrigin` never comes.
-#[tactic(auto, using(log_reader::proofs::Kept::kept_twice, crate::proofs::HeadNotes::opened_head))]
+#[tactic(auto, using(log_reader::proofs::Kept::kept_twice, crate::proofs::HeadNotes::note_refused, crate::proofs::HeadNotes::note_counts, crate::proofs::HeadNotes::note_of_shelf))]
 pub fn open_shelf<H: TreeHash, D: ReadableShelf>(
     alloc: Global,
     shelf: &mut D,
@@ -73,12 +97,7 @@ pub fn open_shelf<H: TreeHash, D: ReadableShelf>(
     let Some(note) = shelf.read(&Path::Checkpoint)? else {
         return Ok(None);
     };
-    let checkpoint = match open_head(alloc, origin, keys, &note) {
-        Ok(checkpoint) => checkpoint,
-        Err(TakeFault::OutOfMemory) => return Err(CopyFault::OutOfMemory),
-        Err(fault) => return Err(CopyFault::Head(fault)),
-    };
-    let root = checkpoint.root;
-    let reader = open_reader::<H, D>(alloc, shelf, checkpoint.size, &root)?;
+    let head = head_in(alloc, origin, keys, &note)?;
+    let reader = open_reader::<H, D>(alloc, shelf, head.0, &head.1)?;
     Ok(Some(reader))
 }

@@ -4,22 +4,17 @@ ghost use Rattle.copy_server.specs.Faults.{by_body};
 
 use copy_reader::CopyFault;
 use mirror_server::HttpFault;
-use thiserror::Error;
 use tlog_tiles::Path;
 
-/// The reason why a client was not answered from a copy, or was answered by `500 Internal Server Error`. It prints as its variant's name,
-/// or as the name of the fault inside.
-#[derive(Debug, Drop, PartialEq, Eq, Clone, Copy, Error)]
+/// The reason why a client was not answered from a copy, or was answered by `500 Internal Server Error`.
+#[derive(Drop, Clone, Copy)]
 pub enum CopyAnswerFault {
     /// A read or a write failed, or memory was refused, as for a mirror.
-    #[error(transparent)]
     Http(HttpFault),
     /// The file at the path is missing, or does not verify up to the checkpoint's root. For the checkpoint's path: it is not a checkpoint
     /// of the origin. The client got the reply 500.
-    #[error("CopyDamaged")]
     CopyDamaged(Path),
     /// A file of the copy cannot be read. The client got the reply 500.
-    #[error("ShelfFault")]
     ShelfFault,
 }
 

@@ -1,11 +1,13 @@
 -- What a read says where `?` ends it.
-use Rattle.std.proofs.Common.{◌≡◌, ℕ, Result, Ok, Err, IsErr, IsErrAnd, sym, ap, subst, ◌∙◌}
+use Rattle.std.proofs.Common.{◌≡◌, ◌⊎◌, ℕ, Option, Some, None, Result, Ok, Err, IfOk, IfSome, IfNone, IsSomeAnd, IsErr, IsErrAnd, inl, inr, sym, ap, subst, ◌∙◌}
+use Rattle.std.specs.Option.{ok_or}
+use Rattle.tlog_tiles.specs.declared.paths.Path.{Path}
 use Rattle.std.proofs.lemmas.Bool.{false≢true}
 use Rattle.mirror_sources.specs.Recorded.{one_more}
 use Rattle.mirror_sources.specs.Source.{CountsGet}
 use Rattle.mirror_sources.specs.declared.source.SourceFault.{SourceFault}
 use Rattle.mirror_sources.specs.declared.source.SourceFault.TheVariants as source
-use Rattle.log_reader.specs.Faults.{CountsFailure, IsFailure, by_source}
+use Rattle.log_reader.specs.Faults.{CountsFailure, IsFailure, by_source, found_in}
 use Rattle.log_reader.specs.Holding.{ReadsTrue}
 use Rattle.log_reader.specs.declared.fault.ReadFault.{ReadFault}
 use Rattle.log_reader.specs.declared.fault.ReadFault.TheVariants.{NoFile, FalseFile, Collision, Source, OutOfMemory}
@@ -58,3 +60,42 @@ get_fails source.OutOfMemory = tt
 pub get_failed : {T : Type 0} (result : Result T ReadFault) (claim : T → Type 0) (fault : SourceFault) →
     IsErr result × IsErrAnd result (λ f. f ≡ by_source fault) → ReadsTrue result claim
 get_failed result claim fault is = failed_exit result claim (by_source fault) is (get_fails fault)
+
+-- ---- a file that was got, and what was found in it
+
+pub lacks_exit : {T : Type 0} (result : Result T ReadFault) (claim : T → Type 0) (fault : ReadFault) (Gone : Type 0) →
+    IsErr result × IsErrAnd result (λ f. f ≡ fault) → IsFailure fault ⊎ Gone → (Gone → ⊥) → ReadsTrue result claim
+lacks_exit result claim fault Gone is (inl h) there = failed_exit result claim fault is h
+lacks_exit result claim fault Gone is (inr h) there = absurd (there h)
+
+module _ {T E : Type 0} where
+  pub found_ok : (found : Result (Option T) E) (path : Path) (result : Result T ReadFault) → result ≡ found_in found path →
+      (P Q : T → Type 0) → ((x : T) → P x → Q x) → IfOk found (λ o. IfSome o P) → IfOk result Q
+  found_ok (Ok (Some x)) path result is P Q f h = subst (λ r. IfOk r Q) (sym is) (f x h)
+  found_ok (Ok None) path result is P Q f h = subst (λ r. IfOk r Q) (sym is) tt
+  found_ok (Err fault) path result is P Q f h = subst (λ r. IfOk r Q) (sym is) tt
+
+  pub found_true : (found : Result (Option T) E) (path : Path) (result : Result T ReadFault) → result ≡ found_in found path →
+      (P : T → Type 0) (N : Type 0) → IfOk found (λ o. IfSome o P) → IfOk found (λ o. IfNone o N) → (claim : T → Type 0) →
+      ((x : T) → P x → claim x) → (N → ⊥) → ReadsTrue result claim
+  found_true (Ok (Some x)) path result is P N h none claim some not = subst (λ r. ReadsTrue r claim) (sym is) (some x h)
+  found_true (Ok None) path result is P N h none claim some not = absurd (not none)
+  found_true (Err fault) path result is P N h none claim some not = subst (λ r. ReadsTrue r claim) (sym is) tt
+
+  pub found_counted : (found : Result (Option T) E) (path : Path) (result : Result T ReadFault) → result ≡ found_in found path →
+      (old new : ℕ) → new ≡ old → CountsFailure old new result
+  found_counted (Ok (Some x)) path result is old new h = subst (CountsFailure old new) (sym is) h
+  found_counted (Ok None) path result is old new h = subst (CountsFailure old new) (sym is) h
+  found_counted (Err fault) path result is old new h = subst (CountsFailure old new) (sym is) h
+
+-- ---- a value or a fault
+
+pub or_true : {T : Type 0} (found : Option T) (fault : ReadFault) (result : Result T ReadFault) → result ≡ ok_or found fault →
+    (P claim : T → Type 0) → ((x : T) → P x → claim x) → IsSomeAnd found P → ReadsTrue result claim
+or_true (Some x) fault result is P claim f h = subst (λ r. ReadsTrue r claim) (sym is) (f x h)
+or_true None fault result is P claim f h = absurd h
+
+pub or_counted : {T : Type 0} (found : Option T) (fault : ReadFault) (result : Result T ReadFault) → result ≡ ok_or found fault →
+    (old new : ℕ) → new ≡ old → CountsFailure {T = T} old new (Err fault) → CountsFailure old new result
+or_counted (Some x) fault result is old new same h = subst (CountsFailure old new) (sym is) same
+or_counted None fault result is old new same h = subst (CountsFailure old new) (sym is) h

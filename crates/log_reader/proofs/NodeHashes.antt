@@ -1,6 +1,6 @@
 -- The hashes of the nodes of a tree, from true rows.
 use Rattle.std.proofs.Common.{◌≡◌, ℕ, zero, suc, ◌+◌, ◌-◌, ◌*◌, ◌/◌, ◌^◌, ◌<◌, ◌≤◌, List, [], ◌∷◌, ◌++◌, length, map, take, drop}
-use Rattle.std.proofs.Common.{IfOk, Option, Some, None, Result, Ok, Err, slice_range, refl, sym, ap, subst, ◌∙◌, arith, length-drop}
+use Rattle.std.proofs.Common.{IfOk, IsSomeAnd, Option, Some, None, Result, Ok, Err, slice_range, refl, sym, ap, subst, ◌∙◌, arith, length-drop}
 use Rattle.std.proofs.Math.Nat.{div-mul-le_self, lt-div-mul-add}
 use Rattle.std.proofs.Math.Numerals.{add-one}
 use Rattle.std.proofs.lemmas.List.{drop-drop, length-map, take-map, take_all}
@@ -198,3 +198,9 @@ if_ok P Q (Err e) f p = tt
 -- a row from its first hash on
 pub row_from : (row rest : List (List ℕ)) (first : ℕ) → rest ≡ slice_range row first (length row) → rest ≡ drop first row
 row_from row rest first is = is ∙ take_all (length row - first) (drop first row) (omega (arith, length-drop first row))
+
+-- entries come from "start" on, so they have a hash
+pub from_end : (digest : List ℕ → List ℕ) (entries : List (List ℕ)) (start : ℕ) (found : Option (List ℕ)) → start < length entries →
+    IsHashFrom digest entries start found → IsSomeAnd found (λ hash. hash ≡ mth digest (drop start entries))
+from_end digest entries start None some h = absurd (omega (arith, some, h))
+from_end digest entries start (Some hash) some h = h.1

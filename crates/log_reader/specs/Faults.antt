@@ -1,5 +1,6 @@
 -- The faults of a read for the faults of a source.
-use Rattle.std.specs.Prelude.{◌≡◌, ℕ, Result, Ok, Err, ⊤}
+use Rattle.std.specs.Prelude.{◌≡◌, ℕ, Option, None, Some, Result, Ok, Err, ⊤}
+use Rattle.tlog_tiles.specs.declared.paths.Path.{Path}
 use Rattle.mirror_sources.specs.Recorded.{one_more}
 use Rattle.mirror_sources.specs.declared.source.SourceFault.{SourceFault}
 use Rattle.mirror_sources.specs.declared.source.SourceFault.TheVariants as source
@@ -26,3 +27,9 @@ IsFailure (FalseFile path) = ⊥
 IsFailure Collision = ⊥
 IsFailure Source = ⊤
 IsFailure OutOfMemory = ⊤
+
+-- the fault of a read whose file is false, or for which memory was refused
+abbrev pub found_in : {T E : Type 0} → Result (Option T) E → Path → Result T ReadFault
+found_in (Ok (Some x)) path = Ok x
+found_in (Ok None) path = Err (FalseFile path)
+found_in (Err fault) path = Err OutOfMemory

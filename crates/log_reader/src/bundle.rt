@@ -12,6 +12,7 @@ ghost use Rattle.log_reader.specs.Verified.{HasLeaves, IsVerifiedBundle};
 ghost use Rattle.log_reader.specs.Ways.{IsShownBundle};
 
 use crate::fault::ReadFault;
+use crate::found::{get_file, or_false};
 use crate::reader::LogReader;
 use crate::verify::{FullFile, leaves_of, verified};
 use crate::walk::go_to;
@@ -37,16 +38,10 @@ fn read_full<H: TreeHash, S: Source>(
         (λ bytes. bytes.items ≡ bundle_bytes entries index 256) }
 {
     let path = Path::Entries { index, width: 256 };
-    let Some(bytes) = source.get(&path)? else {
-        return Err(ReadFault::NoFile(path));
-    };
-    match verified::<H>(alloc, FullFile::Bundle, hash, &bytes)? {
-        Some(row) => {
-            drop(row);
-            Ok(bytes)
-        }
-        None => Err(ReadFault::FalseFile(path)),
-    }
+    let bytes = get_file(source, &path, path)?;
+    let row = or_false(verified::<H>(alloc, FullFile::Bundle, hash, &bytes), path)?;
+    drop(row);
+    Ok(bytes)
 }
 
 fn is_same_row(first: &[Hash], second: &[Hash]) -> bool
@@ -80,6 +75,18 @@ fn first_entries(bundle: &[u8], count: usize) -> Option<&[u8]>
     bundle.get(..bundle.len().saturating_sub(rest.len()))
 }
 
+// A copy of the first `count` entries of a bundle. None: it has fewer.
+fn copy_first(alloc: Global, bundle: &[u8], count: usize) -> Result<Option<Vec<u8>>, AllocError>
+    ensures { (entries : List (List ℕ)) (rest : List ℕ) → length entries ≡ count → AreShort entries
+        → bundle.now ≡ bundle_text entries ++ rest
+        → IfOk result (λ found. IsSomeAnd found (λ part. part.items ≡ bundle_text entries)) }
+{
+    match first_entries(bundle, count) {
+        Some(part) => Ok(Some(Vec::from_slice(alloc, part)?)),
+        None => Ok(None),
+    }
+}
+
 // The entries of a partial bundle, from the start of its full bundle. A log may have deleted the partial one.
 fn read_part<H: TreeHash, S: Source>(
     alloc: Global,
@@ -97,13 +104,8 @@ fn read_part<H: TreeHash, S: Source>(
         → ReadsTrue result (λ bytes. bytes.items ≡ bundle_bytes entries index count) }
 {
     let full = Path::Entries { index, width: 256 };
-    let Some(bytes) = source.get(&full)? else {
-        return Err(ReadFault::NoFile(path));
-    };
-    match first_entries(&bytes, count) {
-        Some(part) => Ok(Vec::from_slice(alloc, part)?),
-        None => Err(ReadFault::FalseFile(full)),
-    }
+    let bytes = get_file(source, &full, path)?;
+    or_false(copy_first(alloc, &bytes, count), full)
 }
 
 // The bytes of a partial bundle of the log. If the source lacks it, they come from the start of the full bundle.

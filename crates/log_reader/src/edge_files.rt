@@ -1,5 +1,5 @@
 //! The edge rows from the files of a source.
-ghost use Rattle.std.specs.Prelude.{◌≡◌, ◌≤◌, ℕ, List, IfNone, IfOk, IfSome, length};
+ghost use Rattle.std.specs.Prelude.{◌≡◌, ◌≤◌, ◌*◌, ℕ, List, IfNone, IfOk, IfSome, length, slice_range};
 ghost use Rattle.tlog_shape.specs.Edge.{edge_index_of, width_of};
 ghost use Rattle.tlog_tiles.specs.Row.{IsRow};
 ghost use Rattle.tlog_tiles.specs.declared.paths.Path.TheVariants.{Tile};
@@ -13,6 +13,7 @@ ghost use Rattle.log_reader.specs.Ways.{AreHashesOf, HasEdgeHashes};
 use crate::edge_row::edge_path;
 use crate::edge_rows::EdgeRows;
 use crate::fault::ReadFault;
+use crate::found::{get_file, or_false};
 use crate::hashed_edge::HashedEdge;
 use crate::verify::is_same;
 use mirror_sources::Source;
@@ -38,6 +39,20 @@ pub(crate) fn row_in(
     }
 }
 
+// The row of that width at the start of some bytes. None: there is no such row.
+fn first_row_in(alloc: Global, width: u32, bytes: &[u8]) -> Result<Option<Vec<Hash>>, AllocError>
+    requires { width ≤ 256 }
+    ensures row { IfOk result (λ found. IfSome found
+        (λ row. IsRow width (slice_range bytes.now 0 (32 * width)) row.items)) }
+    ensures none { IfOk result (λ found. IfNone found (32 * width ≤ length bytes.now
+        → (row : List (List ℕ)) → ¬ IsRow width (slice_range bytes.now 0 (32 * width)) row)) }
+{
+    match bytes.get(..32 * width as usize) {
+        Some(part) => row_in(alloc, width, part),
+        None => Ok(None),
+    }
+}
+
 // The hashes of a partial tile, from the start of its full tile. A log may have deleted the partial one.
 fn read_part<H: TreeHash, S: Source>(
     alloc: Global,
@@ -59,17 +74,8 @@ fn read_part<H: TreeHash, S: Source>(
         index: edge_index(size, level),
         width: 256,
     };
-    let Some(bytes) = source.get(&full)? else {
-        return Err(ReadFault::NoFile(edge_path(size, level)));
-    };
-    let width = edge_width(size, level);
-    let Some(part) = bytes.get(..32 * width as usize) else {
-        return Err(ReadFault::FalseFile(full));
-    };
-    match row_in(alloc, width, part)? {
-        Some(row) => Ok(row),
-        None => Err(ReadFault::FalseFile(full)),
-    }
+    let bytes = get_file(source, &full, edge_path(size, level))?;
+    or_false(first_row_in(alloc, edge_width(size, level), &bytes), full)
 }
 
 // The row of a level of the edge, empty if the level has none.
@@ -97,10 +103,7 @@ fn read_edge_row<H: TreeHash, S: Source>(
     let Some(bytes) = source.get(&path)? else {
         return read_part::<H, S>(alloc, source, size, level);
     };
-    match row_in(alloc, width, &bytes)? {
-        Some(row) => Ok(row),
-        None => Err(ReadFault::FalseFile(path)),
-    }
+    or_false(row_in(alloc, width, &bytes), path)
 }
 
 // The path of the lowest partial tile. If there is none, the checkpoint's path.

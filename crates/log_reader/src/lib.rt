@@ -17,6 +17,7 @@ mod edge_root;
 mod edge_row;
 mod edge_rows;
 mod fault;
+mod found;
 mod full_row;
 mod hashed_edge;
 mod head;

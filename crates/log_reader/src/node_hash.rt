@@ -56,10 +56,9 @@ fn perfect_hash<H: TreeHash, S: Source>(
 {
     let level = top_level(len);
     go_to::<H, S>(alloc, reader, source, level, edge_index(start, level))?;
-    match reader.node(edge_width(start, level), edge_width(len, level)) {
-        Some(hash) => Ok(hash),
-        None => Err(ReadFault::Collision),
-    }
+    reader
+        .node(edge_width(start, level), edge_width(len, level))
+        .ok_or(ReadFault::Collision)
 }
 
 // The hash of the last entries: those from hash `first` on in the edge row of that level, and all after that row.
@@ -104,10 +103,8 @@ pub(crate) fn node_hash<H: TreeHash, S: Source>(
         return perfect_hash::<H, S>(alloc, reader, source, start, len);
     }
     let level = top_level(len);
-    match end_hash::<H>(alloc, reader.edge(), level, edge_width(start, level))? {
-        Some(hash) => Ok(hash),
-        None => Err(ReadFault::Collision),
-    }
+    let hash = end_hash::<H>(alloc, reader.edge(), level, edge_width(start, level))?;
+    hash.ok_or(ReadFault::Collision)
 }
 
 /// Adds the hash of a node to a path.

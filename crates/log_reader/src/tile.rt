@@ -10,6 +10,7 @@ ghost use Rattle.log_reader.specs.declared.verify.FullFile.TheVariants.{Tile};
 
 use crate::edge_files::row_in;
 use crate::fault::ReadFault;
+use crate::found::{get_file, or_false};
 use crate::full_row::FullRow;
 use crate::verify::is_same;
 use mirror_sources::Source;
@@ -60,11 +61,6 @@ pub(crate) fn read_tile<H: TreeHash, S: Source>(
         index,
         width: 256,
     };
-    let Some(bytes) = source.get(&path)? else {
-        return Err(ReadFault::NoFile(path));
-    };
-    match verified_row::<H>(alloc, hash, &bytes)? {
-        Some(row) => Ok(row),
-        None => Err(ReadFault::FalseFile(path)),
-    }
+    let bytes = get_file(source, &path, path)?;
+    or_false(verified_row::<H>(alloc, hash, &bytes), path)
 }

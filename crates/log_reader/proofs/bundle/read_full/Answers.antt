@@ -1,8 +1,11 @@
-use Rattle.std.proofs.Common.{◌∙◌}
-use Rattle.log_reader.proofs.TrueBundles.{bundle_given, bundle_verifies}
-use Rattle.std.proofs.lemmas.Result.{IfOk-from_err}
-use Rattle.log_reader.specs.declared.fault.ReadFault.TheVariants.{OutOfMemory}
-use Rattle.log_reader.proofs.Exits.{failed_exit, get_exit, get_failed, memory_exit}
+use Rattle.std.specs.Bool.{⊤}
+use Rattle.std.proofs.Common.{refl, subst, ◌∙◌}
+use Rattle.std.proofs.lemmas.Result.{IfOk-at_ok, IfOk-from_err}
+use Rattle.log_reader.specs.Holding.{ReadsTrue}
+use Rattle.log_reader.specs.Verified.{Verifies}
+use Rattle.log_reader.specs.declared.verify.FullFile.TheVariants.{Bundle}
+use Rattle.log_reader.proofs.TrueBundles.{bundle_given, bundle_there, bundle_verifies}
+use Rattle.log_reader.proofs.Exits.{counted_exit, failed_exit, found_counted, found_ok, found_true, lacks_exit}
 use Rattle.log_reader.proofs.bundle.read_full.Goals as goal
 
 pub returns-in_err-bytes : goal.returns-in_err-bytes
@@ -14,9 +17,11 @@ returns-in_err-bytes g c =
       bytes = IfOk-from_err exit.result _ exit.ensures.0;
       later = step.later;
       kept = step.kept;
-      counted = get_exit exit.result c.get.result c.in_err-bytes.field-0.0 exit.ensures c.in_err-bytes.was (failed c.args.source.now)
-          (failed c.get.new.self) c.get.ensures.counted;
-      honest = λ entries t s. get_failed exit.result _ c.in_err-bytes.field-0.0 exit.ensures;
+      counted = counted_exit exit.result c.get_file.result c.in_err-bytes.field-0.0 exit.ensures c.in_err-bytes.was
+          (failed c.args.source.now) (failed c.args.source.now) (failed c.get_file.new.source) refl c.get_file.ensures.counted;
+      honest = λ entries t s. lacks_exit exit.result _ c.in_err-bytes.field-0.0 _ exit.ensures step.lacks
+          (bundle_there g.H.TreeHash.digest g.met.H.TreeHash.digest_length entries (g.S.Source.may_answer c.args.source.now) s
+          c.args.index c.args.hash.now t);
     }
 
 pub returns-in_err-row : goal.returns-in_err-row
@@ -24,26 +29,39 @@ returns-in_err-row g c =
     let failed = g.S.Source.failed in
     let exit = c.from_residual-in_err-row in
     let step = c.in_ok-bytes.ensures in
+    let old = failed c.args.source.now in
+    let mid = failed c.get_file.new.source in
     record {
       bytes = IfOk-from_err exit.result _ exit.ensures.0;
       later = step.later;
       kept = step.kept;
-      counted = memory_exit exit.result exit.ensures (failed c.args.source.now) (failed c.get.new.self) step.counted;
-      honest = λ entries t s. failed_exit exit.result _ OutOfMemory exit.ensures tt;
+      counted = counted_exit exit.result c.or_false.result c.in_err-row.field-0.0 exit.ensures c.in_err-row.was old mid mid
+          step.counted (found_counted c.verified.result _ c.or_false.result c.or_false.ensures mid mid refl);
+      honest = λ entries t s.
+          let digest = g.H.TreeHash.digest in
+          let length_is = g.met.H.TreeHash.digest_length in
+          let may = g.S.Source.may_answer c.args.source.now in
+          let is = bundle_given digest length_is entries may s c.args.index c.args.hash.now t c.in_ok-bytes.bytes.items step.answer in
+          failed_exit exit.result _ c.in_err-row.field-0.0 exit.ensures (subst (λ r. ReadsTrue r (λ _. ⊤)) c.in_err-row.was
+          (found_true c.verified.result _ c.or_false.result c.or_false.ensures _ _ c.verified.ensures.found
+          c.verified.ensures.none (λ _. ⊤) (λ row h. tt) (λ none. none _ (bundle_verifies digest length_is entries may s
+          c.args.index c.args.hash.now t c.deref.result.now (c.deref.ensures.value ∙ is)))));
     }
 
-pub returns-in-Some-2-clause-honest : goal.returns-in-Some-2-clause-honest
-returns-in-Some-2-clause-honest g c = λ entries t s.
-    bundle_given g.H.TreeHash.digest g.met.H.TreeHash.digest_length entries (g.S.Source.may_answer c.args.source.now) s
-    c.args.index c.args.hash.now t c.in-Some.bytes.items (rw c.in-Some.is at c.in_ok-bytes.ensures.answer)
-
-pub returns-in-None-clause-honest : goal.returns-in-None-clause-honest
-returns-in-None-clause-honest g c = λ entries t s.
-    let digest = g.H.TreeHash.digest in
-    let length_is = g.met.H.TreeHash.digest_length in
-    let may = g.S.Source.may_answer c.args.source.now in
-    let is = bundle_given digest length_is entries may s c.args.index c.args.hash.now t c.in-Some.bytes.items
-    (rw c.in-Some.is at c.in_ok-bytes.ensures.answer) in
-    (rw c.in-None.is at c.in_ok-row.ensures.none) _
-    (bundle_verifies digest length_is entries may s c.args.index c.args.hash.now t c.deref.result.now
-    (c.deref.ensures.value ∙ is))
+pub returns : goal.returns
+returns g c =
+    let step = c.in_ok-bytes.ensures in
+    let row = c.in_ok-row.row in
+    record {
+      bytes = record {
+        row = row.items;
+        verifies = subst (λ bytes. Verifies g.H.TreeHash.digest Bundle c.args.hash.now bytes row.items) c.deref.ensures.value
+            (IfOk-at_ok _ c.in_ok-row.was
+            (found_ok c.verified.result _ c.or_false.result c.or_false.ensures _ _ (λ _ h. h) c.verified.ensures.found));
+      };
+      later = step.later;
+      kept = step.kept;
+      counted = step.counted;
+      honest = λ entries t s. bundle_given g.H.TreeHash.digest g.met.H.TreeHash.digest_length entries
+          (g.S.Source.may_answer c.args.source.now) s c.args.index c.args.hash.now t c.in_ok-bytes.bytes.items step.answer;
+    }

@@ -1,22 +1,58 @@
-use Rattle.std.proofs.Common.{[], ◌∷◌, ◌++◌, ap, ◌∙◌, rules}
+use Rattle.std.proofs.Common.{[], ◌∷◌, ◌++◌, ap, refl, ◌∙◌}
+use Rattle.log_reader.specs.declared.fault.ReadFault.TheVariants.{OutOfMemory}
+use Rattle.log_reader.proofs.Exits.{counted_exit, failed_exit, memory_exit}
 use Rattle.log_reader.proofs.node_hash.add_node.Goals as goal
 
-pub returns-in_err-hash-clause-honest : goal.returns-in_err-hash-clause-honest
-returns-in_err-hash-clause-honest g c = λ entries r s.
-    let went = c.in_err-hash.ensures.honest entries r s in
-    let fault = went.answer in
-    record { reader_is = went.reader_is; answer = search (rules, fault) }
-
-pub returns-in_err-push-clause-honest : goal.returns-in_err-push-clause-honest
-returns-in_err-push-clause-honest g c = λ entries r s. record {
-  reader_is = (c.in_ok-hash.ensures.honest entries r s).reader_is;
-  answer = search rules;
-}
-
-pub returns-clause-honest : goal.returns-clause-honest
-returns-clause-honest g c = λ entries r s.
-    let went = c.in_ok-hash.ensures.honest entries r s in
+pub returns-in_err-hash : goal.returns-in_err-hash
+returns-in_err-hash g c =
+    let failed = g.S.Source.failed in
+    let exit = c.from_residual in
+    let step = c.in_err-hash.ensures in
     record {
-      reader_is = went.reader_is;
-      answer = c.in_ok-push.ensures.items ∙ ap (λ h. c.args.path.now.items ++ h ∷ []) went.answer;
+      edge = step.edge;
+      root = step.root;
+      later = step.later;
+      kept = step.kept;
+      counted = counted_exit exit.result c.node_hash.result c.in_err-hash.field-0.0 exit.ensures c.in_err-hash.was
+          (failed c.args.source.now) (failed c.args.source.now) (failed c.node_hash.new.source) refl c.node_hash.ensures.counted;
+      honest = λ entries r s.
+          let went = step.honest entries r s in
+          record {
+            reader_is = went.reader_is;
+            answer = failed_exit exit.result _ c.in_err-hash.field-0.0 exit.ensures went.answer;
+          };
+    }
+
+pub returns-in_err-push : goal.returns-in_err-push
+returns-in_err-push g c =
+    let failed = g.S.Source.failed in
+    let exit = c.from_residual-in_err-push in
+    let step = c.in_ok-hash.ensures in
+    record {
+      edge = step.edge;
+      root = step.root;
+      later = step.later;
+      kept = step.kept;
+      counted = memory_exit exit.result exit.ensures (failed c.args.source.now) (failed c.node_hash.new.source) step.counted;
+      honest = λ entries r s. record {
+        reader_is = (step.honest entries r s).reader_is;
+        answer = failed_exit exit.result _ OutOfMemory exit.ensures tt;
+      };
+    }
+
+pub returns : goal.returns
+returns g c =
+    let step = c.in_ok-hash.ensures in
+    record {
+      edge = step.edge;
+      root = step.root;
+      later = step.later;
+      kept = step.kept;
+      counted = step.counted;
+      honest = λ entries r s.
+          let went = step.honest entries r s in
+          record {
+            reader_is = went.reader_is;
+            answer = c.in_ok-push.ensures.items ∙ ap (λ h. c.args.path.now.items ++ h ∷ []) went.answer;
+          };
     }

@@ -1,4 +1,4 @@
-use Rattle.std.proofs.Common.{◌≡◌, ℕ, ◌+◌, ◌*◌, ◌<◌, ◌≤◌, ◌^◌, Some, None, drop, length, subst, sym, ap, ◌∙◌, arith, refl}
+use Rattle.std.proofs.Common.{◌≡◌, ℕ, ◌+◌, ◌*◌, ◌<◌, ◌≤◌, ◌^◌, drop, length, subst, sym, ap, ◌∙◌, arith, refl}
 use Rattle.std.proofs.Common.{length-drop}
 use Rattle.std.proofs.lemmas.Bool.{false≢true}
 use Rattle.std.proofs.lemmas.List.{take_all}
@@ -7,9 +7,10 @@ use Rattle.tlog_shape.specs.Split.{IsPowerOfTwo}
 use Rattle.tlog_hash.specs.Tree.{mth}
 use Rattle.log_reader.specs.EdgeRows.{RowIsTrue}
 use Rattle.log_reader.specs.Nodes.{IsHashFrom, IsNodeRange}
+use Rattle.log_reader.proofs.NodeHashes.{from_end}
 use Rattle.log_reader.proofs.NodeNumbers.{end_first, end_start, ends, perfect_aligned}
 use Rattle.log_reader.specs.declared.fault.ReadFault.TheVariants.{OutOfMemory}
-use Rattle.log_reader.proofs.Exits.{failed_exit, memory_exit}
+use Rattle.log_reader.proofs.Exits.{failed_exit, memory_exit, or_counted, or_true}
 use Rattle.log_reader.proofs.Kept.{kept_once}
 use Rattle.log_reader.proofs.node_hash.node_hash.Goals as goal
 
@@ -31,56 +32,39 @@ returns-in_err-hash g c =
       honest = λ entries r s. record { reader_is = r; answer = failed_exit exit.result _ OutOfMemory exit.ensures tt };
     }
 
-pub returns-in-Some-clause-kept : goal.returns-in-Some-clause-kept
-returns-in-Some-clause-kept g c = kept_once (g.S.Source.files c.args.source.now)
-
-pub returns-in-None-clause-kept : goal.returns-in-None-clause-kept
-returns-in-None-clause-kept g c = kept_once (g.S.Source.files c.args.source.now)
-
-pub returns-in-Some-clause-honest : goal.returns-in-Some-clause-honest
-returns-in-Some-clause-honest g c = λ entries r s.
-    let digest = g.H.TreeHash.digest in
-    let n = length entries in
-    let start = c.args.start in
-    let len = c.args.len in
-    let level = c.top_level-level.result in
-    let top = c.top_level-level.ensures in
-    let small : len < 2 ^ 64 = c.ranges.len.fits in
-    let node = subst (λ m. IsNodeRange m start len) r.size_is c.requires in
-    let other : IsPowerOfTwo len → ⊥ = λ p. false≢true (sym c.if-is_perfect.false ∙ c.is_perfect.ensures.1 p) in
-    let size : c.edge.result.now.size ≡ n = ap (λ e. e.size) c.edge.ensures.edge ∙ r.size_is in
-    let rows = subst (λ e. (l : ℕ) → l ≤ 7 → RowIsTrue digest e entries l) (sym c.edge.ensures.edge) r.edge in
-    let first = c.edge_width.ensures in
-    let at : (256 * edge_index_of n level + c.edge_width.result) * 256 ^ level ≡ start =
-    ap (λ f. (256 * edge_index_of n level + f) * 256 ^ level) first ∙ end_start n start len level node small other top in
-    let fits : c.edge_width.result ≤ width_of n level =
-    omega (arith, first, end_first n start len level node small other top) in
-    let found = subst (λ m. IsHashFrom digest entries m (Some c.in-Some.hash)) at
-    ((rw c.in-Some.is at c.in_ok-hash.ensures) entries size rows fits) in
-    let end = ends n start len level node small other top in
-    record {
-      reader_is = r;
-      answer = found.1 ∙ ap (mth digest) (sym (take_all len (drop start entries) (omega (arith, length-drop start entries, end))));
-    }
-
-pub returns-in-None-clause-honest : goal.returns-in-None-clause-honest
-returns-in-None-clause-honest g c = λ entries r s.
-    let digest = g.H.TreeHash.digest in
-    let n = length entries in
-    let start = c.args.start in
-    let len = c.args.len in
-    let level = c.top_level-level.result in
-    let top = c.top_level-level.ensures in
-    let small : len < 2 ^ 64 = c.ranges.len.fits in
-    let node = subst (λ m. IsNodeRange m start len) r.size_is c.requires in
-    let other : IsPowerOfTwo len → ⊥ = λ p. false≢true (sym c.if-is_perfect.false ∙ c.is_perfect.ensures.1 p) in
-    let size : c.edge.result.now.size ≡ n = ap (λ e. e.size) c.edge.ensures.edge ∙ r.size_is in
-    let rows = subst (λ e. (l : ℕ) → l ≤ 7 → RowIsTrue digest e entries l) (sym c.edge.ensures.edge) r.edge in
-    let first = c.edge_width.ensures in
-    let at : (256 * edge_index_of n level + c.edge_width.result) * 256 ^ level ≡ start =
-    ap (λ f. (256 * edge_index_of n level + f) * 256 ^ level) first ∙ end_start n start len level node small other top in
-    let fits : c.edge_width.result ≤ width_of n level =
-    omega (arith, first, end_first n start len level node small other top) in
-    let none : start ≡ n = subst (λ m. IsHashFrom digest entries m None) at
-    ((rw c.in-None.is at c.in_ok-hash.ensures) entries size rows fits) in
-    absurd (omega (arith, none, ends n start len level node small other top, node.some))
+pub returns : goal.returns
+returns g c = record {
+  edge = refl;
+  root = refl;
+  later = record { stays = λ path answer may. may };
+  kept = kept_once (g.S.Source.files c.args.source.now);
+  counted = or_counted c.in_ok-hash.hash _ c.ok_or.result c.ok_or.ensures.value (g.S.Source.failed c.args.source.now)
+      (g.S.Source.failed c.args.source.now) refl refl;
+  honest = λ entries r s.
+      let digest = g.H.TreeHash.digest in
+      let n = length entries in
+      let start = c.args.start in
+      let len = c.args.len in
+      let level = c.top_level-level.result in
+      let top = c.top_level-level.ensures in
+      let small : len < 2 ^ 64 = c.ranges.len.fits in
+      let node = subst (λ m. IsNodeRange m start len) r.size_is c.requires in
+      let other : IsPowerOfTwo len → ⊥ = λ p. false≢true (sym c.if-is_perfect.false ∙ c.is_perfect.ensures.1 p) in
+      let size : c.edge.result.now.size ≡ n = ap (λ e. e.size) c.edge.ensures.edge ∙ r.size_is in
+      let rows = subst (λ e. (l : ℕ) → l ≤ 7 → RowIsTrue digest e entries l) (sym c.edge.ensures.edge) r.edge in
+      let first = c.edge_width.ensures in
+      let at : (256 * edge_index_of n level + c.edge_width.result) * 256 ^ level ≡ start =
+      ap (λ f. (256 * edge_index_of n level + f) * 256 ^ level) first ∙ end_start n start len level node small other top in
+      let fits : c.edge_width.result ≤ width_of n level =
+      omega (arith, first, end_first n start len level node small other top) in
+      let found = subst (λ m. IsHashFrom digest entries m c.in_ok-hash.hash) at
+      (c.in_ok-hash.ensures entries size rows fits) in
+      let end = ends n start len level node small other top in
+      record {
+        reader_is = r;
+        answer = or_true c.in_ok-hash.hash _ c.ok_or.result c.ok_or.ensures.value _ _
+            (λ hash is. is ∙ ap (mth digest)
+            (sym (take_all len (drop start entries) (omega (arith, length-drop start entries, end)))))
+            (from_end digest entries start c.in_ok-hash.hash (omega (arith, end, node.some)) found);
+      };
+}

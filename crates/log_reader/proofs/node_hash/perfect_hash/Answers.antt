@@ -7,7 +7,7 @@ use Rattle.log_reader.specs.Ways.{row_of_way}
 use Rattle.log_reader.proofs.NodeHashes.{part_folds, row_count}
 use Rattle.log_reader.proofs.NodeNumbers.{count_is, count_power, count_some, first_aligned, fits, row_fits, start_is}
 use Rattle.log_reader.proofs.TrueReads.{there_true}
-use Rattle.log_reader.proofs.Exits.{counted_exit, failed_exit}
+use Rattle.log_reader.proofs.Exits.{counted_exit, failed_exit, or_counted, or_true}
 use Rattle.std.proofs.Math.Nat.{div-mul-le_self}
 use Rattle.std.proofs.lemmas.Nat.{le-div}
 use Rattle.tlog_shape.proofs.Levels.{level_positive}
@@ -67,70 +67,51 @@ returns-in_err-go_to g c =
           };
     }
 
-pub returns-in-Some-clause-honest : goal.returns-in-Some-clause-honest
-returns-in-Some-clause-honest g c = λ entries r s.
-    let digest = g.H.TreeHash.digest in
-    let n = length entries in
-    let start = c.args.start in
-    let len = c.args.len in
-    let level = c.top_level-level.result in
-    let index = edge_index_of start level in
-    let first = width_of start level in
-    let count = width_of len level in
-    let wide = row_width n level index in
-    let small : len < 2 ^ 64 = c.ranges.len.fits in
-    let within : start + len ≤ n = subst (λ m. start + len ≤ m) r.size_is c.requires.within in
-    let power = c.requires.power in
-    let aligned = c.requires.aligned in
-    let top = c.top_level-level.ensures in
-    let done = c.in_ok-go_to.ensures.honest entries r s in
-    let there = c.in_ok-go_to.ensures.there in
-    let at = c.go_to.new.reader in
-    let row = row_of_way at.edge at.level at.way in
-    let is : row ≡ true_row digest entries level index =
-    there_true digest g.met.H.TreeHash.digest_length entries at done.reader_is level index row refl
-    (there.0, there.1 ∙ c.edge_index.ensures) in
-    let long : length row ≡ wide = ap length is ∙ row_count digest entries level (256 * index) wide in
-    let upto = fits n start len level small within power aligned top in
-    let some = count_some n start len level small within power aligned top in
-    let f = c.edge_width.ensures in
-    let w = c.edge_width-2.ensures in
-    let folded = rw c.in-Some.is at c.node.ensures in
+pub returns : goal.returns
+returns g c =
+    let failed = g.S.Source.failed in
+    let step = c.in_ok-go_to.ensures in
     record {
-      reader_is = done.reader_is;
-      answer = folded (omega (arith, f, w, upto, long))
-          ∙ ((λ i. fold_of digest (take (w i) (drop (f i) row)))
-          ∙ part_folds digest entries level start len index first count wide row is upto some
-          (start_is n start len level small within power aligned top) (count_is n start len level small within power aligned top)
-          within);
+      edge = step.edge;
+      root = step.root;
+      later = step.later;
+      kept = step.kept;
+      counted = or_counted c.node.result _ c.ok_or.result c.ok_or.ensures.value (failed c.args.source.now)
+          (failed c.go_to.new.source) step.counted step.counted;
+      honest = λ entries r s.
+          let digest = g.H.TreeHash.digest in
+          let n = length entries in
+          let start = c.args.start in
+          let len = c.args.len in
+          let level = c.top_level-level.result in
+          let index = edge_index_of start level in
+          let first = width_of start level in
+          let count = width_of len level in
+          let wide = row_width n level index in
+          let small : len < 2 ^ 64 = c.ranges.len.fits in
+          let within : start + len ≤ n = subst (λ m. start + len ≤ m) r.size_is c.requires.within in
+          let power = c.requires.power in
+          let aligned = c.requires.aligned in
+          let top = c.top_level-level.ensures in
+          let done = c.in_ok-go_to.ensures.honest entries r s in
+          let there = c.in_ok-go_to.ensures.there in
+          let at = c.go_to.new.reader in
+          let row = row_of_way at.edge at.level at.way in
+          let is_row : row ≡ true_row digest entries level index =
+          there_true digest g.met.H.TreeHash.digest_length entries at done.reader_is level index row refl
+          (there.0, there.1 ∙ c.edge_index.ensures) in
+          let long : length row ≡ wide = ap length is_row ∙ row_count digest entries level (256 * index) wide in
+          let upto = fits n start len level small within power aligned top in
+          let some = count_some n start len level small within power aligned top in
+          let f = c.edge_width.ensures in
+          let w = c.edge_width-2.ensures in
+          let folded = c.node.ensures (omega (arith, f, w, upto, long)) in
+          record {
+            reader_is = done.reader_is;
+            answer = or_true c.node.result _ c.ok_or.result c.ok_or.ensures.value _ _
+                (λ hash is. is ∙ ((λ i. fold_of digest (take (w i) (drop (f i) row)))
+                ∙ part_folds digest entries level start len index first count wide row is_row upto some
+                (start_is n start len level small within power aligned top)
+                (count_is n start len level small within power aligned top) within)) folded;
+          };
     }
-
-pub returns-in-None-clause-honest : goal.returns-in-None-clause-honest
-returns-in-None-clause-honest g c = λ entries r s.
-    let digest = g.H.TreeHash.digest in
-    let n = length entries in
-    let start = c.args.start in
-    let len = c.args.len in
-    let level = c.top_level-level.result in
-    let index = edge_index_of start level in
-    let first = width_of start level in
-    let count = width_of len level in
-    let wide = row_width n level index in
-    let small : len < 2 ^ 64 = c.ranges.len.fits in
-    let within : start + len ≤ n = subst (λ m. start + len ≤ m) r.size_is c.requires.within in
-    let power = c.requires.power in
-    let aligned = c.requires.aligned in
-    let top = c.top_level-level.ensures in
-    let done = c.in_ok-go_to.ensures.honest entries r s in
-    let there = c.in_ok-go_to.ensures.there in
-    let at = c.go_to.new.reader in
-    let row = row_of_way at.edge at.level at.way in
-    let is : row ≡ true_row digest entries level index =
-    there_true digest g.met.H.TreeHash.digest_length entries at done.reader_is level index row refl
-    (there.0, there.1 ∙ c.edge_index.ensures) in
-    let long : length row ≡ wide = ap length is ∙ row_count digest entries level (256 * index) wide in
-    let upto = fits n start len level small within power aligned top in
-    let f = c.edge_width.ensures in
-    let w = c.edge_width-2.ensures in
-    let folded = rw c.in-None.is at c.node.ensures in
-    absurd (folded (omega (arith, f, w, upto, long)))

@@ -1,18 +1,48 @@
-use Rattle.std.proofs.Common.{rules, ◌∙◌}
+use Rattle.std.proofs.Common.{◌∙◌, refl}
+use Rattle.std.proofs.lemmas.Result.{IfOk-from_err}
+use Rattle.log_reader.specs.declared.fault.ReadFault.TheVariants.{OutOfMemory}
+use Rattle.log_reader.proofs.Exits.{counted_exit, failed_exit, memory_exit}
 use Rattle.log_reader.proofs.TrueReads.{there_true}
 use Rattle.log_reader.proofs.reader.LogReader.row.Goals as goal
 
-pub returns-in_err-go_to-clause-honest : goal.returns-in_err-go_to-clause-honest
-returns-in_err-go_to-clause-honest g c = λ entries r s.
-    let went = c.in_err-go_to.ensures.honest entries r s in
-    let fault = went.answer in
-    record { reader_is = went.reader_is; answer = search (rules, fault) }
+pub returns-in_err-go_to : goal.returns-in_err-go_to
+returns-in_err-go_to g c =
+    let failed = g.S.Source.failed in
+    let exit = c.from_residual in
+    let step = c.in_err-go_to.ensures in
+    record {
+      edge = step.edge;
+      root = step.root;
+      shown = IfOk-from_err exit.result _ exit.ensures.0;
+      later = step.later;
+      kept = step.kept;
+      counted = counted_exit exit.result c.go_to.result c.in_err-go_to.field-0.0 exit.ensures c.in_err-go_to.was
+          (failed c.args.source.now) (failed c.args.source.now) (failed c.go_to.new.source) refl c.go_to.ensures.counted;
+      honest = λ entries r s.
+          let went = step.honest entries r s in
+          record {
+            reader_is = went.reader_is;
+            answer = failed_exit exit.result _ c.in_err-go_to.field-0.0 exit.ensures went.answer;
+          };
+    }
 
-pub returns-in_err-copy_row-clause-honest : goal.returns-in_err-copy_row-clause-honest
-returns-in_err-copy_row-clause-honest g c = λ entries r s. record {
-  reader_is = (c.in_ok-go_to.ensures.honest entries r s).reader_is;
-  answer = search rules;
-}
+pub returns-in_err-copy_row : goal.returns-in_err-copy_row
+returns-in_err-copy_row g c =
+    let failed = g.S.Source.failed in
+    let exit = c.from_residual-in_err-copy_row in
+    let step = c.in_ok-go_to.ensures in
+    record {
+      edge = step.edge;
+      root = step.root;
+      shown = IfOk-from_err exit.result _ exit.ensures.0;
+      later = step.later;
+      kept = step.kept;
+      counted = memory_exit exit.result exit.ensures (failed c.args.source.now) (failed c.go_to.new.source) step.counted;
+      honest = λ entries r s. record {
+        reader_is = (step.honest entries r s).reader_is;
+        answer = failed_exit exit.result _ OutOfMemory exit.ensures tt;
+      };
+    }
 
 pub returns-clause-honest : goal.returns-clause-honest
 returns-clause-honest g c = λ entries r s.
