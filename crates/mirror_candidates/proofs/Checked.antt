@@ -1,5 +1,6 @@
 -- A proof that a reader gave shows a fork if its first root differs.
-use Rattle.std.proofs.Common.{◌≡◌, ◌∙◌, ℕ, ◌<◌, List, Some, arith}
+use Rattle.std.proofs.Common.{◌≡◌, ℕ, ◌<◌, List, Option, Some, None, sym, subst, arith}
+use Rattle.std.specs.Prelude.{IfNone, IfSome}
 use Rattle.tlog_proof.specs.Text.{HasHashes}
 use Rattle.tlog_proof.specs.Made.{Holds}
 use Rattle.tlog_proof.specs.declared.proof.Proof.{Proof}
@@ -11,39 +12,50 @@ use Rattle.mirror_candidates.specs.Shown.{ShowsLarger}
 use Rattle.mirror_candidates.specs.Candidates.{point_of}
 use Rattle.mirror_candidates.specs.declared.candidate.Candidate.{Candidate}
 
-pub checked_fork : (digest : List ℕ → List ℕ) (small large : Candidate) (size : ℕ) (root : List ℕ) (proof : Proof) →
-    small.size.0 < large.size.0 → size ≡ large.size.0 → root ≡ large.root →
-    IsConsistencyTo small.size.0 size root proof → Holds digest proof → HasHashes proof →
-    (HasFirstRoot small.root proof → ⊥) → ShowsLarger digest small large (Some proof)
-checked_fork digest small large size root (Inclusion s i r leaf path) lt size_is root_is asked held hashes other = absurd asked
-checked_fork digest small large size root (Consistency m g n r path) lt size_is root_is asked held hashes other = (
-  lt,
-  record {
-    first_is = asked.0;
-    second_is = asked.1 ∙ size_is;
-    root_is = asked.2 ∙ root_is;
-    grows = omega (arith, asked.0, asked.1, size_is, lt);
-    accepted = held;
-    hashes = hashes;
-    differs = other;
-  },
-)
+module _ (digest : List ℕ → List ℕ) (small large : Candidate) (lt : small.size.0 < large.size.0) where
+  differs : (proof : Proof) → IsConsistencyTo small.size.0 large.size.0 large.root proof → Holds digest proof →
+      HasHashes proof → (HasFirstRoot small.root proof → ⊥) → ShowsLarger digest small large (Some proof)
+  differs (Inclusion s i r leaf path) asked held hashes other = absurd asked
+  differs (Consistency m g n r path) asked held hashes other = (
+    lt,
+    record {
+      first_is = asked.0;
+      second_is = asked.1;
+      root_is = asked.2;
+      grows = omega (arith, asked.0, asked.1, lt);
+      accepted = held;
+      hashes = hashes;
+      differs = other;
+    },
+  )
 
--- a proof whose first root is that of the smaller candidate shows that the two agree
-pub checked_agree : (digest : List ℕ → List ℕ) (small large : Candidate) (size : ℕ) (root : List ℕ) (proof : Proof) →
-    small.size.0 < large.size.0 → size ≡ large.size.0 → root ≡ large.root →
-    IsConsistencyTo small.size.0 size root proof → Holds digest proof → HasHashes proof →
-    HasFirstRoot small.root proof → Agrees digest (point_of small) (point_of large)
-checked_agree digest small large size root (Inclusion s i r leaf path) lt size_is root_is asked held hashes is = absurd asked
-checked_agree digest small large size root (Consistency m g n r path) lt size_is root_is asked held hashes is = record {
-  proof = Some (Consistency m g n r path);
-  shown = record {
-    first_is = asked.0;
-    first_root_is = is;
-    second_is = asked.1 ∙ size_is;
-    root_is = asked.2 ∙ root_is;
-    grows = omega (arith, asked.0, asked.1, size_is, lt);
-    accepted = held;
-    hashes = hashes;
-  };
-}
+  -- a proof whose first root is that of the smaller candidate shows that the two agree
+  agrees : (proof : Proof) → IsConsistencyTo small.size.0 large.size.0 large.root proof → Holds digest proof →
+      HasHashes proof → HasFirstRoot small.root proof → Agrees digest (point_of small) (point_of large)
+  agrees (Inclusion s i r leaf path) asked held hashes is = absurd asked
+  agrees (Consistency m g n r path) asked held hashes is = record {
+    proof = Some (Consistency m g n r path);
+    shown = record {
+      first_is = asked.0;
+      first_root_is = is;
+      second_is = asked.1;
+      root_is = asked.2;
+      grows = omega (arith, asked.0, asked.1, lt);
+      accepted = held;
+      hashes = hashes;
+    };
+  }
+
+  module _ (proof : Proof) (asked : IsConsistencyTo small.size.0 large.size.0 large.root proof)
+      (held : Holds digest proof) (hashes : HasHashes proof) where
+    pub checked_fork : (found : Option Proof) →
+        IfSome found (λ p. (p ≡ proof) × (HasFirstRoot small.root proof → ⊥)) →
+        IfSome found (λ p. ShowsLarger digest small large (Some p))
+    checked_fork None some = tt
+    checked_fork (Some p) some =
+        subst (λ q. ShowsLarger digest small large (Some q)) (sym some.0) (differs proof asked held hashes some.1)
+
+    pub checked_agree : (found : Option Proof) → IfNone found (HasFirstRoot small.root proof) → found ≡ None →
+        Agrees digest (point_of small) (point_of large)
+    checked_agree None none is = agrees proof asked held hashes none
+    checked_agree (Some p) none is = absurd (cc is)

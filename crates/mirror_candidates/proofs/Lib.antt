@@ -2,7 +2,6 @@ pub mod FirstRoots
 pub mod ForkLines
 pub mod Agreeing
 pub mod Gathering
-pub mod Asking
 pub mod Requests
 pub mod Opened
 pub mod GatheredFrom

@@ -11,10 +11,9 @@ use Rattle.mirror_places.specs.declared.place.Place.{Place}
 use Rattle.mirror_places.specs.declared.places.Places.{Places}
 use Rattle.mirror_places.specs.declared.place.PlaceAnswer.{PlaceAnswer}
 use Rattle.mirror_places.specs.declared.place.PlaceAnswer.TheVariants.{Failed}
-use Rattle.mirror_candidates.specs.Asking.{option_or}
 use Rattle.mirror_candidates.specs.Requests.{MayGive, PlaceFails}
 use Rattle.mirror_candidates.specs.Candidates.{IsCandidateOf}
-use Rattle.mirror_candidates.specs.Gathering.{AreCandidatesOf, Gathers, Gave, IsFirstReason}
+use Rattle.mirror_candidates.specs.Gathering.{AreCandidatesOf, Gathers, Gave, IsFirstReason, option_or}
 use Rattle.mirror_candidates.specs.declared.candidate.Candidate.{Candidate}
 use Rattle.mirror_candidates.specs.declared.fault.CandidateFault.{CandidateFault}
 use Rattle.mirror_candidates.specs.declared.fault.CandidateFault.TheVariants as candidate

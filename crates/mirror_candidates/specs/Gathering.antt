@@ -24,6 +24,11 @@ pub record Gave (answers : List PlaceAnswer) (note : List ℕ) : Type 0 where
   pub among : Contains answers answer
   pub is_note : IsNote note answer
 
+-- the value, or "other" if there is none
+abbrev pub option_or : {X : Type 0} → Option X → X → X
+option_or None other = other
+option_or (Some x) other = x
+
 -- the kept reason, after one more reason
 abbrev pub or_first : Option CandidateFault → CandidateFault → Option CandidateFault
 or_first None fault = Some fault

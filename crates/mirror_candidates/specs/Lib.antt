@@ -1,7 +1,6 @@
 pub mod Candidates
 pub mod Gathering
 pub mod Requests
-pub mod Asking
 pub mod GatheredFrom
 pub mod Forks
 pub mod Agreeing

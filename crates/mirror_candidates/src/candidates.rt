@@ -58,7 +58,6 @@ fn ask_places<S: Source + Drop>(
 }
 
 // The only candidate: the given note.
-#[tactic(auto, using(crate::proofs::Opened::one_open, crate::proofs::Opened::one_rises))]
 fn given_candidate(
     alloc: Global,
     origin: &str,
@@ -94,8 +93,10 @@ fn given_candidate(
 /// # Errors
 ///
 /// - `Head`: the given note does not open, or is no checkpoint of the origin. It has the first refusal that applies.
-/// - Without a given note, if no place gives a candidate: the reason of the first place, as for `ask_candidates`. `Source`: its get
-///   failed, or it had failed 8 times before.
+/// - Without a given note, if no place gives a candidate, the reason of the first place:
+///   - `NoCheckpoint`: it lacks a checkpoint. This is also the fault of an empty list of places.
+///   - `Head`: the bytes are not a note that opens, or not a checkpoint of the origin. It has the first refusal that applies.
+///   - `Source`: its get failed, or it had failed 8 times before.
 /// - `OutOfMemory`: memory was refused.
 pub fn candidates_of<S: Source + Drop>(
     alloc: Global,

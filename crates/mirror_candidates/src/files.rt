@@ -1,5 +1,6 @@
 //! The files of a log for a proof, read into memory.
-ghost use Rattle.std.specs.Prelude.{◌<◌, ℕ, All, IfOk, length};
+ghost use Rattle.std.specs.Prelude.{◌<◌, ◌≤◌, ℕ, All, IfOk, OnOk, length};
+ghost use Rattle.tlog_tiles.specs.declared.paths.Path.TheVariants.{Tile};
 ghost use Rattle.mirror_places.specs.AskedOnce.{AsksMore};
 ghost use Rattle.mirror_places.specs.EndTiles.{IsEndTile};
 ghost use Rattle.mirror_candidates.specs.Requests.{AsksAny};
@@ -53,6 +54,38 @@ impl ReadFiles {
             files: Vec::new(alloc),
         }
     }
+
+    fn add(&mut self, path: Path, bytes: Vec<u8>) -> Result<(), AllocError> {
+        self.files.push((path, bytes))?;
+        Ok(())
+    }
+}
+
+// Adds a tile of a level to the paths, if the row of that width has hashes.
+fn add_tile(paths: &mut Vec<Path>, level: u32, index: u64, width: u32) -> Result<(), AllocError>
+    ensures { OnOk result ((sizes : ℕ × ℕ) → IsEndTile sizes (Tile level index width)
+        → All (IsEndTile sizes) paths.old.items → All (IsEndTile sizes) paths.new.items) }
+{
+    if width > 0 {
+        paths.push(Path::Tile {
+            level,
+            index,
+            width,
+        })?;
+    }
+    Ok(())
+}
+
+// The width of the full tile of a level in which the first entries end. 0: the larger tree has no such full tile, or neither this level
+// nor one below it has a partial tile of the first entries.
+fn end_width(first: u64, size: u64, level: u32, has_ended: bool) -> u32
+    requires { level ≤ 7 }
+{
+    if has_ended && edge_index(first, level) < edge_index(size, level) {
+        256
+    } else {
+        0
+    }
 }
 
 /// The paths of the files for the consistency proof from the first entries to all. These are the right edge of the whole tree, the full
@@ -64,22 +97,10 @@ pub(crate) fn proof_paths(alloc: Global, first: u64, size: u64) -> Result<Vec<Pa
     let mut has_ended = false;
     for level in 0..8u32 {
         let width = edge_width(size, level);
-        if width > 0 {
-            paths.push(Path::Tile {
-                level,
-                index: edge_index(size, level),
-                width,
-            })?;
-        }
+        add_tile(&mut paths, level, edge_index(size, level), width)?;
         has_ended = has_ended || edge_width(first, level) > 0;
-        let index = edge_index(first, level);
-        if has_ended && index < edge_index(size, level) {
-            paths.push(Path::Tile {
-                level,
-                index,
-                width: 256,
-            })?;
-        }
+        let full = end_width(first, size, level, has_ended);
+        add_tile(&mut paths, level, edge_index(first, level), full)?;
     }
     Ok(paths)
 }
@@ -95,8 +116,7 @@ fn get_file<S: Source + Drop>(
     ensures asks { AsksAny S.may_answer S.failed S.asked places.old places.new }
     ensures more { AsksMore S.asked places.old places.new }
 {
-    let answer = places.end_tile(index, path)?;
-    Ok(answer)
+    places.end_tile(index, path)
 }
 
 // Gets the file at a path from a place. If the place lacks a partial file, gets its full file.
@@ -104,25 +124,26 @@ fn ask_file<S: Source + Drop>(
     places: &mut Places<S>,
     index: usize,
     path: &Path,
-) -> Result<Option<(Path, Vec<u8>)>, AllocError>
+    read: &mut ReadFiles,
+) -> Result<(), AllocError>
     requires place { index < length places.old.list.items }
     requires end { IsEndTile places.old.ends.sizes path.now }
     ensures asks { AsksAny S.may_answer S.failed S.asked places.old places.new }
     ensures more { AsksMore S.asked places.old places.new }
 {
     match get_file(places, index, path)? {
-        PlaceAnswer::File(bytes) => return Ok(Some((*path, bytes))),
+        PlaceAnswer::File(bytes) => return read.add(*path, bytes),
         PlaceAnswer::NotFound => {}
-        PlaceAnswer::Failed => return Ok(None),
+        PlaceAnswer::Failed => return Ok(()),
     }
     let full = full_of(path);
     if full == *path {
-        return Ok(None);
+        return Ok(());
     }
     match get_file(places, index, &full)? {
-        PlaceAnswer::File(bytes) => Ok(Some((full, bytes))),
-        PlaceAnswer::NotFound => Ok(None),
-        PlaceAnswer::Failed => Ok(None),
+        PlaceAnswer::File(bytes) => read.add(full, bytes),
+        PlaceAnswer::NotFound => Ok(()),
+        PlaceAnswer::Failed => Ok(()),
     }
 }
 
@@ -141,10 +162,7 @@ pub(crate) fn ask_files<S: Source + Drop>(
 {
     let mut read = ReadFiles::new(alloc);
     for path in paths {
-        match ask_file(places, index, path)? {
-            Some(file) => read.files.push(file)?,
-            None => {}
-        }
+        ask_file(places, index, path, &mut read)?;
     }
     Ok(read)
 }

@@ -2,9 +2,8 @@
 ghost use Rattle.std.specs.Prelude.{◌≡◌, ◌≢◌, ◌∷◌, ◌++◌, [], List, IfErr, IfOk, None, OnOk, map};
 ghost use Rattle.std.specs.List.Sorted.{IsPermutation, IsSorted};
 ghost use Rattle.mirror_places.specs.declared.place.PlaceAnswer.{PlaceAnswer};
-ghost use Rattle.mirror_candidates.specs.Asking.{option_or};
 ghost use Rattle.mirror_candidates.specs.Candidates.{turn_cmp};
-ghost use Rattle.mirror_candidates.specs.Gathering.{Gathers, or_first};
+ghost use Rattle.mirror_candidates.specs.Gathering.{Gathers, option_or, or_first};
 
 use crate::candidate::{Candidate, candidate_of};
 use crate::fault::CandidateFault;

@@ -6,7 +6,6 @@
 //! ```
 #![tactic(auto)]
 
-mod ask;
 mod candidate;
 mod candidates;
 mod fault;
@@ -16,7 +15,6 @@ mod gather;
 mod laws;
 mod proving;
 
-pub use ask::ask_candidates;
 pub use candidate::Candidate;
 pub use candidates::candidates_of;
 pub use fault::CandidateFault;

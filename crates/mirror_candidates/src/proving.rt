@@ -1,13 +1,16 @@
 //! Proofs of forks.
-ghost use Rattle.std.specs.Prelude.{◌≡◌, ◌↔◌, ◌<◌, IfOk, IfSome, IsTrue, None, Some, ⊤};
+ghost use Rattle.std.specs.Prelude.{◌≡◌, ◌↔◌, ◌<◌, All, IfNone, IfOk, IfSome, IsTrue, None, Some, length, ⊤};
 ghost use Rattle.std.specs.List.{AllByRecursion};
 ghost use Rattle.tlog_text.specs.Hash.{Is32Bytes};
+ghost use Rattle.tlog_proof.specs.Made.{Holds};
 ghost use Rattle.tlog_proof.specs.Text.{HasHashes};
 ghost use Rattle.mirror_sources.specs.Source.{StaysWithin};
 ghost use Rattle.mirror_sources.specs.Recorded.{KeepsRecord};
 ghost use Rattle.log_reader.specs.Faults.{CountsFailure};
 ghost use Rattle.log_reader.specs.Holding.{ReadsLog};
+ghost use Rattle.log_reader.specs.Proving.{IsConsistencyTo};
 ghost use Rattle.mirror_places.specs.AskedOnce.{AsksMore};
+ghost use Rattle.mirror_places.specs.EndTiles.{IsEndTile};
 ghost use Rattle.mirror_candidates.specs.Agreeing.{Agrees};
 ghost use Rattle.mirror_candidates.specs.Candidates.{point_of};
 ghost use Rattle.mirror_candidates.specs.Checked.{HasFirstRoot};
@@ -22,6 +25,7 @@ use mirror_sources::Source;
 use std::alloc::{AllocError, Global};
 use tlog_hash::{Hash, TreeHash};
 use tlog_proof::Proof;
+use tlog_tiles::Path;
 
 // Whether the first root of a proof is that hash.
 fn has_first_root(proof: &Proof, root: &Hash) -> bool
@@ -77,8 +81,42 @@ fn see_hashes(proof: &Proof)
     }
 }
 
+// The proof from the first entries into the log of the larger candidate.
+#[tactic(auto, using(log_reader::proofs::Kept::kept_twice))]
+fn log_proof<H: TreeHash, S: Source>(
+    alloc: Global,
+    files: &mut S,
+    first: u64,
+    large: &Candidate,
+) -> Result<Proof, ReadFault>
+    requires some { 0 < first }
+    requires less { first < large.now.size.0 }
+    ensures later { StaysWithin (S.may_answer files.old) (S.may_answer files.new) }
+    ensures kept { KeepsRecord (S.files files.old) (S.files files.new) }
+    ensures counted { CountsFailure (S.failed files.old) (S.failed files.new) result }
+    ensures honest { ReadsLog H.digest large.now.size.0 large.now.root (S.may_answer files.old)
+        result (λ _ _. ⊤) }
+    ensures asked { IfOk result (IsConsistencyTo first large.now.size.0 large.now.root) }
+    ensures holds { IfOk result (Holds H.digest) }
+{
+    let mut reader: LogReader<H> = LogReader::open(alloc, files, large.size.0, &large.root)?;
+    reader.consistency(alloc, files, first)
+}
+
+// The proof, if its first root is not that hash.
+fn differing(proof: Proof, root: &Hash) -> Option<Proof>
+    ensures hashes { HasHashes proof }
+    ensures some { IfSome result (λ found. (found ≡ proof) × ¬ HasFirstRoot root.now proof) }
+    ensures none { IfNone result (HasFirstRoot root.now proof) }
+{
+    see_hashes(&proof);
+    if has_first_root(&proof, root) {
+        return None;
+    }
+    Some(proof)
+}
+
 // The proof from the smaller point into the log of the larger one, if its first root differs from the smaller root.
-#[tactic(auto, using(crate::proofs::Checked::checked_fork, crate::proofs::Checked::checked_agree, log_reader::proofs::Kept::kept_twice))]
 fn checked_proof<H: TreeHash, S: Source>(
     alloc: Global,
     files: &mut S,
@@ -97,14 +135,9 @@ fn checked_proof<H: TreeHash, S: Source>(
     ensures agrees { IfOk result (λ found. found ≡ None
         → Agrees H.digest (point_of small.now) (point_of large.now)) }
 {
-    let root = large.root;
-    let mut reader: LogReader<H> = LogReader::open(alloc, files, large.size.0, &root)?;
-    let proof = reader.consistency(alloc, files, small.size.0)?;
-    see_hashes(&proof);
-    if has_first_root(&proof, &small.root) {
-        Ok(None)
-    } else {
-        Ok(Some(proof))
+    match log_proof::<H, S>(alloc, files, small.size.0, large) {
+        Ok(proof) => Ok(differing(proof, &small.root)),
+        Err(fault) => Err(fault),
     }
 }
 
@@ -142,6 +175,31 @@ pub fn fork_proof<H: TreeHash, S: Source>(
     checked_proof::<H, S>(alloc, files, small, large)
 }
 
+// The proof that the larger candidate contradicts the smaller one, made from those files of a place. None: the place lacks them, or
+// there is no such proof.
+fn place_proof<H: TreeHash, S: Source + Drop>(
+    alloc: Global,
+    places: &mut Places<S>,
+    index: usize,
+    paths: &[Path],
+    smaller: &Candidate,
+    larger: &Candidate,
+) -> Result<Option<Proof>, AllocError>
+    requires place { index < length places.old.list.items }
+    requires ends { All (IsEndTile places.old.ends.sizes) paths.now }
+    ensures asks { AsksAny S.may_answer S.failed S.asked places.old places.new }
+    ensures more { AsksMore S.asked places.old places.new }
+    ensures proof { IfOk result (λ found. IfSome found
+        (λ proof. ShowsLarger H.digest smaller.now larger.now (Some proof))) }
+{
+    let mut files = ask_files(alloc, places, index, paths)?;
+    match fork_proof::<H, ReadFiles>(alloc, &mut files, smaller, larger) {
+        Ok(found) => Ok(found),
+        Err(ReadFault::OutOfMemory) => Err(AllocError),
+        Err(_) => Ok(None),
+    }
+}
+
 /// The proof that a larger candidate contradicts a smaller one, made from files of one of the places. None: no place has these files. For
 /// what a place was asked when a copy was brought from the one to the other, its answer is used.
 ///
@@ -166,12 +224,9 @@ pub fn ask_proof<H: TreeHash, S: Source + Drop>(
     let (first, size) = places.ends();
     let paths = proof_paths(alloc, first, size)?;
     for i in 0..places.list().len() {
-        let mut files = ask_files(alloc, places, i, &paths)?;
-        match fork_proof::<H, ReadFiles>(alloc, &mut files, smaller, larger) {
-            Ok(Some(proof)) => return Ok(Some(proof)),
-            Ok(None) => {}
-            Err(ReadFault::OutOfMemory) => return Err(AllocError),
-            Err(_) => {}
+        match place_proof::<H, S>(alloc, places, i, &paths, smaller, larger)? {
+            Some(proof) => return Ok(Some(proof)),
+            None => {}
         }
     }
     Ok(None)

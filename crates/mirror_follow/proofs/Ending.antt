@@ -21,7 +21,7 @@ use Rattle.mirror_copy.specs.Damaged.{IsDamaged}
 use Rattle.mirror_copy.specs.Faults.{IsOtherFound}
 use Rattle.mirror_copy.specs.declared.fault.BringFault.{BringFault}
 use Rattle.mirror_copy.specs.declared.fault.BringFault.TheVariants as bring
-use Rattle.mirror_candidates.specs.Asking.{option_or}
+use Rattle.mirror_candidates.specs.Gathering.{option_or}
 use Rattle.mirror_candidates.specs.Requests.{AsksAny, PlaceFails}
 use Rattle.mirror_candidates.specs.Candidates.{note_of, turn_cmp}
 use Rattle.mirror_candidates.specs.GatheredFrom.{AreCandidates, GiveNoneFor, LacksCandidates, RefusesGiven}

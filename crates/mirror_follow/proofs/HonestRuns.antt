@@ -12,7 +12,7 @@ use Rattle.mirror_folders.specs.Shelf.{Put}
 use Rattle.mirror_places.specs.declared.places.Places.{Places}
 use Rattle.mirror_copy.specs.Moments.{InTheEnd}
 use Rattle.mirror_copy.specs.OneHonest.{IsHonestFor}
-use Rattle.mirror_candidates.specs.Asking.{option_or}
+use Rattle.mirror_candidates.specs.Gathering.{option_or}
 use Rattle.mirror_candidates.specs.Requests.{AsksAny}
 use Rattle.mirror_candidates.specs.Candidates.{IsOnePoint, turn_cmp}
 use Rattle.mirror_candidates.specs.GatheredFrom.{AreCandidates, GiveCandidates, GiveNone, GiveNoneFor, LacksCandidates, RefusesGiven}

@@ -10,7 +10,7 @@ use Rattle.mirror_copy.specs.AskedForCopy.{AsksFiles, AsksForCopy, AsksNothing, 
 use Rattle.mirror_copy.specs.Pruned.{HadSize}
 use Rattle.mirror_copy.specs.declared.fault.BringFault.{BringFault}
 use Rattle.mirror_copy.specs.declared.fault.BringFault.TheVariants as bring
-use Rattle.mirror_candidates.specs.Asking.{option_or}
+use Rattle.mirror_candidates.specs.Gathering.{option_or}
 use Rattle.mirror_candidates.specs.Requests.{AsksAny}
 use Rattle.mirror_candidates.specs.Candidates.{note_of, turn_cmp}
 use Rattle.mirror_candidates.specs.declared.fault.CandidateFault.{CandidateFault}

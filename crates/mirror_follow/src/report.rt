@@ -1,6 +1,6 @@
 //! The result of a run of turns.
 ghost use Rattle.std.specs.Prelude.{◌≡◌, ◌≢◌, ◌⊎◌, ◌∷◌, ◌++◌, [], ℕ, All, Contains, IfErr, IfOk, IfSome, List, None, OnOk, Option, Some, false, if◌then◌else◌, true};
-ghost use Rattle.mirror_candidates.specs.Asking.{option_or};
+ghost use Rattle.mirror_candidates.specs.Gathering.{option_or};
 ghost use Rattle.mirror_candidates.specs.Lines.{AreLines, IsFirstOrListed, IsInSomeLine, IsListed, KeepsLines};
 ghost use Rattle.mirror_candidates.specs.Shown.{ShowsEach};
 ghost use Rattle.mirror_candidates.specs.declared.candidate.Candidate.{Candidate};

@@ -8,23 +8,13 @@ loop-path-init g c = record {
   more = more_same g.S.Source.asked c.args.places.now;
 }
 
-pub returns-in_err-file-clause-asks : goal.returns-in_err-file-clause-asks
-returns-in_err-file-clause-asks g c =
+pub returns-in_err-ask_file-clause-asks : goal.returns-in_err-ask_file-clause-asks
+returns-in_err-ask_file-clause-asks g c =
     any_then g.S.Source.may_answer g.S.Source.failed g.S.Source.asked c.args.places.now c.loop-path.places c.ask_file.new.places
     c.loop-path.invariant.asks c.ask_file.ensures.asks
 
-pub returns-in_err-file-clause-more : goal.returns-in_err-file-clause-more
-returns-in_err-file-clause-more g c =
-    more_then g.S.Source.asked c.args.places.now c.loop-path.places c.ask_file.new.places c.loop-path.invariant.more
-    c.ask_file.ensures.more
-
-pub returns-in_err-push-in-Some-clause-asks : goal.returns-in_err-push-in-Some-clause-asks
-returns-in_err-push-in-Some-clause-asks g c =
-    any_then g.S.Source.may_answer g.S.Source.failed g.S.Source.asked c.args.places.now c.loop-path.places c.ask_file.new.places
-    c.loop-path.invariant.asks c.ask_file.ensures.asks
-
-pub returns-in_err-push-in-Some-clause-more : goal.returns-in_err-push-in-Some-clause-more
-returns-in_err-push-in-Some-clause-more g c =
+pub returns-in_err-ask_file-clause-more : goal.returns-in_err-ask_file-clause-more
+returns-in_err-ask_file-clause-more g c =
     more_then g.S.Source.asked c.args.places.now c.loop-path.places c.ask_file.new.places c.loop-path.invariant.more
     c.ask_file.ensures.more
 

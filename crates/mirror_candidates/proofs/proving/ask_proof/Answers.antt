@@ -14,40 +14,30 @@ loop-i-init g c = record {
   more = more_same g.S.Source.asked c.args.places.now;
 }
 
-pub returns-in_err-files-clause-asks : goal.returns-in_err-files-clause-asks
-returns-in_err-files-clause-asks g c =
-    any_then g.S.Source.may_answer g.S.Source.failed g.S.Source.asked c.args.places.now c.loop-i.places c.ask_files.new.places
-    c.loop-i.invariant.asks c.ask_files.ensures.asks
+pub returns-in_err-proof-clause-asks : goal.returns-in_err-proof-clause-asks
+returns-in_err-proof-clause-asks g c =
+    any_then g.S.Source.may_answer g.S.Source.failed g.S.Source.asked c.args.places.now c.loop-i.places c.place_proof.new.places
+    c.loop-i.invariant.asks c.place_proof.ensures.asks
 
-pub returns-in_err-files-clause-more : goal.returns-in_err-files-clause-more
-returns-in_err-files-clause-more g c =
-    more_then g.S.Source.asked c.args.places.now c.loop-i.places c.ask_files.new.places c.loop-i.invariant.more
-    c.ask_files.ensures.more
+pub returns-in_err-proof-clause-more : goal.returns-in_err-proof-clause-more
+returns-in_err-proof-clause-more g c =
+    more_then g.S.Source.asked c.args.places.now c.loop-i.places c.place_proof.new.places c.loop-i.invariant.more
+    c.place_proof.ensures.more
 
-pub returns-in-Ok-Some-clause-asks : goal.returns-in-Ok-Some-clause-asks
-returns-in-Ok-Some-clause-asks g c =
-    any_then g.S.Source.may_answer g.S.Source.failed g.S.Source.asked c.args.places.now c.loop-i.places c.ask_files.new.places
-    c.loop-i.invariant.asks c.ask_files.ensures.asks
+pub returns-in-Some-clause-asks : goal.returns-in-Some-clause-asks
+returns-in-Some-clause-asks g c =
+    any_then g.S.Source.may_answer g.S.Source.failed g.S.Source.asked c.args.places.now c.loop-i.places c.place_proof.new.places
+    c.loop-i.invariant.asks c.place_proof.ensures.asks
 
-pub returns-in-Ok-Some-clause-more : goal.returns-in-Ok-Some-clause-more
-returns-in-Ok-Some-clause-more g c =
-    more_then g.S.Source.asked c.args.places.now c.loop-i.places c.ask_files.new.places c.loop-i.invariant.more
-    c.ask_files.ensures.more
-
-pub returns-in-Err-OutOfMemory-clause-asks : goal.returns-in-Err-OutOfMemory-clause-asks
-returns-in-Err-OutOfMemory-clause-asks g c =
-    any_then g.S.Source.may_answer g.S.Source.failed g.S.Source.asked c.args.places.now c.loop-i.places c.ask_files.new.places
-    c.loop-i.invariant.asks c.ask_files.ensures.asks
-
-pub returns-in-Err-OutOfMemory-clause-more : goal.returns-in-Err-OutOfMemory-clause-more
-returns-in-Err-OutOfMemory-clause-more g c =
-    more_then g.S.Source.asked c.args.places.now c.loop-i.places c.ask_files.new.places c.loop-i.invariant.more
-    c.ask_files.ensures.more
+pub returns-in-Some-clause-more : goal.returns-in-Some-clause-more
+returns-in-Some-clause-more g c =
+    more_then g.S.Source.asked c.args.places.now c.loop-i.places c.place_proof.new.places c.loop-i.invariant.more
+    c.place_proof.ensures.more
 
 pub loop-i-preserved : goal.loop-i-preserved
 loop-i-preserved g c = record {
   asks = any_then g.S.Source.may_answer g.S.Source.failed g.S.Source.asked c.args.places.now c.loop-i.places
-      c.ask_files.new.places c.loop-i.invariant.asks c.ask_files.ensures.asks;
-  more = more_then g.S.Source.asked c.args.places.now c.loop-i.places c.ask_files.new.places c.loop-i.invariant.more
-      c.ask_files.ensures.more;
+      c.place_proof.new.places c.loop-i.invariant.asks c.place_proof.ensures.asks;
+  more = more_then g.S.Source.asked c.args.places.now c.loop-i.places c.place_proof.new.places c.loop-i.invariant.more
+      c.place_proof.ensures.more;
 }
