@@ -18,22 +18,6 @@ use std::marker::Model;
 use std::{fs, io, mem};
 use tlog_tiles::Path;
 
-// The name of a folder: the caller's own, or a copy.
-#[derive(Drop)]
-enum FolderName<'a> {
-    Lent(&'a str),
-    Copied(String),
-}
-
-impl<'a> FolderName<'a> {
-    fn text(&self) -> &str {
-        match self {
-            FolderName::Lent(name) => name,
-            FolderName::Copied(name) => name.as_str(),
-        }
-    }
-}
-
 /// A folder as a shelf: the path of a file is the folder's path, a slash, and the text of its path in the log. It makes
 /// missing folders, and replaces each file as a whole, like `replace_file`.
 ///
@@ -53,10 +37,20 @@ impl<'a> FolderName<'a> {
 pub struct DirShelf<'a, R: Files> {
     files: &'a R,
     alloc: Global,
-    folder: FolderName<'a>,
+    folder: &'a str,
+    // The name of the folder that was opened after that one.
+    opened: Option<String>,
     failures: u64,
     last_failed: Option<FailedFile>,
     recent: Recent,
+}
+
+// The name of the folder that was opened last, else the first one.
+fn folder_name<'b>(opened: &'b Option<String>, first: &'b str) -> &'b str {
+    match opened {
+        Some(name) => name.as_str(),
+        None => first,
+    }
 }
 
 // The recent puts into a folder. They are a record of their own, since contracts see the shelf as its count of
@@ -98,7 +92,7 @@ impl Recent {
         Ok(())
     }
 
-    // Replaces the file of a path. The checkpoint is replaced after all that was put before it is on the device.
+    // Replaces the file of a path.
     fn write<R: Files>(
         &mut self,
         files: &R,
@@ -108,20 +102,31 @@ impl Recent {
         bytes: &[u8],
     ) -> io::Result<()> {
         let place = file_path(alloc, folder, path)?;
-        let inner = folder_of(place.as_str());
+        self.write_at(files, alloc, folder, path, place.as_str(), bytes)
+    }
+
+    // Replaces the file of a path, which is at that place. The checkpoint is replaced after all that was put before it is
+    // on the device.
+    fn write_at<R: Files>(
+        &mut self,
+        files: &R,
+        alloc: Global,
+        folder: &str,
+        path: &Path,
+        place: &str,
+        bytes: &[u8],
+    ) -> io::Result<()> {
+        let inner = folder_of(place);
         fs::create_dir_all(files, inner)?;
         self.turn_to(files, alloc, inner)?;
-        let last = *path == Path::Checkpoint;
-        if last {
-            self.unflushed.flush_all(files, alloc, folder)?;
-        } else {
+        if *path != Path::Checkpoint {
             self.unflushed.add(files, alloc, folder, path)?;
+            return put_whole(files, alloc, place, bytes, &self.left, false);
         }
-        put_whole(files, alloc, place.as_str(), bytes, &self.left, last)?;
-        if last {
-            // The checkpoint is in the folder: an error of the system about the folder changes nothing.
-            let _flushed = flush_folder(files, inner);
-        }
+        self.unflushed.flush_all(files, alloc, folder)?;
+        put_whole(files, alloc, place, bytes, &self.left, true)?;
+        // The checkpoint is in the folder: an error of the system about the folder changes nothing.
+        let _flushed = flush_folder(files, inner);
         Ok(())
     }
 }
@@ -142,7 +147,8 @@ impl<'a, R: Files> DirShelf<'a, R> {
         DirShelf {
             files,
             alloc,
-            folder: FolderName::Lent(folder),
+            folder,
+            opened: None,
             failures: 0,
             last_failed: None,
             recent: Recent::none(alloc),
@@ -156,12 +162,12 @@ impl<'a, R: Files> DirShelf<'a, R> {
 
     /// The name of the folder.
     pub fn folder(&self) -> &str {
-        self.folder.text()
+        folder_name(&self.opened, self.folder)
     }
 
     // Whether something is at the path.
     fn find(&self, path: &Path) -> io::Result<bool> {
-        let place = file_path(self.alloc, self.folder.text(), path)?;
+        let place = file_path(self.alloc, self.folder(), path)?;
         let about = self.files.metadata(place.as_str());
         drop(place);
         match about {
@@ -197,7 +203,7 @@ impl<'a, R: Files> Shelf for DirShelf<'a, R> {
     }
 
     fn put(&mut self, path: &Path, bytes: &[u8]) -> Result<(), ShelfError> {
-        let folder = self.folder.text();
+        let folder = folder_name(&self.opened, self.folder);
         let put = self
             .recent
             .write(self.files, self.alloc, folder, path, bytes);
@@ -205,7 +211,7 @@ impl<'a, R: Files> Shelf for DirShelf<'a, R> {
     }
 
     fn flush_before_checkpoint(&mut self, path: &Path) -> Result<(), ShelfError> {
-        let folder = self.folder.text();
+        let folder = folder_name(&self.opened, self.folder);
         let noted = self
             .recent
             .unflushed
@@ -222,7 +228,7 @@ impl<'a, R: Files> Shelf for DirShelf<'a, R> {
 
 impl<'a, R: Files> ReadableShelf for DirShelf<'a, R> {
     fn read(&mut self, path: &Path) -> Result<Option<Vec<u8>>, ShelfError> {
-        let found = read_file(self.files, self.alloc, self.folder.text(), path);
+        let found = read_file(self.files, self.alloc, self.folder(), path);
         self.answer(path, found)
     }
 }
@@ -230,7 +236,7 @@ impl<'a, R: Files> ReadableShelf for DirShelf<'a, R> {
 impl<'a, R: Files> NamedFolders for DirShelf<'a, R> {
     fn open(&mut self, name: &str) -> Result<(), AllocError> {
         let name = String::from_str(self.alloc, name)?;
-        self.folder = FolderName::Copied(name);
+        self.opened = Some(name);
         self.recent = Recent::none(self.alloc);
         Ok(())
     }

@@ -39,16 +39,34 @@ pub(crate) fn flush_files<R: Files>(
     paths: &[Path],
 ) -> io::Result<()> {
     let mut inner = BTreeSet::new(alloc);
-    for path in paths {
-        flush_path(files, alloc, &mut inner, folder, path)?;
+    match flush_paths(files, alloc, &mut inner, folder, paths) {
+        Ok(()) => flush_folders(files, &inner),
+        Err(e) => Err(e),
     }
-    for place in &inner {
-        flush_folder(files, place.as_str())?;
+}
+
+// Flushes files of a log in a folder, and adds the folders between them.
+fn flush_paths<R: Files>(
+    files: &R,
+    alloc: Global,
+    inner: &mut BTreeSet<String>,
+    folder: &str,
+    paths: &[Path],
+) -> io::Result<()> {
+    for path in paths {
+        flush_path(files, alloc, inner, folder, path)?;
     }
     Ok(())
 }
 
-// Flushes a file of a log in a folder, and adds the folders between them.
+fn flush_folders<R: Files>(files: &R, folders: &BTreeSet<String>) -> io::Result<()> {
+    for folder in folders {
+        flush_folder(files, folder.as_str())?;
+    }
+    Ok(())
+}
+
+// Flushes one of these files.
 fn flush_path<R: Files>(
     files: &R,
     alloc: Global,

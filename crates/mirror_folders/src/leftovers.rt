@@ -38,12 +38,23 @@ impl Leftovers {
             folder: String::from_str(alloc, folder)?,
             places: Vec::new(alloc),
         };
-        // The slash makes the system follow a link to a folder.
-        let place = format!(in alloc; "{folder}/")?;
-        if let Ok(mut listing) = files.open_dir(place.as_str()) {
-            left.read(alloc, &mut listing)?;
+        match left.find(files, alloc) {
+            Ok(()) => Ok(left),
+            Err(e) => {
+                drop(left);
+                Err(e)
+            }
         }
-        Ok(left)
+    }
+
+    // Adds those of the folder.
+    fn find<R: Files>(&mut self, files: &R, alloc: Global) -> Result<(), AllocError> {
+        // The slash makes the system follow a link to a folder.
+        let place = place_in(alloc, self.folder.as_str(), "")?;
+        match files.open_dir(place.as_str()) {
+            Ok(mut listing) => self.read(alloc, &mut listing),
+            Err(_) => Ok(()),
+        }
     }
 
     // Adds those of a folder's list, until a read fails.
@@ -71,8 +82,8 @@ impl Leftovers {
     // Adds a file, if its name is that of a temporary file.
     fn add(&mut self, alloc: Global, name: &str) -> Result<(), AllocError> {
         if stem_of_temporary(name).is_some() {
-            let folder = self.folder.as_str();
-            self.places.push(format!(in alloc; "{folder}/{name}")?)?;
+            let place = place_in(alloc, self.folder.as_str(), name)?;
+            self.places.push(place)?;
         }
         Ok(())
     }
@@ -85,6 +96,11 @@ impl Leftovers {
             }
         }
     }
+}
+
+// The path of a file in a folder.
+fn place_in(alloc: Global, folder: &str, name: &str) -> Result<String, AllocError> {
+    format!(in alloc; "{folder}/{name}")
 }
 
 // Whether a temporary file is one of the file at a path in its folder.

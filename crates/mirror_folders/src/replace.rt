@@ -57,12 +57,23 @@ pub(crate) fn put_whole<R: Files>(
     let had = permissions_of(files, path);
     let (beside, mut file) = create_beside(files, alloc, path, had.is_some())?;
     let cleared = take_away_old(files, path, left, &file);
-    let written = fill(&mut file, cleared, had, bytes, flushed);
+    let prepared = prepare(&mut file, cleared, had, flushed);
+    let written = fill(&mut file, prepared, bytes, flushed);
     drop(file);
-    match moved(files, written, beside.as_str(), path) {
+    move_or_remove(files, written, beside.as_str(), path)
+}
+
+// Renames a file that was written, or removes it.
+fn move_or_remove<R: Files>(
+    files: &R,
+    written: io::Result<()>,
+    from: &str,
+    to: &str,
+) -> io::Result<()> {
+    match moved(files, written, from, to) {
         Ok(()) => Ok(()),
         Err(e) => {
-            let _left = files.remove_file(beside.as_str());
+            let _left = files.remove_file(from);
             Err(e)
         }
     }
@@ -125,14 +136,12 @@ fn create_new<R: Files>(files: &R, path: &str, private: bool) -> io::Result<R::F
     options.open(files, path)
 }
 
-// Gives the file its permissions, and then writes all the bytes, and flushes them to the device if asked. A file that
-// is flushed later is first truncated to length 0. Then ext4 and other file systems begin to write it to the device
-// when it is closed, and so a later flush of many files has little to wait for.
-fn fill<F: Write + OpenFile>(
+// Gives the file its permissions. A file that is flushed later is then truncated to length 0. So ext4 and other file
+// systems begin to write it to the device when it is closed, and a later flush of many files has little to wait for.
+fn prepare<F: OpenFile>(
     file: &mut F,
     cleared: io::Result<()>,
     had: Option<Permissions>,
-    bytes: &[u8],
     flushed: bool,
 ) -> io::Result<()> {
     cleared?;
@@ -142,6 +151,17 @@ fn fill<F: Write + OpenFile>(
     if !flushed {
         let _cut = file.set_len(0);
     }
+    Ok(())
+}
+
+// Writes all the bytes to a file that was prepared, and flushes them to the device if asked.
+fn fill<F: Write + OpenFile>(
+    file: &mut F,
+    prepared: io::Result<()>,
+    bytes: &[u8],
+    flushed: bool,
+) -> io::Result<()> {
+    prepared?;
     file.write_all(bytes)?;
     file.flush()?;
     if flushed { file.sync_all() } else { Ok(()) }

@@ -8,7 +8,7 @@ use tlog_tiles::Path;
 
 /// Why a call of a shelf failed. It prints its variant's name.
 /// A folder without permission to write, for example, gives `Failed`.
-#[derive(Debug, Drop, PartialEq, Eq, Clone, Copy, Error)]
+#[derive(Debug, Drop, Clone, Copy, Error)]
 pub enum ShelfError {
     /// The shelf failed.
     #[error("Failed")]

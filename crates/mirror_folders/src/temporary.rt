@@ -36,11 +36,20 @@ pub(crate) fn temporary_path(alloc: Global, path: &str, number: u64) -> Result<S
 
 // The part of a temporary file's name that comes from the name of its file.
 pub(crate) fn stem_of_temporary(name: &str) -> Option<&str> {
-    let (stem, number) = name
-        .strip_prefix('.')?
-        .strip_suffix(".tmp")?
-        .rsplit_once(".tlogmirror-")?;
-    if is_number(number) { Some(stem) } else { None }
+    let (front, end) = name.rsplit_once(".tlogmirror-")?;
+    if is_ending(end) {
+        front.strip_prefix('.')
+    } else {
+        None
+    }
+}
+
+// Whether the text is a number and `.tmp`.
+fn is_ending(text: &str) -> bool {
+    match text.strip_suffix(".tmp") {
+        Some(number) => is_number(number),
+        None => false,
+    }
 }
 
 fn is_number(text: &str) -> bool {
