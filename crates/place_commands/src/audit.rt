@@ -47,6 +47,27 @@ where
         (moment F.puts D.held D.puts I.remaining O.contents env.new)
         (Command.Audit audit.now) result }
 {
+    let net = env.rt;
+    audit_over(env, key_bytes, keys, audit, net)
+}
+
+// The same over this net.
+fn audit_over<R, F: RunFiles, D: RunFolders, I: Read, O: Write, E: Write, N>(
+    env: &mut Env<'_, '_, '_, '_, R, F, D, I, O, E>,
+    key_bytes: &[u8],
+    keys: &[Box<dyn Verifier>],
+    audit: &Audit<'_>,
+    net: N,
+) -> Result<u8, Error>
+where
+    R: Files + Clock + Eprint,
+    N: Net<Stream = TcpStream> + Clock + Clone + Drop,
+    ensures same { IsSameEnv env.old env.new }
+    ensures does { Performs sha256 (map (λ k. key k) keys.now) key_bytes.now
+        (moment F.puts D.held D.puts I.remaining O.contents env.old)
+        (moment F.puts D.held D.puts I.remaining O.contents env.new)
+        (Command.Audit audit.now) result }
+{
     match check_origin(env.alloc, audit.log.origin) {
         Ok(()) => {}
         Err(fault) => {
@@ -54,7 +75,7 @@ where
             return Err(Error::new(RunFault::Origin(fault), why));
         }
     }
-    match source_of(env.rt, env.alloc, &audit.place, audit.ahead as usize) {
+    match source_of(env.rt, &net, env.alloc, &audit.place, audit.ahead as usize) {
         Ok(source) => audit_any(env, key_bytes, keys, audit, source),
         Err(_) => Err(Error::no_memory()),
     }

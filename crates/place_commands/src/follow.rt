@@ -46,6 +46,27 @@ where
         (moment F.puts D.held D.puts I.remaining O.contents env.new)
         (Command.Follow follow.now) result }
 {
+    let net = env.rt;
+    follow_over(env, key_bytes, keys, follow, net)
+}
+
+// The same over this net.
+fn follow_over<R, F: RunFiles, D: RunFolders, I: Read, O: Write, E: Write, N>(
+    env: &mut Env<'_, '_, '_, '_, R, F, D, I, O, E>,
+    key_bytes: &[u8],
+    keys: &[Box<dyn Verifier>],
+    follow: &Follow<'_>,
+    net: N,
+) -> Result<u8, Error>
+where
+    R: Files,
+    N: Net<Stream = TcpStream> + Clock + Clone + Drop,
+    ensures same { IsSameEnv env.old env.new }
+    ensures does { Performs sha256 (map (λ k. key k) keys.now) key_bytes.now
+        (moment F.puts D.held D.puts I.remaining O.contents env.old)
+        (moment F.puts D.held D.puts I.remaining O.contents env.new)
+        (Command.Follow follow.now) result }
+{
     match check_origin(env.alloc, follow.copy.log.origin) {
         Ok(()) => {}
         Err(fault) => {
@@ -53,7 +74,13 @@ where
             return Err(Error::new(RunFault::Origin(fault), why));
         }
     }
-    match places_of(env.rt, env.alloc, &follow.places, follow.ahead as usize) {
+    match places_of(
+        env.rt,
+        &net,
+        env.alloc,
+        &follow.places,
+        follow.ahead as usize,
+    ) {
         Ok(places) => follow_among(env, key_bytes, keys, follow, places),
         Err(_) => Err(Error::no_memory()),
     }
