@@ -1,5 +1,5 @@
--- Notes that open, and notes that are kept.
-use Rattle.std.proofs.Common.{◌≡◌, inl, inr, ℕ, ◌+◌, ◌<◌, ◌≤◌, Bool, true, List, [], ◌∷◌, length}
+-- Notes that are kept.
+use Rattle.std.proofs.Common.{◌≡◌, inl, inr, ℕ, ◌+◌, ◌<◌, Bool, true, List, [], ◌∷◌, length}
 use Rattle.std.proofs.Common.{take, get_or, All, Ok, Err, Bor, sym, ap, subst, ◌∙◌, arith}
 use Rattle.std.specs.Prelude.{◌↔◌, IsTrue}
 use Rattle.std.proofs.lemmas.List.{take_all}
@@ -10,21 +10,14 @@ use Rattle.mirror_model.specs.Complete.{HasEdge}
 use Rattle.mirror_model.specs.View.{View}
 use Rattle.mirror_trees.proofs.BuiltTrees.{added_both, added_none}
 use Rattle.tlog_mirror.specs.Adding.{with_note, with_notes}
-use Rattle.mirror_state.specs.LoadSteps.{ChecksNote, ChecksNotes, note_fault_of}
 use Rattle.std.specs.Prelude.{Option, Some, None, IfSome}
 use Rattle.signed_note.specs.Keys.{Key}
-use Rattle.mirror_model.specs.Refusals.{ReadsHead}
-use Rattle.mirror_model.specs.declared.fault.TakeFault.{TakeFault}
-use Rattle.mirror_model.specs.declared.fault.TakeFault.TheVariants as taking
 use Rattle.tlog_mirror.specs.Restored.{IsOpenNote, KeepsHeld}
 use Rattle.tlog_mirror.specs.declared.fault.RestoreFault.{RestoreFault}
 use Rattle.tlog_mirror.specs.declared.fault.RestoreFault.TheVariants.{BadHead}
-use Rattle.tlog_mirror.proofs.RestoredMirrors.{not_open}
 use Rattle.state_text.specs.declared.fault.LoadFault.{LoadFault}
-use Rattle.state_text.specs.declared.fault.LoadFault.TheVariants.{StateMagic, StateShort, StateLong, StateDigest}
-use Rattle.state_text.specs.declared.fault.LoadFault.TheVariants.{OtherOrigin, StateOrder, StateString, StateHead}
-use Rattle.state_text.specs.declared.fault.LoadFault.TheVariants.{Collision, StateEdge, ReadFault, OutOfMemory}
-use Rattle.state_text.proofs.ListedItems.{all_more, all_passes, bytes_of, is_item, more_taken}
+use Rattle.state_text.specs.declared.fault.LoadFault.TheVariants.{ReadFault, OutOfMemory}
+use Rattle.state_text.proofs.ListedItems.{all_more, bytes_of, is_item, more_taken}
 use Rattle.byte_streams.specs.declared.fault.StreamFault.{StreamFault}
 use Rattle.byte_streams.specs.declared.fault.StreamFault.TheVariants as streams
 use Rattle.mirror_state.specs.LoadSteps.{stream_fault_of}
@@ -71,54 +64,6 @@ edge_moves_back digest v w note notes is e =
       is_head = e.is_head;
       edge = record { rows = e.edge.rows; has_edge = e.edge.has_edge; are_held = e.edge.are_held };
     })
-
--- ---- answers of opening notes
-
-module _ (note origin : List ℕ) (keys : List Key) where
-  pub note_checked : (fault : TakeFault) → ReadsHead note origin keys (Err fault) → (held : LoadFault) →
-      held ≡ note_fault_of fault → ChecksNote origin keys note (Err held)
-  note_checked fault h held is = subst (λ f. ChecksNote origin keys note (Err f)) (sym is) (checked fault h)
-    where
-      checked : (fault : TakeFault) → ReadsHead note origin keys (Err fault) →
-          ChecksNote origin keys note (Err (note_fault_of fault))
-      checked (taking.Note f) h = not_open note origin keys (taking.Note f) (λ e. cc e) h
-      checked (taking.Checkpoint f) h = not_open note origin keys (taking.Checkpoint f) (λ e. cc e) h
-      checked taking.OtherOrigin h = not_open note origin keys taking.OtherOrigin (λ e. cc e) h
-      checked taking.NoTrustedSignature h = not_open note origin keys taking.NoTrustedSignature (λ e. cc e) h
-      checked taking.EdgeCount h = absurd h
-      checked taking.EdgeLength h = absurd h
-      checked taking.EdgeMismatch h = absurd h
-      checked taking.RowLength h = absurd h
-      checked taking.BundleShort h = absurd h
-      checked taking.BundleLong h = absurd h
-      checked taking.Collision h = absurd h
-      checked taking.OutOfMemory h = tt
-
-module _ (origin : List ℕ) (keys : List Key) (items : List (Bor (List ℕ))) (i : ℕ) (d : Bor (List ℕ))
-    (lt : i < length items) where
-  pub one_refused : (fault : LoadFault) → ChecksNote origin keys (get_or items i d).now (Err fault) →
-      ChecksNotes origin keys (bytes_of items) (Err fault)
-  one_refused StateMagic h = h
-  one_refused StateShort h = h
-  one_refused StateLong h = h
-  one_refused StateDigest h = h
-  one_refused OtherOrigin h = h
-  one_refused StateOrder h = h
-  one_refused StateString h = h
-  one_refused StateHead h =
-      record { note = (get_or items i d).now; is_listed = is_item (λ (x : List ℕ). x) items i d lt; closed = h }
-  one_refused Collision h = h
-  one_refused StateEdge h = h
-  one_refused ReadFault h = h
-  one_refused OutOfMemory h = h
-
-  pub one_opens : All (IsOpenNote origin keys) (take i (bytes_of items)) →
-      IsOpenNote origin keys (get_or items i d).now → All (IsOpenNote origin keys) (take (i + 1) (bytes_of items))
-  one_opens so_far here = all_more (λ (x : List ℕ). x) items i d lt (IsOpenNote origin keys) so_far here
-
-pub all_open : (origin : List ℕ) (keys : List Key) (items : List (Bor (List ℕ))) (i : ℕ) → length items ≤ i →
-    All (IsOpenNote origin keys) (take i (bytes_of items)) → All (IsOpenNote origin keys) (bytes_of items)
-all_open origin keys items i le so_far = all_passes (IsOpenNote origin keys) items i le so_far
 
 -- ---- kept notes
 

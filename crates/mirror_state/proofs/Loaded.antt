@@ -24,8 +24,10 @@ use Rattle.mirror_state.specs.Loading.{HasState, HasOpenNotes, HasNoCollision, L
 use Rattle.state_text.specs.Content.{HasStrings}
 use Rattle.state_text.specs.Storing.{AreListable}
 use Rattle.state_text.specs.Checking.{ChecksLists}
-use Rattle.mirror_state.specs.LoadSteps.{ChecksNotes, KeepsNotes}
-use Rattle.mirror_state.specs.Refused.{IsFirstNot, RefusesUnheld}
+use Rattle.mirror_state.specs.LoadSteps.{KeepsNotes}
+use Rattle.mirror_state.specs.Refused.{RefusesUnheld}
+use Rattle.state_text.specs.Opening.{FailsToOpen, HasUnopened, IsFirstNot}
+use Rattle.mirror_state.proofs.OpenedNotes.{as_head}
 use Rattle.state_text.specs.declared.fault.LoadFault.{LoadFault}
 use Rattle.state_text.specs.declared.fault.LoadFault.TheVariants.{StateMagic, StateShort, StateLong, StateDigest}
 use Rattle.state_text.specs.declared.fault.LoadFault.TheVariants.{OtherOrigin, StateOrder, StateString, StateHead}
@@ -158,7 +160,7 @@ lists_refused digest origin keys bytes OutOfMemory h = tt
 module _ (digest : List ℕ → List ℕ) (origin : List ℕ) (keys : List Key) (bytes : List ℕ) (parts : Parts)
     (listed : HasStrings origin bytes parts) where
   -- the answer for the notes is the answer for the bytes
-  notes_refused : (fault : LoadFault) → ChecksNotes origin keys (listed_notes parts) (Err fault) →
+  notes_refused : (fault : LoadFault) → FailsToOpen (HasUnopened origin keys (listed_notes parts)) fault →
       Loads digest origin keys bytes (Err fault)
   notes_refused StateMagic h = absurd h
   notes_refused StateShort h = absurd h
@@ -167,7 +169,15 @@ module _ (digest : List ℕ → List ℕ) (origin : List ℕ) (keys : List Key) 
   notes_refused OtherOrigin h = absurd h
   notes_refused StateOrder h = absurd h
   notes_refused StateString h = absurd h
-  notes_refused StateHead h = record { parts = parts; has_strings = listed; has_closed = h }
+  notes_refused StateHead h = record {
+    parts = parts;
+    has_strings = listed;
+    has_closed = record {
+      note = h.note;
+      is_listed = h.is_listed;
+      closed = λ o. h.closed (as_head origin keys h.note o);
+    };
+  }
   notes_refused Collision h = absurd h
   notes_refused StateEdge h = absurd h
   notes_refused ReadFault h = absurd h
@@ -258,10 +268,10 @@ module _ (digest : List ℕ → List ℕ) (origin : List ℕ) (keys : List Key) 
 
 module _ (digest : List ℕ → List ℕ) (origin : List ℕ) (keys : List Key) (bytes : List ℕ) (parts : Parts)
     (listed : HasStrings origin bytes parts) (notes : List (List ℕ)) (notes_are : notes ≡ listed_notes parts) where
-  pub notes_recorded : (fault : LoadFault) → ChecksNotes origin keys notes (Err fault) →
+  pub notes_recorded : (fault : LoadFault) → FailsToOpen (HasUnopened origin keys notes) fault →
       Loads digest origin keys bytes (Err fault)
   notes_recorded fault h = notes_refused digest origin keys bytes parts listed fault
-      (subst (λ ns. ChecksNotes origin keys ns (Err fault)) notes_are h)
+      (subst (λ ns. FailsToOpen (HasUnopened origin keys ns) fault) notes_are h)
 
   module _ (opened : All (IsOpenNote origin keys) notes) where
     opened_here : All (IsOpenNote origin keys) (listed_notes parts)

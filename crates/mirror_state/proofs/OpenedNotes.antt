@@ -1,65 +1,50 @@
--- Notes that are opened in order, and then kept.
-use Rattle.std.proofs.Common.{◌≡◌, ℕ, ◌+◌, ◌<◌, ◌≤◌, List, [], ◌∷◌, ◌++◌, length, map, take, get_or, All, Bor, Bool, true, false, Ok}
-use Rattle.std.proofs.Common.{refl, sym, ap, subst, ◌∙◌, arith}
-use Rattle.std.proofs.lemmas.List.{get_or-map, length-map, map-append, take_all, take_more}
-use Rattle.std.proofs.lemmas.List.Elements.{All-contains, All-nil, All-push}
+-- Notes that were opened, and then kept.
+use Rattle.std.proofs.Common.{◌≡◌, ℕ, ◌+◌, ◌<◌, ◌≤◌, List, [], ◌∷◌, ◌++◌, length, map, take, get_or, All, Bool, true, false, Ok}
+use Rattle.std.proofs.Common.{sym, ap, subst, ◌∙◌, arith}
+use Rattle.std.proofs.lemmas.List.{get_or-map, length-map, take_all, take_more}
+use Rattle.std.proofs.lemmas.List.Elements.{All-contains, All-push, All-weaker}
 use Rattle.signed_note.specs.Keys.{Key}
 use Rattle.mirror_model.specs.Complete.{HasEdge}
-use Rattle.mirror_model.specs.Refusals.{IsOpenCheckpoint}
 use Rattle.mirror_model.specs.View.{View}
 use Rattle.mirror_model.specs.declared.notes.HeadNote.{HeadNote}
 use Rattle.mirror_trees.proofs.BuiltTrees.{added_both}
 use Rattle.tlog_mirror.specs.Adding.{with_note, with_notes}
 use Rattle.tlog_mirror.specs.Opened.{KeepsOpened, SaysHead}
-use Rattle.tlog_mirror.specs.Restored.{IsOpenNote}
-use Rattle.tlog_mirror.proofs.OpenHeads.{open_here}
+use Rattle.node_store.specs.Strings.{Strings}
+use Rattle.tlog_mirror.specs.Restored.{IsOpenNote, strings_alone}
 use Rattle.tlog_mirror.proofs.RestoredMirrors.{open_note}
-use Rattle.tlog_mirror.proofs.TakenHeads.{open_is_head}
 use Rattle.mirror_state.specs.Loading.{HasUnheld}
-use Rattle.mirror_state.specs.LoadSteps.{AreOpened, IsOpened, head_bytes}
-use Rattle.state_text.proofs.ListedItems.{all_more, bytes_of, listed_all, more_taken}
+use Rattle.mirror_model.proofs.RefusedHeads.{open_heads_are_read}
+use Rattle.state_text.specs.Opening.{AreOpened, IsFirstNot, OpensAsHead, head_bytes}
 use Rattle.mirror_state.proofs.KeptNotes.{edge_moves, edge_moves_back}
 
--- ---- one note
-
-pub one_opened : (bytes origin : List ℕ) (keys : List Key) (head : HeadNote) →
-    IsOpenCheckpoint bytes origin keys head.checkpoint → head_bytes head ≡ bytes → IsOpened origin keys bytes head
-one_opened bytes origin keys head opened is = record {
-  opens = open_note bytes origin keys head.checkpoint opened;
-  bytes_are = is;
-  said = open_is_head (head_bytes head) origin keys head.checkpoint
-      (open_here bytes origin keys head opened is origin refl);
-}
-
--- ---- all notes
+-- ---- notes that open
 
 module _ (origin : List ℕ) (keys : List Key) where
-  pub none_opened : (heads : List HeadNote) → heads ≡ [] → AreOpened origin keys [] heads
-  none_opened heads is =
-      subst (AreOpened origin keys []) (sym is) (record {
-        opened = All-nil (IsOpenNote origin keys);
-        bytes_are = refl;
-        said = All-nil (SaysHead origin);
-      })
+  as_note : (note : List ℕ) → OpensAsHead origin keys note → IsOpenNote origin keys note
+  as_note note o = open_note note origin keys o.0 o.1
 
-  pub more_opened : (items : List (Bor (List ℕ))) (i : ℕ) (d : Bor (List ℕ)) → i < length items →
-      (heads new : List HeadNote) (head : HeadNote) → AreOpened origin keys (take i (bytes_of items)) heads →
-      IsOpened origin keys (get_or items i d).now head → new ≡ heads ++ head ∷ [] →
-      AreOpened origin keys (take (i + 1) (bytes_of items)) new
-  more_opened items i d lt heads new head so_far here is =
-      subst (AreOpened origin keys (take (i + 1) (bytes_of items))) (sym is) (record {
-        opened = all_more (λ (x : List ℕ). x) items i d lt (IsOpenNote origin keys) so_far.opened here.opens;
-        bytes_are = map-append head_bytes heads (head ∷ [])
-            ∙ ap (λ (xs : List (List ℕ)). xs ++ head_bytes head ∷ []) so_far.bytes_are
-            ∙ ap (λ (x : List ℕ). take i (bytes_of items) ++ x ∷ []) here.bytes_are
-            ∙ sym (more_taken (λ (x : List ℕ). x) items i d lt);
-        said = All-push (SaysHead origin) heads head so_far.said here.said;
-      })
+  pub as_head : (note : List ℕ) → IsOpenNote origin keys note → OpensAsHead origin keys note
+  as_head note o =
+      let read = (open_heads_are_read note origin keys o.size o.root).0 o.is_head in (read.checkpoint, read.is_open)
 
-  pub all_opened : (items : List (Bor (List ℕ))) (i : ℕ) → length items ≤ i → (heads : List HeadNote) →
-      AreOpened origin keys (take i (bytes_of items)) heads → AreOpened origin keys (bytes_of items) heads
-  all_opened items i le heads so_far =
-      subst (λ ns. AreOpened origin keys ns heads) (listed_all items i le) so_far
+  pub notes_open : (notes : List (List ℕ)) → All (OpensAsHead origin keys) notes → All (IsOpenNote origin keys) notes
+  notes_open notes all = All-weaker (OpensAsHead origin keys) (IsOpenNote origin keys) as_note notes all
+
+  pub still_open : (view : View) (strings : Strings) (listed notes later : List (List ℕ)) →
+      view ≡ strings_alone origin strings → notes ≡ listed → later ≡ listed → All (OpensAsHead origin keys) notes →
+      All (IsOpenNote view.origin keys) later
+  still_open view strings listed notes later made notes_are later_are all =
+      subst (λ (v : View). All (IsOpenNote v.origin keys) later) (sym made)
+      (subst (All (IsOpenNote origin keys)) (notes_are ∙ sym later_are) (notes_open notes all))
+
+  pub first_closed : (notes : List (List ℕ)) (index : ℕ) (note : List ℕ) →
+      IsFirstNot (OpensAsHead origin keys) notes index note → IsFirstNot (IsOpenNote origin keys) notes index note
+  first_closed notes index note first = record {
+    passed = notes_open (take index notes) first.passed;
+    is_there = first.is_there;
+    fails = λ o. first.fails (as_head note o);
+  }
 
   pub opened_at : (notes notes' : List (List ℕ)) (heads heads' : List HeadNote) → notes ≡ notes' → heads' ≡ heads →
       AreOpened origin keys notes heads → AreOpened origin keys notes' heads'

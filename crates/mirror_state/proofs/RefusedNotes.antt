@@ -1,60 +1,34 @@
 -- The note of a state text for which the text is not loaded.
-use Rattle.std.proofs.Common.{◌≡◌, ◌≢◌, inl, inr, ℕ, ◌<◌, ◌^◌, true, false, List, [], length, take, All}
-use Rattle.std.proofs.Common.{get_or, Option, Some, None, Result, Ok, Err, Bor, refl, ap, subst, ◌∙◌, arith}
-use Rattle.std.specs.Prelude.{◌↔◌, IsTrue, IfOk, IfSome, IfNone, option_map}
+use Rattle.std.proofs.Common.{◌≡◌, ◌≢◌, inl, inr, ℕ, ◌<◌, ◌^◌, List, length, take, All}
+use Rattle.std.proofs.Common.{get_or, Option, Some, None, Result, Ok, Err, Bor, refl, subst, arith}
+use Rattle.std.specs.Prelude.{IfOk, IfSome, IfNone, option_map}
 use Rattle.std.specs.FinSet as set
-use Rattle.std.proofs.lemmas.Option.{slice_get-get_or, slice_get_within}
+use Rattle.std.proofs.lemmas.Option.{slice_get_within}
 use Rattle.tlog_text.specs.Answers.{seen}
 use Rattle.node_store.specs.Strings.{NoClash}
 use Rattle.signed_note.specs.Keys.{Key}
-use Rattle.tlog_checkpoint.specs.declared.Checkpoint.{Checkpoint}
 use Rattle.mirror_model.specs.Complete.{HasEdge}
-use Rattle.mirror_model.specs.Refusals.{IsOpenCheckpoint, ReadsHead}
 use Rattle.mirror_model.specs.View.{View}
-use Rattle.mirror_model.specs.declared.fault.TakeFault.{TakeFault}
-use Rattle.mirror_model.specs.declared.fault.TakeFault.TheVariants as taking
 use Rattle.tlog_mirror.specs.Adding.{with_notes}
 use Rattle.tlog_mirror.specs.Restored.{IsOpenNote, KeepsHeld, strings_alone}
 use Rattle.tlog_mirror.specs.declared.fault.RestoreFault.{RestoreFault}
 use Rattle.tlog_mirror.specs.declared.fault.RestoreFault.TheVariants as restoring
-use Rattle.tlog_mirror.proofs.RestoredMirrors.{not_open, open_note}
 use Rattle.state_text.specs.StateText.{Parts, VersionTwo, VersionOne, AreParts}
 use Rattle.state_text.specs.Content.{listed_notes, listed_strings, listed_view, HasStrings}
 use Rattle.mirror_state.specs.Loading.{Loads}
 use Rattle.mirror_state.specs.LoadLaws.{IsOfBytes}
 use Rattle.state_text.specs.Checking.{ChecksLists}
-use Rattle.mirror_state.specs.Refused.{FindsAt, IsFirstNot, Refuses, RefusesNone}
+use Rattle.mirror_state.specs.Refused.{FindsAt, Refuses, RefusesNone}
+use Rattle.state_text.specs.Opening.{IsFirstNot, OpensAsHead}
+use Rattle.mirror_state.proofs.OpenedNotes.{first_closed}
 use Rattle.state_text.specs.declared.fault.LoadFault.{LoadFault}
 use Rattle.state_text.specs.declared.fault.LoadFault.TheVariants.{StateMagic, StateShort, StateLong, StateDigest}
 use Rattle.state_text.specs.declared.fault.LoadFault.TheVariants.{OtherOrigin, StateOrder, StateString, StateHead}
 use Rattle.state_text.specs.declared.fault.LoadFault.TheVariants.{Collision, StateEdge, ReadFault, OutOfMemory}
-use Rattle.state_text.proofs.ListedItems.{bytes_of, item_at, same_len}
+use Rattle.state_text.proofs.ListedItems.{bytes_of}
 use Rattle.mirror_state.proofs.KeptNotes.{edge_moves_back, never_bad}
 use Rattle.mirror_state.proofs.Loaded.{loaded, unheld_first}
 use Rattle.mirror_state.proofs.OneLoad.{one_load}
-
--- ---- the first item of a list
-
-pub first_here : (P : List ℕ → Type 0) (items : List (Bor (List ℕ))) (i : ℕ) (d : Bor (List ℕ)) → i < length items →
-    All P (take i (bytes_of items)) → (P (get_or items i d).now → ⊥) →
-    IsFirstNot P (bytes_of items) i (get_or items i d).now
-first_here P items i d lt so_far fails = record {
-  passed = so_far;
-  is_there = slice_get-get_or (bytes_of items) i [] (omega (arith, same_len items, lt))
-      ∙ ap (λ (x : List ℕ). Some x) (item_at items i d [] lt);
-  fails = fails;
-}
-
--- ---- notes that open
-
-module _ (note origin : List ℕ) (keys : List Key) where
-  pub opens : (checkpoint : Checkpoint) → IsOpenCheckpoint note origin keys checkpoint →
-      IsTrue true ↔ IsOpenNote origin keys note
-  opens checkpoint h = (λ t. open_note note origin keys checkpoint h, λ o. refl)
-
-  pub stays_closed : (fault : TakeFault) → fault ≢ taking.OutOfMemory → ReadsHead note origin keys (Err fault) →
-      IsTrue false ↔ IsOpenNote origin keys note
-  stays_closed fault memory h = (λ t. absurd (cc t), λ o. absurd (not_open note origin keys fault memory h o))
 
 -- ---- held right edges
 
@@ -115,11 +89,12 @@ module _ (digest : List ℕ → List ℕ) (origin : List ℕ) (keys : List Key) 
 -- the first note that does not open
 pub closed_recorded : (digest : List ℕ → List ℕ) (origin : List ℕ) (keys : List Key) (bytes : List ℕ) (parts : Parts)
     (listed : HasStrings origin bytes parts) (notes : List (List ℕ)) → notes ≡ listed_notes parts → (index : ℕ)
-    (note : List ℕ) → IsFirstNot (IsOpenNote origin keys) notes index note → Refuses digest origin keys bytes index note
+    (note : List ℕ) → IsFirstNot (OpensAsHead origin keys) notes index note → Refuses digest origin keys bytes index note
 closed_recorded digest origin keys bytes parts listed notes notes_are index note first = inl (record {
   parts = parts;
   has_strings = listed;
-  is_first = subst (λ ns. IsFirstNot (IsOpenNote origin keys) ns index note) notes_are first;
+  is_first = subst (λ ns. IsFirstNot (IsOpenNote origin keys) ns index note) notes_are
+      (first_closed origin keys notes index note first);
 })
 
 -- the first note whose right edge is not held, or none

@@ -1,5 +1,5 @@
 -- The note of a state text for which the text is not loaded.
-use Rattle.std.specs.Prelude.{◌≡◌, ℕ, ◌⊎◌, List, take, slice_get, All, Option}
+use Rattle.std.specs.Prelude.{ℕ, ◌⊎◌, List, Option}
 use Rattle.std.specs.Prelude.{Some, None, Result, Ok, Err, ⊤}
 use Rattle.signed_note.specs.Keys.{Key}
 use Rattle.mirror_model.specs.Complete.{HasEdge}
@@ -10,13 +10,7 @@ use Rattle.mirror_state.specs.Loading.{HasNoCollision}
 use Rattle.mirror_state.specs.Loading.{HasBadNote, LacksEdge}
 use Rattle.state_text.specs.declared.naming.RefusedNote.{RefusedNote}
 use Rattle.state_text.specs.Naming.{NamesNote}
-
--- the item is at that index of the list, and it is the first one without the property P
-pub record IsFirstNot (P : List ℕ → Type 0) (items : List (List ℕ)) (index : ℕ) (item : List ℕ)
-    : Type 0 where
-  pub passed : All P (take index items)
-  pub is_there : slice_get items index ≡ Some item
-  pub fails : ¬ P item
+use Rattle.state_text.specs.Opening.{IsFirstNot}
 
 module _ (digest : List ℕ → List ℕ) (origin : List ℕ) (keys : List Key) (bytes : List ℕ) where
   -- the bytes are a state text that is right up to its notes, and that note is the first one that does not open

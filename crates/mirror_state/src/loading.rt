@@ -6,20 +6,21 @@ ghost use Rattle.signed_note.specs.Keys.{Key};
 ghost use Rattle.tlog_mirror.specs.Opened.{SaysHead};
 ghost use Rattle.tlog_text.specs.Answers.{seen};
 ghost use Rattle.state_text.specs.Storing.{AreListable};
-ghost use Rattle.mirror_state.specs.LoadSteps.{AreOpened, KeepsNotes, MakesMirror, OpensNote, OpensNotes, head_bytes, note_fault_of, stream_fault_of};
+ghost use Rattle.mirror_state.specs.LoadSteps.{KeepsNotes, MakesMirror, stream_fault_of};
+ghost use Rattle.state_text.specs.Opening.{AreOpened, head_bytes};
 ghost use Rattle.state_text.specs.Content.{HasStrings, listed_notes, listed_strings};
 ghost use Rattle.mirror_state.specs.Loading.{Loads};
 ghost use Rattle.state_text.specs.Stands.{parts_of};
 
 use byte_streams::{StreamFault, read_all};
-use mirror_model::{HeadNote, open_head};
+use mirror_model::HeadNote;
 use node_store::AddFault;
 use signed_note::Verifier;
-use state_text::{Lists, LoadFault, checked_lists, store_of};
+use state_text::{Lists, LoadFault, checked_lists, open_all, store_of};
 use std::alloc::{AllocError, Global};
 use std::io::Read;
 use tlog_hash::TreeHash;
-use tlog_mirror::{Mirror, TakeFault};
+use tlog_mirror::Mirror;
 
 // The maximal number of reads of a reader.
 const READS: u64 = 16_777_216;
@@ -181,51 +182,6 @@ pub(crate) fn mirror_of<H: TreeHash>(
         // The origin is lawful, so the only fault here is `OutOfMemory`.
         Err(_) => Err(AddFault::OutOfMemory),
     }
-}
-
-// The tree head of a note, if it opens as a checkpoint of that origin.
-fn open_one(
-    alloc: Global,
-    origin: &str,
-    keys: &[Box<dyn Verifier>],
-    note: &[u8],
-) -> Result<HeadNote, LoadFault>
-    ensures { OpensNote origin.now (map (λ k. key k) keys.now) note.now result }
-{
-    match open_head(alloc, origin, keys, note) {
-        Ok(head) => Ok(head),
-        Err(fault) => Err(note_fault(fault)),
-    }
-}
-
-// The fault of loading, for a fault of reading a note.
-fn note_fault(fault: TakeFault) -> LoadFault
-    ensures { result ≡ note_fault_of fault }
-{
-    match fault {
-        TakeFault::OutOfMemory => LoadFault::OutOfMemory,
-        _ => LoadFault::StateHead,
-    }
-}
-
-// The tree heads of the notes, if all open as checkpoints of that origin. Each note is verified here, and nowhere else.
-fn open_all(
-    alloc: Global,
-    origin: &str,
-    keys: &[Box<dyn Verifier>],
-    notes: &[&[u8]],
-) -> Result<Vec<HeadNote>, LoadFault>
-    ensures { OpensNotes origin.now (map (λ k. key k) keys.now) (map (λ n. n.now) notes.now)
-        (seen (λ heads. heads.items) result) }
-{
-    let mut heads = Vec::new(alloc);
-    for note in notes {
-        let head = open_one(alloc, origin, keys, note)?;
-        let Ok(()) = heads.push(head) else {
-            return Err(LoadFault::OutOfMemory);
-        };
-    }
-    Ok(heads)
 }
 
 // Keeps the tree heads. `StateEdge` if the right edge of one is not held.

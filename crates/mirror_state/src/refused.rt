@@ -1,21 +1,21 @@
 //! The note of a state text for which the text is not loaded.
-ghost use Rattle.std.specs.Prelude.{◌↔◌, ◌<◌, ℕ, List, map, option_map, All, IfNone, IfOk, IfSome, IsTrue};
+ghost use Rattle.std.specs.Prelude.{◌<◌, ℕ, List, map, option_map, All, IfNone, IfOk, IfSome};
 ghost use Rattle.mirror_model.specs.Complete.{HasEdge};
 ghost use Rattle.tlog_mirror.specs.Restored.{IsOpenNote};
 ghost use Rattle.state_text.specs.Storing.{AreListable};
 ghost use Rattle.state_text.specs.Content.{HasStrings};
-ghost use Rattle.mirror_state.specs.Refused.{FindsAt, FindsRefused, IsFirstNot};
+ghost use Rattle.mirror_state.specs.Refused.{FindsAt, FindsRefused};
+ghost use Rattle.state_text.specs.Opening.{IsFirstNot};
 ghost use Rattle.state_text.specs.Stands.{parts_of};
 ghost use Rattle.tlog_text.specs.Answers.{seen};
 
 use crate::loading::mirror_of;
-use mirror_model::open_head;
 use node_store::AddFault;
 use signed_note::Verifier;
-use state_text::{Lists, LoadFault, RefusedNote, checked_lists, name_of};
+use state_text::{Lists, LoadFault, RefusedNote, checked_lists, first_closed, name_of};
 use std::alloc::{AllocError, Global};
 use tlog_hash::TreeHash;
-use tlog_mirror::{Mirror, RestoreFault, TakeFault};
+use tlog_mirror::{Mirror, RestoreFault};
 
 /// The note for which `load_bytes` gives `StateHead` or `StateEdge`. It is the first that does not open, in the order
 /// of the text. If all open, it is the first whose right edge is not held. `None` if it gives neither fault. It takes
@@ -88,45 +88,6 @@ fn refused_in<'a, H: TreeHash>(
         Err(AddFault::Collision) => Ok(None),
         Err(AddFault::OutOfMemory) => Err(AllocError),
     }
-}
-
-// The first note that does not open as a checkpoint of that origin.
-fn first_closed<'n>(
-    alloc: Global,
-    origin: &str,
-    keys: &[Box<dyn Verifier>],
-    notes: &[&'n [u8]],
-) -> Result<Option<(usize, &'n [u8])>, AllocError>
-    ensures found { IfOk result (λ o. IfSome o
-        (λ x. IsFirstNot (IsOpenNote origin.now (map (λ k. key k) keys.now))
-        (map (λ n. n.now) notes.now) x.0 x.1.now)) }
-    ensures none { IfOk result (λ o. IfNone o
-        (All (IsOpenNote origin.now (map (λ k. key k) keys.now)) (map (λ n. n.now) notes.now))) }
-{
-    for i in 0..notes.len() {
-        if !is_open(alloc, origin, keys, notes[i])? {
-            return Ok(Some((i, notes[i])));
-        }
-    }
-    Ok(None)
-}
-
-// Whether a note opens as a checkpoint of that origin.
-fn is_open(
-    alloc: Global,
-    origin: &str,
-    keys: &[Box<dyn Verifier>],
-    note: &[u8],
-) -> Result<bool, AllocError>
-    ensures { IfOk result (λ opens. IsTrue opens ↔ IsOpenNote origin.now
-        (map (λ k. key k) keys.now) note.now) }
-{
-    match open_head(alloc, origin, keys, note) {
-        Ok(_) => {}
-        Err(TakeFault::OutOfMemory) => return Err(AllocError),
-        Err(_) => return Ok(false),
-    }
-    Ok(true)
 }
 
 // The first note whose right edge is not held; all notes open.

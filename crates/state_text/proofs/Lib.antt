@@ -7,3 +7,4 @@ pub mod ListedItems
 pub mod Gathered
 pub mod Putting
 pub mod Names
+pub mod OpenedNotes

@@ -9,3 +9,4 @@ pub mod Storing
 pub mod Putting
 pub mod Listing
 pub mod Naming
+pub mod Opening

@@ -1,7 +1,7 @@
 use Rattle.std.proofs.Common.{◌≡◌, map, take, All}
 use Rattle.mirror_model.specs.Complete.{HasEdge}
 use Rattle.tlog_mirror.specs.Adding.{with_notes}
-use Rattle.mirror_state.specs.LoadSteps.{head_bytes}
+use Rattle.state_text.specs.Opening.{head_bytes}
 use Rattle.mirror_state.proofs.loading.keep_all.Given as goal
 
 -- the tree heads so far are kept

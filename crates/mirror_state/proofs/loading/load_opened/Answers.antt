@@ -5,6 +5,7 @@ use Rattle.mirror_state.specs.LoadSteps.{MakesMirror}
 use Rattle.state_text.specs.Content.{listed_strings}
 use Rattle.state_text.specs.Stands.{parts_of}
 use Rattle.mirror_state.proofs.Loaded.{clash_recorded, loaded, not_loaded}
+use Rattle.mirror_state.proofs.OpenedNotes.{notes_open}
 use Rattle.mirror_state.proofs.loading.load_opened.Goals as goal
 
 pub keep_all-requires : goal.keep_all-requires
@@ -14,18 +15,18 @@ keep_all-requires g c =
 pub returns-in-Err-Collision-clause-loads : goal.returns-in-Err-Collision-clause-loads
 returns-in-Err-Collision-clause-loads g c = λ bytes keys listed opened.
     clash_recorded g.H.TreeHash.digest c.args.origin.now keys bytes (parts_of c.args.lists.now) listed
-    _ refl opened.opened
+    _ refl (notes_open c.args.origin.now keys _ opened.opened)
     (subst (λ f. MakesMirror g.H.TreeHash.digest c.args.origin.now (listed_strings (parts_of c.args.lists.now)) (Err f))
     c.in-Err-Collision.field-0-is c.in-Err-Collision.ensures.makes)
 
 pub returns-in-Ok-keep_all-clause-loads : goal.returns-in-Ok-keep_all-clause-loads
 returns-in-Ok-keep_all-clause-loads g c = λ bytes keys listed opened.
     loaded g.H.TreeHash.digest c.args.origin.now keys bytes (parts_of c.args.lists.now) listed
-    _ refl opened.opened c.in-Ok.mirror.view c.in-Ok.ensures.makes _ opened.bytes_are
+    _ refl (notes_open c.args.origin.now keys _ opened.opened) c.in-Ok.mirror.view c.in-Ok.ensures.makes _ opened.bytes_are
     c.keep_all.new.mirror.view c.in-Ok-keep_all.ensures.keeps
 
 pub returns-in-Err-clause-loads : goal.returns-in-Err-clause-loads
 returns-in-Err-clause-loads g c = λ bytes keys listed opened.
     not_loaded g.H.TreeHash.digest c.args.origin.now keys bytes (parts_of c.args.lists.now) listed
-    _ refl opened.opened c.in-Ok.mirror.view c.in-Ok.ensures.makes _ opened.bytes_are
+    _ refl (notes_open c.args.origin.now keys _ opened.opened) c.in-Ok.mirror.view c.in-Ok.ensures.makes _ opened.bytes_are
     c.keep_all.new.mirror.view c.in-Err.fault c.in-Err.ensures.keeps

@@ -4,7 +4,8 @@ use Rattle.mirror_model.specs.Complete.{HasEdge}
 use Rattle.tlog_mirror.specs.declared.fault.RestoreFault.TheVariants as restoring
 use Rattle.state_text.proofs.ListedItems.{all_passes}
 use Rattle.mirror_state.proofs.KeptNotes.{noted_none, kept_view, kept_edges}
-use Rattle.mirror_state.proofs.RefusedNotes.{first_here, stays_unheld}
+use Rattle.state_text.proofs.OpenedNotes.{first_here}
+use Rattle.mirror_state.proofs.RefusedNotes.{stays_unheld}
 use Rattle.mirror_state.proofs.refused.first_unheld.Goals as goal
 
 pub loop-i-init : goal.loop-i-init

@@ -1,6 +1,6 @@
-use Rattle.mirror_state.proofs.KeptNotes.{note_checked}
-use Rattle.mirror_state.proofs.OpenedNotes.{one_opened}
-use Rattle.mirror_state.proofs.loading.open_one.Goals as goal
+use Rattle.state_text.proofs.OpenedNotes.{note_checked}
+use Rattle.state_text.proofs.OpenedNotes.{one_opened}
+use Rattle.state_text.proofs.opening.open_one.Goals as goal
 
 pub returns-in-Ok : goal.returns-in-Ok
 returns-in-Ok g c =

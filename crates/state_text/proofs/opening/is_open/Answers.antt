@@ -1,7 +1,7 @@
 use Rattle.std.proofs.Common.{rules, ◌≢◌}
 use Rattle.mirror_model.specs.declared.fault.TakeFault.TheVariants as taking
-use Rattle.mirror_state.proofs.RefusedNotes.{stays_closed}
-use Rattle.mirror_state.proofs.refused.is_open.Goals as goal
+use Rattle.state_text.proofs.OpenedNotes.{stays_closed}
+use Rattle.state_text.proofs.opening.is_open.Goals as goal
 
 pub returns-in-Err : goal.returns-in-Err
 returns-in-Err g c =

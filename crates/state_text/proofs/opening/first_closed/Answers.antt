@@ -1,5 +1,5 @@
-use Rattle.mirror_state.proofs.KeptNotes.{one_opens, all_open}
-use Rattle.mirror_state.proofs.refused.first_closed.Goals as goal
+use Rattle.state_text.proofs.OpenedNotes.{one_opens, all_open}
+use Rattle.state_text.proofs.opening.first_closed.Goals as goal
 
 pub loop-i-preserved : goal.loop-i-preserved
 loop-i-preserved g c =

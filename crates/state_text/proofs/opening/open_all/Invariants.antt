@@ -1,6 +1,6 @@
 use Rattle.std.proofs.Common.{map, take}
-use Rattle.mirror_state.specs.LoadSteps.{AreOpened}
-use Rattle.mirror_state.proofs.loading.open_all.Given as goal
+use Rattle.state_text.specs.Opening.{AreOpened}
+use Rattle.state_text.proofs.opening.open_all.Given as goal
 
 -- the notes so far are opened
 abbrev pub invariant-loop-note : goal.invariant-loop-note

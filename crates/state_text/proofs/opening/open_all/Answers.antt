@@ -1,7 +1,7 @@
 use Rattle.std.proofs.lemmas.Result.{err_from_is_err_and}
-use Rattle.mirror_state.proofs.KeptNotes.{one_refused}
-use Rattle.mirror_state.proofs.OpenedNotes.{all_opened, more_opened, none_opened}
-use Rattle.mirror_state.proofs.loading.open_all.Goals as goal
+use Rattle.state_text.proofs.OpenedNotes.{one_refused}
+use Rattle.state_text.proofs.OpenedNotes.{all_opened, more_opened, none_opened}
+use Rattle.state_text.proofs.opening.open_all.Goals as goal
 
 pub loop-note-init : goal.loop-note-init
 loop-note-init g c = none_opened c.args.origin.now _ c.new-heads.result.items c.new-heads.ensures.items
