@@ -11,21 +11,12 @@ use std::alloc::{AllocError, Global};
 use tlog_checkpoint::{Checkpoint, CheckpointFault, read};
 
 /// A note whose text is a checkpoint, with that checkpoint.
+#[derive(Drop)]
 pub struct HeadNote {
     /// The note.
     pub note: Note,
     /// The checkpoint in its text.
     pub checkpoint: Checkpoint,
-}
-
-/// Written out, a drop is one call. A derived one stands in full wherever a value is dropped, and is checked there.
-impl Drop for HeadNote {
-    fn drop(self) {
-        let HeadNote {
-            note: _,
-            checkpoint: _,
-        } = self;
-    }
 }
 
 /// Reads a note and its checkpoint, which must have that origin, and checks that the note opens under the keys (C2SP
