@@ -4,7 +4,6 @@
 
 use signed_note::NoteFault;
 use std::fmt;
-use thiserror::Error;
 use tlog_checkpoint::CheckpointFault;
 
 /// Why an item is not taken. A tree head has the first seven faults or a collision. A tile or a bundle has those of its
@@ -51,18 +50,24 @@ impl fmt::Display for TakeFault {
 impl std::error::Error for TakeFault {}
 
 /// Why a mirror is not merged with another.
-#[derive(Debug, Drop, PartialEq, Eq, Clone, Copy, Error)]
+#[derive(Debug, Drop, PartialEq, Eq, Clone, Copy)]
 pub enum MergeFault {
     /// The other mirror has another origin.
-    #[error("OtherOrigin")]
     OtherOrigin,
     /// Two different strings that the two mirrors hold share a digest.
-    #[error("Collision")]
     Collision,
     /// Memory was refused.
-    #[error("OutOfMemory")]
     OutOfMemory,
 }
+
+/// Prints the name of the variant. A derived one takes the checker longer.
+impl fmt::Display for MergeFault {
+    fn fmt<W: fmt::Write>(&self, f: &mut fmt::Formatter<W>) -> fmt::Result {
+        fmt::Debug::fmt(self, f)
+    }
+}
+
+impl std::error::Error for MergeFault {}
 
 impl From<MergeFault> for TakeFault {
     ghost use Rattle.std.specs.Prelude.{◌≡◌};

@@ -6,7 +6,7 @@ use tlog_hash::Hash;
 /// ```
 /// let partial = heads.iter().filter(|head| !head.complete).count();
 /// ```
-#[derive(PartialEq, Eq, Clone, Copy)]
+#[derive(Clone, Copy)]
 pub struct Head {
     /// The number of entries of the tree.
     pub size: u64,
@@ -22,7 +22,7 @@ pub struct Head {
 /// ```
 /// let same_size = forks.iter().filter(|fork| fork.small.0 == fork.large.0).count();
 /// ```
-#[derive(PartialEq, Eq, Clone, Copy)]
+#[derive(Clone, Copy)]
 pub struct Fork {
     /// The smaller tree head.
     pub small: (u64, Hash),

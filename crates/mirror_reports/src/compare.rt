@@ -16,7 +16,7 @@ use tlog_text::push_hash;
 /// ```
 /// let forked = compared.iter().any(|one| matches!(one, Compared::Fork { .. }));
 /// ```
-#[derive(Debug, PartialEq, Eq, Clone, Copy)]
+#[derive(Clone, Copy)]
 pub enum Compared {
     /// The first `size` served entries have its root.
     Same {

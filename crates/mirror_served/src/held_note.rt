@@ -6,7 +6,6 @@ use std::alloc::{AllocError, Global};
 use tlog_hash::Hash;
 
 /// A note, with the size and the root of its text.
-#[derive(Drop)]
 pub struct HeldNote {
     /// The note.
     pub note: Note,
@@ -14,6 +13,17 @@ pub struct HeldNote {
     pub size: u64,
     /// The tree hash of these entries.
     pub root: Hash,
+}
+
+/// Written out, as that of `TopRanges`.
+impl Drop for HeldNote {
+    fn drop(self) {
+        let HeldNote {
+            note: _,
+            size: _,
+            root: _,
+        } = self;
+    }
 }
 
 impl HeldNote {

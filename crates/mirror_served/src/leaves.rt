@@ -14,12 +14,21 @@ use tlog_hash::{Hash, TreeHash};
 use tlog_shape::split;
 
 /// The leaf hashes of a held tree, and its entries, which are borrowed from the store.
-#[derive(Drop)]
 pub struct Leaves<'a> {
     /// The hash of each entry, in order.
     pub hashes: Vec<Hash>,
     /// The entries in order.
     pub entries: Vec<&'a [u8]>,
+}
+
+/// Written out, as that of `TopRanges`.
+impl Drop for Leaves<'_> {
+    fn drop(self) {
+        let Leaves {
+            hashes: _,
+            entries: _,
+        } = self;
+    }
 }
 
 /// The leaves of the tree with that size and root. `None` exactly if the tree is not held.

@@ -27,7 +27,6 @@ use tlog_tiles::{write_bundle, write_row};
 /// let size = top.size();
 /// let proof = prove(alloc, &top, Ask::Inclusion { size, index: 0 })?;
 /// ```
-#[derive(Drop)]
 pub struct TopRanges<'a, H: TreeHash> {
     note: &'a Note,
     size: u64,
@@ -35,6 +34,19 @@ pub struct TopRanges<'a, H: TreeHash> {
     strings: &'a Store<H>,
     // The leaves of the entries, if the walk that found them gathered these.
     leaves: Option<Leaves<'a>>,
+}
+
+/// Written out, a drop is one call. A derived one stands in full wherever a value is dropped, and is checked there.
+impl<'a, H: TreeHash> Drop for TopRanges<'a, H> {
+    fn drop(self) {
+        let TopRanges {
+            note: _,
+            size: _,
+            root: _,
+            strings: _,
+            leaves: _,
+        } = self;
+    }
 }
 
 impl<'a, H: TreeHash> Model for TopRanges<'a, H> {

@@ -13,9 +13,15 @@ use tlog_hash::{Hash, TreeHash};
 use tlog_shape::split;
 
 // The counts of trees that are not held completely, by size and hash.
-#[derive(Drop)]
 pub(crate) struct Counts {
     counts: HashMap<MarkKey, u64>,
+}
+
+// Written out, as that of `Marks`.
+impl Drop for Counts {
+    fn drop(self) {
+        let Counts { counts: _ } = self;
+    }
 }
 
 impl Counts {

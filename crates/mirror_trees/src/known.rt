@@ -18,12 +18,21 @@ pub(crate) const MANY: u64 = 32;
 /// settle(&store, &mut known, 3, &root)?;
 /// known.remembered.len()  // 5, if the tree of three different entries is held
 /// ```
-#[derive(Drop)]
 pub struct HeldTrees {
     /// The remembered points: all slices of each tree that was settled and is held.
     pub remembered: Marks,
     /// Trees of many entries that a walk found held, including slices of trees that are not held.
     pub built: Marks,
+}
+
+/// Written out, as that of `Marks`.
+impl Drop for HeldTrees {
+    fn drop(self) {
+        let HeldTrees {
+            remembered: _,
+            built: _,
+        } = self;
+    }
 }
 
 impl HeldTrees {

@@ -16,9 +16,15 @@ use tlog_hash::Hash;
 /// marks.add(3, &root)?;
 /// marks.contains(3, &root)  // true
 /// ```
-#[derive(Drop)]
 pub struct Marks {
     points: HashSet<MarkKey>,
+}
+
+/// Written out, a drop is one call. A derived one stands in full wherever a value is dropped, and is checked there.
+impl Drop for Marks {
+    fn drop(self) {
+        let Marks { points: _ } = self;
+    }
 }
 
 impl Model for Marks {

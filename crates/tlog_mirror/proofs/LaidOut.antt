@@ -1,9 +1,9 @@
 -- The laid out entries are the served ones.
-use Rattle.std.proofs.Common.{ℕ, List, Some}
+use Rattle.std.proofs.Common.{ℕ, List}
 use Rattle.mirror_model.specs.View.{View}
 use Rattle.mirror_model.specs.Complete.{IsTreeOf}
+use Rattle.mirror_model.specs.Served.{Served}
 use Rattle.tlog_mirror.specs.Kept.{note_bytes}
-use Rattle.tlog_mirror.specs.LaidOut.{IsLaidOut}
 use Rattle.mirror_served.specs.Tops.{IsServedAs}
 use Rattle.mirror_served.specs.declared.held_note.HeldNote.{HeldNote}
 
@@ -11,7 +11,8 @@ use Rattle.mirror_served.specs.declared.held_note.HeldNote.{HeldNote}
 pub laid_anew :
     (digest : List ℕ → List ℕ) (v : View) (kept : HeldNote) (entries : List (List ℕ)) →
     IsServedAs digest v (note_bytes kept) kept.size kept.root →
-    IsTreeOf digest v.strings kept.size kept.root entries → IsLaidOut digest v (Some (kept, entries))
+    IsTreeOf digest v.strings kept.size kept.root entries →
+    Served digest v (note_bytes kept) kept.size kept.root entries
 laid_anew digest v kept entries is tree = record {
   holds = is.served.holds;
   tree = tree;

@@ -35,7 +35,10 @@ impl<H: TreeHash> Mirror<H> {
         let Some(top) = self.top_ranges() else {
             return Ok(None);
         };
-        Ok(Some(compare_all(alloc, &top, heads)?))
+        match compare_all(alloc, &top, heads) {
+            Ok(compared) => Ok(Some(compared)),
+            Err(fault) => Err(fault),
+        }
     }
 
     /// Compares each size and root of the held notes with the served entries, once, by size and then by the root's
@@ -53,7 +56,10 @@ impl<H: TreeHash> Mirror<H> {
             (λ o. IfSome o (λ compared. ReportsHeld H.digest self.now.view compared.items)) }
         ensures none { IfOk result (λ o. IfNone o (SaysServed H.digest self.now.view None)) }
     {
-        let heads = points_of(alloc, self.kept.as_slice())?;
+        let heads = match points_of(alloc, self.kept.as_slice()) {
+            Ok(heads) => heads,
+            Err(fault) => return Err(fault),
+        };
         self.compare(alloc, heads.as_slice())
     }
 }

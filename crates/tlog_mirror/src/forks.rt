@@ -25,7 +25,10 @@ impl<H: TreeHash> Mirror<H> {
     pub fn forks(&self, alloc: Global) -> Result<Vec<Fork>, AllocError>
         ensures { IfOk result (λ forks. ReportsForks H.digest self.now.view forks.items) }
     {
-        let points = points_of(alloc, self.kept.as_slice())?;
+        let points = match points_of(alloc, self.kept.as_slice()) {
+            Ok(points) => points,
+            Err(fault) => return Err(fault),
+        };
         forks_of(alloc, &self.strings, &self.known, points.as_slice())
     }
 
@@ -47,7 +50,10 @@ impl<H: TreeHash> Mirror<H> {
         ensures { WritesForks H.digest self.now.view (W.contents output.old) (W.contents output.new)
             result }
     {
-        let points = points_of(alloc, self.kept.as_slice())?;
+        let points = match points_of(alloc, self.kept.as_slice()) {
+            Ok(points) => points,
+            Err(AllocError) => return Err(StreamFault::OutOfMemory),
+        };
         write_forks(alloc, output, &self.strings, &self.known, points.as_slice())
     }
 }

@@ -34,7 +34,10 @@ impl<H: TreeHash> Mirror<H> {
     pub fn heads(&self, alloc: Global) -> Result<Vec<Head>, AllocError>
         ensures { IfOk result (λ heads. ReportsHeads H.digest self.now.view heads.items) }
     {
-        let points = points_of(alloc, self.kept.as_slice())?;
+        let points = match points_of(alloc, self.kept.as_slice()) {
+            Ok(points) => points,
+            Err(fault) => return Err(fault),
+        };
         flag_heads(alloc, &self.strings, &self.known, points.as_slice())
     }
 }
@@ -45,7 +48,10 @@ pub(crate) fn points_of(alloc: Global, kept: &[HeldNote]) -> Result<Vec<(u64, Ha
     ensures exact { IfOk result (λ points. (p : ℕ × List ℕ) → Contains points.items p
         ↔ HasKept kept.now (point_of p)) }
 {
-    let mut points = all_points(alloc, kept)?;
+    let mut points = match all_points(alloc, kept) {
+        Ok(points) => points,
+        Err(fault) => return Err(fault),
+    };
     put_in_order(&mut points);
     Ok(points)
 }

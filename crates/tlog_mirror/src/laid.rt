@@ -9,6 +9,19 @@ use std::alloc::{AllocError, Global};
 use tlog_files::LogFiles;
 use tlog_hash::TreeHash;
 
+/// The served note, and the files of its entries.
+pub(crate) struct Laid<H: TreeHash> {
+    pub(crate) note: HeldNote,
+    pub(crate) files: LogFiles<H>,
+}
+
+// Written out, as that of `Mirror`.
+impl<H: TreeHash> Drop for Laid<H> {
+    fn drop(self) {
+        let Laid { note: _, files: _ } = self;
+    }
+}
+
 impl<H: TreeHash> Mirror<H> {
     /// Lays out the served entries, so that each tile and bundle is one piece of memory. This takes 43 bytes for each
     /// entry, and the entry's own bytes once more. It changes no answer.
@@ -31,8 +44,10 @@ impl<H: TreeHash> Mirror<H> {
         ensures remembered { self.new.remembered ≡ self.old.remembered }
     {
         if self.laid.is_none() {
-            let laid = self.laid_now(alloc)?;
-            self.laid = laid;
+            match self.laid_now(alloc) {
+                Ok(laid) => self.laid = laid,
+                Err(fault) => return Err(fault),
+            }
         }
         Ok(())
     }
@@ -46,7 +61,7 @@ impl<H: TreeHash> Mirror<H> {
     }
 
     // Lays out the served entries anew. `None` if nothing is served, or there is no room for it.
-    fn laid_now(&self, alloc: Global) -> Result<Option<(HeldNote, LogFiles<H>)>, AllocError>
+    fn laid_now(&self, alloc: Global) -> Result<Option<Laid<H>>, AllocError>
         ensures { IfOk result (λ laid. IsLaidOut H.digest self.now.view laid) }
     {
         if !self.has_room(alloc)? {
@@ -59,7 +74,7 @@ impl<H: TreeHash> Mirror<H> {
             return Ok(None);
         };
         let note = served.copy(alloc)?;
-        Ok(Some((note, files)))
+        Ok(Some(Laid { note, files }))
     }
 }
 
@@ -81,7 +96,10 @@ pub(crate) fn laid_tile<H: TreeHash>(
     let Some(piece) = files.tile(level, index, width) else {
         return Ok(None);
     };
-    Ok(Some(Vec::from_slice(alloc, piece)?))
+    match Vec::from_slice(alloc, piece) {
+        Ok(bytes) => Ok(Some(bytes)),
+        Err(fault) => Err(fault),
+    }
 }
 
 // The bytes of a bundle of the files.
@@ -100,5 +118,8 @@ pub(crate) fn laid_bundle<H: TreeHash>(
     let Some(piece) = files.bundle(index, width) else {
         return Ok(None);
     };
-    Ok(Some(Vec::from_slice(alloc, piece)?))
+    match Vec::from_slice(alloc, piece) {
+        Ok(bytes) => Ok(Some(bytes)),
+        Err(fault) => Err(fault),
+    }
 }

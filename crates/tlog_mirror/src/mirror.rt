@@ -7,20 +7,19 @@ ghost use Rattle.mirror_model.specs.View.{nothing};
 ghost use Rattle.tlog_mirror.specs.NoteLists.{IsNoteAt};
 
 use crate::fault::NewFault;
+use crate::laid::Laid;
 use mirror_model::is_origin;
 use mirror_served::HeldNote;
 use mirror_trees::HeldTrees;
 use node_store::Store;
 use std::alloc::Global;
 use std::marker::Model;
-use tlog_files::LogFiles;
 use tlog_hash::TreeHash;
 
 /// The notes and strings that were gathered from one log.
 ///
 /// Its view is an origin with a set of notes and a set of strings. Beside it there are the points that it remembers
 /// for complete tree heads.
-#[derive(Drop)]
 pub struct Mirror<H: TreeHash> {
     pub(crate) origin: String,
     pub(crate) kept: Vec<HeldNote>,
@@ -29,7 +28,20 @@ pub struct Mirror<H: TreeHash> {
     // The served entries, laid out: the served note, and the files of its entries. Only `lay_out` makes it. Each call
     // that adds a string or a note discards it first. So it always matches the served checkpoint, and no change needs a
     // proof of that.
-    pub(crate) laid: Option<(HeldNote, LogFiles<H>)>,
+    pub(crate) laid: Option<Laid<H>>,
+}
+
+/// Written out, a drop is one call. A derived one stands in full wherever a value is dropped, and is checked there.
+impl<H: TreeHash> Drop for Mirror<H> {
+    fn drop(self) {
+        let Mirror {
+            origin: _,
+            kept: _,
+            strings: _,
+            known: _,
+            laid: _,
+        } = self;
+    }
 }
 
 impl<H: TreeHash> Model for Mirror<H> {

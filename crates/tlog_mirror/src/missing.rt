@@ -37,8 +37,10 @@ impl<H: TreeHash> Mirror<H> {
         if first_with(self.kept.as_slice(), size, root).is_none() {
             return Ok(None);
         }
-        let paths = missing_of(alloc, &self.strings, &self.known, size, root)?;
-        Ok(Some(paths))
+        match missing_of(alloc, &self.strings, &self.known, size, root) {
+            Ok(paths) => Ok(Some(paths)),
+            Err(fault) => Err(fault),
+        }
     }
 
     /// Writes the missing paths of a tree head in the order of `missing`, a line each. It returns whether a path is
@@ -68,7 +70,9 @@ impl<H: TreeHash> Mirror<H> {
         if first_with(self.kept.as_slice(), size, root).is_none() {
             return Ok(None);
         }
-        let any = write_missing(alloc, output, &self.strings, &self.known, size, root)?;
-        Ok(Some(any))
+        match write_missing(alloc, output, &self.strings, &self.known, size, root) {
+            Ok(any) => Ok(Some(any)),
+            Err(fault) => Err(fault),
+        }
     }
 }

@@ -104,9 +104,14 @@ impl<H: TreeHash> Mirror<H> {
         if !self.has_edge(size, &root) {
             return Ok(false);
         }
-        let note = head.note.copy(alloc)?;
-        self.keep_note(HeldNote { note, size, root })?;
-        Ok(true)
+        let note = match head.note.copy(alloc) {
+            Ok(note) => note,
+            Err(fault) => return Err(fault),
+        };
+        match self.keep_note(HeldNote { note, size, root }) {
+            Ok(()) => Ok(true),
+            Err(fault) => Err(fault),
+        }
     }
 
     fn has_edge(&self, size: u64, root: &Hash) -> bool

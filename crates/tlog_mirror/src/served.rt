@@ -81,7 +81,7 @@ impl<H: TreeHash> Mirror<H> {
         ensures none { IfNone result (SaysServed H.digest self.now.view None) }
     {
         match &self.laid {
-            Some(laid) => Some(&laid.0),
+            Some(laid) => Some(&laid.note),
             None => self.found_note(),
         }
     }
@@ -134,7 +134,7 @@ impl<H: TreeHash> Mirror<H> {
             width bytes)) }
     {
         match &self.laid {
-            Some(laid) => laid_tile(alloc, &laid.1, level, index, width),
+            Some(laid) => laid_tile(alloc, &laid.files, level, index, width),
             None => self.found_tile(alloc, level, index, width),
         }
     }
@@ -180,7 +180,7 @@ impl<H: TreeHash> Mirror<H> {
             bytes)) }
     {
         match &self.laid {
-            Some(laid) => laid_bundle(alloc, &laid.1, index, width),
+            Some(laid) => laid_bundle(alloc, &laid.files, index, width),
             None => self.found_bundle(alloc, index, width),
         }
     }
@@ -226,7 +226,10 @@ impl<H: TreeHash> Mirror<H> {
                 let Some(note) = self.top() else {
                     return Ok(None);
                 };
-                Ok(Some(Vec::from_slice(alloc, note.bytes())?))
+                match Vec::from_slice(alloc, note.bytes()) {
+                    Ok(bytes) => Ok(Some(bytes)),
+                    Err(fault) => Err(fault),
+                }
             }
             Path::Tile {
                 level,

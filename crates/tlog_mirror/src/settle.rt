@@ -36,7 +36,10 @@ impl<H: TreeHash> Mirror<H> {
         ensures kept { (point : Point) → HasMark self.old.remembered point
             → HasMark self.new.remembered point }
     {
-        let heads = points_of(alloc, self.kept.as_slice())?;
+        let heads = match points_of(alloc, self.kept.as_slice()) {
+            Ok(heads) => heads,
+            Err(fault) => return Err(fault),
+        };
         settle_all(&self.strings, &mut self.known, heads.as_slice())
     }
 
@@ -59,7 +62,10 @@ impl<H: TreeHash> Mirror<H> {
         ensures view { self.new.view ≡ self.old.view }
         ensures remembered { self.new.remembered ≡ self.old.remembered }
     {
-        let heads = points_of(alloc, self.kept.as_slice())?;
+        let heads = match points_of(alloc, self.kept.as_slice()) {
+            Ok(heads) => heads,
+            Err(fault) => return Err(fault),
+        };
         note_all(&self.strings, &mut self.known, heads.as_slice())
     }
 }

@@ -18,7 +18,10 @@ impl<H: TreeHash> Mirror<H> {
     pub fn status_text(&self, alloc: Global) -> Result<String, AllocError>
         ensures { IfOk result (λ text. IsStatusText H.digest self.now.view (string_bytes text)) }
     {
-        let heads = self.heads(alloc)?;
+        let heads = match self.heads(alloc) {
+            Ok(heads) => heads,
+            Err(fault) => return Err(fault),
+        };
         status_text(alloc, self.origin(), heads.as_slice(), &self.served_point())
     }
 
@@ -31,7 +34,10 @@ impl<H: TreeHash> Mirror<H> {
     pub fn forks_text(&self, alloc: Global) -> Result<String, AllocError>
         ensures { IfOk result (λ text. IsForksText H.digest self.now.view (string_bytes text)) }
     {
-        let forks = self.forks(alloc)?;
+        let forks = match self.forks(alloc) {
+            Ok(forks) => forks,
+            Err(fault) => return Err(fault),
+        };
         forks_text(alloc, forks.as_slice())
     }
 
@@ -51,9 +57,14 @@ impl<H: TreeHash> Mirror<H> {
             (string_bytes text))) }
         ensures none { IfOk result (λ o. IfNone o (¬ HasHead self.now.view size root.now)) }
     {
-        let Some(paths) = self.missing(alloc, size, root)? else {
-            return Ok(None);
+        let paths = match self.missing(alloc, size, root) {
+            Ok(Some(paths)) => paths,
+            Ok(None) => return Ok(None),
+            Err(fault) => return Err(fault),
         };
-        Ok(Some(missing_text(alloc, paths.as_slice())?))
+        match missing_text(alloc, paths.as_slice()) {
+            Ok(text) => Ok(Some(text)),
+            Err(fault) => Err(fault),
+        }
     }
 }

@@ -15,10 +15,10 @@ forks_of-requires-clause-known g c = all_known g.H.TreeHash.digest _ _ _ c.self.
 
 pub returns : goal.returns
 returns g c =
-    let points = c.in_ok-points.points.items in
+    let points = c.in-Ok.points.items in
     let exact =
     subst (λ kept. (p : ℕ × List ℕ) →
-    Contains points p ↔ HasKept kept (point_of p)) c.as_slice.ensures.value c.in_ok-points.ensures.exact in
+    Contains points p ↔ HasKept kept (point_of p)) c.as_slice.ensures.value c.in-Ok.ensures.exact in
     IfOk-weaker c.forks_of.result (λ forks. AreForksOf g.H.TreeHash.digest c.self.inside.strings points forks.items)
     (λ forks. ReportsForks g.H.TreeHash.digest c.args.self.now.view forks.items)
     (λ forks are. reports_forks g.H.TreeHash.digest

@@ -12,12 +12,12 @@ flag_heads-requires g c = all_known g.H.TreeHash.digest _ _ _ c.self.inside.know
 
 pub returns : goal.returns
 returns g c =
-    let points = c.in_ok-points.points.items in
+    let points = c.in-Ok.points.items in
     let exact =
     subst (λ kept. (p : ℕ × List ℕ) →
-    Contains points p ↔ HasKept kept (point_of p)) c.as_slice.ensures.value c.in_ok-points.ensures.exact in
+    Contains points p ↔ HasKept kept (point_of p)) c.as_slice.ensures.value c.in-Ok.ensures.exact in
     reported g.H.TreeHash.digest
     (string_bytes c.self.inside.origin) c.self.inside.kept.items c.self.inside.strings c.self.inside.known.remembered
     c.self.invariant.0 c.args.self.now c.self.view_is
-    points c.in_ok-points.ensures.sorted exact (λ heads. heads.items) c.flag_heads.result
+    points c.in-Ok.ensures.sorted exact (λ heads. heads.items) c.flag_heads.result
     (rw c.as_slice-2.ensures.value at c.flag_heads.ensures.points) c.flag_heads.ensures.flags

@@ -1,8 +1,9 @@
-use Rattle.std.proofs.Common.{Some, sym, subst}
+use Rattle.std.proofs.Common.{sym, subst}
 use Rattle.mirror_model.specs.Complete.{IsTreeOf}
 use Rattle.mirror_model.specs.Marks.{State}
+use Rattle.mirror_model.specs.Served.{Served}
 use Rattle.mirror_served.proofs.FileSteps.{at_some_and}
-use Rattle.tlog_mirror.specs.LaidOut.{IsLaidOut}
+use Rattle.tlog_mirror.specs.Kept.{note_bytes}
 use Rattle.mirror_served.specs.declared.held_note.HeldNote.{HeldNote}
 use Rattle.tlog_mirror.proofs.LaidOut.{laid_anew}
 use Rattle.tlog_mirror.proofs.mirror.Mirror.laid_now.Goals as goal
@@ -17,5 +18,5 @@ returns g c =
     at_some_and c.in_ok-files.field-0 files _ c.in-Some-2.is c.in_ok-files.ensures in
     let tree : IsTreeOf d v.strings served.size served.root files =
     subst (λ (s : State). IsTreeOf d s.view.strings served.size served.root files) c.self.view_is held in
-    subst (λ (k : HeldNote). IsLaidOut d v (Some (k, files))) (sym c.in_ok-note.ensures)
+    subst (λ (k : HeldNote). Served d v (note_bytes k) k.size k.root files) (sym c.in_ok-note.ensures)
     (laid_anew d v served files c.in-Some.ensures.some tree)

@@ -14,17 +14,17 @@ returns-then-is_none-clause-none g c =
 pub missing_of-requires-clause-known : goal.missing_of-requires-clause-known
 missing_of-requires-clause-known g c = all_known g.H.TreeHash.digest _ _ _ c.self.inside.known c.self.invariant
 
-pub returns-clause-head : goal.returns-clause-head
-returns-clause-head g c =
+pub returns-in-Ok-clause-head : goal.returns-in-Ok-clause-head
+returns-in-Ok-clause-head g c =
     head_held g.H.TreeHash.digest
     (string_bytes c.self.inside.origin) c.self.inside.kept.items c.self.inside.strings c.self.inside.known.remembered
     c.self.invariant.0 c.args.self.now c.self.view_is c.args.size c.args.root.now
     c.first_with.result c.is_none.result c.is_none.ensures c.if-is_none.false
     (rw c.as_slice.ensures.value at c.first_with.ensures.some)
 
-pub returns-clause-some : goal.returns-clause-some
-returns-clause-some g c =
+pub returns-in-Ok-clause-some : goal.returns-in-Ok-clause-some
+returns-in-Ok-clause-some g c =
     lists_missing g.H.TreeHash.digest
     (string_bytes c.self.inside.origin) c.self.inside.kept.items c.self.inside.strings c.self.inside.known.remembered
     c.self.invariant.0 c.args.self.now c.self.view_is c.args.size c.args.root.now
-    c.in_ok-paths.paths.items c.in_ok-paths.ensures.sorted c.in_ok-paths.ensures.exact
+    c.in-Ok.paths.items c.in-Ok.ensures.sorted c.in-Ok.ensures.exact

@@ -17,8 +17,8 @@ invariant_of-self g c =
     subst (λ heads. (p : ℕ × List ℕ) → Contains heads p ↔ HasKept c.self.inside.kept.items (point_of p))
     (sym c.as_slice-2.ensures.value)
     (subst (λ kept. (p : ℕ × List ℕ) →
-    Contains c.in_ok-heads.heads.items p
-    ↔ HasKept kept (point_of p)) c.as_slice.ensures.value c.in_ok-heads.ensures.exact) in (
+    Contains c.in-Ok.heads.items p
+    ↔ HasKept kept (point_of p)) c.as_slice.ensures.value c.in-Ok.ensures.exact) in (
       settled_well g.H.TreeHash.digest
           (string_bytes c.self.inside.origin) c.self.inside.kept.items c.self.inside.strings c.self.inside.known.remembered
           c.settle_all.new.known.remembered c.self.invariant.0 c.as_slice-2.result.now exact c.settle_all.ensures.gains,
@@ -31,8 +31,8 @@ returns-clause-done g c =
     subst (λ heads. (p : ℕ × List ℕ) → Contains heads p ↔ HasKept c.self.inside.kept.items (point_of p))
     (sym c.as_slice-2.ensures.value)
     (subst (λ kept. (p : ℕ × List ℕ) →
-    Contains c.in_ok-heads.heads.items p
-    ↔ HasKept kept (point_of p)) c.as_slice.ensures.value c.in_ok-heads.ensures.exact) in
+    Contains c.in-Ok.heads.items p
+    ↔ HasKept kept (point_of p)) c.as_slice.ensures.value c.in-Ok.ensures.exact) in
     marked g.H.TreeHash.digest
     (string_bytes c.self.inside.origin) c.self.inside.kept.items c.self.inside.strings c.self.inside.known.remembered
     c.settle_all.new.known.remembered c.self.invariant.0 c.as_slice-2.result.now exact c.settle_all.ensures.gains
@@ -44,8 +44,8 @@ returns-clause-within g c =
     subst (λ heads. (p : ℕ × List ℕ) → Contains heads p ↔ HasKept c.self.inside.kept.items (point_of p))
     (sym c.as_slice-2.ensures.value)
     (subst (λ kept. (p : ℕ × List ℕ) →
-    Contains c.in_ok-heads.heads.items p
-    ↔ HasKept kept (point_of p)) c.as_slice.ensures.value c.in_ok-heads.ensures.exact) in
+    Contains c.in-Ok.heads.items p
+    ↔ HasKept kept (point_of p)) c.as_slice.ensures.value c.in-Ok.ensures.exact) in
     marks_now g.H.TreeHash.digest
     (string_bytes c.self.inside.origin) c.self.inside.kept.items c.self.inside.strings c.self.inside.known.remembered
     c.settle_all.new.known.remembered c.self.invariant.0 c.as_slice-2.result.now exact c.settle_all.ensures.gains

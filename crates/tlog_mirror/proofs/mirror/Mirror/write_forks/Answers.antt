@@ -12,10 +12,10 @@ write_forks-requires-clause-known g c = all_known g.H.TreeHash.digest _ _ _ c.se
 
 pub returns : goal.returns
 returns g c =
-    let points = c.in_ok-points.points.items in
+    let points = c.in-Ok.points.items in
     let exact =
     subst (λ kept. (p : ℕ × List ℕ) →
-    Contains points p ↔ HasKept kept (point_of p)) c.as_slice.ensures.value c.in_ok-points.ensures.exact in
+    Contains points p ↔ HasKept kept (point_of p)) c.as_slice.ensures.value c.in-Ok.ensures.exact in
     written g.H.TreeHash.digest c.args.self.now.view c.self.inside.strings points
     (reports_forks g.H.TreeHash.digest
     (string_bytes c.self.inside.origin) c.self.inside.kept.items c.self.inside.strings c.self.inside.known.remembered

@@ -4,8 +4,6 @@ use Rattle.std.proofs.KnownBytes.{Keeps-refl}
 use Rattle.node_store.specs.Strings.{NoClash}
 use Rattle.mirror_model.specs.Marks.{State}
 use Rattle.mirror_trees.specs.Levels.{ListsLevels}
-use Rattle.tlog_mirror.specs.MissingWritten.{WritesMissing}
-use Rattle.mirror_reports.proofs.MissingSteps.{is_err}
 use Rattle.tlog_mirror.proofs.WrittenMissing.{whole, failed}
 use Rattle.tlog_mirror.proofs.ServedNotes.{no_head_held, head_held}
 use Rattle.tlog_mirror.proofs.mirror.Mirror.write_missing.Goals as goal
@@ -21,8 +19,8 @@ returns-then-is_none g c = record {
   kept = Keeps-refl (g.W.Write.contents c.args.output.now);
 }
 
-pub returns-in_err-any : goal.returns-in_err-any
-returns-in_err-any g c =
+pub returns-in-Err : goal.returns-in-Err
+returns-in-Err g c =
     let old = g.W.Write.contents c.args.output.now in
     let new = g.W.Write.contents c.write_missing.new.output in
     let head =
@@ -36,16 +34,14 @@ returns-in_err-any g c =
     c.self.invariant.0.sound.lawful.no_clash in
     let small : c.args.size ≤ 256 ^ 8 = let fits = c.ranges.size.fits in omega (arith, fits) in
     let same = ap (λ (s : State). s.view.strings) c.self.view_is in
-    let f = c.in_err-any.field-0.0 in
-    subst (WritesMissing g.H.TreeHash.digest c.args.self.now.view c.args.size c.args.root.now old new)
-    (sym (is_err c.from_residual.result f c.from_residual.ensures.1))
-    (failed g.H.TreeHash.digest c.args.self.now.view c.args.size c.args.root.now head clean small old new f
-    (λ is paths lists. c.in_err-any.ensures.err (ap Err is) paths
+    let f = c.in-Err.fault in
+    failed g.H.TreeHash.digest c.args.self.now.view c.args.size c.args.root.now head clean small old new f
+    (λ is paths lists. c.in-Err.ensures.err (ap Err is) paths
     (subst (λ strings. ListsLevels g.H.TreeHash.digest strings c.args.size c.args.root.now 8 paths) (sym same) lists))
-    (λ is. c.in_err-any.ensures.memory (ap Err is)) c.in_err-any.ensures.fault)
+    (λ is. c.in-Err.ensures.memory (ap Err is)) c.in-Err.ensures.fault
 
-pub returns : goal.returns
-returns g c =
+pub returns-in-Ok : goal.returns-in-Ok
+returns-in-Ok g c =
     let old = g.W.Write.contents c.args.output.now in
     let new = g.W.Write.contents c.write_missing.new.output in
     let head =
@@ -59,8 +55,8 @@ returns g c =
     c.self.invariant.0.sound.lawful.no_clash in
     let small : c.args.size ≤ 256 ^ 8 = let fits = c.ranges.size.fits in omega (arith, fits) in
     let same = ap (λ (s : State). s.view.strings) c.self.view_is in
-    whole g.H.TreeHash.digest c.args.self.now.view c.args.size c.args.root.now head clean small old new c.in_ok-any.any
-    (λ paths lists. c.in_ok-any.ensures.ok paths
+    whole g.H.TreeHash.digest c.args.self.now.view c.args.size c.args.root.now head clean small old new c.in-Ok.any
+    (λ paths lists. c.in-Ok.ensures.ok paths
     (subst (λ strings. ListsLevels g.H.TreeHash.digest strings c.args.size c.args.root.now 8 paths) (sym same) lists))
-    (λ paths lists. c.in_ok-any.ensures.any paths
+    (λ paths lists. c.in-Ok.ensures.any paths
     (subst (λ strings. ListsLevels g.H.TreeHash.digest strings c.args.size c.args.root.now 8 paths) (sym same) lists))
