@@ -6,35 +6,53 @@ ghost use Rattle.mirror_audit.specs.declared.fault.AuditFault.TheVariants.{OutOf
 use mirror_model::TakeFault;
 use mirror_sources::SourceFault;
 use std::alloc::{AllocError, AllocFailed};
-use thiserror::Error;
+use std::fmt;
 use tlog_tiles::Path;
 
 /// The reason why an audit ends early: the first thing that is wrong. It prints as its variant's name, or as the name of the fault inside.
-#[derive(Debug, Drop, PartialEq, Eq, Clone, Copy, Error)]
+#[derive(Drop, Clone, Copy)]
 pub enum AuditFault {
     /// The source lacks a checkpoint.
-    #[error("NoCheckpoint")]
     NoCheckpoint,
     /// The checkpoint does not open under the keys, or is not one of the origin. `OutOfMemory` never comes here.
-    #[error("{0}")]
     Head(TakeFault),
     /// The source lacks a partial tile of the right edge, and its full tile.
-    #[error("NoEdge")]
     NoEdge,
     /// The source lacks the file. If it is a partial bundle, the source lacks its full bundle too.
-    #[error("NoFile")]
     NoFile(Path),
     /// The file differs from that of the log of the checkpoint. If a full file replaces a partial one, the path is that of the partial
     /// one.
-    #[error("FalseFile")]
     FalseFile(Path),
     /// The source failed.
-    #[error("Source")]
     Source,
     /// Memory was refused.
-    #[error("OutOfMemory")]
     OutOfMemory,
 }
+
+/// Prints the name of the innermost variant. A derived one takes the checker seconds more.
+impl fmt::Display for AuditFault {
+    fn fmt<W: fmt::Write>(&self, f: &mut fmt::Formatter<W>) -> fmt::Result {
+        let name = match self {
+            AuditFault::Head(fault) => return fmt::Display::fmt(fault, f),
+            AuditFault::NoCheckpoint => "NoCheckpoint",
+            AuditFault::NoEdge => "NoEdge",
+            AuditFault::NoFile(_) => "NoFile",
+            AuditFault::FalseFile(_) => "FalseFile",
+            AuditFault::Source => "Source",
+            AuditFault::OutOfMemory => "OutOfMemory",
+        };
+        f.write_str(name)
+    }
+}
+
+/// Prints what `Display` prints.
+impl fmt::Debug for AuditFault {
+    fn fmt<W: fmt::Write>(&self, f: &mut fmt::Formatter<W>) -> fmt::Result {
+        fmt::Display::fmt(self, f)
+    }
+}
+
+impl std::error::Error for AuditFault {}
 
 impl From<TakeFault> for AuditFault {
     ghost from_gives = { λ f e. e ≡ fault_of_head f };

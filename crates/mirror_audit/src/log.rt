@@ -3,7 +3,7 @@ ghost use Rattle.std.specs.Prelude.{◌≡◌, ◌^◌, ◌<◌, ◌≤◌, ℕ,
 ghost use Rattle.tlog_hash.specs.Tree.{mth};
 ghost use Rattle.log_reader.specs.EdgeRows.{HasWidths, RowIsTrue};
 ghost use Rattle.log_reader.specs.Holding.{IsSourceOf};
-ghost use Rattle.mirror_audit.specs.Audits.{IsAudited, IsHeadGiven, IsTreeGiven};
+ghost use Rattle.mirror_audit.specs.Audits.{IsAudited, IsHeadGiven, IsTreeGiven, ReadsAudited};
 ghost use Rattle.mirror_audit.specs.Edges.{CoversLog};
 ghost use Rattle.mirror_audit.specs.Faults.{BlamesPlace, GivesTrue, IsFailure, IsForAbsence};
 ghost use Rattle.mirror_audit.specs.Found.{IsLogOf, IsReadInOrder, NamesWrong};
@@ -16,6 +16,7 @@ use crate::edge_bundle::audit_edge_bundle;
 use crate::edge_rows::read_edge;
 use crate::fault::AuditFault;
 use log_reader::{EdgeRows, open_head};
+use mirror_model::TakeFault;
 use mirror_sources::Source;
 use signed_note::Verifier;
 use std::alloc::Global;
@@ -23,12 +24,33 @@ use tlog_hash::{Hash, TreeHash};
 use tlog_tiles::Path;
 
 /// The whole log at a source.
-#[derive(Debug, Drop, PartialEq, Eq, Clone, Copy)]
+#[derive(Drop, Clone, Copy)]
 pub struct Audited {
     /// The number of its entries.
     pub size: u64,
     /// The root of its tree.
     pub root: Hash,
+}
+
+// The size and root of the checkpoint in a note, which opens under the keys.
+fn head_in(
+    alloc: Global,
+    origin: &str,
+    keys: &[Box<dyn Verifier>],
+    note: &[u8],
+) -> Result<Audited, TakeFault>
+    ensures { ReadsAudited note.now origin.now (map (λ k. key k) keys.now) result }
+{
+    match open_head(alloc, origin, keys, note) {
+        Ok(checkpoint) => {
+            let root = checkpoint.root;
+            Ok(Audited {
+                size: checkpoint.size,
+                root,
+            })
+        }
+        Err(fault) => Err(fault),
+    }
 }
 
 // The size and root of the checkpoint.
@@ -55,12 +77,8 @@ fn read_checkpoint<S: Source>(
         Some(note) => note,
         None => return Err(AuditFault::NoCheckpoint),
     };
-    let checkpoint = open_head(alloc, origin, keys, &note)?;
-    let root = checkpoint.root;
-    Ok(Audited {
-        size: checkpoint.size,
-        root,
-    })
+    let head = head_in(alloc, origin, keys, &note)?;
+    Ok(head)
 }
 
 // Reads all files below the edge.

@@ -1,5 +1,5 @@
 //! Compares checkpoints with a copy.
-ghost use Rattle.std.specs.Prelude.{◌≡◌, ◌↔◌, ⊤, All, IfErr, IfOk, IsTrue, map, option_map};
+ghost use Rattle.std.specs.Prelude.{◌≡◌, ◌≢◌, ◌↔◌, [], ⊤, All, IfErr, IfOk, IsTrue, map, option_map};
 ghost use Rattle.tlog_text.specs.Answers.{seen};
 ghost use Rattle.mirror_sources.specs.Recorded.{KeepsRecord};
 ghost use Rattle.copy_reader.specs.Copies.{LeavesPuts};
@@ -140,6 +140,24 @@ fn compare_report<H: TreeHash, D: ReadableShelf>(
     Ok(compared_report(alloc, &compared)?)
 }
 
+// The tree heads of the files, of which there are some, for a mirror of the origin.
+fn heads_for<H: TreeHash, F: NamedFiles>(
+    files: &F,
+    alloc: Global,
+    mirror: &Mirror<H>,
+    keys: &[Box<dyn Verifier>],
+    names: &[&str],
+) -> Result<Option<Vec<(u64, Hash)>>, CopyAskFault>
+    requires { map (λ name. name.now) names.now ≢ [] }
+    ensures { GivesHeads mirror.now.view.origin (map (λ k. key k) keys.now) (F.puts files.now)
+        (map (λ name. name.now) names.now) (seen (option_map (λ heads. heads.items)) result) }
+{
+    match read_heads(files, alloc, mirror, keys, names) {
+        Ok(heads) => Ok(Some(heads)),
+        Err(fault) => Err(CopyAskFault::Heads(fault)),
+    }
+}
+
 // The tree heads of the files. None: no file is named.
 fn given_heads<H: TreeHash, F: NamedFiles>(
     files: &F,
@@ -154,16 +172,10 @@ fn given_heads<H: TreeHash, F: NamedFiles>(
     if names.is_empty() {
         return Ok(None);
     }
-    let mirror: Mirror<H> = match Mirror::new(alloc, origin) {
-        Ok(mirror) => mirror,
-        Err(NewFault::BadOrigin) => {
-            return Err(CopyAskFault::Copy(CopyFault::BadOrigin));
-        }
-        Err(NewFault::OutOfMemory) => return Err(CopyAskFault::Copy(CopyFault::OutOfMemory)),
-    };
-    match read_heads(files, alloc, &mirror, keys, names) {
-        Ok(heads) => Ok(Some(heads)),
-        Err(fault) => Err(CopyAskFault::Heads(fault)),
+    match Mirror::<H>::new(alloc, origin) {
+        Ok(mirror) => heads_for::<H, F>(files, alloc, &mirror, keys, names),
+        Err(NewFault::BadOrigin) => Err(CopyAskFault::Copy(CopyFault::BadOrigin)),
+        Err(NewFault::OutOfMemory) => Err(CopyAskFault::Copy(CopyFault::OutOfMemory)),
     }
 }
 

@@ -1,5 +1,5 @@
 -- The reads of the command `entries` from a copy, and its output.
-use Rattle.std.specs.Prelude.{◌≡◌, ◌⊎◌, ℕ, ◌<◌, ◌≤◌, List, Bool, Option, None, Result, Ok, Err, ⊤}
+use Rattle.std.specs.Prelude.{◌≡◌, ◌⊎◌, ℕ, ◌<◌, ◌≤◌, List, Bool, Option, None, Some, Result, Ok, Err, ⊤}
 use Rattle.std.specs.Io.KnownBytes.{Keeps}
 use Rattle.signed_note.specs.Keys.{Key}
 use Rattle.tlog_tiles.specs.declared.paths.Path.TheVariants.{Checkpoint}
@@ -73,6 +73,18 @@ IsUndamaged NoSuchSize = ⊤
 IsUndamaged Backwards = ⊤
 IsUndamaged WriteFault = ⊤
 IsUndamaged OutOfMemory = ⊤
+
+-- the fault of the entries from FROM up to TO of a log of that size
+abbrev pub IsRangeFault : ℕ → ℕ → ℕ → Option CopyEntriesFault → Type 0
+IsRangeFault from to size None = (from ≤ to) × (to ≤ size)
+IsRangeFault from to size (Some NothingComplete) = ⊥
+IsRangeFault from to size (Some (Head fault)) = ⊥
+IsRangeFault from to size (Some (CopyDamaged path)) = ⊥
+IsRangeFault from to size (Some ShelfFault) = ⊥
+IsRangeFault from to size (Some NoSuchSize) = size < to
+IsRangeFault from to size (Some Backwards) = (to ≤ size) × (to < from)
+IsRangeFault from to size (Some WriteFault) = ⊥
+IsRangeFault from to size (Some OutOfMemory) = ⊥
 
 -- the entries of a list were written, or a prefix of them was. In the latter case the fault is not CopyDamaged
 abbrev pub EndsWritten : {T : Type 0} → List (List ℕ) → Bool → ℕ → ℕ → (old new : Option (List ℕ)) →

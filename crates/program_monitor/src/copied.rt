@@ -5,7 +5,7 @@ ghost use Rattle.log_reader.specs.Ways.{HasEdgeHashes};
 ghost use Rattle.copy_reader.specs.Copies.{LeavesPuts};
 ghost use Rattle.copy_reader.specs.WholeCopies.{HasFilesOf};
 ghost use Rattle.log_reader.specs.Holding.{IsReaderOf};
-ghost use Rattle.program_monitor.specs.Copied.{AnswersCopied, CountsCopy, EndsWritten, IsOfWriting};
+ghost use Rattle.program_monitor.specs.Copied.{AnswersCopied, CountsCopy, EndsWritten, IsOfWriting, IsRangeFault};
 ghost use Rattle.program_monitor.specs.Shown.{WritesShown, WritesSomeShown};
 
 use crate::cutting::CutFault;
@@ -55,6 +55,19 @@ fn write_copied<H: TreeHash, D: ReadableShelf, W: Write>(
     Ok(())
 }
 
+// The fault of a range of entries of a log of that size.
+fn fault_of_range(range: &EntryRange, size: u64) -> Option<CopyEntriesFault>
+    ensures { IsRangeFault range.now.from range.now.to size result }
+{
+    if range.to > size {
+        Some(CopyEntriesFault::NoSuchSize)
+    } else if range.from > range.to {
+        Some(CopyEntriesFault::Backwards)
+    } else {
+        None
+    }
+}
+
 // Writes entries of the copy on the shelf.
 fn write_range<H: TreeHash, D: ReadableShelf, W: Write>(
     shelf: &mut D,
@@ -71,15 +84,10 @@ fn write_range<H: TreeHash, D: ReadableShelf, W: Write>(
     ensures counted { CountsCopy (D.failed shelf.old) (D.failed shelf.new) result }
 {
     let mut reader = open_copy::<H, D>(shelf, alloc, origin, keys)?;
-    if range.to > reader.size() {
-        return Err(CopyEntriesFault::NoSuchSize);
+    match fault_of_range(range, reader.size()) {
+        Some(fault) => Err(fault),
+        None => write_copied::<H, D, W>(shelf, alloc, &mut reader, range, output),
     }
-    if range.from > range.to {
-        return Err(CopyEntriesFault::Backwards);
-    }
-    let done = write_copied::<H, D, W>(shelf, alloc, &mut reader, range, output);
-    drop(reader);
-    done
 }
 
 /// Writes entries of the copy in the folder, in order. A copy is a log's files as the log publishes them. Before its entries are written,

@@ -5,7 +5,7 @@
 /// ```text
 /// EntryRange { from: 255, to: 257, base64: false }   // the entries 255 and 256, each after its two-byte length
 /// ```
-#[derive(Debug, Drop, PartialEq, Eq, Clone, Copy)]
+#[derive(Drop, Clone, Copy)]
 pub struct EntryRange {
     /// The number of the first entry. Entries count from 0.
     pub from: u64,

@@ -11,7 +11,7 @@ use tlog_mirror::Mirror;
 use tlog_proof::Ask;
 
 /// A question to a state.
-#[derive(Debug, Drop, PartialEq, Eq, Clone, Copy)]
+#[derive(Drop, Clone, Copy)]
 pub enum Question {
     /// Its tree heads, and the served one.
     Status,

@@ -9,7 +9,7 @@ use tlog_mirror::Mirror;
 use tlog_proof::{Ask, prove, write_text};
 
 /// The text that a command prints, and its exit status.
-#[derive(Debug, Drop)]
+#[derive(Drop)]
 pub struct Report {
     /// The text. Each line ends in a newline.
     pub text: String,

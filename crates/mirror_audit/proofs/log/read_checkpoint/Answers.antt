@@ -11,14 +11,14 @@ returns-in-None-clause-honest g c = λ digest entries note log.
     let none = log.checkpoint None (may_none a _ c.in_ok-note.field-0 c.in-None.is c.in_ok-note.ensures.answer) in
     absurd (cc none)
 
-pub returns-in_err-checkpoint-clause-honest : goal.returns-in_err-checkpoint-clause-honest
-returns-in_err-checkpoint-clause-honest g c = λ digest entries note log.
+pub returns-in_err-head-clause-honest : goal.returns-in_err-head-clause-honest
+returns-in_err-head-clause-honest g c = λ digest entries note log.
     let a = g.S.Source.may_answer c.args.source.now in
     let given = log.checkpoint (Some c.in-Some.note.items)
     (may_some a _ c.in_ok-note.field-0 c.in-Some.note c.in-Some.is c.in_ok-note.ensures.answer) in
     let is : c.in-Some.note.items ≡ note = cc given in
-    let fault = given_not_refused _ note _ _ _ _ (c.deref.ensures.value ∙ is) log.is_head c.in_err-checkpoint.field-0.0
-    c.in_err-checkpoint.ensures in
+    let fault = given_not_refused _ note _ _ _ _ (c.deref.ensures.value ∙ is) log.is_head c.in_err-head.field-0.0
+    c.in_err-head.ensures in
     search (rules, fault)
 
 pub returns-clause-honest : goal.returns-clause-honest
@@ -27,8 +27,11 @@ returns-clause-honest g c = λ digest entries note log.
     let given = log.checkpoint (Some c.in-Some.note.items)
     (may_some a _ c.in_ok-note.field-0 c.in-Some.note c.in-Some.is c.in_ok-note.ensures.answer) in
     let is : c.in-Some.note.items ≡ note = cc given in
-    given_same_head _ note _ _ _ _ (c.deref.ensures.value ∙ is) log.is_head c.in_ok-checkpoint.checkpoint
-    c.in_ok-checkpoint.ensures
+    let read = c.in_ok-head.ensures in
+    let same = given_same_head _ note _ _ _ _ (c.deref.ensures.value ∙ is) log.is_head read.0 read.1 in (
+      same.0 ∙ read.2,
+      same.1 ∙ read.3,
+    )
 
 pub returns-in-None-clause-first : goal.returns-in-None-clause-first
 returns-in-None-clause-first g c =
@@ -37,8 +40,8 @@ returns-in-None-clause-first g c =
     Checkpoint None c.in_ok-note.ensures.later (may_none a _ c.in_ok-note.field-0 c.in-None.is c.in_ok-note.ensures.answer)
     c.in_ok-note.ensures.recorded
 
-pub returns-in_err-checkpoint-clause-first : goal.returns-in_err-checkpoint-clause-first
-returns-in_err-checkpoint-clause-first g c =
+pub returns-in_err-head-clause-first : goal.returns-in_err-head-clause-first
+returns-in_err-head-clause-first g c =
     let a = g.S.Source.may_answer c.args.source.now in
     let b = g.S.Source.may_answer c.get.new.self in
     let x = g.S.Source.asked c.args.source.now in
@@ -47,7 +50,7 @@ returns-in_err-checkpoint-clause-first g c =
     let given = given_one a b x y Checkpoint (Some bytes) c.in_ok-note.ensures.later
     (may_some a _ c.in_ok-note.field-0 c.in-Some.note c.in-Some.is c.in_ok-note.ensures.answer) c.in_ok-note.ensures.recorded in
     let keys = map (λ v. (goal.Verifier-dyn g (v.vtable, v.value)).key v.value) c.args.keys.now in
-    let fault = c.in_err-checkpoint.field-0.0 in
+    let fault = c.in_err-head.field-0.0 in
     let stop = refused_head bytes c.args.origin.now keys a b x y given fault
-    (subst (λ t. ReadsHead t c.args.origin.now keys (Err fault)) c.deref.ensures.value c.in_err-checkpoint.ensures) in
+    (subst (λ t. ReadsHead t c.args.origin.now keys (Err fault)) c.deref.ensures.value c.in_err-head.ensures) in
     search (rules, stop)
