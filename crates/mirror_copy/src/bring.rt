@@ -54,15 +54,32 @@ fn bring_bundle<H: TreeHash, D: ReadableShelf, S: Source + Drop>(
         (D.puts shelf.new) result }
 {
     let path = Path::Entries { index, width: 256 };
-    let found = find::<H, D, S>(alloc, shelf, places, FullFile::Bundle, &path, hash, bundles)?;
+    let found = match find::<H, D, S>(
+        alloc,
+        shelf,
+        places,
+        FullFile::Bundle,
+        &path,
+        hash,
+        bundles,
+    ) {
+        Ok(found) => found,
+        Err(fault) => return Err(fault),
+    };
     let Some(_first) = tip.first_new(0, index, &found.row) else {
         return Err(BringFault::Contradiction);
     };
     if !tip.goes_on(index, &found.bytes) {
         return Err(BringFault::Collision);
     }
-    let bytes = write_row(alloc, &found.row)?;
-    keep(shelf, &path, &found.bytes)?;
+    let bytes = match write_row(alloc, &found.row) {
+        Ok(bytes) => bytes,
+        Err(_) => return Err(BringFault::OutOfMemory),
+    };
+    match keep(shelf, &path, &found.bytes) {
+        Ok(()) => {}
+        Err(fault) => return Err(fault),
+    }
     keep(
         shelf,
         &Path::Tile {

@@ -91,9 +91,13 @@ fn find_new_edge<H: TreeHash, D: ReadableShelf, S: Source + Drop>(
     ensures expected { OnOk result (IfSome (D.expected shelf.new)
         (λ all. all ≡ length (since_paths tip.now.size candidate.now.size))) }
 {
-    let edge = find_edge::<H, D, S>(alloc, shelf, places, candidate.size, &candidate.root)?;
-    expect_new(shelf, tip.size(), candidate.size);
-    Ok(edge)
+    match find_edge::<H, D, S>(alloc, shelf, places, candidate.size, &candidate.root) {
+        Ok(edge) => {
+            expect_new(shelf, tip.size(), candidate.size);
+            Ok(edge)
+        }
+        Err(fault) => Err(fault),
+    }
 }
 
 // Puts the checkpoint of an empty log onto a shelf without a checkpoint.
@@ -148,7 +152,10 @@ fn bring_larger<H: TreeHash, D: ReadableShelf, S: Source + Drop>(
     ensures brings { BringsFromTip H.digest origin.now candidate.now.note.now tip.now
         (D.puts shelf.old) (D.puts shelf.new) result }
 {
-    let edge = find_new_edge::<H, D, S>(alloc, shelf, places, tip, candidate)?;
+    let edge = match find_new_edge::<H, D, S>(alloc, shelf, places, tip, candidate) {
+        Ok(edge) => edge,
+        Err(fault) => return Err(fault),
+    };
     let done = bring_to_edge::<H, D, S>(alloc, shelf, places, tip, &edge, candidate.note);
     drop(edge);
     done
@@ -270,11 +277,16 @@ pub fn bring_copy<H: TreeHash, D: ReadableShelf, S: Source + Drop>(
         size: head.0,
         root,
     };
-    let tip = read_tip::<H, D>(alloc, origin, shelf)?;
+    let tip = match read_tip::<H, D>(alloc, origin, shelf) {
+        Ok(tip) => tip,
+        Err(fault) => return Err(fault),
+    };
     let had = tip.size();
     places.keep_ends(had, candidate.size);
     let done = bring_from::<H, D, S>(alloc, origin, shelf, places, &tip, &candidate);
     drop(tip);
-    done?;
-    Ok(had)
+    match done {
+        Ok(()) => Ok(had),
+        Err(fault) => Err(fault),
+    }
 }

@@ -108,7 +108,10 @@ pub(crate) fn bring_edge_bundle<H: TreeHash, D: ReadableShelf, S: Source + Drop>
         index,
         width: row.len() as u32,
     };
-    let bytes = find_edge_bundle::<H, D, S>(alloc, shelf, places, &path, row)?;
+    let bytes = match find_edge_bundle::<H, D, S>(alloc, shelf, places, &path, row) {
+        Ok(bytes) => bytes,
+        Err(fault) => return Err(fault),
+    };
     if !tip.goes_on(index, &bytes) {
         return Err(BringFault::Collision);
     }

@@ -124,8 +124,17 @@ pub(crate) fn bring_to_edge<H: TreeHash, D: ReadableShelf, S: Source + Drop>(
         → BringsToEdge H.digest tip.now edge.now note.now known (D.puts shelf.old)
         (D.puts shelf.new) result }
 {
-    bring_levels::<H, D, S>(alloc, shelf, places, tip, edge)?;
-    bring_edge_bundle::<H, D, S>(alloc, shelf, places, tip, edge)?;
-    put_edge_tiles::<H, D>(alloc, shelf, tip, edge)?;
+    match bring_levels::<H, D, S>(alloc, shelf, places, tip, edge) {
+        Ok(()) => {}
+        Err(fault) => return Err(fault),
+    }
+    match bring_edge_bundle::<H, D, S>(alloc, shelf, places, tip, edge) {
+        Ok(()) => {}
+        Err(fault) => return Err(fault),
+    }
+    match put_edge_tiles::<H, D>(alloc, shelf, tip, edge) {
+        Ok(()) => {}
+        Err(fault) => return Err(fault),
+    }
     put_last(shelf, tip, note)
 }

@@ -152,9 +152,15 @@ pub(crate) fn take_larger<H: TreeHash, D: ReadableShelf, S: Source + Drop>(
     ensures suffices { IsHonestTurn H.digest S.may_answer (D.puts shelf.old) places.old places.new
         origin.now candidate.now → IsBroughtOr result }
 {
-    let turn = bring::<H, D, S>(alloc, origin, shelf, places, candidate)?;
+    let turn = match bring::<H, D, S>(alloc, origin, shelf, places, candidate) {
+        Ok(turn) => turn,
+        Err(fault) => return Err(fault),
+    };
     match turn {
-        Outcome::Contradicts => Ok(contradict::<H, S>(alloc, places, copy, candidate)?),
+        Outcome::Contradicts => match contradict::<H, S>(alloc, places, copy, candidate) {
+            Ok(turn) => Ok(turn),
+            Err(_) => Err(FollowFault::OutOfMemory),
+        },
         turn => Ok(turn),
     }
 }

@@ -73,6 +73,8 @@ pub(crate) fn take_first<H: TreeHash, D: ReadableShelf, S: Source + Drop>(
     if has_false_root::<H>(candidate) {
         return Ok(Outcome::Contradicts);
     }
-    let turn = bring::<H, D, S>(alloc, origin, shelf, places, candidate)?;
-    over_none(turn)
+    match bring::<H, D, S>(alloc, origin, shelf, places, candidate) {
+        Ok(turn) => over_none(turn),
+        Err(fault) => Err(fault),
+    }
 }

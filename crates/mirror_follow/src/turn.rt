@@ -103,7 +103,12 @@ pub(crate) fn take_turn<H: TreeHash, D: ReadableShelf, S: Source + Drop>(
         → SparesAt H.digest S.may_answer S.failed S.asked origin.now (D.puts shelf.old) places.old
         places.new candidate.now run.old.first_fault run.new.first_fault) }
 {
-    let turn = turn_for::<H, D, S>(alloc, origin, shelf, places, run, candidate)?;
-    run.add(alloc, candidate, turn)?;
-    Ok(())
+    let turn = match turn_for::<H, D, S>(alloc, origin, shelf, places, run, candidate) {
+        Ok(turn) => turn,
+        Err(fault) => return Err(fault),
+    };
+    match run.add(alloc, candidate, turn) {
+        Ok(()) => Ok(()),
+        Err(_) => Err(FollowFault::OutOfMemory),
+    }
 }

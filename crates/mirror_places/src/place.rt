@@ -8,7 +8,7 @@ use std::alloc::AllocError;
 use tlog_tiles::Path;
 
 /// How a file at a place was wrong.
-#[derive(Debug, PartialEq, Eq, Clone, Copy)]
+#[derive(Clone, Copy)]
 pub enum Wrong {
     /// The place lacks the file.
     NotFound,
@@ -19,7 +19,7 @@ pub enum Wrong {
 }
 
 /// A file that was wrong at a place.
-#[derive(Debug, PartialEq, Eq, Clone, Copy)]
+#[derive(Clone, Copy)]
 pub struct WrongFile {
     /// Its path.
     pub path: Path,

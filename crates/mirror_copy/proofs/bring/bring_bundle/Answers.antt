@@ -1,5 +1,4 @@
 use Rattle.std.proofs.Common.{◌*◌, rules, ◌≡◌, ◌⊎◌, inl, inr, ◌∷◌, [], ℕ, List, IsFalse, length, take, subst, refl, sym, ap, ◌∙◌, arith}
-use Rattle.std.proofs.lemmas.Result.{err_from_is_err_and}
 use Rattle.tlog_shape.specs.Edge.{edge_index_of}
 use Rattle.tlog_tiles.specs.Row.{row_text}
 use Rattle.tlog_tiles.specs.declared.paths.Path.TheVariants.{Entries, Tile}
@@ -16,18 +15,19 @@ use Rattle.mirror_copy.proofs.NewFulls.{bundle_asked}
 use Rattle.mirror_copy.proofs.Growth.{left_none, brings_ok}
 use Rattle.mirror_copy.proofs.Bundles.{bundle_left, bundle_brought, tile_left}
 use Rattle.mirror_copy.proofs.EmptyTips.{bundle_after, row_after}
-use Rattle.mirror_copy.proofs.Exits.{counted_exit, counted_last, err_exit, no_place}
+use Rattle.mirror_copy.proofs.Exits.{counted_last, no_place}
 use Rattle.mirror_copy.specs.declared.fault.BringFault.TheVariants.{OutOfMemory}
 use Rattle.mirror_copy.proofs.Earlier.{early_result}
 use Rattle.mirror_copy.proofs.Spared.{err_weaker}
 use Rattle.mirror_copy.specs.Conflicts.{IsNoConflict}
 use Rattle.mirror_copy.specs.Faults.{BlamesPlaces, IsOfNoPlace}
+use Rattle.mirror_copy.specs.Faults.{CountsFault}
+use Rattle.std.proofs.Common.{Err}
 use Rattle.mirror_copy.proofs.bring.bring_bundle.Goals as goal
 
-pub returns-in_err-found-clause-brings : goal.returns-in_err-found-clause-brings
-returns-in_err-found-clause-brings g c = λ known is.
-    let p = err_from_is_err_and c.from_residual.result c.from_residual.ensures.1 in
-    rw p.1 (left_none g.H.TreeHash.digest c.args.tip.now.size known (g.D.Shelf.puts c.args.shelf.now)
+pub returns-in-Err-clause-brings : goal.returns-in-Err-clause-brings
+returns-in-Err-clause-brings g c = λ known is.
+    (left_none g.H.TreeHash.digest c.args.tip.now.size known (g.D.Shelf.puts c.args.shelf.now)
     (g.D.Shelf.puts c.find.new.shelf) c.find.ensures.same)
 
 pub returns-in_default-clause-brings : goal.returns-in_default-clause-brings
@@ -40,49 +40,47 @@ returns-then-not-goes_on-clause-brings g c = λ known is.
     left_none g.H.TreeHash.digest c.args.tip.now.size known (g.D.Shelf.puts c.args.shelf.now)
     (g.D.Shelf.puts c.find.new.shelf) c.find.ensures.same
 
-pub returns-in_err-bytes-clause-brings : goal.returns-in_err-bytes-clause-brings
-returns-in_err-bytes-clause-brings g c = λ known is.
-    let p = err_from_is_err_and c.from_residual-in_err-bytes.result c.from_residual-in_err-bytes.ensures.1 in
-    rw p.1 (left_none g.H.TreeHash.digest c.args.tip.now.size known (g.D.Shelf.puts c.args.shelf.now)
+pub returns-in-Err-write_row-clause-brings : goal.returns-in-Err-write_row-clause-brings
+returns-in-Err-write_row-clause-brings g c = λ known is.
+    (left_none g.H.TreeHash.digest c.args.tip.now.size known (g.D.Shelf.puts c.args.shelf.now)
     (g.D.Shelf.puts c.find.new.shelf) c.find.ensures.same)
 
-pub returns-in_err-keep-clause-brings : goal.returns-in_err-keep-clause-brings
-returns-in_err-keep-clause-brings g c = λ known is.
-    let p = err_from_is_err_and c.from_residual-in_err-keep.result c.from_residual-in_err-keep.ensures.1 in
-    let bytes = c.in_ok-found.found.bytes.items in
+pub returns-in-Err-keep-clause-brings : goal.returns-in-Err-keep-clause-brings
+returns-in-Err-keep-clause-brings g c = λ known is.
+    let bytes = c.in-Ok.found.bytes.items in
     let x = g.D.Shelf.puts c.args.shelf.now in
     let y = g.D.Shelf.puts c.find.new.shelf in
     let z = g.D.Shelf.puts c.keep.new.shelf in
-    let v = c.in_ok-found.ensures.found.is_row in
+    let v = c.in-Ok.ensures.found.is_row in
     let there : c.args.index ≡ edge_index_of c.args.tip.now.size 0 →
     take (length c.args.tip.now.bundle) c.deref-2.result.now ≡ c.args.tip.now.bundle = search rules in
     let goes_on = subst (λ b. c.args.index ≡ edge_index_of c.args.tip.now.size 0 →
     take (length c.args.tip.now.bundle) b ≡ c.args.tip.now.bundle) c.deref-2.ensures.value there in
     let puts = subst (λ b. (KeepsRecord y z) ⊎ (AddsToRecord y z ((Entries c.args.index 256, b) ∷ [])))
     c.deref-4.ensures.value c.keep.ensures.puts in
-    rw p.1 (bundle_left g.H.TreeHash.digest c.args.tip.now c.args.index 256 (omega arith) (omega arith) known is (omega arith) bytes
-    c.in_ok-found.found.row.items v goes_on x y z c.find.ensures.same puts)
+    (bundle_left g.H.TreeHash.digest c.args.tip.now c.args.index 256 (omega arith) (omega arith) known is (omega arith) bytes
+    c.in-Ok.found.row.items v goes_on x y z c.find.ensures.same puts)
 
 pub returns-clause-brings : goal.returns-clause-brings
 returns-clause-brings g c = λ known is.
     let digest = g.H.TreeHash.digest in
-    let bytes = c.in_ok-found.found.bytes.items in
-    let row = c.in_ok-found.found.row.items in
+    let bytes = c.in-Ok.found.bytes.items in
+    let row = c.in-Ok.found.row.items in
     let x = g.D.Shelf.puts c.args.shelf.now in
     let y = g.D.Shelf.puts c.find.new.shelf in
     let z = g.D.Shelf.puts c.keep.new.shelf in
     let w = g.D.Shelf.puts c.keep-2.new.shelf in
-    let found = c.in_ok-found.ensures.found in
+    let found = c.in-Ok.ensures.found in
     let there : c.args.index ≡ edge_index_of c.args.tip.now.size 0 →
     take (length c.args.tip.now.bundle) c.deref-2.result.now ≡ c.args.tip.now.bundle = search rules in
     let goes_on = subst (λ b. c.args.index ≡ edge_index_of c.args.tip.now.size 0 →
     take (length c.args.tip.now.bundle) b ≡ c.args.tip.now.bundle) c.deref-2.ensures.value there in
     let puts = subst (λ b. (KeepsRecord y z) ⊎ (AddsToRecord y z ((Entries c.args.index 256, b) ∷ [])))
     c.deref-4.ensures.value c.keep.ensures.puts in
-    let text = c.deref-5.ensures.value ∙ (c.in_ok-bytes.ensures.text ∙ ap row_text c.deref-3.ensures.value) in
+    let text = c.deref-5.ensures.value ∙ (c.in-Ok-write_row.ensures.text ∙ ap row_text c.deref-3.ensures.value) in
     let left = tile_left digest c.args.tip.now c.args.index 256 (omega arith) (omega arith) known is (omega arith) bytes row
     found.is_row goes_on x y z c.find.ensures.same puts w c.deref-5.result.now text c.keep-2.ensures.puts in
-    let there = subst (λ b. RecordsStands y z (Entries c.args.index 256) b) c.deref-4.ensures.value c.in_ok-keep.ensures.stands in
+    let there = subst (λ b. RecordsStands y z (Entries c.args.index 256) b) c.deref-4.ensures.value c.in-Ok-keep.ensures.stands in
     brings_ok digest c.args.tip.now 0 c.args.index c.args.hash.now known x w c.keep-2.result
     (RecordsStands z w (Tile 0 c.args.index 256) c.deref-5.result.now) c.keep-2.ensures.stands
     (λ row_there. bundle_brought digest c.args.tip.now c.args.index 256 (omega arith) (omega arith) known is (omega arith)
@@ -90,8 +88,8 @@ returns-clause-brings g c = λ known is.
     c.args.hash.now found.folds there row_there)
     left
 
-pub returns-in_err-found-clause-asks : goal.returns-in_err-found-clause-asks
-returns-in_err-found-clause-asks g c =
+pub returns-in-Err-clause-asks : goal.returns-in-Err-clause-asks
+returns-in-Err-clause-asks g c =
     asks_weaker g.S.Source.may_answer g.S.Source.failed g.S.Source.asked (λ p. p ≡ Entries c.args.index 256)
     (IsNewFull c.args.tip.now.size) (bundle_asked c.args.tip.now.size c.args.index c.requires.beyond)
     c.args.places.now c.find.new.places c.find.ensures.asks
@@ -108,14 +106,14 @@ returns-then-not-goes_on-clause-asks g c =
     (IsNewFull c.args.tip.now.size) (bundle_asked c.args.tip.now.size c.args.index c.requires.beyond)
     c.args.places.now c.find.new.places c.find.ensures.asks
 
-pub returns-in_err-bytes-clause-asks : goal.returns-in_err-bytes-clause-asks
-returns-in_err-bytes-clause-asks g c =
+pub returns-in-Err-write_row-clause-asks : goal.returns-in-Err-write_row-clause-asks
+returns-in-Err-write_row-clause-asks g c =
     asks_weaker g.S.Source.may_answer g.S.Source.failed g.S.Source.asked (λ p. p ≡ Entries c.args.index 256)
     (IsNewFull c.args.tip.now.size) (bundle_asked c.args.tip.now.size c.args.index c.requires.beyond)
     c.args.places.now c.find.new.places c.find.ensures.asks
 
-pub returns-in_err-keep-clause-asks : goal.returns-in_err-keep-clause-asks
-returns-in_err-keep-clause-asks g c =
+pub returns-in-Err-keep-clause-asks : goal.returns-in-Err-keep-clause-asks
+returns-in-Err-keep-clause-asks g c =
     asks_weaker g.S.Source.may_answer g.S.Source.failed g.S.Source.asked (λ p. p ≡ Entries c.args.index 256)
     (IsNewFull c.args.tip.now.size) (bundle_asked c.args.tip.now.size c.args.index c.requires.beyond)
     c.args.places.now c.find.new.places c.find.ensures.asks
@@ -126,8 +124,8 @@ returns-clause-asks g c =
     (IsNewFull c.args.tip.now.size) (bundle_asked c.args.tip.now.size c.args.index c.requires.beyond)
     c.args.places.now c.find.new.places c.find.ensures.asks
 
-pub returns-in_err-found-clause-taken : goal.returns-in_err-found-clause-taken
-returns-in_err-found-clause-taken g c =
+pub returns-in-Err-clause-taken : goal.returns-in-Err-clause-taken
+returns-in-Err-clause-taken g c =
     puts_none g.S.Source.may_answer g.S.Source.failed g.S.Source.asked c.args.places.now (g.D.Shelf.puts c.args.shelf.now)
     (g.D.Shelf.puts c.find.new.shelf) c.find.ensures.same
 
@@ -141,19 +139,19 @@ returns-then-not-goes_on-clause-taken g c =
     puts_none g.S.Source.may_answer g.S.Source.failed g.S.Source.asked c.args.places.now (g.D.Shelf.puts c.args.shelf.now)
     (g.D.Shelf.puts c.find.new.shelf) c.find.ensures.same
 
-pub returns-in_err-bytes-clause-taken : goal.returns-in_err-bytes-clause-taken
-returns-in_err-bytes-clause-taken g c =
+pub returns-in-Err-write_row-clause-taken : goal.returns-in-Err-write_row-clause-taken
+returns-in-Err-write_row-clause-taken g c =
     puts_none g.S.Source.may_answer g.S.Source.failed g.S.Source.asked c.args.places.now (g.D.Shelf.puts c.args.shelf.now)
     (g.D.Shelf.puts c.find.new.shelf) c.find.ensures.same
 
-pub returns-in_err-keep-clause-taken : goal.returns-in_err-keep-clause-taken
-returns-in_err-keep-clause-taken g c =
+pub returns-in-Err-keep-clause-taken : goal.returns-in-Err-keep-clause-taken
+returns-in-Err-keep-clause-taken g c =
     let y = g.D.Shelf.puts c.find.new.shelf in
     let z = g.D.Shelf.puts c.keep.new.shelf in
     let puts = subst (λ b. (KeepsRecord y z) ⊎ (AddsToRecord y z ((Entries c.args.index 256, b) ∷ [])))
     c.deref-4.ensures.value c.keep.ensures.puts in
     puts_after g.S.Source.may_answer g.S.Source.failed g.S.Source.asked c.args.places.now (g.D.Shelf.puts c.args.shelf.now) y z
-    (Entries c.args.index 256) c.in_ok-found.found.bytes.items c.find.ensures.same puts (inr c.in_ok-found.ensures.taken)
+    (Entries c.args.index 256) c.in-Ok.found.bytes.items c.find.ensures.same puts (inr c.in-Ok.ensures.taken)
 
 pub returns-clause-taken : goal.returns-clause-taken
 returns-clause-taken g c =
@@ -167,28 +165,27 @@ returns-clause-taken g c =
     let w = g.D.Shelf.puts c.keep-2.new.shelf in
     let puts = subst (λ b. (KeepsRecord y z) ⊎ (AddsToRecord y z ((Entries c.args.index 256, b) ∷ [])))
     c.deref-4.ensures.value c.keep.ensures.puts in
-    let first = puts_after may failed asked places x y z (Entries c.args.index 256) c.in_ok-found.found.bytes.items
-    c.find.ensures.same puts (inr c.in_ok-found.ensures.taken) in
+    let first = puts_after may failed asked places x y z (Entries c.args.index 256) c.in-Ok.found.bytes.items
+    c.find.ensures.same puts (inr c.in-Ok.ensures.taken) in
     puts_then may failed asked (IsNewFull c.args.tip.now.size) places places
     (asks_same may failed asked (IsNewFull c.args.tip.now.size) places) x z w first
     (puts_one may failed asked places z w (Tile 0 c.args.index 256) c.deref-5.result.now c.keep-2.ensures.puts (inl refl))
 
-pub returns-in_err-found-clause-honest : goal.returns-in_err-found-clause-honest
-returns-in_err-found-clause-honest g c =
-    let p = err_from_is_err_and c.from_residual.result c.from_residual.ensures.1 in
-    rw (p.1, p.2) (λ entries size h t is.
-    spared c.in_err-found.field-0.0 (c.in_err-found.ensures.suffices entries h.short
-    (bundle_under g.H.TreeHash.digest entries size h.upto c.args.index c.args.hash.now is) h.place) c.in_err-found.ensures.fault)
+pub returns-in-Err-clause-honest : goal.returns-in-Err-clause-honest
+returns-in-Err-clause-honest g c =
+    (λ entries size h t is.
+    spared c.in-Err.fault (c.in-Err.ensures.suffices entries h.short
+    (bundle_under g.H.TreeHash.digest entries size h.upto c.args.index c.args.hash.now is) h.place) c.in-Err.ensures.fault)
 
 pub returns-in_default-clause-honest : goal.returns-in_default-clause-honest
 returns-in_default-clause-honest g c = λ entries size h t is.
     let digest = g.H.TreeHash.digest in
     let log = take size entries in
     let index = c.args.index in
-    let bytes = c.in_ok-found.found.bytes.items in
-    let row = c.in_ok-found.found.row.items in
-    let v = c.in_ok-found.ensures.found in
-    let clean = h.clear.bundle index 256 bytes v.is_row.entries (inl c.in_ok-found.ensures.taken) v.is_row.is_bundle in
+    let bytes = c.in-Ok.found.bytes.items in
+    let row = c.in-Ok.found.row.items in
+    let v = c.in-Ok.ensures.found in
+    let clean = h.clear.bundle index 256 bytes v.is_row.entries (inl c.in-Ok.ensures.taken) v.is_row.is_bundle in
     let true = bundle_true digest g.met.H.TreeHash.digest_length log index c.args.hash.now bytes row v is clean in
     let there = subst (λ (r : List (List ℕ)). IsTileRow digest log 0 index r) (sym c.deref.ensures.value) true.0 in
     let at = rw c.in_default.is at c.first_new.ensures.none in
@@ -200,10 +197,10 @@ returns-then-not-goes_on-clause-honest g c = λ entries size h t is.
     let digest = g.H.TreeHash.digest in
     let log = take size entries in
     let index = c.args.index in
-    let bytes = c.in_ok-found.found.bytes.items in
-    let row = c.in_ok-found.found.row.items in
-    let v = c.in_ok-found.ensures.found in
-    let clean = h.clear.bundle index 256 bytes v.is_row.entries (inl c.in_ok-found.ensures.taken) v.is_row.is_bundle in
+    let bytes = c.in-Ok.found.bytes.items in
+    let row = c.in-Ok.found.row.items in
+    let v = c.in-Ok.ensures.found in
+    let clean = h.clear.bundle index 256 bytes v.is_row.entries (inl c.in-Ok.ensures.taken) v.is_row.is_bundle in
     let true = bundle_true digest g.met.H.TreeHash.digest_length log index c.args.hash.now bytes row v is clean in
     let no : IsFalse c.goes_on.result = search rules in
     let there = subst (λ (b : List ℕ). IsBundle 256 b v.is_row.entries) (sym c.deref-2.ensures.value) v.is_row.is_bundle in
@@ -211,11 +208,10 @@ returns-then-not-goes_on-clause-honest g c = λ entries size h t is.
     bundle_begins digest c.args.tip.now log t index 256 c.deref-2.result.now v.is_row.entries there true.1
     (c.goes_on.ensures.other no) (omega arith) ⊥ (c.goes_on.ensures.differs no)
 
-pub returns-in_err-keep-clause-honest : goal.returns-in_err-keep-clause-honest
-returns-in_err-keep-clause-honest g c =
-    let p = err_from_is_err_and c.from_residual-in_err-keep.result c.from_residual-in_err-keep.ensures.1 in
-    rw (p.1, p.2) (λ entries size h t is.
-    spared_shelf c.in_err-keep.field-0.0 c.in_err-keep.ensures.places c.in_err-keep.ensures.fault)
+pub returns-in-Err-keep-clause-honest : goal.returns-in-Err-keep-clause-honest
+returns-in-Err-keep-clause-honest g c =
+    (λ entries size h t is.
+    spared_shelf c.in-Err-keep.fault c.in-Err-keep.ensures.places c.in-Err-keep.ensures.fault)
 
 pub returns-clause-honest : goal.returns-clause-honest
 returns-clause-honest g c =
@@ -231,68 +227,65 @@ returns-then-not-goes_on-clause-empty g c = λ k.
     let no : IsFalse c.goes_on.result = search rules in
     bundle_after g.H.TreeHash.digest c.args.tip.now k c.deref-2.result.now ⊥ (c.goes_on.ensures.differs no)
 
-pub returns-in_err-found-clause-counted : goal.returns-in_err-found-clause-counted
-returns-in_err-found-clause-counted g c =
-    counted_exit c.from_residual.result c.in_err-found.field-0.0 c.from_residual.ensures (g.D.Shelf.failed c.args.shelf.now)
-    (g.D.Shelf.failed c.args.shelf.now) (g.D.Shelf.failed c.find.new.shelf) refl c.in_err-found.ensures.counted
+pub returns-in-Err-clause-counted : goal.returns-in-Err-clause-counted
+returns-in-Err-clause-counted g c =
+    c.in-Err.ensures.counted
 
-pub returns-in_err-found-clause-blames : goal.returns-in_err-found-clause-blames
-returns-in_err-found-clause-blames g c =
-    err_exit _ c.from_residual.result c.in_err-found.field-0.0 c.from_residual.ensures c.in_err-found.ensures.blames
+pub returns-in-Err-clause-blames : goal.returns-in-Err-clause-blames
+returns-in-Err-clause-blames g c =
+    c.in-Err.ensures.blames
 
-pub returns-in_err-found-clause-early : goal.returns-in_err-found-clause-early
-returns-in_err-found-clause-early g c =
-    early_result (c.args.index * 256) c.args.tip.now.size (g.D.Shelf.puts c.args.shelf.now)
-    (g.D.Shelf.puts c.find.new.shelf) c.from_residual.result (err_exit _ c.from_residual.result c.in_err-found.field-0.0 c.from_residual.ensures c.in_err-found.ensures.fault)
+pub returns-in-Err-clause-early : goal.returns-in-Err-clause-early
+returns-in-Err-clause-early g c =
+    early_result {T = Unit {0}} (c.args.index * 256) c.args.tip.now.size (g.D.Shelf.puts c.args.shelf.now)
+    (g.D.Shelf.puts c.find.new.shelf) (Err c.in-Err.fault) (c.in-Err.ensures.fault)
 
-pub returns-in_err-found-clause-empty : goal.returns-in_err-found-clause-empty
-returns-in_err-found-clause-empty g c =
-    err_exit _ c.from_residual.result c.in_err-found.field-0.0 c.from_residual.ensures (λ is. c.in_err-found.ensures.fault)
+pub returns-in-Err-clause-empty : goal.returns-in-Err-clause-empty
+returns-in-Err-clause-empty g c =
+    (λ is. c.in-Err.ensures.fault)
 
-pub returns-in_err-bytes-clause-counted : goal.returns-in_err-bytes-clause-counted
-returns-in_err-bytes-clause-counted g c =
-    counted_exit c.from_residual-in_err-bytes.result OutOfMemory c.from_residual-in_err-bytes.ensures (g.D.Shelf.failed c.args.shelf.now)
-    (g.D.Shelf.failed c.find.new.shelf) (g.D.Shelf.failed c.find.new.shelf) c.in_ok-found.ensures.counted refl
+pub returns-in-Err-write_row-clause-counted : goal.returns-in-Err-write_row-clause-counted
+returns-in-Err-write_row-clause-counted g c =
+    (subst (λ n. CountsFault n (g.D.Shelf.failed c.find.new.shelf) OutOfMemory) c.in-Ok.ensures.counted refl)
 
-pub returns-in_err-bytes-clause-blames : goal.returns-in_err-bytes-clause-blames
-returns-in_err-bytes-clause-blames g c =
-    err_exit _ c.from_residual-in_err-bytes.result OutOfMemory c.from_residual-in_err-bytes.ensures tt
+pub returns-in-Err-write_row-clause-blames : goal.returns-in-Err-write_row-clause-blames
+returns-in-Err-write_row-clause-blames g c =
+    tt
 
-pub returns-in_err-bytes-clause-early : goal.returns-in_err-bytes-clause-early
-returns-in_err-bytes-clause-early g c =
-    early_result (c.args.index * 256) c.args.tip.now.size (g.D.Shelf.puts c.args.shelf.now)
-    (g.D.Shelf.puts c.find.new.shelf) c.from_residual-in_err-bytes.result (err_exit _ c.from_residual-in_err-bytes.result OutOfMemory c.from_residual-in_err-bytes.ensures tt)
+pub returns-in-Err-write_row-clause-early : goal.returns-in-Err-write_row-clause-early
+returns-in-Err-write_row-clause-early g c =
+    early_result {T = Unit {0}} (c.args.index * 256) c.args.tip.now.size (g.D.Shelf.puts c.args.shelf.now)
+    (g.D.Shelf.puts c.find.new.shelf) (Err OutOfMemory) (tt)
 
-pub returns-in_err-bytes-clause-empty : goal.returns-in_err-bytes-clause-empty
-returns-in_err-bytes-clause-empty g c =
-    err_exit _ c.from_residual-in_err-bytes.result OutOfMemory c.from_residual-in_err-bytes.ensures (λ is. tt)
+pub returns-in-Err-write_row-clause-empty : goal.returns-in-Err-write_row-clause-empty
+returns-in-Err-write_row-clause-empty g c =
+    (λ is. tt)
 
-pub returns-in_err-bytes-clause-honest : goal.returns-in_err-bytes-clause-honest
-returns-in_err-bytes-clause-honest g c =
-    err_exit _ c.from_residual-in_err-bytes.result OutOfMemory c.from_residual-in_err-bytes.ensures (λ entries size h t is. tt)
+pub returns-in-Err-write_row-clause-honest : goal.returns-in-Err-write_row-clause-honest
+returns-in-Err-write_row-clause-honest g c =
+    (λ entries size h t is. tt)
 
-pub returns-in_err-keep-clause-counted : goal.returns-in_err-keep-clause-counted
-returns-in_err-keep-clause-counted g c =
-    counted_exit c.from_residual-in_err-keep.result c.in_err-keep.field-0.0 c.from_residual-in_err-keep.ensures (g.D.Shelf.failed c.args.shelf.now)
-    (g.D.Shelf.failed c.find.new.shelf) (g.D.Shelf.failed c.keep.new.shelf) c.in_ok-found.ensures.counted c.in_err-keep.ensures.counted
+pub returns-in-Err-keep-clause-counted : goal.returns-in-Err-keep-clause-counted
+returns-in-Err-keep-clause-counted g c =
+    (subst (λ n. CountsFault n (g.D.Shelf.failed c.keep.new.shelf) c.in-Err-keep.fault) c.in-Ok.ensures.counted c.in-Err-keep.ensures.counted)
 
-pub returns-in_err-keep-clause-blames : goal.returns-in_err-keep-clause-blames
-returns-in_err-keep-clause-blames g c =
-    err_exit _ c.from_residual-in_err-keep.result c.in_err-keep.field-0.0 c.from_residual-in_err-keep.ensures (no_place c.find.new.places c.in_err-keep.field-0.0 c.in_err-keep.ensures.places)
+pub returns-in-Err-keep-clause-blames : goal.returns-in-Err-keep-clause-blames
+returns-in-Err-keep-clause-blames g c =
+    (no_place c.find.new.places c.in-Err-keep.fault c.in-Err-keep.ensures.places)
 
-pub returns-in_err-keep-clause-early : goal.returns-in_err-keep-clause-early
-returns-in_err-keep-clause-early g c =
-    early_result (c.args.index * 256) c.args.tip.now.size (g.D.Shelf.puts c.args.shelf.now)
-    (g.D.Shelf.puts c.keep.new.shelf) c.from_residual-in_err-keep.result (err_exit _ c.from_residual-in_err-keep.result c.in_err-keep.field-0.0 c.from_residual-in_err-keep.ensures c.in_err-keep.ensures.fault)
+pub returns-in-Err-keep-clause-early : goal.returns-in-Err-keep-clause-early
+returns-in-Err-keep-clause-early g c =
+    early_result {T = Unit {0}} (c.args.index * 256) c.args.tip.now.size (g.D.Shelf.puts c.args.shelf.now)
+    (g.D.Shelf.puts c.keep.new.shelf) (Err c.in-Err-keep.fault) (c.in-Err-keep.ensures.fault)
 
-pub returns-in_err-keep-clause-empty : goal.returns-in_err-keep-clause-empty
-returns-in_err-keep-clause-empty g c =
-    err_exit _ c.from_residual-in_err-keep.result c.in_err-keep.field-0.0 c.from_residual-in_err-keep.ensures (λ is. c.in_err-keep.ensures.fault)
+pub returns-in-Err-keep-clause-empty : goal.returns-in-Err-keep-clause-empty
+returns-in-Err-keep-clause-empty g c =
+    (λ is. c.in-Err-keep.ensures.fault)
 
 pub returns-clause-counted : goal.returns-clause-counted
 returns-clause-counted g c =
     counted_last c.keep-2.result (g.D.Shelf.failed c.args.shelf.now) (g.D.Shelf.failed c.keep.new.shelf) (g.D.Shelf.failed c.keep-2.new.shelf)
-    (c.in_ok-keep.ensures.counted ∙ c.in_ok-found.ensures.counted) c.keep-2.ensures.counted
+    (c.in-Ok-keep.ensures.counted ∙ c.in-Ok.ensures.counted) c.keep-2.ensures.counted
 
 pub returns-clause-blames : goal.returns-clause-blames
 returns-clause-blames g c =

@@ -23,6 +23,7 @@ use Rattle.std.proofs.lemmas.Result.{IfOk-from_err}
 use Rattle.mirror_copy.specs.declared.fault.BringFault.TheVariants.{OutOfMemory}
 use Rattle.mirror_copy.proofs.Earlier.{kept_then}
 use Rattle.mirror_copy.proofs.Exits.{counted_exit, err_exit}
+use Rattle.mirror_copy.specs.Faults.{CountsFault}
 use Rattle.mirror_copy.proofs.copy.bring_copy.Goals as goal
 
 pub returns-in_err-head-clause-whole : goal.returns-in_err-head-clause-whole
@@ -35,8 +36,8 @@ returns-in_default-clause-whole g c =
     let x = g.D.Shelf.puts c.args.shelf.now in
     whole_same g.H.TreeHash.digest c.args.origin.now c.args.note.now x x (kept_same x)
 
-pub returns-in_err-tip-clause-whole : goal.returns-in_err-tip-clause-whole
-returns-in_err-tip-clause-whole g c =
+pub returns-in-Err-clause-whole : goal.returns-in-Err-clause-whole
+returns-in-Err-clause-whole g c =
     whole_same g.H.TreeHash.digest c.args.origin.now c.args.note.now (g.D.Shelf.puts c.args.shelf.now)
     (g.D.Shelf.puts c.read_tip.new.shelf) c.read_tip.ensures.same
 
@@ -51,16 +52,15 @@ returns-in_default-clause-stays g c =
     let x = g.D.Shelf.puts c.args.shelf.now in
     stays_same g.H.TreeHash.digest c.args.origin.now x x (kept_same x)
 
-pub returns-in_err-tip-clause-stays : goal.returns-in_err-tip-clause-stays
-returns-in_err-tip-clause-stays g c =
-    let p = err_from_is_err_and c.from_residual-in_err-tip.result c.from_residual-in_err-tip.ensures.1 in
-    rw p.1 (stays_same g.H.TreeHash.digest c.args.origin.now (g.D.Shelf.puts c.args.shelf.now)
+pub returns-in-Err-clause-stays : goal.returns-in-Err-clause-stays
+returns-in-Err-clause-stays g c =
+    (stays_same g.H.TreeHash.digest c.args.origin.now (g.D.Shelf.puts c.args.shelf.now)
     (g.D.Shelf.puts c.read_tip.new.shelf) c.read_tip.ensures.same)
 
-pub returns-clause-had : goal.returns-clause-had
-returns-clause-had g c =
-    rw c.size-had.ensures (had_size g.H.TreeHash.digest c.args.origin.now c.in_ok-tip.tip
-    (g.D.Shelf.puts c.args.shelf.now) c.in_ok-tip.ensures.tip)
+pub returns-in-Ok-done-clause-had : goal.returns-in-Ok-done-clause-had
+returns-in-Ok-done-clause-had g c =
+    rw c.size-had.ensures (had_size g.H.TreeHash.digest c.args.origin.now c.in-Ok.tip
+    (g.D.Shelf.puts c.args.shelf.now) c.in-Ok.ensures.tip)
 
 pub returns-in_err-head-clause-asks : goal.returns-in_err-head-clause-asks
 returns-in_err-head-clause-asks g c =
@@ -70,111 +70,101 @@ pub returns-in_default-clause-asks : goal.returns-in_default-clause-asks
 returns-in_default-clause-asks g c =
     AsksNothing (asks_begun g.S.Source.may_answer g.S.Source.failed g.S.Source.asked (λ path. ⊥) c.args.places.now c.begin.new.self c.begin.ensures.list)
 
-pub returns-in_err-tip-clause-asks : goal.returns-in_err-tip-clause-asks
-returns-in_err-tip-clause-asks g c =
+pub returns-in-Err-clause-asks : goal.returns-in-Err-clause-asks
+returns-in-Err-clause-asks g c =
     AsksNothing (asks_begun g.S.Source.may_answer g.S.Source.failed g.S.Source.asked (λ path. ⊥) c.args.places.now c.begin.new.self c.begin.ensures.list)
 
-pub returns-in_err-done-clause-asks : goal.returns-in_err-done-clause-asks
-returns-in_err-done-clause-asks g c =
-    let tip = c.in_ok-tip.tip in
+pub returns-in-Err-done-clause-asks : goal.returns-in-Err-done-clause-asks
+returns-in-Err-done-clause-asks g c =
+    let tip = c.in-Ok.tip in
     let head = c.in-Some.head in
     AsksFiles tip.size head.0 head.1
-    (had_size g.H.TreeHash.digest c.args.origin.now tip (g.D.Shelf.puts c.args.shelf.now) c.in_ok-tip.ensures.tip)
+    (had_size g.H.TreeHash.digest c.args.origin.now tip (g.D.Shelf.puts c.args.shelf.now) c.in-Ok.ensures.tip)
     (rw c.in-Some.is at c.in_ok-head.ensures.found)
     (begun_then g.S.Source.may_answer g.S.Source.failed g.S.Source.asked (MayBeAsked tip.size head.0) c.args.places.now c.keep_ends.new.self c.bring_from-done.new.places
     (c.keep_ends.ensures.list ∙ c.begin.ensures.list) c.bring_from-done.ensures.asks)
 
-pub returns-clause-asks : goal.returns-clause-asks
-returns-clause-asks g c =
-    let tip = c.in_ok-tip.tip in
+pub returns-in-Ok-done-clause-asks : goal.returns-in-Ok-done-clause-asks
+returns-in-Ok-done-clause-asks g c =
+    let tip = c.in-Ok.tip in
     let head = c.in-Some.head in
     AsksFiles tip.size head.0 head.1
-    (had_size g.H.TreeHash.digest c.args.origin.now tip (g.D.Shelf.puts c.args.shelf.now) c.in_ok-tip.ensures.tip)
+    (had_size g.H.TreeHash.digest c.args.origin.now tip (g.D.Shelf.puts c.args.shelf.now) c.in-Ok.ensures.tip)
     (rw c.in-Some.is at c.in_ok-head.ensures.found)
     (begun_then g.S.Source.may_answer g.S.Source.failed g.S.Source.asked (MayBeAsked tip.size head.0) c.args.places.now c.keep_ends.new.self c.bring_from-done.new.places
     (c.keep_ends.ensures.list ∙ c.begin.ensures.list) c.bring_from-done.ensures.asks)
 
-pub returns-in_err-done-clause-blames : goal.returns-in_err-done-clause-blames
-returns-in_err-done-clause-blames g c =
-    let p = err_from_is_err_and c.from_residual-in_err-done.result c.from_residual-in_err-done.ensures.1 in
-    rw (p.1, p.2) (blames_from g.S.Source.may_answer g.S.Source.failed g.S.Source.asked (MayBeAsked c.in_ok-tip.tip.size c.in-Some.head.0) c.args.places.now
-    c.keep_ends.new.self c.bring_from-done.new.places g.H.TreeHash.digest c.in-Some.head.0 c.in_ok-tip.tip
-    (g.D.Shelf.puts c.read_tip.new.shelf) c.in_err-done.field-0.0
-    (c.keep_ends.ensures.list ∙ c.begin.ensures.list) (subst (λ b. IsFalse b) (sym c.keep_ends.ensures.failed) c.begin.ensures.failed) c.bring_from-done.ensures.asks c.in_err-done.ensures.blames)
+pub returns-in-Err-done-clause-blames : goal.returns-in-Err-done-clause-blames
+returns-in-Err-done-clause-blames g c =
+    (blames_from g.S.Source.may_answer g.S.Source.failed g.S.Source.asked (MayBeAsked c.in-Ok.tip.size c.in-Some.head.0) c.args.places.now
+    c.keep_ends.new.self c.bring_from-done.new.places g.H.TreeHash.digest c.in-Some.head.0 c.in-Ok.tip
+    (g.D.Shelf.puts c.read_tip.new.shelf) c.in-Err-done.fault
+    (c.keep_ends.ensures.list ∙ c.begin.ensures.list) (subst (λ b. IsFalse b) (sym c.keep_ends.ensures.failed) c.begin.ensures.failed) c.bring_from-done.ensures.asks c.in-Err-done.ensures.blames)
 
 pub returns-in_default-clause-refuses : goal.returns-in_default-clause-refuses
 returns-in_default-clause-refuses g c = rw c.in_default.is at c.in_ok-head.ensures.none
 
-pub returns-in_err-tip-clause-refuses : goal.returns-in_err-tip-clause-refuses
-returns-in_err-tip-clause-refuses g c =
-    let p = err_from_is_err_and c.from_residual-in_err-tip.result c.from_residual-in_err-tip.ensures.1 in
-    rw (p.1, p.2) (refuses_tip g.H.TreeHash.digest c.args.origin.now c.args.note.now (g.D.Shelf.puts c.args.shelf.now)
-    c.in_err-tip.field-0.0 c.in_err-tip.ensures.damaged)
+pub returns-in-Err-clause-refuses : goal.returns-in-Err-clause-refuses
+returns-in-Err-clause-refuses g c =
+    (refuses_tip g.H.TreeHash.digest c.args.origin.now c.args.note.now (g.D.Shelf.puts c.args.shelf.now)
+    c.in-Err.fault c.in-Err.ensures.damaged)
 
-pub returns-in_err-done-clause-refuses : goal.returns-in_err-done-clause-refuses
-returns-in_err-done-clause-refuses g c =
-    let p = err_from_is_err_and c.from_residual-in_err-done.result c.from_residual-in_err-done.ensures.1 in
-    let tip = c.in_ok-tip.tip in
+pub returns-in-Err-done-clause-refuses : goal.returns-in-Err-done-clause-refuses
+returns-in-Err-done-clause-refuses g c =
+    let tip = c.in-Ok.tip in
     let head = c.in-Some.head in
-    rw (p.1, p.2) (refuses_from g.H.TreeHash.digest c.args.origin.now c.args.note.now (g.D.Shelf.puts c.args.shelf.now)
-    c.bring_from-done.new.places tip (g.D.Shelf.puts c.read_tip.new.shelf) head.0 head.1 c.in_err-done.field-0.0
-    c.in_ok-tip.ensures.tip
-    (had_size g.H.TreeHash.digest c.args.origin.now tip (g.D.Shelf.puts c.args.shelf.now) c.in_ok-tip.ensures.tip)
-    (rw c.in-Some.is at c.in_ok-head.ensures.found) c.in_err-done.ensures.blames)
+    (refuses_from g.H.TreeHash.digest c.args.origin.now c.args.note.now (g.D.Shelf.puts c.args.shelf.now)
+    c.bring_from-done.new.places tip (g.D.Shelf.puts c.read_tip.new.shelf) head.0 head.1 c.in-Err-done.fault
+    c.in-Ok.ensures.tip
+    (had_size g.H.TreeHash.digest c.args.origin.now tip (g.D.Shelf.puts c.args.shelf.now) c.in-Ok.ensures.tip)
+    (rw c.in-Some.is at c.in_ok-head.ensures.found) c.in-Err-done.ensures.blames)
 
-pub returns-in_err-tip-clause-in_use : goal.returns-in_err-tip-clause-in_use
-returns-in_err-tip-clause-in_use g c =
-    let p = err_from_is_err_and c.from_residual-in_err-tip.result c.from_residual-in_err-tip.ensures.1 in
-    rw (p.1, p.2) (tip_not_in_use g.H.TreeHash.digest c.args.origin.now (g.D.Shelf.puts c.args.shelf.now)
-    c.in_err-tip.field-0.0 c.in_err-tip.ensures.damaged)
+pub returns-in-Err-clause-in_use : goal.returns-in-Err-clause-in_use
+returns-in-Err-clause-in_use g c =
+    (tip_not_in_use g.H.TreeHash.digest c.args.origin.now (g.D.Shelf.puts c.args.shelf.now)
+    c.in-Err.fault c.in-Err.ensures.damaged)
 
-pub returns-in_err-done-clause-in_use : goal.returns-in_err-done-clause-in_use
-returns-in_err-done-clause-in_use g c =
-    let p = err_from_is_err_and c.from_residual-in_err-done.result c.from_residual-in_err-done.ensures.1 in
-    rw (p.1, p.2) (in_use_later g.H.TreeHash.digest c.args.origin.now c.bring_from-done.new.places c.in_ok-tip.tip
-    c.in-Some.head.0 (g.D.Shelf.puts c.args.shelf.now) (g.D.Shelf.puts c.read_tip.new.shelf) c.in_err-done.field-0.0
-    c.read_tip.ensures.same c.in_ok-tip.ensures.tip c.in_err-done.ensures.blames)
+pub returns-in-Err-done-clause-in_use : goal.returns-in-Err-done-clause-in_use
+returns-in-Err-done-clause-in_use g c =
+    (in_use_later g.H.TreeHash.digest c.args.origin.now c.bring_from-done.new.places c.in-Ok.tip
+    c.in-Some.head.0 (g.D.Shelf.puts c.args.shelf.now) (g.D.Shelf.puts c.read_tip.new.shelf) c.in-Err-done.fault
+    c.read_tip.ensures.same c.in-Ok.ensures.tip c.in-Err-done.ensures.blames)
 
 pub returns-in_default-clause-suffices : goal.returns-in_default-clause-suffices
 returns-in_default-clause-suffices g c = λ h.
     let none = rw c.in_default.is at c.in_ok-head.ensures.none in absurd (none h.size h.root h.is_head)
 
-pub returns-in_err-tip-clause-suffices : goal.returns-in_err-tip-clause-suffices
-returns-in_err-tip-clause-suffices g c = λ h.
-    let p = err_from_is_err_and c.from_residual-in_err-tip.result c.from_residual-in_err-tip.ensures.1 in
-    rw (p.1, p.2) (read_fails g.H.TreeHash.digest c.args.origin.now (take h.size h.entries) (g.D.Shelf.puts c.args.shelf.now)
-    c.in_err-tip.field-0.0 h.holds c.in_err-tip.ensures.damaged c.in_err-tip.ensures.fault)
+pub returns-in-Err-clause-suffices : goal.returns-in-Err-clause-suffices
+returns-in-Err-clause-suffices g c = λ h.
+    (read_fails g.H.TreeHash.digest c.args.origin.now (take h.size h.entries) (g.D.Shelf.puts c.args.shelf.now)
+    c.in-Err.fault h.holds c.in-Err.ensures.damaged c.in-Err.ensures.fault)
 
-pub returns-in_err-done-clause-suffices : goal.returns-in_err-done-clause-suffices
-returns-in_err-done-clause-suffices g c = λ h.
-    let p = err_from_is_err_and c.from_residual-in_err-done.result c.from_residual-in_err-done.ensures.1 in
+pub returns-in-Err-done-clause-suffices : goal.returns-in-Err-done-clause-suffices
+returns-in-Err-done-clause-suffices g c = λ h.
     let digest = g.H.TreeHash.digest in
     let origin = c.args.origin.now in
-    let tip = c.in_ok-tip.tip in
+    let tip = c.in-Ok.tip in
     let head = c.in-Some.head in
     let x = g.D.Shelf.puts c.args.shelf.now in
     let y = g.D.Shelf.puts c.read_tip.new.shelf in
-    rw (p.1, p.2) (ended_for digest g.S.Source.may_answer origin c.args.note.now x y c.args.places.now c.keep_ends.new.self
-    c.bring_from-done.new.places (c.keep_ends.ensures.list ∙ c.begin.ensures.list) c.read_tip.ensures.same tip c.in_ok-tip.ensures.tip head.0 head.1
-    (rw c.in-Some.is at c.in_ok-head.ensures.found) c.in_err-done.field-0.0 c.in_err-done.ensures.blames
-    c.in_err-done.ensures.honest h)
+    (ended_for digest g.S.Source.may_answer origin c.args.note.now x y c.args.places.now c.keep_ends.new.self
+    c.bring_from-done.new.places (c.keep_ends.ensures.list ∙ c.begin.ensures.list) c.read_tip.ensures.same tip c.in-Ok.ensures.tip head.0 head.1
+    (rw c.in-Some.is at c.in_ok-head.ensures.found) c.in-Err-done.fault c.in-Err-done.ensures.blames
+    c.in-Err-done.ensures.honest h)
 
-pub returns-in_err-tip-clause-damaged : goal.returns-in_err-tip-clause-damaged
-returns-in_err-tip-clause-damaged g c =
-    let p = err_from_is_err_and c.from_residual-in_err-tip.result c.from_residual-in_err-tip.ensures.1 in
-    rw (p.1, p.2) (tip_damaged c.in_err-tip.field-0.0 c.in_err-tip.ensures.damaged)
+pub returns-in-Err-clause-damaged : goal.returns-in-Err-clause-damaged
+returns-in-Err-clause-damaged g c =
+    (tip_damaged c.in-Err.fault c.in-Err.ensures.damaged)
 
-pub returns-in_err-done-clause-damaged : goal.returns-in_err-done-clause-damaged
-returns-in_err-done-clause-damaged g c =
-    let p = err_from_is_err_and c.from_residual-in_err-done.result c.from_residual-in_err-done.ensures.1 in
-    rw (p.1, p.2) (not_damaged_later g.H.TreeHash.digest c.bring_from-done.new.places c.in-Some.head.0 c.in_ok-tip.tip
-    (g.D.Shelf.puts c.read_tip.new.shelf) c.in_err-done.field-0.0 c.in_err-done.ensures.blames)
+pub returns-in-Err-done-clause-damaged : goal.returns-in-Err-done-clause-damaged
+returns-in-Err-done-clause-damaged g c =
+    (not_damaged_later g.H.TreeHash.digest c.bring_from-done.new.places c.in-Some.head.0 c.in-Ok.tip
+    (g.D.Shelf.puts c.read_tip.new.shelf) c.in-Err-done.fault c.in-Err-done.ensures.blames)
 
-pub returns-in_err-tip-clause-blames : goal.returns-in_err-tip-clause-blames
-returns-in_err-tip-clause-blames g c =
-    let p = err_from_is_err_and c.from_residual-in_err-tip.result c.from_residual-in_err-tip.ensures.1 in
-    rw (p.1, p.2) (blames_tip g.S.Source.may_answer g.S.Source.failed g.S.Source.asked c.args.places.now c.begin.new.self
-    c.in_err-tip.field-0.0 c.in_err-tip.ensures.damaged)
+pub returns-in-Err-clause-blames : goal.returns-in-Err-clause-blames
+returns-in-Err-clause-blames g c =
+    (blames_tip g.S.Source.may_answer g.S.Source.failed g.S.Source.asked c.args.places.now c.begin.new.self
+    c.in-Err.fault c.in-Err.ensures.damaged)
 
 pub returns-in_err-head-clause-pruned : goal.returns-in_err-head-clause-pruned
 returns-in_err-head-clause-pruned g c =
@@ -187,44 +177,40 @@ returns-in_default-clause-pruned g c =
     let x = g.D.Shelf.puts c.args.shelf.now in
     leaves_same g.H.TreeHash.digest c.args.origin.now c.args.note.now x x (kept_same x) BadCheckpoint
 
-pub returns-in_err-tip-clause-pruned : goal.returns-in_err-tip-clause-pruned
-returns-in_err-tip-clause-pruned g c =
-    let p = err_from_is_err_and c.from_residual-in_err-tip.result c.from_residual-in_err-tip.ensures.1 in
-    rw p.1 (leaves_same g.H.TreeHash.digest c.args.origin.now c.args.note.now (g.D.Shelf.puts c.args.shelf.now)
-    (g.D.Shelf.puts c.read_tip.new.shelf) c.read_tip.ensures.same p.0)
+pub returns-in-Err-clause-pruned : goal.returns-in-Err-clause-pruned
+returns-in-Err-clause-pruned g c =
+    (leaves_same g.H.TreeHash.digest c.args.origin.now c.args.note.now (g.D.Shelf.puts c.args.shelf.now)
+    (g.D.Shelf.puts c.read_tip.new.shelf) c.read_tip.ensures.same c.in-Err.fault)
 
-pub returns-in_err-done-clause-pruned : goal.returns-in_err-done-clause-pruned
-returns-in_err-done-clause-pruned g c =
-    let p = err_from_is_err_and c.from_residual-in_err-done.result c.from_residual-in_err-done.ensures.1 in
+pub returns-in-Err-done-clause-pruned : goal.returns-in-Err-done-clause-pruned
+returns-in-Err-done-clause-pruned g c =
     let x = g.D.Shelf.puts c.args.shelf.now in
     let w = g.D.Shelf.puts c.bring_from-done.new.shelf in
-    let left = (c.in_err-done.ensures.brings x c.read_tip.ensures.same c.in_ok-tip.ensures.tip).3 in
-    rw p.1 (leaves_err g.H.TreeHash.digest c.args.origin.now c.args.note.now x w c.in_err-done.field-0.0 p.0 left)
+    let left = (c.in-Err-done.ensures.brings x c.read_tip.ensures.same c.in-Ok.ensures.tip).3 in
+    (leaves_err g.H.TreeHash.digest c.args.origin.now c.args.note.now x w c.in-Err-done.fault c.in-Err-done.fault left)
 
-pub returns-clause-pruned : goal.returns-clause-pruned
-returns-clause-pruned g c =
+pub returns-in-Ok-done-clause-pruned : goal.returns-in-Ok-done-clause-pruned
+returns-in-Ok-done-clause-pruned g c =
     let x = g.D.Shelf.puts c.args.shelf.now in
     let w = g.D.Shelf.puts c.bring_from-done.new.shelf in
-    let left = (c.in_ok-done.ensures.brings x c.read_tip.ensures.same c.in_ok-tip.ensures.tip).3 in
+    let left = (c.in-Ok-done.ensures.brings x c.read_tip.ensures.same c.in-Ok.ensures.tip).3 in
     leaves_ok g.H.TreeHash.digest c.args.origin.now c.args.note.now x w _ c.size-had.result left
 
-pub returns-clause-had_pruned : goal.returns-clause-had_pruned
-returns-clause-had_pruned g c =
-    rw c.size-had.ensures (had_pruned g.H.TreeHash.digest c.args.origin.now c.in_ok-tip.tip
-    (g.D.Shelf.puts c.args.shelf.now) c.in_ok-tip.ensures.tip)
+pub returns-in-Ok-done-clause-had_pruned : goal.returns-in-Ok-done-clause-had_pruned
+returns-in-Ok-done-clause-had_pruned g c =
+    rw c.size-had.ensures (had_pruned g.H.TreeHash.digest c.args.origin.now c.in-Ok.tip
+    (g.D.Shelf.puts c.args.shelf.now) c.in-Ok.ensures.tip)
 
-pub returns-in_err-tip-clause-conflicts : goal.returns-in_err-tip-clause-conflicts
-returns-in_err-tip-clause-conflicts g c =
-    let p = err_from_is_err_and c.from_residual-in_err-tip.result c.from_residual-in_err-tip.ensures.1 in
-    rw (p.1, p.2) (λ conflict. no_conflict c.in_err-tip.field-0.0 _ c.in_err-tip.ensures.fault conflict)
+pub returns-in-Err-clause-conflicts : goal.returns-in-Err-clause-conflicts
+returns-in-Err-clause-conflicts g c =
+    (λ conflict. no_conflict c.in-Err.fault _ c.in-Err.ensures.fault conflict)
 
-pub returns-in_err-done-clause-conflicts : goal.returns-in_err-done-clause-conflicts
-returns-in_err-done-clause-conflicts g c =
-    let p = err_from_is_err_and c.from_residual-in_err-done.result c.from_residual-in_err-done.ensures.1 in
+pub returns-in-Err-done-clause-conflicts : goal.returns-in-Err-done-clause-conflicts
+returns-in-Err-done-clause-conflicts g c =
     let head = c.in-Some.head in
-    rw (p.1, p.2) (λ conflict. has_conflict g.H.TreeHash.digest c.args.origin.now c.args.note.now
-    (g.D.Shelf.puts c.args.shelf.now) c.in_ok-tip.tip head.0 head.1 c.in_err-done.field-0.0 c.in_ok-tip.ensures.tip
-    (rw c.in-Some.is at c.in_ok-head.ensures.found) c.in_err-done.ensures.empty conflict)
+    (λ conflict. has_conflict g.H.TreeHash.digest c.args.origin.now c.args.note.now
+    (g.D.Shelf.puts c.args.shelf.now) c.in-Ok.tip head.0 head.1 c.in-Err-done.fault c.in-Ok.ensures.tip
+    (rw c.in-Some.is at c.in_ok-head.ensures.found) c.in-Err-done.ensures.empty conflict)
 
 pub returns-in_err-head-clause-once : goal.returns-in_err-head-clause-once
 returns-in_err-head-clause-once g c =
@@ -234,36 +220,34 @@ pub returns-in_default-clause-once : goal.returns-in_default-clause-once
 returns-in_default-clause-once g c =
     once_begun g.S.Source.asked (IsKept c.begin.new.self) c.args.places.now c.begin.new.self c.begin.ensures.list
 
-pub returns-in_err-tip-clause-once : goal.returns-in_err-tip-clause-once
-returns-in_err-tip-clause-once g c =
+pub returns-in-Err-clause-once : goal.returns-in-Err-clause-once
+returns-in-Err-clause-once g c =
     once_begun g.S.Source.asked (IsKept c.begin.new.self) c.args.places.now c.begin.new.self c.begin.ensures.list
 
-pub returns-in_err-done-clause-once : goal.returns-in_err-done-clause-once
-returns-in_err-done-clause-once g c =
+pub returns-in-Err-done-clause-once : goal.returns-in-Err-done-clause-once
+returns-in-Err-done-clause-once g c =
     begun_once g.S.Source.asked (λ k path. ⊤) c.args.places.now c.keep_ends.new.self c.bring_from-done.new.places
     (c.keep_ends.ensures.list ∙ c.begin.ensures.list) c.bring_from-done.ensures.once
 
-pub returns-clause-once : goal.returns-clause-once
-returns-clause-once g c =
+pub returns-in-Ok-done-clause-once : goal.returns-in-Ok-done-clause-once
+returns-in-Ok-done-clause-once g c =
     begun_once g.S.Source.asked (λ k path. ⊤) c.args.places.now c.keep_ends.new.self c.bring_from-done.new.places
     (c.keep_ends.ensures.list ∙ c.begin.ensures.list) c.bring_from-done.ensures.once
 
-pub returns-in_err-tip-clause-ends : goal.returns-in_err-tip-clause-ends
-returns-in_err-tip-clause-ends g c =
-    let p = err_from_is_err_and c.from_residual-in_err-tip.result c.from_residual-in_err-tip.ensures.1 in
-    rw (p.1, p.2) (λ conflict. no_conflict c.in_err-tip.field-0.0 _ c.in_err-tip.ensures.fault conflict)
+pub returns-in-Err-clause-ends : goal.returns-in-Err-clause-ends
+returns-in-Err-clause-ends g c =
+    (λ conflict. no_conflict c.in-Err.fault _ c.in-Err.ensures.fault conflict)
 
-pub returns-in_err-done-clause-ends : goal.returns-in_err-done-clause-ends
-returns-in_err-done-clause-ends g c =
-    let p = err_from_is_err_and c.from_residual-in_err-done.result c.from_residual-in_err-done.ensures.1 in
+pub returns-in-Err-done-clause-ends : goal.returns-in-Err-done-clause-ends
+returns-in-Err-done-clause-ends g c =
     let digest = g.H.TreeHash.digest in
     let origin = c.args.origin.now in
     let note = c.args.note.now in
     let x = g.D.Shelf.puts c.args.shelf.now in
     let head = c.in-Some.head in
     let had = subst (λ n. HadSize digest origin x n) (sym c.size-had.ensures)
-    (had_size digest origin c.in_ok-tip.tip x c.in_ok-tip.ensures.tip) in
-    rw (p.1, p.2) (λ conflict. subst (λ sizes. AreEnds digest origin note x sizes)
+    (had_size digest origin c.in-Ok.tip x c.in-Ok.ensures.tip) in
+    (λ conflict. subst (λ sizes. AreEnds digest origin note x sizes)
     (sym (c.bring_from-done.ensures.once.still.sizes_are ∙ c.keep_ends.ensures.ends)) (record {
       root = head.1;
       had_is = had;
@@ -317,45 +301,43 @@ pub returns-in_err-head-clause-ends : goal.returns-in_err-head-clause-ends
 returns-in_err-head-clause-ends g c =
     err_exit _ c.from_residual.result OutOfMemory c.from_residual.ensures (λ no. absurd no)
 
-pub returns-in_err-tip-clause-counted : goal.returns-in_err-tip-clause-counted
-returns-in_err-tip-clause-counted g c =
-    counted_exit c.from_residual-in_err-tip.result c.in_err-tip.field-0.0 c.from_residual-in_err-tip.ensures (g.D.Shelf.failed c.args.shelf.now)
-    (g.D.Shelf.failed c.args.shelf.now) (g.D.Shelf.failed c.read_tip.new.shelf) refl c.in_err-tip.ensures.counted
+pub returns-in-Err-clause-counted : goal.returns-in-Err-clause-counted
+returns-in-Err-clause-counted g c =
+    c.in-Err.ensures.counted
 
-pub returns-in_err-tip-clause-had : goal.returns-in_err-tip-clause-had
-returns-in_err-tip-clause-had g c =
-    IfOk-from_err c.from_residual-in_err-tip.result _ c.from_residual-in_err-tip.ensures.0
+pub returns-in-Err-clause-had : goal.returns-in-Err-clause-had
+returns-in-Err-clause-had g c =
+    tt
 
-pub returns-in_err-tip-clause-had_pruned : goal.returns-in_err-tip-clause-had_pruned
-returns-in_err-tip-clause-had_pruned g c =
-    IfOk-from_err c.from_residual-in_err-tip.result _ c.from_residual-in_err-tip.ensures.0
+pub returns-in-Err-clause-had_pruned : goal.returns-in-Err-clause-had_pruned
+returns-in-Err-clause-had_pruned g c =
+    tt
 
-pub returns-in_err-tip-clause-conflict : goal.returns-in_err-tip-clause-conflict
-returns-in_err-tip-clause-conflict g c =
-    err_exit _ c.from_residual-in_err-tip.result c.in_err-tip.field-0.0 c.from_residual-in_err-tip.ensures (λ no. c.read_tip.ensures.same)
+pub returns-in-Err-clause-conflict : goal.returns-in-Err-clause-conflict
+returns-in-Err-clause-conflict g c =
+    (λ no. c.read_tip.ensures.same)
 
-pub returns-in_err-done-clause-counted : goal.returns-in_err-done-clause-counted
-returns-in_err-done-clause-counted g c =
-    counted_exit c.from_residual-in_err-done.result c.in_err-done.field-0.0 c.from_residual-in_err-done.ensures (g.D.Shelf.failed c.args.shelf.now)
-    (g.D.Shelf.failed c.read_tip.new.shelf) (g.D.Shelf.failed c.bring_from-done.new.shelf) c.in_ok-tip.ensures.counted c.in_err-done.ensures.counted
+pub returns-in-Err-done-clause-counted : goal.returns-in-Err-done-clause-counted
+returns-in-Err-done-clause-counted g c =
+    (subst (λ n. CountsFault n (g.D.Shelf.failed c.bring_from-done.new.shelf) c.in-Err-done.fault) c.in-Ok.ensures.counted c.in-Err-done.ensures.counted)
 
-pub returns-in_err-done-clause-had : goal.returns-in_err-done-clause-had
-returns-in_err-done-clause-had g c =
-    IfOk-from_err c.from_residual-in_err-done.result _ c.from_residual-in_err-done.ensures.0
+pub returns-in-Err-done-clause-had : goal.returns-in-Err-done-clause-had
+returns-in-Err-done-clause-had g c =
+    tt
 
-pub returns-in_err-done-clause-had_pruned : goal.returns-in_err-done-clause-had_pruned
-returns-in_err-done-clause-had_pruned g c =
-    IfOk-from_err c.from_residual-in_err-done.result _ c.from_residual-in_err-done.ensures.0
+pub returns-in-Err-done-clause-had_pruned : goal.returns-in-Err-done-clause-had_pruned
+returns-in-Err-done-clause-had_pruned g c =
+    tt
 
-pub returns-in_err-done-clause-conflict : goal.returns-in_err-done-clause-conflict
-returns-in_err-done-clause-conflict g c =
-    err_exit _ c.from_residual-in_err-done.result c.in_err-done.field-0.0 c.from_residual-in_err-done.ensures (λ no. kept_then (g.D.Shelf.puts c.args.shelf.now) (g.D.Shelf.puts c.read_tip.new.shelf)
-    (g.D.Shelf.puts c.bring_from-done.new.shelf) c.read_tip.ensures.same (c.in_err-done.ensures.conflict no))
+pub returns-in-Err-done-clause-conflict : goal.returns-in-Err-done-clause-conflict
+returns-in-Err-done-clause-conflict g c =
+    (λ no. kept_then (g.D.Shelf.puts c.args.shelf.now) (g.D.Shelf.puts c.read_tip.new.shelf)
+    (g.D.Shelf.puts c.bring_from-done.new.shelf) c.read_tip.ensures.same (c.in-Err-done.ensures.conflict no))
 
-pub returns-in_err-done-clause-whole : goal.returns-in_err-done-clause-whole
-returns-in_err-done-clause-whole g c =
-    (c.in_err-done.ensures.brings (g.D.Shelf.puts c.args.shelf.now) c.read_tip.ensures.same c.in_ok-tip.ensures.tip).0
+pub returns-in-Err-done-clause-whole : goal.returns-in-Err-done-clause-whole
+returns-in-Err-done-clause-whole g c =
+    (c.in-Err-done.ensures.brings (g.D.Shelf.puts c.args.shelf.now) c.read_tip.ensures.same c.in-Ok.ensures.tip).0
 
-pub returns-in_err-done-clause-stays : goal.returns-in_err-done-clause-stays
-returns-in_err-done-clause-stays g c =
-    err_exit _ c.from_residual-in_err-done.result c.in_err-done.field-0.0 c.from_residual-in_err-done.ensures (c.in_err-done.ensures.brings (g.D.Shelf.puts c.args.shelf.now) c.read_tip.ensures.same c.in_ok-tip.ensures.tip).2
+pub returns-in-Err-done-clause-stays : goal.returns-in-Err-done-clause-stays
+returns-in-Err-done-clause-stays g c =
+    (c.in-Err-done.ensures.brings (g.D.Shelf.puts c.args.shelf.now) c.read_tip.ensures.same c.in-Ok.ensures.tip).2

@@ -1,5 +1,4 @@
 use Rattle.std.proofs.Common.{◌≤◌, inl, subst, sym, arith}
-use Rattle.std.proofs.lemmas.Result.{err_from_is_err_and}
 use Rattle.mirror_model.specs.Heads.{IsHead}
 use Rattle.mirror_places.specs.Asked.{IsEdgeTile}
 use Rattle.mirror_copy.specs.Asked.{IsEdgeBundleOrNew, MayBeAsked}
@@ -19,22 +18,19 @@ use Rattle.mirror_copy.proofs.Between.{once_larger}
 use Rattle.mirror_places.specs.AskedOnce.{AsksOnce}
 use Rattle.std.specs.Prelude.{⊤}
 use Rattle.std.proofs.Common.{inr, refl}
-use Rattle.mirror_copy.proofs.Exits.{counted_exit, err_exit}
 use Rattle.mirror_copy.proofs.copy.bring_larger.Goals as goal
 
-pub returns-in_err-edge-clause-brings : goal.returns-in_err-edge-clause-brings
-returns-in_err-edge-clause-brings g c = λ before kept t.
-    let p = err_from_is_err_and c.from_residual.result c.from_residual.ensures.1 in
+pub returns-in-Err-clause-brings : goal.returns-in-Err-clause-brings
+returns-in-Err-clause-brings g c = λ before kept t.
     let x = g.D.Shelf.puts c.args.shelf.now in
-    let y = g.D.Shelf.puts c.find_new_edge.new.shelf in
-    rw (p.1, p.2) (
+    let y = g.D.Shelf.puts c.find_new_edge.new.shelf in (
       whole_same g.H.TreeHash.digest c.args.origin.now c.args.candidate.now.note.now before y
           (kept_then before x y kept c.find_new_edge.ensures.same),
       tt,
       stays_same g.H.TreeHash.digest c.args.origin.now before y
           (kept_then before x y kept c.find_new_edge.ensures.same),
       leaves_same g.H.TreeHash.digest c.args.origin.now c.args.candidate.now.note.now before y
-          (kept_then before x y kept c.find_new_edge.ensures.same) c.in_err-edge.field-0.0,
+          (kept_then before x y kept c.find_new_edge.ensures.same) c.in-Err.fault,
     )
 
 pub returns-clause-conflict : goal.returns-clause-conflict
@@ -53,11 +49,11 @@ returns-clause-brings g c = λ before kept t.
     let note = candidate.note.now in
     let root = candidate.root in
     let tip = c.args.tip.now in
-    let edge = c.in_ok-edge.edge in
+    let edge = c.in-Ok.edge in
     let x = g.D.Shelf.puts c.args.shelf.now in
     let y = g.D.Shelf.puts c.find_new_edge.new.shelf in
     let w = g.D.Shelf.puts c.bring_to_edge-done.new.shelf in
-    let leads = c.in_ok-edge.ensures.leads in
+    let leads = c.in-Ok.ensures.leads in
     let size_is = leads.is_edge.size_is in
     let larger = c.requires.larger in
     let head = subst (λ n. IsHead note origin n root) (sym size_is) c.requires.head in
@@ -77,8 +73,8 @@ returns-clause-brings g c = λ before kept t.
           c.bring_to_edge-done.result c.bring_to_edge-done.ensures.brings),
     )
 
-pub returns-in_err-edge-clause-asks : goal.returns-in_err-edge-clause-asks
-returns-in_err-edge-clause-asks g c =
+pub returns-in-Err-clause-asks : goal.returns-in-Err-clause-asks
+returns-in-Err-clause-asks g c =
     asks_weaker g.S.Source.may_answer g.S.Source.failed g.S.Source.asked (IsEdgeTile c.args.candidate.now.size)
     (MayBeAsked c.args.tip.now.size c.args.candidate.now.size) (λ path h. inl h) c.args.places.now c.find_new_edge.new.places
     c.find_new_edge.ensures.asks
@@ -88,7 +84,7 @@ returns-clause-asks g c =
     larger_asks g.S.Source.may_answer g.S.Source.failed g.S.Source.asked c.args.candidate.now.size c.args.tip.now.size c.args.places.now
     c.find_new_edge.new.places c.bring_to_edge-done.new.places c.find_new_edge.ensures.asks
     (subst (λ n. AsksPlaces g.S.Source.may_answer g.S.Source.failed g.S.Source.asked (IsEdgeBundleOrNew n c.args.tip.now.size) c.find_new_edge.new.places
-    c.bring_to_edge-done.new.places) c.in_ok-edge.ensures.leads.is_edge.size_is c.bring_to_edge-done.ensures.asks)
+    c.bring_to_edge-done.new.places) c.in-Ok.ensures.leads.is_edge.size_is c.bring_to_edge-done.ensures.asks)
 
 pub returns-clause-blames : goal.returns-clause-blames
 returns-clause-blames g c =
@@ -96,13 +92,12 @@ returns-clause-blames g c =
     (g.D.Shelf.puts c.find_new_edge.new.shelf) c.bring_to_edge-done.result c.find_new_edge.ensures.same
     c.bring_to_edge-done.ensures.blames
 
-pub returns-in_err-edge-clause-honest : goal.returns-in_err-edge-clause-honest
-returns-in_err-edge-clause-honest g c =
-    let p = err_from_is_err_and c.from_residual.result c.from_residual.ensures.1 in
-    rw (p.1, p.2) (λ entries h t.
-    spared c.in_err-edge.field-0.0
-    (c.in_err-edge.ensures.suffices entries (record { short = h.one.short; upto = h.one.upto; root_is = h.root_is }) h.one.place)
-    c.in_err-edge.ensures.fault)
+pub returns-in-Err-clause-honest : goal.returns-in-Err-clause-honest
+returns-in-Err-clause-honest g c =
+    (λ entries h t.
+    spared c.in-Err.fault
+    (c.in-Err.ensures.suffices entries (record { short = h.one.short; upto = h.one.upto; root_is = h.root_is }) h.one.place)
+    c.in-Err.ensures.fault)
 
 pub returns-clause-honest : goal.returns-clause-honest
 returns-clause-honest g c =
@@ -111,7 +106,7 @@ returns-clause-honest g c =
     let asked = g.S.Source.asked in
     let digest = g.H.TreeHash.digest in
     let n = c.args.candidate.now.size in
-    let edge = c.in_ok-edge.edge in
+    let edge = c.in-Ok.edge in
     let tile = IsEdgeTile n in
     let x = c.args.places.now in
     let y = c.find_new_edge.new.places in
@@ -124,10 +119,10 @@ returns-clause-honest g c =
     c.find_new_edge.ensures.asks c.bring_to_edge-done.ensures.asks (asks_same may failed asked tile z)
     (puts_none may failed asked x a b c.find_new_edge.ensures.same) h.one) t
     (edge_had digest g.met.H.TreeHash.digest_length may a x z entries n c.args.candidate.now.root (omega arith) h edge
-    c.in_ok-edge.ensures.leads c.in_ok-edge.ensures.taken)) c.bring_to_edge-done.ensures.honest
+    c.in-Ok.ensures.leads c.in-Ok.ensures.taken)) c.bring_to_edge-done.ensures.honest
 
-pub returns-in_err-edge-clause-once : goal.returns-in_err-edge-clause-once
-returns-in_err-edge-clause-once g c =
+pub returns-in-Err-clause-once : goal.returns-in-Err-clause-once
+returns-in-Err-clause-once g c =
     once_weaker g.S.Source.asked (λ k. IsEdgeTile c.args.candidate.now.size) (λ k path. ⊤) (λ k path h. tt)
     c.args.places.now c.find_new_edge.new.places c.find_new_edge.ensures.once
 
@@ -136,21 +131,20 @@ returns-clause-once g c =
     once_larger g.S.Source.asked c.args.candidate.now.size c.args.places.now c.find_new_edge.new.places
     c.bring_to_edge-done.new.places c.find_new_edge.ensures.once
     (subst (λ n. AsksOnce g.S.Source.asked (λ k path. ¬ IsEdgeTile n path) c.find_new_edge.new.places
-    c.bring_to_edge-done.new.places) c.in_ok-edge.ensures.leads.is_edge.size_is c.bring_to_edge-done.ensures.once)
+    c.bring_to_edge-done.new.places) c.in-Ok.ensures.leads.is_edge.size_is c.bring_to_edge-done.ensures.once)
 
-pub returns-in_err-edge-clause-counted : goal.returns-in_err-edge-clause-counted
-returns-in_err-edge-clause-counted g c =
-    counted_exit c.from_residual.result c.in_err-edge.field-0.0 c.from_residual.ensures (g.D.Shelf.failed c.args.shelf.now)
-    (g.D.Shelf.failed c.args.shelf.now) (g.D.Shelf.failed c.find_new_edge.new.shelf) refl c.in_err-edge.ensures.counted
+pub returns-in-Err-clause-counted : goal.returns-in-Err-clause-counted
+returns-in-Err-clause-counted g c =
+    c.in-Err.ensures.counted
 
-pub returns-in_err-edge-clause-blames : goal.returns-in_err-edge-clause-blames
-returns-in_err-edge-clause-blames g c =
-    err_exit _ c.from_residual.result c.in_err-edge.field-0.0 c.from_residual.ensures (inr c.in_err-edge.ensures.blames)
+pub returns-in-Err-clause-blames : goal.returns-in-Err-clause-blames
+returns-in-Err-clause-blames g c =
+    (inr c.in-Err.ensures.blames)
 
-pub returns-in_err-edge-clause-empty : goal.returns-in_err-edge-clause-empty
-returns-in_err-edge-clause-empty g c =
-    err_exit _ c.from_residual.result c.in_err-edge.field-0.0 c.from_residual.ensures (λ is. c.in_err-edge.ensures.fault)
+pub returns-in-Err-clause-empty : goal.returns-in-Err-clause-empty
+returns-in-Err-clause-empty g c =
+    (λ is. c.in-Err.ensures.fault)
 
-pub returns-in_err-edge-clause-conflict : goal.returns-in_err-edge-clause-conflict
-returns-in_err-edge-clause-conflict g c =
-    err_exit _ c.from_residual.result c.in_err-edge.field-0.0 c.from_residual.ensures (λ is. c.find_new_edge.ensures.same)
+pub returns-in-Err-clause-conflict : goal.returns-in-Err-clause-conflict
+returns-in-Err-clause-conflict g c =
+    (λ is. c.find_new_edge.ensures.same)

@@ -1,5 +1,4 @@
 use Rattle.std.proofs.Common.{rules, ◌≡◌, ◌⊎◌, ◌+◌, ◌*◌, ◌≤◌, ℕ, List, [], ◌∷◌, length, take, refl, subst, sym, ap, ◌∙◌, arith}
-use Rattle.std.proofs.lemmas.Result.{err_from_is_err_and}
 use Rattle.tlog_shape.specs.Edge.{edge_index_of, width_of}
 use Rattle.tlog_tiles.specs.declared.paths.Path.TheVariants.{Entries}
 use Rattle.mirror_sources.specs.Recorded.{KeepsRecord, AddsToRecord}
@@ -22,11 +21,12 @@ use Rattle.mirror_copy.proofs.Finishing.{brings_last, last_left, last_none, last
 use Rattle.mirror_copy.proofs.EmptyTips.{bundle_after, row_after}
 use Rattle.mirror_places.proofs.AskingOnce.{once_same, once_weaker}
 use Rattle.mirror_copy.proofs.Between.{bundle_partial}
-use Rattle.mirror_copy.proofs.Exits.{counted_exit, counted_last, err_exit, no_place}
+use Rattle.mirror_copy.proofs.Exits.{counted_last, no_place}
 use Rattle.mirror_copy.proofs.Earlier.{early_result}
 use Rattle.mirror_copy.proofs.Spared.{err_weaker}
 use Rattle.mirror_copy.specs.Conflicts.{IsNoConflict}
 use Rattle.mirror_copy.specs.Faults.{BlamesPlaces, IsOfNoPlace}
+use Rattle.std.proofs.Common.{Err}
 use Rattle.mirror_copy.proofs.edge_bundle.bring_edge_bundle.Goals as goal
 
 pub returns-then-is_empty-clause-brings : goal.returns-then-is_empty-clause-brings
@@ -40,10 +40,9 @@ returns-then-is_none-clause-brings g c = λ known is.
     left_none g.H.TreeHash.digest c.args.tip.now.size known (g.D.Shelf.puts c.args.shelf.now)
     (g.D.Shelf.puts c.args.shelf.now) (kept_same (g.D.Shelf.puts c.args.shelf.now))
 
-pub returns-in_err-bytes-clause-brings : goal.returns-in_err-bytes-clause-brings
-returns-in_err-bytes-clause-brings g c = λ known is.
-    let p = err_from_is_err_and c.from_residual.result c.from_residual.ensures.1 in
-    rw p.1 (left_none g.H.TreeHash.digest c.args.tip.now.size known (g.D.Shelf.puts c.args.shelf.now)
+pub returns-in-Err-clause-brings : goal.returns-in-Err-clause-brings
+returns-in-Err-clause-brings g c = λ known is.
+    (left_none g.H.TreeHash.digest c.args.tip.now.size known (g.D.Shelf.puts c.args.shelf.now)
     (g.D.Shelf.puts c.find_edge_bundle.new.shelf) c.find_edge_bundle.ensures.same)
 
 pub returns-then-not-goes_on-clause-brings : goal.returns-then-not-goes_on-clause-brings
@@ -59,13 +58,13 @@ returns-clause-brings g c = λ known is.
     let index = edge_index_of edge.size 0 in
     let row = row_at edge 0 in
     let width = length row in
-    let bytes = c.in_ok-bytes.bytes.items in
+    let bytes = c.in-Ok.bytes.items in
     let x = g.D.Shelf.puts c.args.shelf.now in
     let y = g.D.Shelf.puts c.find_edge_bundle.new.shelf in
     let z = g.D.Shelf.puts c.keep.new.shelf in
     let some : 1 ≤ length c.row-row.result.now = search rules in
     let some_row = subst (λ (r : List (List ℕ)). 1 ≤ length r) c.row-row.ensures some in
-    let v = subst (λ (r : List (List ℕ)). HasLeaves digest (length r) bytes r) c.row-row.ensures c.in_ok-bytes.ensures.found in
+    let v = subst (λ (r : List (List ℕ)). HasLeaves digest (length r) bytes r) c.row-row.ensures c.in-Ok.ensures.found in
     let at : c.edge_index-index.result ≡ index = c.edge_index-index.ensures ∙ ap (λ n. edge_index_of n 0) c.size.ensures in
     let there : c.edge_index-index.result ≡ edge_index_of tip.size 0 →
     take (length tip.bundle) c.deref.result.now ≡ tip.bundle = search rules in
@@ -92,8 +91,8 @@ returns-then-is_empty-clause-asks g c = asks_same g.S.Source.may_answer g.S.Sour
 pub returns-then-is_none-clause-asks : goal.returns-then-is_none-clause-asks
 returns-then-is_none-clause-asks g c = asks_same g.S.Source.may_answer g.S.Source.failed g.S.Source.asked (IsEdgeBundle c.args.edge.now.size) c.args.places.now
 
-pub returns-in_err-bytes-clause-asks : goal.returns-in_err-bytes-clause-asks
-returns-in_err-bytes-clause-asks g c =
+pub returns-in-Err-clause-asks : goal.returns-in-Err-clause-asks
+returns-in-Err-clause-asks g c =
     let some : 1 ≤ length c.row-row.result.now = search rules in
     let at : c.edge_index-index.result ≡ edge_index_of c.args.edge.now.size 0 =
     c.edge_index-index.ensures ∙ ap (λ n. edge_index_of n 0) c.size.ensures in
@@ -142,10 +141,9 @@ returns-then-is_none-clause-honest g c = λ entries size h t is.
     (subst (λ i. IsTileRow digest log 0 i c.row-row.result.now) (sym at) row) (of_none c.first_new.result none c.first_new.ensures.none) ⊥
     (of_none c.first_new.result none c.first_new.ensures.differs)
 
-pub returns-in_err-bytes-clause-honest : goal.returns-in_err-bytes-clause-honest
-returns-in_err-bytes-clause-honest g c =
-    let p = err_from_is_err_and c.from_residual.result c.from_residual.ensures.1 in
-    rw (p.1, p.2) (λ entries size h t is.
+pub returns-in-Err-clause-honest : goal.returns-in-Err-clause-honest
+returns-in-Err-clause-honest g c =
+    (λ entries size h t is.
     let digest = g.H.TreeHash.digest in
     let edge = c.args.edge.now in
     let index = c.edge_index-index.result in
@@ -154,7 +152,7 @@ returns-in_err-bytes-clause-honest g c =
     let some : 1 ≤ length row = search rules in
     let leaves = subst (λ (r : List (List ℕ)). HasTrueLeaves digest entries (Entries index (length row)) r) (sym c.row-row.ensures)
     (true_leaves digest entries size h.upto edge c.requires.widths is index (length row) at (ap length c.row-row.ensures) some) in
-    spared c.in_err-bytes.field-0.0 (c.in_err-bytes.ensures.suffices entries h.short leaves h.place) c.in_err-bytes.ensures.fault)
+    spared c.in-Err.fault (c.in-Err.ensures.suffices entries h.short leaves h.place) c.in-Err.ensures.fault)
 
 pub returns-then-not-goes_on-clause-honest : goal.returns-then-not-goes_on-clause-honest
 returns-then-not-goes_on-clause-honest g c = λ entries size h t is.
@@ -163,10 +161,10 @@ returns-then-not-goes_on-clause-honest g c = λ entries size h t is.
     let edge = c.args.edge.now in
     let index = c.edge_index-index.result in
     let row = c.row-row.result.now in
-    let bytes = c.in_ok-bytes.bytes.items in
-    let v = c.in_ok-bytes.ensures.found in
+    let bytes = c.in-Ok.bytes.items in
+    let v = c.in-Ok.ensures.found in
     let at : index ≡ edge_index_of edge.size 0 = c.edge_index-index.ensures ∙ ap (λ n. edge_index_of n 0) c.size.ensures in
-    let clean = h.clear.bundle index (length row) bytes v.entries c.in_ok-bytes.ensures.taken v.is_bundle in
+    let clean = h.clear.bundle index (length row) bytes v.entries c.in-Ok.ensures.taken v.is_bundle in
     let true = edge_bundle_true digest g.met.H.TreeHash.digest_length log edge c.requires.widths is index (length row) bytes row at
     c.row-row.ensures refl v clean in
     let no : IsFalse c.goes_on.result = search rules in
@@ -200,8 +198,8 @@ pub returns-then-is_none-clause-once : goal.returns-then-is_none-clause-once
 returns-then-is_none-clause-once g c =
     once_same g.S.Source.asked (λ k. IsEdgeBundle c.args.edge.now.size) c.args.places.now
 
-pub returns-in_err-bytes-clause-once : goal.returns-in_err-bytes-clause-once
-returns-in_err-bytes-clause-once g c =
+pub returns-in-Err-clause-once : goal.returns-in-Err-clause-once
+returns-in-Err-clause-once g c =
     let some : 1 ≤ length c.row-row.result.now = search rules in
     let at : c.edge_index-index.result ≡ edge_index_of c.args.edge.now.size 0 =
     c.edge_index-index.ensures ∙ ap (λ n. edge_index_of n 0) c.size.ensures in
@@ -239,28 +237,27 @@ returns-clause-once g c =
     c.args.places.now c.find_edge_bundle.new.places (c.find_edge_bundle.ensures.once
     (bundle_partial c.edge_index-index.result (length c.row-row.result.now) c.args.edge.now.size wide))
 
-pub returns-in_err-bytes-clause-counted : goal.returns-in_err-bytes-clause-counted
-returns-in_err-bytes-clause-counted g c =
-    counted_exit c.from_residual.result c.in_err-bytes.field-0.0 c.from_residual.ensures (g.D.Shelf.failed c.args.shelf.now)
-    (g.D.Shelf.failed c.args.shelf.now) (g.D.Shelf.failed c.find_edge_bundle.new.shelf) refl c.in_err-bytes.ensures.counted
+pub returns-in-Err-clause-counted : goal.returns-in-Err-clause-counted
+returns-in-Err-clause-counted g c =
+    c.in-Err.ensures.counted
 
-pub returns-in_err-bytes-clause-blames : goal.returns-in_err-bytes-clause-blames
-returns-in_err-bytes-clause-blames g c =
-    err_exit _ c.from_residual.result c.in_err-bytes.field-0.0 c.from_residual.ensures c.in_err-bytes.ensures.blames
+pub returns-in-Err-clause-blames : goal.returns-in-Err-clause-blames
+returns-in-Err-clause-blames g c =
+    c.in-Err.ensures.blames
 
-pub returns-in_err-bytes-clause-early : goal.returns-in_err-bytes-clause-early
-returns-in_err-bytes-clause-early g c =
-    early_result (edge_index_of c.args.edge.now.size 0 * 256) c.args.tip.now.size
-    (g.D.Shelf.puts c.args.shelf.now) (g.D.Shelf.puts c.find_edge_bundle.new.shelf) c.from_residual.result (err_exit _ c.from_residual.result c.in_err-bytes.field-0.0 c.from_residual.ensures c.in_err-bytes.ensures.fault)
+pub returns-in-Err-clause-early : goal.returns-in-Err-clause-early
+returns-in-Err-clause-early g c =
+    early_result {T = Unit {0}} (edge_index_of c.args.edge.now.size 0 * 256) c.args.tip.now.size
+    (g.D.Shelf.puts c.args.shelf.now) (g.D.Shelf.puts c.find_edge_bundle.new.shelf) (Err c.in-Err.fault) (c.in-Err.ensures.fault)
 
-pub returns-in_err-bytes-clause-empty : goal.returns-in_err-bytes-clause-empty
-returns-in_err-bytes-clause-empty g c =
-    err_exit _ c.from_residual.result c.in_err-bytes.field-0.0 c.from_residual.ensures (λ is. c.in_err-bytes.ensures.fault)
+pub returns-in-Err-clause-empty : goal.returns-in-Err-clause-empty
+returns-in-Err-clause-empty g c =
+    (λ is. c.in-Err.ensures.fault)
 
 pub returns-clause-counted : goal.returns-clause-counted
 returns-clause-counted g c =
     counted_last c.keep.result (g.D.Shelf.failed c.args.shelf.now) (g.D.Shelf.failed c.find_edge_bundle.new.shelf) (g.D.Shelf.failed c.keep.new.shelf)
-    c.in_ok-bytes.ensures.counted c.keep.ensures.counted
+    c.in-Ok.ensures.counted c.keep.ensures.counted
 
 pub returns-clause-blames : goal.returns-clause-blames
 returns-clause-blames g c =

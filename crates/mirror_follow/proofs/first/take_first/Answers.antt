@@ -1,4 +1,3 @@
-use Rattle.std.proofs.lemmas.Result.{err_from_is_err_and}
 use Rattle.std.proofs.Common.{None, sym, true≢false, ◌∙◌}
 use Rattle.log_reader.proofs.Kept.{kept_once}
 use Rattle.mirror_candidates.proofs.Requests.{any_same}
@@ -18,25 +17,24 @@ pub returns-then-has_false_root-clause-after : goal.returns-then-has_false_root-
 returns-then-has_false_root-clause-after g c =
     let x = g.D.Shelf.puts c.args.shelf.now in each_same g.H.TreeHash.digest c.args.origin.now x x (kept_once x)
 
-pub returns-in_err-turn-clause-ends : goal.returns-in_err-turn-clause-ends
-returns-in_err-turn-clause-ends g c =
+pub returns-in-Err-clause-ends : goal.returns-in-Err-clause-ends
+returns-in-Err-clause-ends g c =
     let digest = g.H.TreeHash.digest in
     let origin = c.args.origin.now in
     let x = g.D.Shelf.puts c.args.shelf.now in
     let n = c.args.candidate.now.size.0 in
-    let p = err_from_is_err_and c.from_residual.result c.from_residual.ensures.1 in
     let Lost = HasStanding digest origin None x → ⊥ in
-    rw (p.1, p.2) (ends_so (HoldsNoCopy digest origin x) (HoldsNoSmaller digest origin n x) Lost Lost
-    c.in_err-turn.field-0.0 (λ h. h.not_none) (λ h. h.not_none) c.in_err-turn.ensures.ends)
+    (ends_so (HoldsNoCopy digest origin x) (HoldsNoSmaller digest origin n x) Lost Lost
+    c.in-Err.fault (λ h. h.not_none) (λ h. h.not_none) c.in-Err.ensures.ends)
 
-pub returns-clause-ends : goal.returns-clause-ends
-returns-clause-ends g c =
+pub returns-in-Ok-clause-ends : goal.returns-in-Ok-clause-ends
+returns-in-Ok-clause-ends g c =
     let digest = g.H.TreeHash.digest in
     let origin = c.args.origin.now in
     let candidate = c.args.candidate.now in
     let x = g.D.Shelf.puts c.args.shelf.now in
-    first_ends digest origin candidate x c.over_none.result c.in_ok-turn.turn c.requires
-    (λ f. true≢false (sym (c.has_false_root.ensures.1 f) ∙ c.if-has_false_root.false)) c.in_ok-turn.ensures.conflicts
+    first_ends digest origin candidate x c.over_none.result c.in-Ok.turn c.requires
+    (λ f. true≢false (sym (c.has_false_root.ensures.1 f) ∙ c.if-has_false_root.false)) c.in-Ok.ensures.conflicts
     c.over_none.ensures.ends
 
 pub returns-then-has_false_root-clause-asks : goal.returns-then-has_false_root-clause-asks
@@ -47,14 +45,13 @@ returns-then-has_false_root-clause-suffices g c = λ h.
     absurd (no_false_root g.H.TreeHash.digest g.S.Source.may_answer (g.D.Shelf.puts c.args.shelf.now) c.args.places.now
     c.args.places.now c.args.origin.now c.args.candidate.now h (c.has_false_root.ensures.0 c.if-has_false_root.true))
 
-pub returns-in_err-turn-clause-suffices : goal.returns-in_err-turn-clause-suffices
-returns-in_err-turn-clause-suffices g c = λ h.
-    let p = err_from_is_err_and c.from_residual.result c.from_residual.ensures.1 in
-    rw (p.1, p.2) (c.in_err-turn.ensures.suffices h)
+pub returns-in-Err-clause-suffices : goal.returns-in-Err-clause-suffices
+returns-in-Err-clause-suffices g c = λ h.
+    (c.in-Err.ensures.suffices h)
 
-pub returns-clause-suffices : goal.returns-clause-suffices
-returns-clause-suffices g c = λ h. c.over_none.ensures.suffices (c.in_ok-turn.ensures.suffices h)
+pub returns-in-Ok-clause-suffices : goal.returns-in-Ok-clause-suffices
+returns-in-Ok-clause-suffices g c = λ h. c.over_none.ensures.suffices (c.in-Ok.ensures.suffices h)
 
-pub returns-clause-spares : goal.returns-clause-spares
-returns-clause-spares g c =
-    same_spares c.over_none.result c.in_ok-turn.turn _ c.over_none.ensures.same c.in_ok-turn.ensures.spares
+pub returns-in-Ok-clause-spares : goal.returns-in-Ok-clause-spares
+returns-in-Ok-clause-spares g c =
+    same_spares c.over_none.result c.in-Ok.turn _ c.over_none.ensures.same c.in-Ok.ensures.spares
