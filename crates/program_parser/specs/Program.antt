@@ -41,6 +41,16 @@ second_app =
     with_commands first_app (follow_app ∷ audit_app ∷ status_app ∷ missing_app ∷ forks_app ∷ compare_app
     ∷ [])
 
+-- the names of the first commands, and those of the first two parts
+abbrev pub first_names : List Text
+first_names =
+    codes "root" ∷ codes "check" ∷ codes "build" ∷ codes "take" ∷ codes "merge" ∷ codes "pull" ∷ []
+
+abbrev pub second_names : List Text
+second_names =
+    codes "follow" ∷ codes "audit" ∷ codes "status" ∷ codes "missing" ∷ codes "forks"
+    ∷ codes "compare" ∷ first_names
+
 -- the program with its commands
 abbrev pub mirror_app : App
 mirror_app = with_commands program_app command_apps

@@ -2,7 +2,7 @@
 ghost use Rattle.std.specs.Prelude.{◌≡◌, IfOk, Some, false, map};
 ghost use Rattle.clap.specs.Words.{App, new_app, rule_of, with_rule};
 ghost use Rattle.program_parser.specs.Parser.{IsParserOf, argument_of, base_rules, line_app, with_rules};
-ghost use Rattle.program_words.specs.App.{argument_rule};
+ghost use Rattle.program_words.specs.App.{argument_rule, choice_rule, flag_rule};
 
 use clap::{Arg, ArgAction};
 use program_words::{Argument, Base, CommandLine, ORIGIN, WHY};
@@ -60,22 +60,34 @@ fn valued<'a>(
         .action(action)
 }
 
+// An option with a value, which may be missing.
+fn choice_of<'a>(alloc: Global, name: &'a str, value: &'a str, help: &'a str) -> Arg<'a>
+    ensures rule { rule_of result ≡ choice_rule name.entry.now }
+    ensures local { result.global ≡ false }
+{
+    valued(alloc, name, value, help, ArgAction::Set).long(name)
+}
+
+// An option without a value.
+fn flag_of<'a>(alloc: Global, name: &'a str, help: &'a str) -> Arg<'a>
+    ensures rule { rule_of result ≡ flag_rule name.entry.now }
+    ensures local { result.global ≡ false }
+{
+    Arg::new(alloc, name)
+        .help(help)
+        .long(name)
+        .action(ArgAction::SetTrue)
+}
+
 // The argument, as `clap` describes it.
 fn arg_of<'a>(alloc: Global, given: &Argument<'a>) -> Arg<'a>
     ensures rule { rule_of result ≡ argument_of given.now }
     ensures local { result.global ≡ false }
 {
     match *given {
-        Argument::Option(name, value, help) => valued(alloc, name, value, help, ArgAction::Set)
-            .long(name)
-            .required(true),
-        Argument::Choice(name, value, help) => {
-            valued(alloc, name, value, help, ArgAction::Set).long(name)
-        }
-        Argument::Flag(name, help) => Arg::new(alloc, name)
-            .help(help)
-            .long(name)
-            .action(ArgAction::SetTrue),
+        Argument::Option(name, value, help) => choice_of(alloc, name, value, help).required(true),
+        Argument::Choice(name, value, help) => choice_of(alloc, name, value, help),
+        Argument::Flag(name, help) => flag_of(alloc, name, help),
         Argument::Place(name, value, help) => {
             valued(alloc, name, value, help, ArgAction::Set).required(true)
         }

@@ -1,3 +1,4 @@
+pub mod Exits
 pub mod BundleLemmas
 pub mod RowLemmas
 pub mod TextLemmas

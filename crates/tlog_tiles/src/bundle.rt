@@ -5,22 +5,28 @@ ghost use Rattle.tlog_text.specs.Answers.{seen};
 ghost use Rattle.tlog_tiles.specs.declared.bundle.BundleFault.TheVariants.{OutOfMemory};
 
 use std::alloc::{AllocError, AllocFailed, Global};
-use thiserror::Error;
+use std::fmt;
 
 /// Why bytes were refused as a bundle of a given width. For width 1 the bytes `00 02 61` are too short, and `00 01 61 00`
 /// are too long.
-#[derive(Debug, Drop, PartialEq, Eq, Clone, Copy, Error)]
+#[derive(Debug, Drop, Clone, Copy)]
 pub enum BundleFault {
     /// The bytes do not begin with a bundle of that width: they end within an entry, or before the last entry.
-    #[error("BundleShort")]
     BundleShort,
     /// The bytes begin with a bundle of that width, and more bytes follow it.
-    #[error("BundleLong")]
     BundleLong,
     /// Memory was refused.
-    #[error("OutOfMemory")]
     OutOfMemory,
 }
+
+/// Prints the name of the variant. A derived one takes the checker seconds more.
+impl fmt::Display for BundleFault {
+    fn fmt<W: fmt::Write>(&self, f: &mut fmt::Formatter<W>) -> fmt::Result {
+        fmt::Debug::fmt(self, f)
+    }
+}
+
+impl std::error::Error for BundleFault {}
 
 impl From<AllocError> for BundleFault {
     ghost from_gives = { λ _ e. e ≡ OutOfMemory };

@@ -5,20 +5,27 @@ ghost use Rattle.tlog_text.specs.Answers.{seen};
 ghost use Rattle.tlog_tiles.specs.declared.row.RowFault.TheVariants.{OutOfMemory};
 
 use std::alloc::{AllocError, AllocFailed, Global};
-use thiserror::Error;
+use std::fmt;
 use tlog_hash::Hash;
 
 /// Why bytes were refused as a row of a given width. For example, 33 bytes are not a row of width
 /// 1.
-#[derive(Debug, Drop, PartialEq, Eq, Clone, Copy, Error)]
+#[derive(Debug, Drop, Clone, Copy)]
 pub enum RowFault {
     /// The number of bytes is not 32 times the width.
-    #[error("RowLength")]
     RowLength,
     /// Memory was refused.
-    #[error("OutOfMemory")]
     OutOfMemory,
 }
+
+/// Prints the name of the variant. A derived one takes the checker seconds more.
+impl fmt::Display for RowFault {
+    fn fmt<W: fmt::Write>(&self, f: &mut fmt::Formatter<W>) -> fmt::Result {
+        fmt::Debug::fmt(self, f)
+    }
+}
+
+impl std::error::Error for RowFault {}
 
 impl From<AllocError> for RowFault {
     ghost from_gives = { λ _ e. e ≡ OutOfMemory };

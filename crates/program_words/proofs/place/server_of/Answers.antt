@@ -1,5 +1,6 @@
 use Rattle.std.proofs.Common.{◌∙◌, sym}
 use Rattle.std.proofs.lemmas.Bool.{false≢true}
+use Rattle.std.proofs.lemmas.Result.{IfOk-from_err}
 use Rattle.program_words.proofs.Places.{one_port, one_site, some_port}
 use Rattle.program_words.proofs.place.server_of.Goals as goal
 
@@ -26,3 +27,6 @@ returns-in_default-number_in c = λ p is.
     c.in_default-number_in.ensures s.1 (one_port c.args.word.now c.host_and_prefix.result.0.now
     c.host_and_prefix.result.1.now c.in-Some.address.now c.in-Some.digits.now s.0 s.1 c.in-Some.ensures.some
     c.in-Some.ensures.last s.2)
+
+pub returns-in_err-is_site : goal.returns-in_err-is_site
+returns-in_err-is_site c = IfOk-from_err c.from_residual.result _ c.from_residual.ensures.0

@@ -3,6 +3,7 @@ use Rattle.std.proofs.lemmas.List.{map_push, length_push, length-map}
 use Rattle.std.proofs.lemmas.List.Elements.{All-push, All-same}
 use Rattle.tlog_tiles.specs.Bundle.{HasBundle}
 use Rattle.tlog_tiles.proofs.BundleLemmas.{HasBundle-first, HasBundle-rest, joined_push, left_over}
+use Rattle.tlog_tiles.proofs.Exits.{no_bundle}
 use Rattle.tlog_tiles.proofs.bundle.read_bundle.Goals as goal
 
 pub returns-in_default : goal.returns-in_default
@@ -40,3 +41,7 @@ returns-then-not-is_empty c =
     left_over c.args.width c.args.bytes.now c.loop.rest.now (map (λ x. x.now) c.loop.entries.items)
     (sym c.is_empty.ensures ∙ c.if-not-is_empty.true)
     (length-map c.loop.entries.items (λ x. x.now) ∙ counted) c.loop.invariant.fits c.loop.invariant.text
+
+pub returns-in_err-push : goal.returns-in_err-push
+returns-in_err-push c =
+    no_bundle c.args.width c.args.bytes.now (λ v. map (λ e. e.now) v.items) c.from_residual.result c.from_residual.ensures
