@@ -13,20 +13,27 @@ use crate::pool::{Slot, borrow_string, keep, make_room};
 use crate::strings::{Tagged, digest_of, is_same};
 use std::alloc::{AllocError, Global};
 use std::collections::HashMap;
+use std::fmt;
 use std::marker::{Model, PhantomData};
-use thiserror::Error;
 use tlog_hash::{Hash, TreeHash};
 
 /// Why a string was not added. It prints its variant's name.
-#[derive(Debug, Drop, PartialEq, Eq, Clone, Copy, Error)]
+#[derive(Debug, Drop, PartialEq, Eq, Clone, Copy)]
 pub enum AddFault {
     /// Another string with the same digest is held.
-    #[error("Collision")]
     Collision,
     /// Memory was refused.
-    #[error("OutOfMemory")]
     OutOfMemory,
 }
+
+/// Prints the name of the variant. A derived one takes the checker seconds more.
+impl fmt::Display for AddFault {
+    fn fmt<W: fmt::Write>(&self, f: &mut fmt::Formatter<W>) -> fmt::Result {
+        fmt::Debug::fmt(self, f)
+    }
+}
+
+impl std::error::Error for AddFault {}
 
 /// A set of tagged strings, in which no two have one digest.
 ///
