@@ -47,21 +47,21 @@ fn empty_reply(alloc: Global, status: StatusCode, fields: &str) -> Result<Vec<u8
 fn bad_request_reply(alloc: Global) -> Result<Vec<u8>, AllocError>
     ensures { IfOk result (λ reply. reply.items ≡ bad_request) }
 {
-    Ok(empty_reply(alloc, StatusCode::BAD_REQUEST, "")?)
+    empty_reply(alloc, StatusCode::BAD_REQUEST, "")
 }
 
 // The reply to a request for a resource that is not served.
 fn not_found_reply(alloc: Global) -> Result<Vec<u8>, AllocError>
     ensures { IfOk result (λ reply. reply.items ≡ not_found) }
 {
-    Ok(empty_reply(alloc, StatusCode::NOT_FOUND, "")?)
+    empty_reply(alloc, StatusCode::NOT_FOUND, "")
 }
 
 // The reply to a request with a method other than GET.
 fn not_allowed_reply(alloc: Global) -> Result<Vec<u8>, AllocError>
     ensures { IfOk result (λ reply. reply.items ≡ not_allowed) }
 {
-    Ok(empty_reply(alloc, StatusCode::METHOD_NOT_ALLOWED, "Allow: GET\r\n")?)
+    empty_reply(alloc, StatusCode::METHOD_NOT_ALLOWED, "Allow: GET\r\n")
 }
 
 /// The reply if the server itself cannot get the resource (RFC 9110, section 15.6.1).
@@ -72,7 +72,7 @@ fn not_allowed_reply(alloc: Global) -> Result<Vec<u8>, AllocError>
 pub fn server_error_reply(alloc: Global) -> Result<Vec<u8>, AllocError>
     ensures { IfOk result (λ reply. reply.items ≡ server_error) }
 {
-    Ok(empty_reply(alloc, StatusCode::INTERNAL_SERVER_ERROR, "")?)
+    empty_reply(alloc, StatusCode::INTERNAL_SERVER_ERROR, "")
 }
 
 // The reply to a request for a resource, by its bytes, or None if it is not served.
@@ -85,8 +85,8 @@ fn resource_reply(
         (option_map (λ bytes. bytes.items) body.now)) }
 {
     match body {
-        Some(bytes) => Ok(found_reply(alloc, kind_of(resource), bytes)?),
-        None => Ok(not_found_reply(alloc)?),
+        Some(bytes) => found_reply(alloc, kind_of(resource), bytes),
+        None => not_found_reply(alloc),
     }
 }
 
@@ -109,9 +109,9 @@ pub fn reply_to(
 {
     match request {
         Request::Nothing => Ok(Vec::new(alloc)),
-        Request::Unreadable => Ok(bad_request_reply(alloc)?),
-        Request::OtherMethod => Ok(not_allowed_reply(alloc)?),
-        Request::Unknown => Ok(not_found_reply(alloc)?),
-        Request::Get(resource) => Ok(resource_reply(alloc, resource, body)?),
+        Request::Unreadable => bad_request_reply(alloc),
+        Request::OtherMethod => not_allowed_reply(alloc),
+        Request::Unknown => not_found_reply(alloc),
+        Request::Get(resource) => resource_reply(alloc, resource, body),
     }
 }
