@@ -1,6 +1,9 @@
 -- What a read says where `?` ends it.
-use Rattle.std.proofs.Common.{◌≡◌, ◌⊎◌, ℕ, Option, Some, None, Result, Ok, Err, IfOk, IfSome, IfNone, IsSomeAnd, IsErr, IsErrAnd, inl, inr, sym, ap, subst, ◌∙◌}
+use Rattle.std.proofs.Common.{◌≡◌, ◌⊎◌, ℕ, List, Option, Some, None, Result, Ok, Err, IfOk, IfErr, IfSome, IfNone, IsSomeAnd, IsErr, IsErrAnd, inl, inr, sym, ap, subst, ◌∙◌}
+use Rattle.std.proofs.lemmas.Result.{IfOk-weaker}
 use Rattle.std.specs.Option.{ok_or}
+use Rattle.tlog_proof.specs.Made.{Holds}
+use Rattle.tlog_proof.specs.declared.proof.Proof.{Proof}
 use Rattle.tlog_tiles.specs.declared.paths.Path.{Path}
 use Rattle.std.proofs.lemmas.Bool.{false≢true}
 use Rattle.mirror_sources.specs.Recorded.{one_more}
@@ -82,6 +85,12 @@ module _ {T E : Type 0} where
   found_true (Ok None) path result is P N h none claim some not = absurd (not none)
   found_true (Err fault) path result is P N h none claim some not = subst (λ r. ReadsTrue r claim) (sym is) tt
 
+  pub found_some : (found : Result (Option T) E) (path : Path) (result : Result T ReadFault) → result ≡ found_in found path →
+      (claim : T → Type 0) → IfOk found (λ o. IsSomeAnd o claim) → ReadsTrue result claim
+  found_some (Ok (Some x)) path result is claim h = subst (λ r. ReadsTrue r claim) (sym is) h
+  found_some (Ok None) path result is claim h = absurd h
+  found_some (Err fault) path result is claim h = subst (λ r. ReadsTrue r claim) (sym is) tt
+
   pub found_counted : (found : Result (Option T) E) (path : Path) (result : Result T ReadFault) → result ≡ found_in found path →
       (old new : ℕ) → new ≡ old → CountsFailure old new result
   found_counted (Ok (Some x)) path result is old new h = subst (CountsFailure old new) (sym is) h
@@ -99,3 +108,26 @@ pub or_counted : {T : Type 0} (found : Option T) (fault : ReadFault) (result : R
     (old new : ℕ) → new ≡ old → CountsFailure {T = T} old new (Err fault) → CountsFailure old new result
 or_counted (Some x) fault result is old new same h = subst (CountsFailure old new) (sym is) same
 or_counted None fault result is old new same h = subst (CountsFailure old new) (sym is) h
+
+-- ---- a proof that was checked
+
+module _ (digest : List ℕ → List ℕ) (proof : Proof) (result : Result Proof ReadFault)
+    (ok : IfOk result (λ same. (same ≡ proof) × Holds digest same))
+    (err : IfErr result (λ fault. (fault ≡ Collision) × (Holds digest proof → ⊥))) where
+  pub checked_ok : (P : Proof → Type 0) → P proof → IfOk result P
+  checked_ok P h = IfOk-weaker result _ P (λ same is. subst P (sym is.0) h) ok
+
+  pub checked_holds : IfOk result (Holds digest)
+  checked_holds = IfOk-weaker result _ (Holds digest) (λ same is. is.1) ok
+
+pub checked_true : (digest : List ℕ → List ℕ) (proof : Proof) (result : Result Proof ReadFault) →
+    IfOk result (λ same. (same ≡ proof) × Holds digest same) →
+    IfErr result (λ fault. (fault ≡ Collision) × (Holds digest proof → ⊥)) → (claim : Proof → Type 0) → claim proof →
+    Holds digest proof → ReadsTrue result claim
+checked_true digest proof (Ok same) ok err claim h holds = subst claim (sym ok.0) h
+checked_true digest proof (Err fault) ok err claim h holds = absurd (err.1 holds)
+
+pub checked_counted : (Held : Type 0) (result : Result Proof ReadFault) →
+    IfErr result (λ fault. (fault ≡ Collision) × Held) → (old new : ℕ) → new ≡ old → CountsFailure old new result
+checked_counted Held (Ok same) err old new h = h
+checked_counted Held (Err fault) err old new h = subst (λ f. CountsFailure {T = Proof} old new (Err f)) (sym err.0) h

@@ -4,7 +4,6 @@ use Rattle.tlog_shape.specs.Edge.{width_of, edge_index_of}
 use Rattle.tlog_hash.specs.Rows.{level_row}
 use Rattle.tlog_tiles.specs.declared.paths.Path.{Path}
 use Rattle.tlog_tiles.specs.declared.paths.Path.TheVariants.{Tile}
-use Rattle.tlog_tiles.specs.Row.{IsRow}
 use Rattle.mirror_model.specs.Edge.{edge_levels, edge_root}
 
 -- the edge of a tree: its size, and the rows of its partial tiles by level
@@ -28,11 +27,6 @@ pub record IsEdgeOf (n : ℕ) (edge : Edge) : Type 0 where
 -- the path of the partial tile of a level
 abbrev pub edge_tile : Edge → ℕ → Path
 edge_tile edge level = Tile level (edge_index_of edge.size level) (width_of edge.size level)
-
--- the bytes from the source are a row of that width
-abbrev pub IsRowGiven : ℕ → Option (List ℕ) → List (List ℕ) → Type 0
-IsRowGiven width None row = ⊥
-IsRowGiven width (Some bytes) row = IsRow width bytes row
 
 module _ (digest : List ℕ → List ℕ) where
   -- the row of a level is true of the entries

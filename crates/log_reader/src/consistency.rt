@@ -11,13 +11,14 @@ ghost use Rattle.log_reader.specs.Holding.{ReadsTilesOf};
 ghost use Rattle.log_reader.specs.Nodes.{IsNodeRange, IsSubproofAdded};
 ghost use Rattle.log_reader.specs.Proving.{IsConsistencyTo};
 
+use crate::checked::checked;
 use crate::fault::ReadFault;
 use crate::node_hash::{add_node, node_hash};
 use crate::reader::LogReader;
 use mirror_sources::Source;
 use std::alloc::Global;
 use tlog_hash::{Hash, TreeHash};
-use tlog_proof::{HashPath, Proof, holds};
+use tlog_proof::{HashPath, Proof};
 use tlog_shape::split;
 
 // Adds the hash of a node to a path, unless the checker has it. Returns the hash.
@@ -133,10 +134,6 @@ impl<H: TreeHash> LogReader<H> {
             second_root: self.root(),
             path: HashPath::new(path),
         };
-        if holds::<H>(&proof) {
-            Ok(proof)
-        } else {
-            Err(ReadFault::Collision)
-        }
+        checked::<H>(proof)
     }
 }

@@ -13,6 +13,7 @@ ghost use Rattle.log_reader.specs.Nodes.{IsNodeRange};
 ghost use Rattle.log_reader.specs.Proving.{IsInclusionIn};
 ghost use Rattle.log_reader.specs.Ways.{IsShownLeaf};
 
+use crate::checked::checked;
 use crate::fault::ReadFault;
 use crate::node_hash::add_node;
 use crate::reader::LogReader;
@@ -20,7 +21,7 @@ use crate::walk::go_to;
 use mirror_sources::Source;
 use std::alloc::Global;
 use tlog_hash::{Hash, TreeHash};
-use tlog_proof::{HashPath, Proof, holds};
+use tlog_proof::{HashPath, Proof};
 use tlog_shape::split;
 use tlog_tiles::Path;
 
@@ -141,10 +142,6 @@ impl<H: TreeHash> LogReader<H> {
             leaf,
             path: HashPath::new(path),
         };
-        if holds::<H>(&proof) {
-            Ok(proof)
-        } else {
-            Err(ReadFault::Collision)
-        }
+        checked::<H>(proof)
     }
 }

@@ -11,6 +11,7 @@
 #![tactic(auto)]
 
 mod bundle;
+mod checked;
 mod consistency;
 mod edge_files;
 mod edge_root;
@@ -32,7 +33,7 @@ mod verify;
 mod walk;
 
 pub use edge_root::{edge_hash, leads_to};
-pub use edge_row::{edge_path, row_given};
+pub use edge_row::edge_path;
 pub use edge_rows::EdgeRows;
 pub use fault::ReadFault;
 pub use head::head_of;

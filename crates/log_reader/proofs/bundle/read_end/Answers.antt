@@ -1,5 +1,6 @@
-use Rattle.std.proofs.Common.{sym, ◌∙◌, refl}
+use Rattle.std.proofs.Common.{length, subst, sym, ◌∙◌, refl}
 use Rattle.std.proofs.lemmas.Bool.{false≢true}
+use Rattle.log_reader.specs.Verified.{HasLeaves}
 use Rattle.log_reader.proofs.TrueBundles.{end_leaves}
 use Rattle.std.proofs.lemmas.Result.{IfOk-from_err}
 use Rattle.log_reader.specs.declared.fault.ReadFault.TheVariants.{OutOfMemory}
@@ -34,11 +35,28 @@ returns-in_err-has_leaves g c =
       honest = λ entries e s. failed_exit exit.result _ OutOfMemory exit.ensures tt;
     }
 
-pub returns-then-branch-clause-honest : goal.returns-then-branch-clause-honest
-returns-then-branch-clause-honest g c = λ entries e s. c.in_ok-bytes.ensures.honest entries e.end s
+pub returns-then-branch : goal.returns-then-branch
+returns-then-branch g c =
+    let step = c.in_ok-bytes.ensures in
+    record {
+      bytes = subst (λ b. HasLeaves g.H.TreeHash.digest (length c.args.row.now) b c.args.row.now) c.deref.ensures.value
+          (c.in_ok-has_leaves.ensures.0 c.if-branch.true);
+      later = step.later;
+      kept = step.kept;
+      counted = step.counted;
+      honest = λ entries e s. step.honest entries e.end s;
+    }
 
-pub returns-else-branch-clause-honest : goal.returns-else-branch-clause-honest
-returns-else-branch-clause-honest g c = λ entries e s.
-    false≢true (sym c.if-branch.false ∙ c.in_ok-has_leaves.ensures.1
-    (end_leaves g.H.TreeHash.digest g.met.H.TreeHash.digest_length entries c.args.index c.args.row.now e c.deref.result.now s.short
-    (c.deref.ensures.value ∙ c.in_ok-bytes.ensures.honest entries e.end s)))
+pub returns-else-branch : goal.returns-else-branch
+returns-else-branch g c =
+    let step = c.in_ok-bytes.ensures in
+    record {
+      bytes = tt;
+      later = step.later;
+      kept = step.kept;
+      counted = step.counted;
+      honest = λ entries e s.
+          false≢true (sym c.if-branch.false ∙ c.in_ok-has_leaves.ensures.1
+          (end_leaves g.H.TreeHash.digest g.met.H.TreeHash.digest_length entries c.args.index c.args.row.now e c.deref.result.now s.short
+          (c.deref.ensures.value ∙ step.honest entries e.end s)));
+    }

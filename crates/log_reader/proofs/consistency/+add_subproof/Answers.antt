@@ -7,19 +7,26 @@ use Rattle.log_reader.proofs.Exits.{counted_exit, failed_exit}
 use Rattle.log_reader.proofs.Kept.{kept_twice, stays_twice}
 use Rattle.log_reader.proofs.consistency.+add_subproof.Goals as goal
 
-pub returns-then-first-len-clause-honest : goal.returns-then-first-len-clause-honest
-returns-then-first-len-clause-honest g t c = λ entries r s.
-    let start = c.args.node.0 in
-    let n = c.args.node.1 in
-    let within : start + n ≤ length entries = subst (λ m. start + n ≤ m) r.size_is c.requires.node.within in
-    let went = c.add_whole.ensures.honest entries r s in
-    record {
-      reader_is = went.reader_is;
-      answer = reads_more c.add_whole.result _ _
-          (λ hash added. whole_added g.H.TreeHash.digest entries start n c.args.first c.args.held c.requires.some
-          c.requires.within within c.args.path.now.items c.add_whole.new.path.items hash c.if-first-len.true added.0 added.1)
-          went.answer;
-    }
+pub returns-then-first-len : goal.returns-then-first-len
+returns-then-first-len g t c = record {
+  edge = c.add_whole.ensures.edge;
+  root = c.add_whole.ensures.root;
+  later = c.add_whole.ensures.later;
+  kept = c.add_whole.ensures.kept;
+  counted = c.add_whole.ensures.counted;
+  honest = λ entries r s.
+      let start = c.args.node.0 in
+      let n = c.args.node.1 in
+      let within : start + n ≤ length entries = subst (λ m. start + n ≤ m) r.size_is c.requires.node.within in
+      let went = c.add_whole.ensures.honest entries r s in
+      record {
+        reader_is = went.reader_is;
+        answer = reads_more c.add_whole.result _ _
+            (λ hash added. whole_added g.H.TreeHash.digest entries start n c.args.first c.args.held c.requires.some
+            c.requires.within within c.args.path.now.items c.add_whole.new.path.items hash c.if-first-len.true added.0 added.1)
+            went.answer;
+      };
+}
 
 pub add_subproof-requires : goal.add_subproof-requires
 add_subproof-requires g t c κs within =
@@ -81,29 +88,31 @@ returns-in_err-add_node g t c =
           };
     }
 
-pub returns-then-first-k-clause-later : goal.returns-then-first-k-clause-later
-returns-then-first-k-clause-later g t c = stays_twice c.in_ok-hash.ensures.later c.in_ok-add_node.ensures.later
-
-pub returns-then-first-k-clause-kept : goal.returns-then-first-k-clause-kept
-returns-then-first-k-clause-kept g t c =
+pub returns-then-first-k : goal.returns-then-first-k
+returns-then-first-k g t c =
     let files = g.S.Source.files in
-    kept_twice (files c.args.source.now) (files c.add_subproof.new.source) (files c.add_node.new.source)
-    c.in_ok-hash.ensures.kept c.in_ok-add_node.ensures.kept
-
-pub returns-then-first-k-clause-honest : goal.returns-then-first-k-clause-honest
-returns-then-first-k-clause-honest g t c = λ entries r s.
-    let may = g.S.Source.may_answer in
-    let start = c.args.node.0 in
-    let n = c.args.node.1 in
-    let within : start + n ≤ length entries = subst (λ m. start + n ≤ m) r.size_is c.requires.node.within in
-    let low = c.in_ok-hash.ensures.honest entries r s in
-    let went = c.in_ok-add_node.ensures.honest entries low.reader_is
-    (tiles_later g.H.TreeHash.digest entries (may c.args.source.now) (may c.add_subproof.new.source) c.in_ok-hash.ensures.later s) in
+    let low = c.in_ok-hash.ensures in
+    let went = c.in_ok-add_node.ensures in
     record {
-      reader_is = went.reader_is;
-      answer = left_added g.H.TreeHash.digest entries start n c.args.first c.args.held c.requires.some c.requires.within within
-          c.args.path.now.items c.add_node.new.path.items c.in_ok-hash.hash c.split-k.result (omega arith) c.split-k.ensures.value
-          c.add_subproof.new.path.items c.if-first-k.true low.answer went.answer;
+      edge = went.edge ∙ low.edge;
+      root = went.root ∙ low.root;
+      later = stays_twice low.later went.later;
+      kept = kept_twice (files c.args.source.now) (files c.add_subproof.new.source) (files c.add_node.new.source) low.kept went.kept;
+      counted = went.counted ∙ low.counted;
+      honest = λ entries r s.
+          let may = g.S.Source.may_answer in
+          let start = c.args.node.0 in
+          let n = c.args.node.1 in
+          let within : start + n ≤ length entries = subst (λ m. start + n ≤ m) r.size_is c.requires.node.within in
+          let low = c.in_ok-hash.ensures.honest entries r s in
+          let went = c.in_ok-add_node.ensures.honest entries low.reader_is
+          (tiles_later g.H.TreeHash.digest entries (may c.args.source.now) (may c.add_subproof.new.source) c.in_ok-hash.ensures.later s) in
+          record {
+            reader_is = went.reader_is;
+            answer = left_added g.H.TreeHash.digest entries start n c.args.first c.args.held c.requires.some c.requires.within within
+                c.args.path.now.items c.add_node.new.path.items c.in_ok-hash.hash c.split-k.result (omega arith) c.split-k.ensures.value
+                c.add_subproof.new.path.items c.if-first-k.true low.answer went.answer;
+          };
     }
 
 pub add_subproof-requires-2 : goal.add_subproof-requires-2
@@ -166,29 +175,31 @@ returns-in_err-left g t c =
           };
     }
 
-pub returns-clause-later : goal.returns-clause-later
-returns-clause-later g t c = stays_twice c.in_ok-end.ensures.later c.in_ok-left.ensures.later
-
-pub returns-clause-kept : goal.returns-clause-kept
-returns-clause-kept g t c =
+pub returns : goal.returns
+returns g t c =
     let files = g.S.Source.files in
-    kept_twice (files c.args.source.now) (files c.add_subproof-2.new.source) (files c.add_whole-2.new.source)
-    c.in_ok-end.ensures.kept c.in_ok-left.ensures.kept
-
-pub returns-clause-honest : goal.returns-clause-honest
-returns-clause-honest g t c = λ entries r s.
-    let may = g.S.Source.may_answer in
-    let start = c.args.node.0 in
-    let n = c.args.node.1 in
-    let within : start + n ≤ length entries = subst (λ m. start + n ≤ m) r.size_is c.requires.node.within in
-    let less : c.args.first < n = omega (arith, c.if-first-len.false, c.requires.within) in
-    let low = c.in_ok-end.ensures.honest entries r s in
-    let went = c.in_ok-left.ensures.honest entries low.reader_is
-    (tiles_later g.H.TreeHash.digest entries (may c.args.source.now) (may c.add_subproof-2.new.source) c.in_ok-end.ensures.later s) in
+    let low = c.in_ok-end.ensures in
+    let went = c.in_ok-left.ensures in
     record {
-      reader_is = went.reader_is;
-      answer = right_added g.H.TreeHash.digest entries start n c.args.first c.args.held c.requires.some c.requires.within within
-          c.args.path.now.items c.add_whole-2.new.path.items c.node.result c.split-k.result (omega arith) c.split-k.ensures.value
-          c.add_subproof-2.new.path.items less c.if-first-k.false c.in_ok-end.end c.in_ok-left.left low.answer went.answer.0
-          went.answer.1 c.node.ensures;
+      edge = went.edge ∙ low.edge;
+      root = went.root ∙ low.root;
+      later = stays_twice low.later went.later;
+      kept = kept_twice (files c.args.source.now) (files c.add_subproof-2.new.source) (files c.add_whole-2.new.source) low.kept went.kept;
+      counted = went.counted ∙ low.counted;
+      honest = λ entries r s.
+          let may = g.S.Source.may_answer in
+          let start = c.args.node.0 in
+          let n = c.args.node.1 in
+          let within : start + n ≤ length entries = subst (λ m. start + n ≤ m) r.size_is c.requires.node.within in
+          let less : c.args.first < n = omega (arith, c.if-first-len.false, c.requires.within) in
+          let low = c.in_ok-end.ensures.honest entries r s in
+          let went = c.in_ok-left.ensures.honest entries low.reader_is
+          (tiles_later g.H.TreeHash.digest entries (may c.args.source.now) (may c.add_subproof-2.new.source) c.in_ok-end.ensures.later s) in
+          record {
+            reader_is = went.reader_is;
+            answer = right_added g.H.TreeHash.digest entries start n c.args.first c.args.held c.requires.some c.requires.within within
+                c.args.path.now.items c.add_whole-2.new.path.items c.node.result c.split-k.result (omega arith) c.split-k.ensures.value
+                c.add_subproof-2.new.path.items less c.if-first-k.false c.in_ok-end.end c.in_ok-left.left low.answer went.answer.0
+                went.answer.1 c.node.ensures;
+          };
     }

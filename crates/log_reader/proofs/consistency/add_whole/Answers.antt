@@ -42,28 +42,42 @@ returns-in_err-push g c =
       };
     }
 
-pub returns-in_ok-push-clause-honest : goal.returns-in_ok-push-clause-honest
-returns-in_ok-push-clause-honest g c = λ entries r s.
-    let went = c.in_ok-hash.ensures.honest entries r s in
-    let old = c.args.path.now.items in
-    record {
-      reader_is = went.reader_is;
-      answer = (
-        went.answer,
-        c.in_ok-push.ensures.items
-            ∙ ap (λ held. old ++ (if held then [] else c.in_ok-hash.hash ∷ [])) (sym c.if-not-held.true),
-      );
-    }
+pub returns-in_ok-push : goal.returns-in_ok-push
+returns-in_ok-push g c = record {
+  edge = c.in_ok-hash.ensures.edge;
+  root = c.in_ok-hash.ensures.root;
+  later = c.in_ok-hash.ensures.later;
+  kept = c.in_ok-hash.ensures.kept;
+  counted = c.in_ok-hash.ensures.counted;
+  honest = λ entries r s.
+      let went = c.in_ok-hash.ensures.honest entries r s in
+      let old = c.args.path.now.items in
+      record {
+        reader_is = went.reader_is;
+        answer = (
+          went.answer,
+          c.in_ok-push.ensures.items
+              ∙ ap (λ held. old ++ (if held then [] else c.in_ok-hash.hash ∷ [])) (sym c.if-not-held.true),
+        );
+      };
+}
 
-pub returns-else-not-held-clause-honest : goal.returns-else-not-held-clause-honest
-returns-else-not-held-clause-honest g c = λ entries r s.
-    let went = c.in_ok-hash.ensures.honest entries r s in
-    let old = c.args.path.now.items in
-    record {
-      reader_is = went.reader_is;
-      answer = (
-        went.answer,
-        sym (append-nil old)
-            ∙ ap (λ held. old ++ (if held then [] else c.in_ok-hash.hash ∷ [])) (sym c.if-not-held.false),
-      );
-    }
+pub returns-else-not-held : goal.returns-else-not-held
+returns-else-not-held g c = record {
+  edge = c.in_ok-hash.ensures.edge;
+  root = c.in_ok-hash.ensures.root;
+  later = c.in_ok-hash.ensures.later;
+  kept = c.in_ok-hash.ensures.kept;
+  counted = c.in_ok-hash.ensures.counted;
+  honest = λ entries r s.
+      let went = c.in_ok-hash.ensures.honest entries r s in
+      let old = c.args.path.now.items in
+      record {
+        reader_is = went.reader_is;
+        answer = (
+          went.answer,
+          sym (append-nil old)
+              ∙ ap (λ held. old ++ (if held then [] else c.in_ok-hash.hash ∷ [])) (sym c.if-not-held.false),
+        );
+      };
+}

@@ -1,6 +1,7 @@
 use Rattle.std.proofs.Common.{ℕ, ◌<◌, ◌≤◌, ◌^◌, length, subst, sym, ap, ◌∙◌, arith, refl}
 use Rattle.std.proofs.lemmas.Bool.{false≢true}
 use Rattle.log_reader.specs.EdgeRows.{RowIsTrue, hash_of_edge}
+use Rattle.log_reader.specs.Ways.{HasEdgeHashes}
 use Rattle.log_reader.proofs.Prefixes.{true_rows_lead}
 use Rattle.std.proofs.lemmas.Result.{IfOk-from_err}
 use Rattle.log_reader.specs.declared.fault.ReadFault.TheVariants.{OutOfMemory}
@@ -39,16 +40,35 @@ returns-in_err-edge g c =
       honest = λ entries same root s. failed_exit exit.result _ OutOfMemory exit.ensures tt;
     }
 
-pub returns-then-is_same-clause-honest : goal.returns-then-is_same-clause-honest
-returns-then-is_same-clause-honest g c = λ entries same root s.
-    subst (λ e. (level : ℕ) → level ≤ 7 → RowIsTrue g.H.TreeHash.digest e entries level) (sym c.in_ok-edge.ensures)
-    (c.in_ok-rows.ensures.honest entries same s)
+pub returns-then-is_same : goal.returns-then-is_same
+returns-then-is_same g c =
+    let step = c.in_ok-rows.ensures in
+    let is = c.in_ok-edge.ensures in
+    record {
+      size = ap (λ e. e.size) is ∙ step.size;
+      rows = subst HasEdgeHashes (sym is) step.rows;
+      root = sym c.root.ensures ∙ c.is_same.ensures.0 c.if-is_same.true;
+      later = step.later;
+      kept = step.kept;
+      counted = step.counted;
+      honest = λ entries same root s.
+          subst (λ e. (level : ℕ) → level ≤ 7 → RowIsTrue g.H.TreeHash.digest e entries level) (sym is)
+          (step.honest entries same s);
+    }
 
-pub returns-else-is_same-clause-honest : goal.returns-else-is_same-clause-honest
-returns-else-is_same-clause-honest g c = λ entries same root s.
-    let digest = g.H.TreeHash.digest in
-    let small : length entries < 256 ^ 8 = omega (arith, same, c.ranges.size.fits) in
-    let leads = true_rows_lead digest c.in_ok-rows.rows entries (same ∙ sym c.in_ok-rows.ensures.size) small
-    (c.in_ok-rows.ensures.honest entries same s) in
-    false≢true (sym c.if-is_same.false
-    ∙ c.is_same.ensures.1 (c.root.ensures ∙ (ap (hash_of_edge digest) c.in_ok-edge.ensures ∙ (leads ∙ root))))
+pub returns-else-is_same : goal.returns-else-is_same
+returns-else-is_same g c = record {
+  size = tt;
+  rows = tt;
+  root = tt;
+  later = c.in_ok-rows.ensures.later;
+  kept = c.in_ok-rows.ensures.kept;
+  counted = c.in_ok-rows.ensures.counted;
+  honest = λ entries same root s.
+      let digest = g.H.TreeHash.digest in
+      let small : length entries < 256 ^ 8 = omega (arith, same, c.ranges.size.fits) in
+      let leads = true_rows_lead digest c.in_ok-rows.rows entries (same ∙ sym c.in_ok-rows.ensures.size) small
+      (c.in_ok-rows.ensures.honest entries same s) in
+      false≢true (sym c.if-is_same.false
+      ∙ c.is_same.ensures.1 (c.root.ensures ∙ (ap (hash_of_edge digest) c.in_ok-edge.ensures ∙ (leads ∙ root))));
+}

@@ -1,5 +1,8 @@
-use Rattle.std.proofs.Common.{◌<◌, None, Some, sym, subst, ◌∙◌, arith}
+use Rattle.std.proofs.Common.{◌<◌, None, Some, refl, sym, subst, ◌∙◌, arith}
+use Rattle.std.proofs.lemmas.List.Elements.{All-nil}
 use Rattle.tlog_shape.specs.Edge.{width_of}
+use Rattle.log_reader.specs.Ways.{AreHashesOf}
+use Rattle.log_reader.proofs.Kept.{kept_once}
 use Rattle.log_reader.proofs.TruePrefixes.{no_row_is_true}
 use Rattle.log_reader.proofs.TrueReads.{edge_given, edge_gone, edge_row, one_row, way_later}
 use Rattle.std.proofs.lemmas.Result.{IfOk-from_err}
@@ -20,10 +23,18 @@ returns-in_err-bytes g c =
       honest = λ entries same s. get_failed exit.result _ c.in_err-bytes.field-0.0 exit.ensures;
     }
 
-pub returns-then-width-eq0-clause-honest : goal.returns-then-width-eq0-clause-honest
-returns-then-width-eq0-clause-honest g c = λ entries same s.
-    no_row_is_true g.H.TreeHash.digest entries c.args.size c.args.level entries c.new.result.items
-    (sym c.edge_width-width.ensures ∙ c.if-width-eq0.true) c.new.ensures.items
+pub returns-then-width-eq0 : goal.returns-then-width-eq0
+returns-then-width-eq0 g c =
+    let none = sym c.edge_width-width.ensures ∙ c.if-width-eq0.true in
+    record {
+      row = subst (AreHashesOf (width_of c.args.size c.args.level)) (sym c.new.ensures.items)
+          (record { count = sym none; sizes = All-nil _ });
+      later = record { stays = λ path answer may. may };
+      kept = kept_once (g.S.Source.files c.args.source.now);
+      counted = refl;
+      honest = λ entries same s.
+          no_row_is_true g.H.TreeHash.digest entries c.args.size c.args.level entries c.new.result.items none c.new.ensures.items;
+    }
 
 pub returns-in_default-clause-honest : goal.returns-in_default-clause-honest
 returns-in_default-clause-honest g c = λ entries same s.

@@ -1,18 +1,34 @@
-use Rattle.std.proofs.Common.{◌≡◌, ◌<◌, ℕ, [], get_or, rules, subst, ◌∙◌, arith}
+use Rattle.std.proofs.Common.{◌≡◌, ◌<◌, ℕ, [], get_or, subst, ◌∙◌, arith}
 use Rattle.tlog_shape.specs.Edge.{width_of}
 use Rattle.log_reader.specs.Holding.{IsEdgeRowOf}
 use Rattle.log_reader.specs.Ways.{AreHashesOf}
-use Rattle.log_reader.proofs.Kept.{kept_twice}
+use Rattle.log_reader.proofs.Exits.{counted_exit, failed_exit}
+use Rattle.log_reader.proofs.Kept.{kept_twice, stays_twice}
+use Rattle.std.proofs.lemmas.Result.{IfOk-from_err}
 use Rattle.log_reader.proofs.RowLists.{count_more, items_of, rows_more}
 use Rattle.log_reader.proofs.TrueReads.{rows_true, source_later}
 use Rattle.log_reader.proofs.edge_files.read_rows.Goals as goal
 
-pub returns-in_err-read_edge_row-clause-honest : goal.returns-in_err-read_edge_row-clause-honest
-returns-in_err-read_edge_row-clause-honest g c = λ entries same s.
-    let fault = c.in_err-read_edge_row.ensures.honest entries same
-    (source_later g.H.TreeHash.digest entries (g.S.Source.may_answer c.args.source.now)
-    (g.S.Source.may_answer c.loop-level.source) c.loop-level.invariant.later s) in
-    search (rules, fault)
+pub returns-in_err-read_edge_row : goal.returns-in_err-read_edge_row
+returns-in_err-read_edge_row g c =
+    let files = g.S.Source.files in
+    let failed = g.S.Source.failed in
+    let exit = c.from_residual in
+    let i = c.loop-level.invariant in
+    let step = c.in_err-read_edge_row.ensures in
+    let fault = c.in_err-read_edge_row.field-0.0 in
+    record {
+      size = IfOk-from_err exit.result _ exit.ensures.0;
+      rows = IfOk-from_err exit.result _ exit.ensures.0;
+      later = stays_twice i.later step.later;
+      kept = kept_twice (files c.args.source.now) (files c.loop-level.source) (files c.read_edge_row.new.source) i.kept step.kept;
+      counted = counted_exit exit.result c.read_edge_row.result fault exit.ensures c.in_err-read_edge_row.was
+          (failed c.args.source.now) (failed c.loop-level.source) (failed c.read_edge_row.new.source) i.counted
+          c.read_edge_row.ensures.counted;
+      honest = λ entries same s. failed_exit exit.result _ fault exit.ensures (step.honest entries same
+          (source_later g.H.TreeHash.digest entries (g.S.Source.may_answer c.args.source.now)
+          (g.S.Source.may_answer c.loop-level.source) i.later s));
+    }
 
 pub loop-level-preserved : goal.loop-level-preserved
 loop-level-preserved g c =

@@ -11,20 +11,27 @@ use Rattle.mirror_sources.specs.Source.{StaysWithin}
 use Rattle.mirror_sources.specs.Recorded.{KeepsRecord}
 use Rattle.log_reader.specs.Faults.{CountsFailure}
 use Rattle.log_reader.proofs.Exits.{counted_exit, failed_exit}
-use Rattle.log_reader.proofs.Kept.{kept_twice, stays_twice}
+use Rattle.log_reader.proofs.Kept.{kept_once, kept_twice, stays_twice}
 use Rattle.log_reader.proofs.inclusion.+add_path.Goals as goal
 use Rattle.log_reader.proofs.inclusion.+add_path.Goals.{then-index-k+in_ok-add_path, else-index-k+in_ok-add_path-2}
 
-pub returns-then-len-eq1-clause-honest : goal.returns-then-len-eq1-clause-honest
-returns-then-len-eq1-clause-honest g t c = λ entries r s.
-    let node = c.requires.node in
-    let within : c.args.node.0 + c.args.node.1 ≤ length entries =
-    subst (λ m. c.args.node.0 + c.args.node.1 ≤ m) r.size_is node.within in
-    record {
-      reader_is = r;
-      answer = none_added c.args.path.now.items _
-          (path_of-one g.H.TreeHash.digest entries c.args.node.0 c.args.node.1 c.args.index c.if-len-eq1.true within);
-    }
+pub returns-then-len-eq1 : goal.returns-then-len-eq1
+returns-then-len-eq1 g t c = record {
+  edge = refl;
+  root = refl;
+  later = record { stays = λ path answer may. may };
+  kept = kept_once (g.S.Source.files c.args.source.now);
+  counted = refl;
+  honest = λ entries r s.
+      let node = c.requires.node in
+      let within : c.args.node.0 + c.args.node.1 ≤ length entries =
+      subst (λ m. c.args.node.0 + c.args.node.1 ≤ m) r.size_is node.within in
+      record {
+        reader_is = r;
+        answer = none_added c.args.path.now.items _
+            (path_of-one g.H.TreeHash.digest entries c.args.node.0 c.args.node.1 c.args.index c.if-len-eq1.true within);
+      };
+}
 
 pub add_path-requires : goal.add_path-requires
 add_path-requires g t c κs within =

@@ -7,17 +7,6 @@ use Rattle.log_reader.specs.declared.fault.ReadFault.TheVariants.{OutOfMemory}
 use Rattle.log_reader.proofs.Exits.{counted_exit, failed_exit, memory_exit}
 use Rattle.log_reader.proofs.prefix.first_row.Goals as goal
 
-pub returns-clause-shown : goal.returns-clause-shown
-returns-clause-shown g c =
-    let row = c.in_ok-row.row.items in
-    record {
-      row = row;
-      shown = subst (λ i. IsShownRow g.H.TreeHash.digest c.args.reader.now.edge c.args.level i row) c.edge_index-index.ensures
-          c.in_ok-row.ensures.shown;
-      start_is = c.in_ok-copy_start.ensures.items
-          ∙ (ap (take c.edge_width-width.result) c.deref.ensures.value ∙ ap (λ w. take w row) c.edge_width-width.ensures);
-    }
-
 pub returns-in_err-row : goal.returns-in_err-row
 returns-in_err-row g c =
     let failed = g.S.Source.failed in
@@ -41,17 +30,27 @@ returns-in_err-row g c =
           };
     }
 
-pub returns-then-len-width-clause-honest : goal.returns-then-len-width-clause-honest
-returns-then-len-width-clause-honest g c = λ entries r s.
-    let digest = g.H.TreeHash.digest in
-    let done = c.in_ok-row.ensures.honest entries r s in
-    let within : c.args.size ≤ length entries = subst (λ n. c.args.size ≤ n) r.size_is c.requires.within in
-    let enough = start_within digest entries c.args.size c.args.level within c.in_ok-row.row.items
-    (done.answer ∙ ap (true_row digest entries c.args.level) c.edge_index-index.ensures) in
-    record {
-      reader_is = done.reader_is;
-      answer = absurd (omega (arith, enough, c.len.ensures, c.if-len-width.true, c.edge_width-width.ensures));
-    }
+pub returns-then-len-width : goal.returns-then-len-width
+returns-then-len-width g c = record {
+  edge = c.in_ok-row.ensures.edge;
+  root = c.in_ok-row.ensures.root;
+  count = tt;
+  sizes = tt;
+  shown = tt;
+  later = c.in_ok-row.ensures.later;
+  kept = c.in_ok-row.ensures.kept;
+  counted = c.in_ok-row.ensures.counted;
+  honest = λ entries r s.
+      let digest = g.H.TreeHash.digest in
+      let done = c.in_ok-row.ensures.honest entries r s in
+      let within : c.args.size ≤ length entries = subst (λ n. c.args.size ≤ n) r.size_is c.requires.within in
+      let enough = start_within digest entries c.args.size c.args.level within c.in_ok-row.row.items
+      (done.answer ∙ ap (true_row digest entries c.args.level) c.edge_index-index.ensures) in
+      record {
+        reader_is = done.reader_is;
+        answer = absurd (omega (arith, enough, c.len.ensures, c.if-len-width.true, c.edge_width-width.ensures));
+      };
+}
 
 pub returns-in_err-copy_start : goal.returns-in_err-copy_start
 returns-in_err-copy_start g c =
@@ -73,16 +72,33 @@ returns-in_err-copy_start g c =
       };
     }
 
-pub returns-clause-honest : goal.returns-clause-honest
-returns-clause-honest g c = λ entries r s.
+pub returns : goal.returns
+returns g c =
     let digest = g.H.TreeHash.digest in
     let row = c.in_ok-row.row.items in
-    let done = c.in_ok-row.ensures.honest entries r s in
-    let within : c.args.size ≤ length entries = subst (λ n. c.args.size ≤ n) r.size_is c.requires.within in
+    let step = c.in_ok-row.ensures in
+    let copied = c.in_ok-copy_start.ensures in
+    let start_is = copied.items ∙ (ap (take c.edge_width-width.result) c.deref.ensures.value
+    ∙ ap (λ w. take w row) c.edge_width-width.ensures) in
     record {
-      reader_is = done.reader_is;
-      answer = start_is_true digest entries c.args.size c.args.level within row c.in_ok-copy_start.field-0.items
-          (done.answer ∙ ap (true_row digest entries c.args.level) c.edge_index-index.ensures)
-          (c.in_ok-copy_start.ensures.items
-          ∙ (ap (take c.edge_width-width.result) c.deref.ensures.value ∙ ap (λ w. take w row) c.edge_width-width.ensures));
+      edge = step.edge;
+      root = step.root;
+      count = copied.count ∙ c.edge_width-width.ensures;
+      sizes = copied.sizes;
+      shown = record {
+        row = row;
+        shown = subst (λ i. IsShownRow digest c.args.reader.now.edge c.args.level i row) c.edge_index-index.ensures step.shown;
+        start_is = start_is;
+      };
+      later = step.later;
+      kept = step.kept;
+      counted = step.counted;
+      honest = λ entries r s.
+          let done = step.honest entries r s in
+          let within : c.args.size ≤ length entries = subst (λ n. c.args.size ≤ n) r.size_is c.requires.within in
+          record {
+            reader_is = done.reader_is;
+            answer = start_is_true digest entries c.args.size c.args.level within row c.in_ok-copy_start.field-0.items
+                (done.answer ∙ ap (true_row digest entries c.args.level) c.edge_index-index.ensures) start_is;
+          };
     }

@@ -116,30 +116,31 @@ returns-in_err-down g t c =
       };
     }
 
-pub returns-clause-later : goal.returns-clause-later
-returns-clause-later g t c = stays_twice c.in_ok-go_to.ensures.later c.in_ok-row.ensures.later
-
-pub returns-clause-kept : goal.returns-clause-kept
-returns-clause-kept g t c =
+pub returns : goal.returns
+returns g t c =
     let files = g.S.Source.files in
-    kept_twice (files c.args.source.now) (files c.go_to.new.source) (files c.read_below.new.source) c.in_ok-go_to.ensures.kept
-    c.in_ok-row.ensures.kept
-
-pub returns-clause-counted : goal.returns-clause-counted
-returns-clause-counted g t c = c.in_ok-row.ensures.counted ∙ c.in_ok-go_to.ensures.counted
-
-pub returns-clause-honest : goal.returns-clause-honest
-returns-clause-honest g t c = λ entries r s.
     let digest = g.H.TreeHash.digest in
-    let up = c.in_ok-go_to.ensures.honest entries (c.climb.ensures.honest entries r) s in
-    let b = is_below c.go_to.new.reader c.args.level c.args.index c.edge_index-end.result c.size.result c.requires.level
-    c.in_ok-go_to.ensures.there.0 c.in_ok-go_to.ensures.there.1 c.edge_index-end.ensures
-    (ap (λ e. e.size) c.in_ok-go_to.ensures.edge ∙ sym c.size.ensures) c.if-index-end.false in
     let length_is = g.met.H.TreeHash.digest_length in
-    let row = row_below digest length_is entries c.go_to.new.reader up.reader_is c.args.level c.args.index b c.in_ok-row.row
-    (c.in_ok-row.ensures.honest entries up.reader_is (tiles_later digest entries _ _ c.in_ok-go_to.ensures.later s) b) in
+    let went = c.in_ok-go_to.ensures in
+    let step = c.in_ok-row.ensures in
+    let is = c.in_ok-down.ensures.ok in
     record {
-      reader_is = went_down digest length_is entries c.go_to.new.reader up.reader_is c.args.level c.args.index b c.down.new.self
-          c.in_ok-row.row row c.in_ok-down.ensures.ok;
-      answer = tt;
+      edge = ap (λ r. r.edge) is ∙ (went.edge ∙ c.climb.ensures.edge);
+      root = ap (λ r. r.root) is ∙ (went.root ∙ c.climb.ensures.root);
+      there = (omega (arith, ap (λ r. r.level) is, went.there.0), ap (λ r. r.index) is);
+      later = stays_twice went.later step.later;
+      kept = kept_twice (files c.args.source.now) (files c.go_to.new.source) (files c.read_below.new.source) went.kept step.kept;
+      counted = step.counted ∙ went.counted;
+      honest = λ entries r s.
+          let up = went.honest entries (c.climb.ensures.honest entries r) s in
+          let b = is_below c.go_to.new.reader c.args.level c.args.index c.edge_index-end.result c.size.result c.requires.level
+          went.there.0 went.there.1 c.edge_index-end.ensures (ap (λ e. e.size) went.edge ∙ sym c.size.ensures)
+          c.if-index-end.false in
+          let row = row_below digest length_is entries c.go_to.new.reader up.reader_is c.args.level c.args.index b c.in_ok-row.row
+          (step.honest entries up.reader_is (tiles_later digest entries _ _ went.later s) b) in
+          record {
+            reader_is = went_down digest length_is entries c.go_to.new.reader up.reader_is c.args.level c.args.index b
+                c.down.new.self c.in_ok-row.row row is;
+            answer = tt;
+          };
     }

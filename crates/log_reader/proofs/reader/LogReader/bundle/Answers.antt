@@ -58,6 +58,12 @@ returns-in_err-go_to g c =
           };
     }
 
+pub returns-in-Some-clause-edge : goal.returns-in-Some-clause-edge
+returns-in-Some-clause-edge g c = c.in_ok-go_to.ensures.edge
+
+pub returns-in-Some-clause-root : goal.returns-in-Some-clause-root
+returns-in-Some-clause-root g c = c.in_ok-go_to.ensures.root
+
 pub returns-in-Some-clause-later : goal.returns-in-Some-clause-later
 returns-in-Some-clause-later g c = stays_twice c.in_ok-go_to.ensures.later c.read_full.ensures.later
 
@@ -103,21 +109,29 @@ returns-in-Some-clause-honest g c = λ entries r s.
           (source_later digest entries _ _ c.in_ok-go_to.ensures.later s));
     }
 
-pub returns-in-None-clause-honest : goal.returns-in-None-clause-honest
-returns-in-None-clause-honest g c = λ entries r s.
-    let digest = g.H.TreeHash.digest in
-    let n = length entries in
-    let index = c.args.index in
-    let row = c.here.result.now in
-    let done = c.in_ok-go_to.ensures.honest entries r
-    (source_tiles digest entries (g.S.Source.may_answer c.args.source.now) s) in
-    let end : c.edge_index.result ≡ edge_index_of n 0 =
-    c.edge_index.ensures ∙ ap (λ m. edge_index_of m 0) (c.size.ensures ∙ r.size_is) in
-    let some : 256 * index < n = subst (λ m. 256 * index < m) r.size_is c.requires in
-    let before : index < edge_index_of n 0 = omega (arith, end, some, c.if-index-edge_index.false) in
-    let is : row ≡ true_row digest entries 1 (index / 256) =
-    there_true digest g.met.H.TreeHash.digest_length entries c.go_to.new.reader done.reader_is 1 (index / 256) row
-    c.here.ensures.row c.in_ok-go_to.ensures.there in
-    let within = within_row digest g.met.H.TreeHash.digest_length entries 0 index (omega arith) before row is in
-    let none : length row ≤ index % 256 = c.in-None.ensures.lookup.3 in
-    absurd (omega (arith, within, none))
+pub returns-in-None : goal.returns-in-None
+returns-in-None g c = record {
+  edge = c.in_ok-go_to.ensures.edge;
+  root = c.in_ok-go_to.ensures.root;
+  shown = tt;
+  later = c.in_ok-go_to.ensures.later;
+  kept = c.in_ok-go_to.ensures.kept;
+  counted = c.in_ok-go_to.ensures.counted;
+  honest = λ entries r s.
+      let digest = g.H.TreeHash.digest in
+      let n = length entries in
+      let index = c.args.index in
+      let row = c.here.result.now in
+      let done = c.in_ok-go_to.ensures.honest entries r
+      (source_tiles digest entries (g.S.Source.may_answer c.args.source.now) s) in
+      let end : c.edge_index.result ≡ edge_index_of n 0 =
+      c.edge_index.ensures ∙ ap (λ m. edge_index_of m 0) (c.size.ensures ∙ r.size_is) in
+      let some : 256 * index < n = subst (λ m. 256 * index < m) r.size_is c.requires in
+      let before : index < edge_index_of n 0 = omega (arith, end, some, c.if-index-edge_index.false) in
+      let is : row ≡ true_row digest entries 1 (index / 256) =
+      there_true digest g.met.H.TreeHash.digest_length entries c.go_to.new.reader done.reader_is 1 (index / 256) row
+      c.here.ensures.row c.in_ok-go_to.ensures.there in
+      let within = within_row digest g.met.H.TreeHash.digest_length entries 0 index (omega arith) before row is in
+      let none : length row ≤ index % 256 = c.in-None.ensures.lookup.3 in
+      absurd (omega (arith, within, none));
+}

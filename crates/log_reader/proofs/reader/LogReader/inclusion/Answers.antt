@@ -1,14 +1,14 @@
 use Rattle.std.proofs.Common.{◌≡◌, ◌<◌, ◌++◌, length, subst, sym, ap, ◌∙◌, arith, refl}
-use Rattle.std.proofs.lemmas.Bool.{false≢true}
 use Rattle.std.proofs.lemmas.List.{take_all}
 use Rattle.tlog_hash.specs.Rows.{part}
 use Rattle.tlog_proof.specs.Inclusion.{path_of}
+use Rattle.tlog_proof.specs.declared.proof.Proof.TheVariants.{Inclusion}
 use Rattle.log_reader.specs.Nodes.{IsNodeRange}
 use Rattle.log_reader.proofs.Asked.{inclusion_holds, inclusion_is}
 use Rattle.log_reader.proofs.NodeNumbers.{whole_node}
 use Rattle.log_reader.proofs.TrueReads.{tiles_later}
 use Rattle.std.proofs.lemmas.Result.{IfOk-from_err}
-use Rattle.log_reader.proofs.Exits.{counted_exit, failed_exit}
+use Rattle.log_reader.proofs.Exits.{checked_counted, checked_holds, checked_ok, checked_true, counted_exit, failed_exit}
 use Rattle.log_reader.proofs.Kept.{kept_twice, stays_twice}
 use Rattle.log_reader.proofs.reader.LogReader.inclusion.Goals as goal
 
@@ -66,74 +66,41 @@ returns-in_err-add_path g c =
           };
     }
 
-pub returns-then-holds-clause-edge : goal.returns-then-holds-clause-edge
-returns-then-holds-clause-edge g c = c.in_ok-add_path.ensures.edge ∙ c.in_ok-leaf.ensures.edge
-
-pub returns-then-holds-clause-root : goal.returns-then-holds-clause-root
-returns-then-holds-clause-root g c = c.in_ok-add_path.ensures.root ∙ c.in_ok-leaf.ensures.root
-
-pub returns-then-holds-clause-later : goal.returns-then-holds-clause-later
-returns-then-holds-clause-later g c = stays_twice c.in_ok-leaf.ensures.later c.in_ok-add_path.ensures.later
-
-pub returns-then-holds-clause-counted : goal.returns-then-holds-clause-counted
-returns-then-holds-clause-counted g c = c.in_ok-add_path.ensures.counted ∙ c.in_ok-leaf.ensures.counted
-
-pub returns-then-holds-clause-kept : goal.returns-then-holds-clause-kept
-returns-then-holds-clause-kept g c =
+pub returns : goal.returns
+returns g c =
     let files = g.S.Source.files in
-    kept_twice (files c.args.source.now) (files c.leaf.new.source) (files c.add_path.new.source) c.in_ok-leaf.ensures.kept
-    c.in_ok-add_path.ensures.kept
-
-pub returns-else-holds-clause-edge : goal.returns-else-holds-clause-edge
-returns-else-holds-clause-edge g c = c.in_ok-add_path.ensures.edge ∙ c.in_ok-leaf.ensures.edge
-
-pub returns-else-holds-clause-root : goal.returns-else-holds-clause-root
-returns-else-holds-clause-root g c = c.in_ok-add_path.ensures.root ∙ c.in_ok-leaf.ensures.root
-
-pub returns-else-holds-clause-later : goal.returns-else-holds-clause-later
-returns-else-holds-clause-later g c = stays_twice c.in_ok-leaf.ensures.later c.in_ok-add_path.ensures.later
-
-pub returns-else-holds-clause-counted : goal.returns-else-holds-clause-counted
-returns-else-holds-clause-counted g c = c.in_ok-add_path.ensures.counted ∙ c.in_ok-leaf.ensures.counted
-
-pub returns-else-holds-clause-kept : goal.returns-else-holds-clause-kept
-returns-else-holds-clause-kept g c =
-    let files = g.S.Source.files in
-    kept_twice (files c.args.source.now) (files c.leaf.new.source) (files c.add_path.new.source) c.in_ok-leaf.ensures.kept
-    c.in_ok-add_path.ensures.kept
-
-pub returns-then-holds-clause-honest : goal.returns-then-holds-clause-honest
-returns-then-holds-clause-honest g c = λ entries r s.
+    let failed = g.S.Source.failed in
     let digest = g.H.TreeHash.digest in
+    let leaf = c.in_ok-leaf.ensures in
+    let step = c.in_ok-add_path.ensures in
     let n = c.size-size.result in
     let index = c.args.index in
-    let at = c.in_ok-leaf.ensures.honest entries r s in
-    let went = c.in_ok-add_path.ensures.honest entries at.reader_is
-    (tiles_later digest entries _ _ c.in_ok-leaf.ensures.later s) in
-    let size_is : n ≡ length entries = c.size-size.ensures ∙ r.size_is in
-    let below : index < n = subst (λ m. index < m) (sym c.size-size.ensures) c.requires in
-    let root_is = c.root.ensures.root ∙ went.reader_is.root_is in
-    let path_is : c.new.result ≡ path_of digest index entries =
-    c.new.ensures ∙ (went.answer ∙ (ap (λ xs. xs ++ path_of digest index (part 0 n entries)) c.new-path.ensures.items
-    ∙ ap (path_of digest index) (take_all n entries (omega (arith, size_is))))) in
+    let proof = Inclusion n index c.root.result c.in_ok-leaf.leaf c.new.result in
+    let kept = c.checked.ensures in
     record {
-      reader_is = went.reader_is;
-      answer = inclusion_is digest entries n index c.root.result c.in_ok-leaf.leaf c.new.result size_is below root_is at.answer path_is;
+      edge = step.edge ∙ leaf.edge;
+      root = step.root ∙ leaf.root;
+      asked = checked_ok digest proof c.checked.result kept.ok kept.err _
+          (c.size-size.ensures, refl, c.root.ensures.root ∙ (step.root ∙ leaf.root));
+      holds = checked_holds digest proof c.checked.result kept.ok kept.err;
+      later = stays_twice leaf.later step.later;
+      kept = kept_twice (files c.args.source.now) (files c.leaf.new.source) (files c.add_path.new.source) leaf.kept step.kept;
+      counted = checked_counted _ c.checked.result kept.err (failed c.args.source.now) (failed c.add_path.new.source)
+          (step.counted ∙ leaf.counted);
+      honest = λ entries r s.
+          let at = leaf.honest entries r s in
+          let went = step.honest entries at.reader_is (tiles_later digest entries _ _ leaf.later s) in
+          let size_is : n ≡ length entries = c.size-size.ensures ∙ r.size_is in
+          let below : index < n = subst (λ m. index < m) (sym c.size-size.ensures) c.requires in
+          let root_is = c.root.ensures.root ∙ went.reader_is.root_is in
+          let path_is : c.new.result ≡ path_of digest index entries =
+          c.new.ensures ∙ (went.answer ∙ (ap (λ xs. xs ++ path_of digest index (part 0 n entries)) c.new-path.ensures.items
+          ∙ ap (path_of digest index) (take_all n entries (omega (arith, size_is))))) in
+          record {
+            reader_is = went.reader_is;
+            answer = checked_true digest proof c.checked.result kept.ok kept.err _
+                (inclusion_is digest entries n index c.root.result c.in_ok-leaf.leaf c.new.result size_is below root_is at.answer path_is)
+                (inclusion_holds digest entries n index c.root.result c.in_ok-leaf.leaf c.new.result size_is below root_is at.answer
+                path_is);
+          };
     }
-
-pub returns-else-holds-clause-honest : goal.returns-else-holds-clause-honest
-returns-else-holds-clause-honest g c = λ entries r s.
-    let digest = g.H.TreeHash.digest in
-    let n = c.size-size.result in
-    let index = c.args.index in
-    let at = c.in_ok-leaf.ensures.honest entries r s in
-    let went = c.in_ok-add_path.ensures.honest entries at.reader_is
-    (tiles_later digest entries _ _ c.in_ok-leaf.ensures.later s) in
-    let size_is : n ≡ length entries = c.size-size.ensures ∙ r.size_is in
-    let below : index < n = subst (λ m. index < m) (sym c.size-size.ensures) c.requires in
-    let root_is = c.root.ensures.root ∙ went.reader_is.root_is in
-    let path_is : c.new.result ≡ path_of digest index entries =
-    c.new.ensures ∙ (went.answer ∙ (ap (λ xs. xs ++ path_of digest index (part 0 n entries)) c.new-path.ensures.items
-    ∙ ap (path_of digest index) (take_all n entries (omega (arith, size_is))))) in
-    let holds = inclusion_holds digest entries n index c.root.result c.in_ok-leaf.leaf c.new.result size_is below root_is at.answer path_is in
-    absurd (false≢true (sym c.if-holds.false ∙ c.holds.ensures.1 holds))

@@ -9,19 +9,6 @@ use Rattle.std.proofs.lemmas.Result.{IfOk-from_err}
 use Rattle.log_reader.proofs.Exits.{counted_exit, failed_exit}
 use Rattle.log_reader.proofs.reader.LogReader.leaf.Goals as goal
 
-pub returns-in-Some-clause-shown : goal.returns-in-Some-clause-shown
-returns-in-Some-clause-shown g c =
-    let index = c.args.index in
-    let row = c.here.result.now in
-    let within : index % 256 < length row = ltb-true _ _ (sym c.in-Some.ensures.lookup.0) in
-    record {
-      row = row;
-      shown = shown_there g.H.TreeHash.digest c.args.self.now.edge c.go_to.new.reader 0 (index / 256) row
-          c.in_ok-go_to.ensures.edge c.in_ok-go_to.ensures.there c.here.ensures.shown;
-      within = within;
-      hash_is = get_or_read_under row (index % 256) (length row) c.in-Some.hash.now [] c.in-Some.ensures.lookup.1 within refl;
-    }
-
 pub returns-in_err-go_to : goal.returns-in_err-go_to
 returns-in_err-go_to g c =
     let failed = g.S.Source.failed in
@@ -43,31 +30,58 @@ returns-in_err-go_to g c =
           };
     }
 
-pub returns-in-Some-clause-honest : goal.returns-in-Some-clause-honest
-returns-in-Some-clause-honest g c = λ entries r s.
-    let done = c.in_ok-go_to.ensures.honest entries r s in
+pub returns-in-Some : goal.returns-in-Some
+returns-in-Some g c =
+    let step = c.in_ok-go_to.ensures in
     let index = c.args.index in
     let row = c.here.result.now in
-    let before : index < length entries = subst (λ n. index < n) r.size_is c.requires in
-    let is : row ≡ true_row g.H.TreeHash.digest entries 0 (index / 256) =
-    there_true g.H.TreeHash.digest g.met.H.TreeHash.digest_length entries c.go_to.new.reader done.reader_is 0 (index / 256) row
-    c.here.ensures.row c.in_ok-go_to.ensures.there in
+    let within : index % 256 < length row = ltb-true _ _ (sym c.in-Some.ensures.lookup.0) in
     record {
-      reader_is = done.reader_is;
-      answer = get_or_read_under row (index % 256) (length row) c.in-Some.hash.now [] c.in-Some.ensures.lookup.1
-          (leaf_within g.H.TreeHash.digest entries index before row is) refl
-          ∙ leaf_is g.H.TreeHash.digest entries index before row is;
+      edge = step.edge;
+      root = step.root;
+      shown = record {
+        row = row;
+        shown = shown_there g.H.TreeHash.digest c.args.self.now.edge c.go_to.new.reader 0 (index / 256) row
+            c.in_ok-go_to.ensures.edge c.in_ok-go_to.ensures.there c.here.ensures.shown;
+        within = within;
+        hash_is = get_or_read_under row (index % 256) (length row) c.in-Some.hash.now [] c.in-Some.ensures.lookup.1 within refl;
+      };
+      later = step.later;
+      kept = step.kept;
+      counted = step.counted;
+      honest = λ entries r s.
+          let done = c.in_ok-go_to.ensures.honest entries r s in
+          let index = c.args.index in
+          let row = c.here.result.now in
+          let before : index < length entries = subst (λ n. index < n) r.size_is c.requires in
+          let is : row ≡ true_row g.H.TreeHash.digest entries 0 (index / 256) =
+          there_true g.H.TreeHash.digest g.met.H.TreeHash.digest_length entries c.go_to.new.reader done.reader_is 0 (index / 256) row
+          c.here.ensures.row c.in_ok-go_to.ensures.there in
+          record {
+            reader_is = done.reader_is;
+            answer = get_or_read_under row (index % 256) (length row) c.in-Some.hash.now [] c.in-Some.ensures.lookup.1
+                (leaf_within g.H.TreeHash.digest entries index before row is) refl
+                ∙ leaf_is g.H.TreeHash.digest entries index before row is;
+          };
     }
 
-pub returns-in-None-clause-honest : goal.returns-in-None-clause-honest
-returns-in-None-clause-honest g c = λ entries r s.
-    let done = c.in_ok-go_to.ensures.honest entries r s in
-    let index = c.args.index in
-    let row = c.here.result.now in
-    let before : index < length entries = subst (λ n. index < n) r.size_is c.requires in
-    let is : row ≡ true_row g.H.TreeHash.digest entries 0 (index / 256) =
-    there_true g.H.TreeHash.digest g.met.H.TreeHash.digest_length entries c.go_to.new.reader done.reader_is 0 (index / 256) row
-    c.here.ensures.row c.in_ok-go_to.ensures.there in
-    let within = leaf_within g.H.TreeHash.digest entries index before row is in
-    let none : length row ≤ index % 256 = c.in-None.ensures.lookup.3 in
-    absurd (omega (arith, within, none))
+pub returns-in-None : goal.returns-in-None
+returns-in-None g c = record {
+  edge = c.in_ok-go_to.ensures.edge;
+  root = c.in_ok-go_to.ensures.root;
+  shown = tt;
+  later = c.in_ok-go_to.ensures.later;
+  kept = c.in_ok-go_to.ensures.kept;
+  counted = c.in_ok-go_to.ensures.counted;
+  honest = λ entries r s.
+      let done = c.in_ok-go_to.ensures.honest entries r s in
+      let index = c.args.index in
+      let row = c.here.result.now in
+      let before : index < length entries = subst (λ n. index < n) r.size_is c.requires in
+      let is : row ≡ true_row g.H.TreeHash.digest entries 0 (index / 256) =
+      there_true g.H.TreeHash.digest g.met.H.TreeHash.digest_length entries c.go_to.new.reader done.reader_is 0 (index / 256) row
+      c.here.ensures.row c.in_ok-go_to.ensures.there in
+      let within = leaf_within g.H.TreeHash.digest entries index before row is in
+      let none : length row ≤ index % 256 = c.in-None.ensures.lookup.3 in
+      absurd (omega (arith, within, none));
+}

@@ -1,11 +1,24 @@
-use Rattle.std.proofs.Common.{◌<◌, ◌^◌, length, rules, sym, ◌∙◌, arith}
+use Rattle.std.proofs.Common.{◌<◌, ◌^◌, length, refl, sym, ◌∙◌, arith}
+use Rattle.std.proofs.lemmas.Result.{IfOk-from_err}
+use Rattle.log_reader.proofs.Exits.{counted_exit, failed_exit}
 use Rattle.log_reader.proofs.TruePrefixes.{reader_made}
 use Rattle.log_reader.proofs.reader.LogReader.open.Goals as goal
 
-pub returns-in_err-edge-clause-honest : goal.returns-in_err-edge-clause-honest
-returns-in_err-edge-clause-honest g c = λ entries same root s.
-    let fault = c.in_err-edge.ensures.honest entries same root s in
-    search (rules, fault)
+pub returns-in_err-edge : goal.returns-in_err-edge
+returns-in_err-edge g c =
+    let failed = g.S.Source.failed in
+    let exit = c.from_residual in
+    let step = c.in_err-edge.ensures in
+    let fault = c.in_err-edge.field-0.0 in
+    record {
+      size = IfOk-from_err exit.result _ exit.ensures.0;
+      root = IfOk-from_err exit.result _ exit.ensures.0;
+      later = step.later;
+      kept = step.kept;
+      counted = counted_exit exit.result c.read_edge.result fault exit.ensures c.in_err-edge.was (failed c.args.source.now)
+          (failed c.args.source.now) (failed c.read_edge.new.source) refl c.read_edge.ensures.counted;
+      honest = λ entries same root s. failed_exit exit.result _ fault exit.ensures (step.honest entries same root s);
+    }
 
 pub returns-clause-honest : goal.returns-clause-honest
 returns-clause-honest g c = λ entries same root s.

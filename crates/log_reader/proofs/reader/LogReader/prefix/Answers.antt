@@ -1,6 +1,7 @@
 use Rattle.std.proofs.Common.{◌≡◌, ◌<◌, ◌≤◌, ◌^◌, length, subst, sym, ap, take, ◌∙◌, arith, refl}
 use Rattle.tlog_shape.specs.Edge.{edge_index_of}
 use Rattle.log_reader.specs.EdgeRows.{hash_of_edge}
+use Rattle.log_reader.specs.Ways.{HasEdgeHashes, IsShownEdge}
 use Rattle.log_reader.proofs.TruePrefixes.{reader_made, size_first}
 use Rattle.std.proofs.lemmas.Result.{IfOk-from_err}
 use Rattle.log_reader.specs.declared.fault.ReadFault.TheVariants.{OutOfMemory}
@@ -48,19 +49,37 @@ returns-in_err-edge g c =
       };
     }
 
-pub returns-clause-honest : goal.returns-clause-honest
-returns-clause-honest g c = λ entries r s.
+pub over-requires-clause-hashes : goal.over-requires-clause-hashes
+over-requires-clause-hashes g c = subst HasEdgeHashes (sym c.in_ok-edge.ensures) c.in_ok-rows.ensures.hashes
+
+pub over-requires-clause-leads : goal.over-requires-clause-leads
+over-requires-clause-leads g c = sym c.root-root.ensures
+
+pub returns : goal.returns
+returns g c =
     let digest = g.H.TreeHash.digest in
     let size = c.args.size in
     let rows = c.in_ok-rows.rows in
+    let step = c.in_ok-rows.ensures in
     let same : c.in_ok-edge.edge ≡ rows = c.in_ok-edge.ensures in
-    let done = c.in_ok-rows.ensures.honest entries r s in
-    let within : size ≤ length entries = subst (λ n. size ≤ n) r.size_is c.requires in
-    let long : length (take size entries) ≡ size = size_first digest entries size within in
-    let small : length (take size entries) < 256 ^ 8 = omega (arith, long, c.ranges.size.fits) in
+    let edge_is = c.over.ensures.edge ∙ same in
     record {
-      reader_is = done.reader_is;
-      answer = reader_made digest (take size entries) rows c.over.result (long ∙ sym c.in_ok-rows.ensures.size) small
-          done.answer (c.over.ensures.edge ∙ same) (c.over.ensures.root ∙ (c.root-root.ensures ∙ ap (hash_of_edge digest) same))
-          c.over.ensures.place.0 (c.over.ensures.place.1 ∙ ap (λ e. edge_index_of e.size 0) same) c.over.ensures.place.2;
+      edge = step.edge;
+      root = step.root;
+      size = ap (λ e. e.size) edge_is ∙ step.size;
+      shown = subst (IsShownEdge digest c.args.self.now.edge) (sym edge_is) step.shown;
+      later = step.later;
+      kept = step.kept;
+      counted = step.counted;
+      honest = λ entries r s.
+          let done = step.honest entries r s in
+          let within : size ≤ length entries = subst (λ n. size ≤ n) r.size_is c.requires in
+          let long : length (take size entries) ≡ size = size_first digest entries size within in
+          let small : length (take size entries) < 256 ^ 8 = omega (arith, long, c.ranges.size.fits) in
+          record {
+            reader_is = done.reader_is;
+            answer = reader_made digest (take size entries) rows c.over.result (long ∙ sym step.size) small
+                done.answer edge_is (c.over.ensures.root ∙ (c.root-root.ensures ∙ ap (hash_of_edge digest) same))
+                c.over.ensures.place.0 (c.over.ensures.place.1 ∙ ap (λ e. edge_index_of e.size 0) same) c.over.ensures.place.2;
+          };
     }

@@ -44,6 +44,21 @@ returns-in_err-copy_row g c =
       };
     }
 
+pub returns-clause-edge : goal.returns-clause-edge
+returns-clause-edge g c = c.in_ok-go_to.ensures.edge
+
+pub returns-clause-root : goal.returns-clause-root
+returns-clause-root g c = c.in_ok-go_to.ensures.root
+
+pub returns-clause-later : goal.returns-clause-later
+returns-clause-later g c = c.in_ok-go_to.ensures.later
+
+pub returns-clause-kept : goal.returns-clause-kept
+returns-clause-kept g c = c.in_ok-go_to.ensures.kept
+
+pub returns-clause-counted : goal.returns-clause-counted
+returns-clause-counted g c = c.in_ok-go_to.ensures.counted
+
 pub returns-clause-honest : goal.returns-clause-honest
 returns-clause-honest g c = λ entries r s.
     let is = (c.in_ok-go_to.ensures.honest entries r s).reader_is in
