@@ -7,7 +7,7 @@ use std::alloc::{AllocError, AllocFailed};
 use std::fmt;
 
 /// The reason why places give no candidate. It prints as its variant's name, or as the name of the fault inside.
-#[derive(Debug, Drop, PartialEq, Eq, Clone, Copy)]
+#[derive(Debug, Drop, Clone, Copy)]
 pub enum CandidateFault {
     /// The first place lacks a checkpoint, and no place gives a candidate.
     NoCheckpoint,

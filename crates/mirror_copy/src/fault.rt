@@ -11,7 +11,7 @@ use std::alloc::{AllocError, AllocFailed};
 use std::fmt;
 
 /// The reason why a copy was not brought to a checkpoint. It prints as its variant's name.
-#[derive(Debug, Drop, PartialEq, Eq, Clone, Copy)]
+#[derive(Debug, Drop, Clone, Copy)]
 pub enum BringFault {
     /// The bytes are not a note whose text is a checkpoint of the origin.
     BadCheckpoint,

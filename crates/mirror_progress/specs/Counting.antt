@@ -6,11 +6,15 @@ use Rattle.mirror_sources.specs.Honest.{IsHonest}
 use Rattle.mirror_progress.specs.declared.counts.Counts.{Counts}
 use Rattle.mirror_progress.specs.Text.{with_file}
 
+-- a file that is found is counted, with its bytes
+abbrev pub CountsFound : {X : Type 0} → (X → ℕ) → Counts → Counts → Option X → Type 0
+CountsFound len old new (Some bytes) = new ≡ with_file old (len bytes)
+CountsFound len old new None = new ≡ old
+
 -- a file that is found is counted, with its bytes; other answers are not counted
 abbrev pub CountsAnswer :
     {X E : Type 0} → (X → ℕ) → Counts → Counts → Result (Option X) E → Type 0
-CountsAnswer len old new (Ok (Some bytes)) = new ≡ with_file old (len bytes)
-CountsAnswer len old new (Ok None) = new ≡ old
+CountsAnswer len old new (Ok found) = CountsFound len old new found
 CountsAnswer len old new (Err e) = new ≡ old
 
 -- a file that is put is counted, with its bytes; a failed put is not counted

@@ -7,7 +7,7 @@ ghost use Rattle.std.specs.Prelude.{◌≡◌};
 /// let mut counts = Counts::new();
 /// counts.add(96); // Counts { files: 1, bytes: 96 }
 /// ```
-#[derive(Debug, PartialEq, Eq, Clone, Copy)]
+#[derive(Clone, Copy)]
 pub struct Counts {
     /// The number of files.
     pub files: u64,

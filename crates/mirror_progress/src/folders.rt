@@ -1,7 +1,6 @@
 //! Folders that may report the progress of long work.
 use crate::task::Task;
-use mirror_folders::{DirShelf, MemShelf, NamedFolders};
-use std::fs::Files;
+use mirror_folders::{MemShelf, NamedFolders};
 
 /// Folders with names that may report how many files were put. A `CountingShelf` reports it. For other folders, these calls
 /// do nothing.
@@ -38,7 +37,5 @@ pub trait CountedFolders: NamedFolders {
     {}
 }
 
-// A folder that is not counted reports nothing.
-impl<'a, R: Files> CountedFolders for DirShelf<'a, R> {}
-
+// A shelf in memory reports nothing.
 impl CountedFolders for MemShelf {}

@@ -1,5 +1,5 @@
 //! Reports of long work, and their times.
-ghost use Rattle.std.specs.Prelude.{◌≡◌, ◌↔◌, None, Some, IfOk, IsTrue, OnErr, is_some, option_map};
+ghost use Rattle.std.specs.Prelude.{◌≡◌, ◌↔◌, ℕ, List, None, Some, IfOk, IsTrue, OnErr, is_some, option_map};
 ghost use Rattle.std.specs.Time.{instant_nanos};
 ghost use Rattle.byte_streams.specs.Streams.{AppendsPrefix};
 ghost use Rattle.mirror_progress.specs.Text.{with_file, line_of, grown_text, pulled_text};
@@ -91,6 +91,17 @@ fn write_line<W: Write>(writer: &mut W, line: &[u8])
 {
     match write_whole(writer, line) {
         Ok(()) | Err(_) => (),
+    }
+}
+
+// Writes a line, unless memory for it was refused.
+fn write_made<W: Write>(writer: &mut W, made: Result<Vec<u8>, AllocError>)
+    ensures { (text : List ℕ) → IfOk made (λ line. line.items ≡ text)
+        → AppendsPrefix (W.contents writer.old) (W.contents writer.new) text }
+{
+    match made {
+        Ok(line) => write_line(writer, &line),
+        Err(_) => {}
     }
 }
 
@@ -202,10 +213,8 @@ impl<C: Clock + Drop, W: Write + Drop> Progress<C, W> {
         ensures line { AppendsPrefix (W.contents self.old.writer) (W.contents self.new.writer)
             (line_of (pulled_text held size self.old.counts)) }
     {
-        match pulled_line(self.alloc, held, size, self.counts) {
-            Ok(line) => write_line(&mut self.writer, &line),
-            Err(_) => {}
-        }
+        let line = pulled_line(self.alloc, held, size, self.counts);
+        write_made(&mut self.writer, line);
     }
 
     /// Reports the result of following, at any time: the sizes between which the copy grew.
@@ -214,10 +223,8 @@ impl<C: Clock + Drop, W: Write + Drop> Progress<C, W> {
         ensures line { AppendsPrefix (W.contents self.old.writer) (W.contents self.new.writer)
             (line_of (grown_text Task.Follow old size self.old.counts)) }
     {
-        match followed_line(self.alloc, old, size, self.counts) {
-            Ok(line) => write_line(&mut self.writer, &line),
-            Err(_) => {}
-        }
+        let line = followed_line(self.alloc, old, size, self.counts);
+        write_made(&mut self.writer, line);
     }
 
     /// Reports the counts, at any time, unless the last line did so.
@@ -233,10 +240,8 @@ impl<C: Clock + Drop, W: Write + Drop> Progress<C, W> {
         if self.is_recorded_now {
             return;
         }
-        match progress_line(self.alloc, self.task, self.all, self.counts) {
-            Ok(line) => write_line(&mut self.writer, &line),
-            Err(_) => {}
-        }
+        let line = progress_line(self.alloc, self.task, self.all, self.counts);
+        write_made(&mut self.writer, line);
     }
 
     // Reports the counts, if it is time.
@@ -248,9 +253,7 @@ impl<C: Clock + Drop, W: Write + Drop> Progress<C, W> {
         }
         self.due = next_due(now);
         self.is_recorded_now = true;
-        match progress_line(self.alloc, self.task, self.all, self.counts) {
-            Ok(line) => write_line(&mut self.writer, &line),
-            Err(_) => {}
-        }
+        let line = progress_line(self.alloc, self.task, self.all, self.counts);
+        write_made(&mut self.writer, line);
     }
 }

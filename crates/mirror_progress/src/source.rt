@@ -2,7 +2,7 @@
 ghost use Rattle.std.specs.Prelude.{◌≡◌, IfOk, option_map, vec_len};
 ghost use Rattle.mirror_sources.specs.Source.{RecordsGet, CountsGet, StaysWithin};
 ghost use Rattle.mirror_sources.specs.Recorded.{KeepsRecord};
-ghost use Rattle.mirror_progress.specs.Counting.{CountsAnswer};
+ghost use Rattle.mirror_progress.specs.Counting.{CountsAnswer, CountsFound};
 
 use crate::progress::Progress;
 use mirror_sources::{Source, SourceFault};
@@ -47,6 +47,23 @@ impl<S: Source + Drop, C: Clock + Drop, W: Write + Drop> CountingSource<S, C, W>
     }
 }
 
+// Counts a file that is found, and its bytes.
+fn count_found<C: Clock + Drop, W: Write + Drop>(
+    progress: &mut Progress<C, W>,
+    path: &Path,
+    found: &Option<Vec<u8>>,
+)
+    ensures { CountsFound vec_len progress.old.counts progress.new.counts found.now }
+{
+    match found {
+        Some(bytes) => {
+            progress.expect_log(path, bytes);
+            progress.count(bytes.len());
+        }
+        None => {}
+    }
+}
+
 impl<S: Source + Drop, C: Clock + Drop, W: Write + Drop> Source for CountingSource<S, C, W> {
     ghost may_answer = { λ s. S.may_answer s.source };
 
@@ -67,12 +84,9 @@ impl<S: Source + Drop, C: Clock + Drop, W: Write + Drop> Source for CountingSour
         ensures counts { CountsAnswer vec_len self.old.progress.counts self.new.progress.counts
             result }
     {
-        let Some(bytes) = self.source.get(path)? else {
-            return Ok(None);
-        };
-        self.progress.expect_log(path, &bytes);
-        self.progress.count(bytes.len());
-        Ok(Some(bytes))
+        let found = self.source.get(path)?;
+        count_found(&mut self.progress, path, &found);
+        Ok(found)
     }
 
     fn expect(&mut self, paths: &[Path])

@@ -2,7 +2,7 @@
 
 /// A command that reports its progress. `Task::Pull`, for example, reports the files that it
 /// fetched.
-#[derive(Debug, Drop, PartialEq, Eq, Clone, Copy)]
+#[derive(Drop, PartialEq, Eq, Clone, Copy)]
 pub enum Task {
     /// Builds a log and puts its files.
     Build,

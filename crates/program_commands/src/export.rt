@@ -18,7 +18,7 @@ use tlog_mirror::Mirror;
 /// Puts all tiles, then all entry bundles, then the checkpoint that the mirror in the state file serves, into the folder.
 ///
 /// ```text
-/// let mut folders = DirShelf::new(&rt, alloc, ".");
+/// let mut folders = CountingShelf::new(DirShelf::new(&rt, alloc, "."), progress);
 /// run_export::<Sha256Tree, _, _>(&files, &mut folders, alloc, "example.com/log", &keys, "log.state", "log")?;
 /// ```
 ///

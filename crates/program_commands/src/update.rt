@@ -19,7 +19,7 @@ use tlog_mirror::Mirror;
 /// of the folder's checkpoint lacks, and the checkpoint last. If the folder has no checkpoint, all files are put.
 ///
 /// ```text
-/// let mut folders = DirShelf::new(&rt, alloc, ".");
+/// let mut folders = CountingShelf::new(DirShelf::new(&rt, alloc, "."), progress);
 /// run_update::<Sha256Tree, _, _>(&files, &mut folders, alloc, "example.com/log", &keys, "log.state", "log")?;
 /// ```
 ///

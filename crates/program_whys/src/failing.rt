@@ -1,7 +1,7 @@
 //! What of a run's files, folders, sources and streams failed, and why. Contracts see nothing of it.
 use byte_streams::WatchedStream;
 use mirror_client::{Dial, FailedGet, HttpSource};
-use mirror_folders::{DirShelf, DirSource, FailedFile, MemShelf};
+use mirror_folders::{DirShelf, DirSource, FailedFile, MemShelf, NamedFolders};
 use mirror_progress::{CountedFolders, CountingShelf};
 use program_files::{FailedName, MemoryFiles, NamedFiles, SystemFiles};
 use std::fs::Files;
@@ -22,7 +22,7 @@ pub enum Failed {
     Stream(io::Error),
 }
 
-/// A source or a stream that keeps why it failed. Files and folders have a method of the same name in `RunFiles` and `RunFolders`: with
+/// A source, a shelf or a stream that keeps why it failed. Files and folders have a method of the same name in `RunFiles` and `RunFolders`: with
 /// this trait above those, the checker runs out of steps at `run`.
 ///
 /// ```text
@@ -36,6 +36,15 @@ pub trait Failing {
 impl<'a, R: Files> Failing for DirSource<'a, R> {
     fn last_failed(&self) -> Option<Failed> {
         match DirSource::last_failed(self) {
+            Some(failed) => Some(Failed::File(failed)),
+            None => None,
+        }
+    }
+}
+
+impl<'a, R: Files> Failing for DirShelf<'a, R> {
+    fn last_failed(&self) -> Option<Failed> {
+        match DirShelf::last_failed(self) {
             Some(failed) => Some(Failed::File(failed)),
             None => None,
         }
@@ -88,22 +97,14 @@ pub trait RunFolders: CountedFolders {
     fn last_failed(&self) -> Option<Failed>;
 }
 
-impl<'a, R: Files> RunFolders for DirShelf<'a, R> {
-    fn last_failed(&self) -> Option<Failed> {
-        match DirShelf::last_failed(self) {
-            Some(failed) => Some(Failed::File(failed)),
-            None => None,
-        }
-    }
-}
-
 impl RunFolders for MemShelf {
     fn last_failed(&self) -> Option<Failed> {
         None
     }
 }
 
-impl<S: RunFolders + Drop, C: Clock + Drop, W: Write + Drop> RunFolders for CountingShelf<S, C, W> {
+impl<S: NamedFolders + Failing + Drop, C: Clock + Drop, W: Write + Drop> RunFolders
+    for CountingShelf<S, C, W> {
     fn last_failed(&self) -> Option<Failed> {
         self.shelf.last_failed()
     }

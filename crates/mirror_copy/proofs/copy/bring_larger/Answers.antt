@@ -17,7 +17,7 @@ use Rattle.mirror_places.proofs.AskingOnce.{once_weaker}
 use Rattle.mirror_copy.proofs.Between.{once_larger}
 use Rattle.mirror_places.specs.AskedOnce.{AsksOnce}
 use Rattle.std.specs.Prelude.{⊤}
-use Rattle.std.proofs.Common.{inr, refl}
+use Rattle.std.proofs.Common.{inr}
 use Rattle.mirror_copy.proofs.copy.bring_larger.Goals as goal
 
 pub returns-in-Err-clause-brings : goal.returns-in-Err-clause-brings
