@@ -4,7 +4,6 @@
 
 use std::alloc::{AllocError, AllocFailed};
 use std::fmt;
-use thiserror::Error;
 
 /// Why bytes were refused as a note.
 #[derive(Debug, Drop, PartialEq, Eq, Clone, Copy)]
@@ -55,9 +54,17 @@ impl<T: Drop> From<AllocFailed<T>> for NoteFault {
 }
 
 /// Why a note does not open.
-#[derive(Debug, Drop, PartialEq, Eq, Clone, Copy, Error)]
+#[derive(Debug, Drop, PartialEq, Eq, Clone, Copy)]
 pub enum OpenFault {
     /// No line has the name and id of a key that accepts the line's signature over the text.
-    #[error("NoTrustedSignature")]
     NoTrustedSignature,
 }
+
+/// Prints the name of the variant. A derived one takes the checker seconds more.
+impl fmt::Display for OpenFault {
+    fn fmt<W: fmt::Write>(&self, f: &mut fmt::Formatter<W>) -> fmt::Result {
+        fmt::Debug::fmt(self, f)
+    }
+}
+
+impl std::error::Error for OpenFault {}

@@ -12,7 +12,7 @@
 //! ```text
 //! let proof = prove(alloc, &ranges, Ask::Inclusion { size: 3, index: 2 })?;
 //! let text = write_text(alloc, &proof)?;
-//! read_text(alloc, &text)? == proof
+//! read_text(alloc, &text)?         // the same proof
 //! holds::<Sha256Tree>(&proof)      // true
 //! ```
 #![tactic(auto)]

@@ -1,8 +1,5 @@
 //! The hashes of a proof.
-ghost use Rattle.std.specs.Prelude.{◌≡◌, ◌↔◌, IsTrue, nat_eq};
-ghost use Rattle.std.specs.Cmp.Lexicographic.{pointwise};
-ghost use Rattle.std.specs.Cmp.Rules.{comparing};
-ghost use Rattle.std.proofs.Common.{rules};
+ghost use Rattle.std.specs.Prelude.{◌≡◌};
 
 use std::marker::Model;
 use tlog_hash::Hash;
@@ -48,21 +45,4 @@ impl HashPath {
         let HashPath { hashes } = self;
         hashes
     }
-}
-
-impl PartialEq for HashPath {
-    ghost eq = { pointwise (pointwise nat_eq) };
-
-    ghost laws = { Prim.search (comparing, rules) };
-
-    fn eq(&self, other: &HashPath) -> bool
-        ensures bytes { result ≡ pointwise (pointwise nat_eq) self.now other.now }
-        ensures same { IsTrue result ↔ (self.now ≡ other.now) }
-    {
-        self.hashes == other.hashes
-    }
-}
-
-impl Eq for HashPath {
-    ghost laws = { Prim.search (comparing, rules) };
 }

@@ -24,7 +24,7 @@ pub enum Ask {
 /// A proof with everything that a check needs. `examples/inclusion-2-of-3.proof` has the text of one.
 ///
 /// A caller who relies on the check must also compare the roots with those of a checkpoint.
-#[derive(Drop, PartialEq, Eq)]
+#[derive(Drop)]
 pub enum Proof {
     /// The entry with that leaf hash has that index in the tree of that size and root.
     Inclusion {

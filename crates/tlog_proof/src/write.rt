@@ -27,6 +27,21 @@ pub fn write_text(alloc: Global, proof: &Proof) -> Result<String, AllocError>
     ensures { IfOk result (λ text. IsProofText (string_bytes text) proof.now) }
 {
     let mut text = String::new(alloc);
+    match add_proof(&mut text, proof) {
+        Ok(()) => Ok(text),
+        Err(e) => {
+            drop(text);
+            Err(e)
+        }
+    }
+}
+
+// Writes the lines of the proof into an empty text.
+fn add_proof(text: &mut String, proof: &Proof) -> Result<(), AllocError>
+    requires empty { string_bytes text.old ≡ [] }
+    requires writable { IsWritableProof proof.now }
+    ensures { OnOk result (IsProofText (string_bytes text.new) proof.now) }
+{
     match proof {
         Proof::Inclusion {
             size,
@@ -36,11 +51,11 @@ pub fn write_text(alloc: Global, proof: &Proof) -> Result<String, AllocError>
             path,
         } => {
             text.push_str("inclusion\n")?;
-            add_number(&mut text, "size ", *size)?;
-            add_number(&mut text, "index ", *index)?;
-            add_hash(&mut text, "root ", root)?;
-            add_hash(&mut text, "leaf ", leaf)?;
-            add_hashes(&mut text, path.as_slice())?;
+            add_number(text, "size ", *size)?;
+            add_number(text, "index ", *index)?;
+            add_hash(text, "root ", root)?;
+            add_hash(text, "leaf ", leaf)?;
+            add_hashes(text, path.as_slice())
         }
         Proof::Consistency {
             first,
@@ -50,14 +65,13 @@ pub fn write_text(alloc: Global, proof: &Proof) -> Result<String, AllocError>
             path,
         } => {
             text.push_str("consistency\n")?;
-            add_number(&mut text, "first ", *first)?;
-            add_hash(&mut text, "root ", first_root)?;
-            add_number(&mut text, "second ", *second)?;
-            add_hash(&mut text, "root ", second_root)?;
-            add_hashes(&mut text, path.as_slice())?;
+            add_number(text, "first ", *first)?;
+            add_hash(text, "root ", first_root)?;
+            add_number(text, "second ", *second)?;
+            add_hash(text, "root ", second_root)?;
+            add_hashes(text, path.as_slice())
         }
     }
-    Ok(text)
 }
 
 // Appends the line of a number.

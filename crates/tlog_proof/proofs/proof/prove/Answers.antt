@@ -1,4 +1,5 @@
 use Rattle.std.proofs.Common.{◌∷◌, [], take, get_or, Ok, sym, ap, ◌∙◌, length, arith}
+use Rattle.std.proofs.lemmas.Result.{IfOk-from_err}
 use Rattle.tlog_hash.specs.Tree.{mth}
 use Rattle.tlog_text.specs.Answers.{seen}
 use Rattle.tlog_proof.specs.Made.{asked_proof}
@@ -36,3 +37,21 @@ returns-in_ok-second_root-in-Consistency-clause-writable g c = λ es listed smal
     proof_writable g.R.Ranges.digest es c.in-Consistency.first c.in-Consistency.second
     c.in_ok-path-in-Consistency.path.items small (c.in_ok-path-in-Consistency.ensures es listed) in
     (fit.0, fit.1, omega (arith, fit.2, ap length c.new-in-Consistency.ensures))
+
+pub returns-in_err-path-in-Inclusion-clause-writable : goal.returns-in_err-path-in-Inclusion-clause-writable
+returns-in_err-path-in-Inclusion-clause-writable g c = IfOk-from_err c.from_residual.result _ c.from_residual.ensures.0
+
+pub returns-in_err-root-in-Inclusion-clause-writable : goal.returns-in_err-root-in-Inclusion-clause-writable
+returns-in_err-root-in-Inclusion-clause-writable g c = let exit = c.from_residual-in_err-root-in-Inclusion in IfOk-from_err exit.result _ exit.ensures.0
+
+pub returns-in_err-leaf-in-Inclusion-clause-writable : goal.returns-in_err-leaf-in-Inclusion-clause-writable
+returns-in_err-leaf-in-Inclusion-clause-writable g c = let exit = c.from_residual-in_err-leaf-in-Inclusion in IfOk-from_err exit.result _ exit.ensures.0
+
+pub returns-in_err-path-in-Consistency-clause-writable : goal.returns-in_err-path-in-Consistency-clause-writable
+returns-in_err-path-in-Consistency-clause-writable g c = let exit = c.from_residual-in_err-path-in-Consistency in IfOk-from_err exit.result _ exit.ensures.0
+
+pub returns-in_err-first_root-in-Consistency-clause-writable : goal.returns-in_err-first_root-in-Consistency-clause-writable
+returns-in_err-first_root-in-Consistency-clause-writable g c = let exit = c.from_residual-in_err-first_root-in-Consistency in IfOk-from_err exit.result _ exit.ensures.0
+
+pub returns-in_err-second_root-in-Consistency-clause-writable : goal.returns-in_err-second_root-in-Consistency-clause-writable
+returns-in_err-second_root-in-Consistency-clause-writable g c = let exit = c.from_residual-in_err-second_root-in-Consistency in IfOk-from_err exit.result _ exit.ensures.0

@@ -4,6 +4,7 @@ use Rattle.std.specs.List.{AllByRecursion}
 use Rattle.std.proofs.lemmas.List.{nil_from_length}
 use Rattle.std.proofs.lemmas.Bool.{eqb-true}
 use Rattle.std.proofs.lemmas.Result.{err_from_is_err_and}
+use Rattle.std.proofs.lemmas.Result.{IfOk-from_err}
 use Rattle.tlog_text.specs.Hash.{base64_of, Is32Bytes}
 use Rattle.tlog_proof.specs.Text.{path_lines}
 use Rattle.tlog_proof.proofs.Lines.{after_line, rest_of_path, all_read, next_hash, path_lines-push, hashes-push}
@@ -57,3 +58,9 @@ returns-clause-complete c = λ path hashes few e.
     c.new.ensures ∙
     all_read c.loop-rest.path.items path c.loop-rest.rest.now r
     (nil_from_length c.loop-rest.rest.now (eqb-true (length c.loop-rest.rest.now) 0 (sym c.loop-rest-test.ensures)))
+
+pub returns-in_err-hash-clause-sound : goal.returns-in_err-hash-clause-sound
+returns-in_err-hash-clause-sound c = IfOk-from_err c.from_residual.result _ c.from_residual.ensures.0
+
+pub returns-in_err-push-clause-sound : goal.returns-in_err-push-clause-sound
+returns-in_err-push-clause-sound c = let exit = c.from_residual-in_err-push in IfOk-from_err exit.result _ exit.ensures.0

@@ -3,6 +3,7 @@ use Rattle.std.proofs.Common.{arith}
 use Rattle.std.specs.Prelude.{codes}
 use Rattle.std.specs.List.{AllByRecursion}
 use Rattle.std.proofs.lemmas.List.{take_more}
+use Rattle.std.proofs.lemmas.Result.{IfOk-from_err}
 use Rattle.tlog_text.specs.Hash.{Is32Bytes}
 use Rattle.tlog_proof.specs.Text.{path_lines, hash_line}
 use Rattle.tlog_proof.proofs.Lines.{path_lines-push, path_lines-append, hashes-push}
@@ -27,3 +28,9 @@ loop-hash-preserved c =
       hashes = subst (AllByRecursion Is32Bytes) (sym more)
           (hashes-push so_far hash c.loop-hash.invariant.hashes c.in_ok-add_hash.ensures.is_hash);
     }
+
+pub returns-in_err-add_hash-clause-ok : goal.returns-in_err-add_hash-clause-ok
+returns-in_err-add_hash-clause-ok c = IfOk-from_err c.from_residual.result _ c.from_residual.ensures.0
+
+pub returns-in_err-add_hash-clause-hashes : goal.returns-in_err-add_hash-clause-hashes
+returns-in_err-add_hash-clause-hashes c = IfOk-from_err c.from_residual.result _ c.from_residual.ensures.0
