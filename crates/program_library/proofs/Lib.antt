@@ -3,3 +3,4 @@ mod MadeKeys
 mod Keyed
 mod Signers
 mod PulledStates
+mod Orders

@@ -1,9 +1,13 @@
 //! The list of the commands.
+ghost use Rattle.std.specs.Prelude.{◌≡◌};
+ghost use Rattle.std.specs.Result.{result_map_both};
+
+use crate::fault::{Error, RunFault};
 use crate::keys::{Keys, key_lines};
 use crate::run_env::{RunEnv, WatchedEnv};
 use note_keys::KeyLine;
 use place_commands::{audit, follow};
-use program_env::{Env, Error};
+use program_env::Env;
 use program_whys::why::{FailedStreams, Why, print_why};
 use program_whys::{Failing, RunFiles, RunFolders};
 use program_words::Command;
@@ -40,59 +44,53 @@ where
 
     fn run_command(&mut self, keys: &Keys<'_>, command: &Command<'_>) -> Result<u8, Error> {
         match command {
-            Command::Root(root) => root::run(self, keys.bytes, keys.verifiers, root),
-            Command::Check => check::run(self, keys.bytes, keys.verifiers),
-            Command::Build(build) => build::run(self, keys.bytes, keys.verifiers, build),
-            Command::Take(take) => take::run(self, keys.bytes, keys.verifiers, take),
-            Command::Merge(merge) => merge::run(self, keys.bytes, keys.verifiers, merge),
-            Command::Pull(pull) => pull::run(self, keys.bytes, keys.verifiers, pull),
-            Command::Follow(follow) => follow::run(self, keys.bytes, keys.verifiers, follow),
-            Command::Audit(audit) => audit::run(self, keys.bytes, keys.verifiers, audit),
-            Command::Status(status) => status::run(self, keys.bytes, keys.verifiers, status),
-            Command::CopyStatus(status) => copy_commands::status::run(
+            Command::Root(root) => of_report(root::run(self, keys.verifiers, root)),
+            Command::Check => of_report(check::run(self, keys.verifiers)),
+            Command::Build(build) => of_state(build::run(self, keys.bytes, keys.verifiers, build)),
+            Command::Take(take) => of_state(take::run(self, keys.verifiers, take)),
+            Command::Merge(merge) => of_state(merge::run(self, keys.verifiers, merge)),
+            Command::Pull(pull) => of_state(pull::run(self, keys.verifiers, pull)),
+            Command::Follow(follow) => of_place(follow::run(self, keys.verifiers, follow)),
+            Command::Audit(audit) => of_place(audit::run(self, keys.verifiers, audit)),
+            Command::Status(status) => of_report(status::run(self, keys.verifiers, status)),
+            Command::CopyStatus(status) => of_copy(copy_commands::status::run(
                 self,
-                keys.bytes,
                 keys.verifiers,
                 status,
-            ),
-            Command::Missing(missing) => missing::run(self, keys.bytes, keys.verifiers, missing),
-            Command::Forks(forks) => forks::run(self, keys.bytes, keys.verifiers, forks),
-            Command::Compare(compare) => compare::run(self, keys.bytes, keys.verifiers, compare),
-            Command::CopyCompare(compare) => copy_commands::compare::run(
+            )),
+            Command::Missing(missing) => of_report(missing::run(self, keys.verifiers, missing)),
+            Command::Forks(forks) => of_report(forks::run(self, keys.verifiers, forks)),
+            Command::Compare(compare) => of_report(compare::run(self, keys.verifiers, compare)),
+            Command::CopyCompare(compare) => of_copy(copy_commands::compare::run(
                 self,
-                keys.bytes,
                 keys.verifiers,
                 compare,
-            ),
-            Command::Prove(prove) => prove::run(self, keys.bytes, keys.verifiers, prove),
-            Command::CopyProve(prove) => copy_commands::prove::run(
+            )),
+            Command::Prove(prove) => of_report(prove::run(self, keys.verifiers, prove)),
+            Command::CopyProve(prove) => of_copy(copy_commands::prove::run(
                 self,
-                keys.bytes,
                 keys.verifiers,
                 prove,
-            ),
-            Command::Entries(entries) => entries::run(self, keys.bytes, keys.verifiers, entries),
-            Command::CopyEntries(entries) => copy_commands::entries::run(
+            )),
+            Command::Entries(entries) => of_report(entries::run(self, keys.verifiers, entries)),
+            Command::CopyEntries(entries) => of_copy(copy_commands::entries::run(
                 self,
-                keys.bytes,
                 keys.verifiers,
                 entries,
-            ),
-            Command::Export(export) => export::run(self, keys.bytes, keys.verifiers, export),
-            Command::Update(update) => export::run_with_update(
+            )),
+            Command::Export(export) => of_state(export::run(self, keys.verifiers, export)),
+            Command::Update(update) => of_state(export::run_with_update(
                 self,
-                keys.bytes,
                 keys.verifiers,
                 update,
-            ),
-            Command::Notes(notes) => notes::run(self, keys.bytes, keys.verifiers, notes),
-            Command::Serve(serve) => serve::run(self, keys.bytes, keys.verifiers, serve),
-            Command::CopyServe(serve) => copy_commands::serve::run(
+            )),
+            Command::Notes(notes) => of_state(notes::run(self, keys.verifiers, notes)),
+            Command::Serve(serve) => of_report(serve::run(self, keys.verifiers, serve)),
+            Command::CopyServe(serve) => of_copy(copy_commands::serve::run(
                 self,
-                keys.bytes,
                 keys.verifiers,
                 serve,
-            ),
+            )),
         }
     }
 
@@ -120,6 +118,55 @@ where
         FailedStreams {
             input: self.input.last_failed(),
             output: self.output.last_failed(),
+        }
+    }
+}
+
+// The answers of commands, as those of a run.
+fn of_state(answer: Result<u8, state_commands::Error>) -> Result<u8, Error>
+    ensures { result ≡ result_map_both (λ status. status) (λ fault. RunFault.State fault) answer }
+{
+    match answer {
+        Ok(status) => Ok(status),
+        Err(error) => {
+            let (fault, why) = error.into_parts();
+            Err(Error::new(RunFault::State(fault), why))
+        }
+    }
+}
+
+fn of_report(answer: Result<u8, report_commands::Error>) -> Result<u8, Error>
+    ensures { result ≡ result_map_both (λ status. status) (λ fault. RunFault.Report fault) answer }
+{
+    match answer {
+        Ok(status) => Ok(status),
+        Err(error) => {
+            let (fault, why) = error.into_parts();
+            Err(Error::new(RunFault::Report(fault), why))
+        }
+    }
+}
+
+fn of_copy(answer: Result<u8, copy_commands::Error>) -> Result<u8, Error>
+    ensures { result ≡ result_map_both (λ status. status) (λ fault. RunFault.Copy fault) answer }
+{
+    match answer {
+        Ok(status) => Ok(status),
+        Err(error) => {
+            let (fault, why) = error.into_parts();
+            Err(Error::new(RunFault::Copy(fault), why))
+        }
+    }
+}
+
+fn of_place(answer: Result<u8, place_commands::Error>) -> Result<u8, Error>
+    ensures { result ≡ result_map_both (λ status. status) (λ fault. RunFault.Place fault) answer }
+{
+    match answer {
+        Ok(status) => Ok(status),
+        Err(error) => {
+            let (fault, why) = error.into_parts();
+            Err(Error::new(RunFault::Place(fault), why))
         }
     }
 }

@@ -3,17 +3,18 @@ ghost use Rattle.std.specs.Prelude.{◌≡◌, IfErr, IfOk, List, map, string_by
 ghost use Rattle.std.specs.Io.KnownBytes.{Keeps};
 ghost use Rattle.sha2.specs.Sha256.{sha256};
 ghost use Rattle.program_parser.specs.Lines.{IsLine};
-ghost use Rattle.program_env.specs.Done.{IsDoable, IsWriteFault};
+ghost use Rattle.program_library.specs.Commands.{IsDoable, IsWriteFault};
 ghost use Rattle.program_env.specs.Moment.{on_system, seen_of};
 ghost use Rattle.program_env.specs.Performing.{Ends};
 ghost use Rattle.program_library.specs.Runs.{Runs};
-ghost use Rattle.program_env.specs.Works.{IsStatus};
+ghost use Rattle.program_env.specs.Performing.{IsStatus};
 
 use crate::answers::{printed, refused};
+use crate::fault::{Error, RunFault};
 use crate::keys::Keys;
 use crate::run_env::RunEnv;
 use crate::system::system_folders;
-use program_env::{Env, Error, RunFault};
+use program_env::Env;
 use program_files::SystemFiles;
 use program_parser::{Line, read_line};
 use program_whys::why::FailedStreams;
@@ -135,7 +136,7 @@ fn obey<C: RunEnv>(env: &mut C, keys: &Keys<'_>, line: Line<'_>) -> Result<u8, E
     ensures runs { (words : List (List ℕ)) → IsLine words line.entry → Runs sha256
         (map (λ k. key k) keys.now.verifiers.now) keys.now.bytes.now words (C.moment env.old)
         (C.moment env.new) result }
-    ensures ends { Ends (C.moment env.old).output (C.moment env.new).output result }
+    ensures ends { Ends IsWriteFault (C.moment env.old).output (C.moment env.new).output result }
 {
     let bad = line.bad;
     let asked = line.command;

@@ -3,8 +3,8 @@ ghost use Rattle.std.specs.Prelude.{map, option_map, string_bytes};
 ghost use Rattle.tlog_text.specs.Answers.{seen};
 ghost use Rattle.program_library.specs.Runs.{FindsKeys, NamesKeyFile, ReadsJoined, ReadsKeyLines};
 
+use crate::fault::{Error, RunFault};
 use note_keys::{KeyFileFault, KeyLine, join_pins, read_keys};
-use program_env::{Error, RunFault};
 use program_parser::read_line;
 use program_whys::RunFiles;
 use program_whys::why::{Why, of_named};

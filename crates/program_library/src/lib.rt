@@ -10,6 +10,7 @@
 mod answers;
 mod commands;
 mod ending;
+mod fault;
 mod given;
 mod keys;
 mod laws;
@@ -18,10 +19,11 @@ mod running;
 mod system;
 
 pub use ending::{Message, ProgramEnd, Stream, ending_of, print_ending};
+pub use fault::{Error, RunFault};
 pub use given::run_words;
 pub use keys::{Keys, key_file};
 pub use laws::{pulled_state_law, signing_key_law};
-pub use program_env::{Env, RunFault};
+pub use program_env::Env;
 pub use program_streams::{CheckFault, RootFault, run_check, run_root};
 pub use program_whys::{RunFiles, RunFolders};
 pub use run_env::{RunEnv, WatchedEnv};

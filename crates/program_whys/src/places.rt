@@ -13,17 +13,17 @@ use tlog_tiles::Path;
 
 /// The source at a server, which gets at most `ahead` requests ahead of the one that is read. `Site` has already accepted these
 /// words, so only memory can be lacking.
-pub fn server_of<'a, R: Clock + Net<Stream = TcpStream>>(
-    rt: &'a R,
+pub fn server_of<N: Net<Stream = TcpStream> + Clock + Clone + Drop>(
+    net: N,
     alloc: Global,
     site: (&str, &str),
     address: (&str, u16),
     ahead: usize,
-) -> Result<HttpSource<TcpDial<&'a R>>, AllocError> {
+) -> Result<HttpSource<TcpDial<N>>, AllocError> {
     let Ok(site) = Site::new(alloc, site.0, site.1) else {
         return Err(AllocError);
     };
-    let dial = TcpDial::new(rt, alloc, address.0, address.1)?;
+    let dial = TcpDial::new(net, alloc, address.0, address.1)?;
     Ok(HttpSource::new(alloc, site, dial, ahead))
 }
 
