@@ -1,0 +1,4 @@
+pub mod Faults
+pub mod Asks
+pub mod Entries
+pub mod Serve

@@ -2,9 +2,10 @@
 ghost use Rattle.std.specs.Prelude.{◌≡◌};
 ghost use Rattle.std.specs.Result.{result_map_both};
 
+use crate::fault::{CopyRunFault, Error};
 use mirror_model::TakeFault;
 use program_copies::{CopyAskFault, CopyFault};
-use program_env::{Env, Error, RunFault};
+use program_env::Env;
 use program_reports::{AskFault, ReportFault};
 use program_whys::served::{copy_size, of_heads, of_note, of_proof};
 use program_whys::why::{Why, of_folder};
@@ -21,13 +22,13 @@ pub(crate) fn asked<R, F: RunFiles, D: RunFolders, I, O, E>(
     ask: Option<Ask>,
     answer: Result<u8, CopyAskFault>,
 ) -> Result<u8, Error>
-    ensures { result ≡ result_map_both (λ status. status) (λ fault. RunFault.Copy fault) answer }
+    ensures { result ≡ result_map_both (λ status. status) (λ fault. CopyRunFault.Copy fault) answer }
 {
     match answer {
         Ok(status) => Ok(status),
         Err(fault) => {
             let why = why_of(env, copy, ask, fault);
-            Err(Error::new(RunFault::Copy(fault), why))
+            Err(Error::new(CopyRunFault::Copy(fault), why))
         }
     }
 }

@@ -2,13 +2,15 @@
 ghost use Rattle.std.specs.Prelude.{map};
 ghost use Rattle.sha2.specs.Sha256.{sha256};
 ghost use Rattle.program_env.specs.Envs.{IsSameEnv, moment};
-ghost use Rattle.program_env.specs.Performing.{Performs};
+ghost use Rattle.program_env.specs.Performing.{KeepsFiles, Performs};
+ghost use Rattle.copy_commands.specs.Faults.{IsLate};
+ghost use Rattle.copy_commands.specs.Asks.{DoesCopyCompare};
 
 use crate::asking::asked;
+use crate::fault::Error;
 use program_copies::compare_copy;
-use program_env::{Env, Error};
+use program_env::Env;
 use program_whys::{RunFiles, RunFolders};
-use program_words::Command;
 use program_words::commands::compare::CopyCompare;
 use signed_note::Verifier;
 use std::io::{Read, Write};
@@ -22,15 +24,13 @@ use tlog_hash::Sha256Tree;
 /// Those of `compare_copy`.
 pub fn run<R, F: RunFiles, D: RunFolders, I: Read, O: Write, E: Write>(
     env: &mut Env<'_, '_, '_, '_, R, F, D, I, O, E>,
-    key_bytes: &[u8],
     keys: &[Box<dyn Verifier>],
     compare: &CopyCompare<'_>,
 ) -> Result<u8, Error>
     ensures same { IsSameEnv env.old env.new }
-    ensures does { Performs sha256 (map (λ k. key k) keys.now) key_bytes.now
+    ensures does { Performs DoesCopyCompare IsLate KeepsFiles sha256 (map (λ k. key k) keys.now)
         (moment F.puts D.held D.puts I.remaining O.contents env.old)
-        (moment F.puts D.held D.puts I.remaining O.contents env.new)
-        (Command.CopyCompare compare.now) result }
+        (moment F.puts D.held D.puts I.remaining O.contents env.new) compare.now result }
 {
     let copy = &compare.copy;
     let answer = compare_copy::<Sha256Tree, F, D, O>(

@@ -3,16 +3,18 @@ ghost use Rattle.std.specs.Prelude.{◌≡◌, map};
 ghost use Rattle.std.specs.Result.{result_map_both};
 ghost use Rattle.sha2.specs.Sha256.{sha256};
 ghost use Rattle.program_env.specs.Envs.{IsSameEnv, moment};
-ghost use Rattle.program_env.specs.Performing.{Performs};
+ghost use Rattle.program_env.specs.Performing.{KeepsFiles, Performs};
+ghost use Rattle.copy_commands.specs.Faults.{IsLate};
+ghost use Rattle.copy_commands.specs.Entries.{DoesCopyEntries};
 
 use crate::asking::{of_file, of_head};
-use program_env::{Env, Error, RunFault};
+use crate::fault::{CopyRunFault, Error};
+use program_env::Env;
 use program_heads::check_origin;
 use program_monitor::{CopyEntriesFault, EntryRange, entries_of_copy};
 use program_whys::served::{copy_size, of_backwards, of_size};
 use program_whys::why::{Why, of_folder, of_origin};
 use program_whys::{RunFiles, RunFolders};
-use program_words::Command;
 use program_words::commands::entries::CopyEntries;
 use signed_note::Verifier;
 use std::io::{Read, Write};
@@ -25,21 +27,19 @@ use tlog_hash::Sha256Tree;
 /// `BadOrigin` before anything is read; then those of `entries_of_copy`.
 pub fn run<R, F: RunFiles, D: RunFolders, I: Read, O: Write, E: Write>(
     env: &mut Env<'_, '_, '_, '_, R, F, D, I, O, E>,
-    key_bytes: &[u8],
     keys: &[Box<dyn Verifier>],
     entries: &CopyEntries<'_>,
 ) -> Result<u8, Error>
     ensures same { IsSameEnv env.old env.new }
-    ensures does { Performs sha256 (map (λ k. key k) keys.now) key_bytes.now
+    ensures does { Performs DoesCopyEntries IsLate KeepsFiles sha256 (map (λ k. key k) keys.now)
         (moment F.puts D.held D.puts I.remaining O.contents env.old)
-        (moment F.puts D.held D.puts I.remaining O.contents env.new)
-        (Command.CopyEntries entries.now) result }
+        (moment F.puts D.held D.puts I.remaining O.contents env.new) entries.now result }
 {
     match check_origin(env.alloc, entries.copy.log.origin) {
-        Ok(()) => write_entries(env, key_bytes, keys, entries),
+        Ok(()) => write_entries(env, keys, entries),
         Err(fault) => {
             let why = of_origin(env.alloc, fault);
-            Err(Error::new(RunFault::Origin(fault), why))
+            Err(Error::new(CopyRunFault::Origin(fault), why))
         }
     }
 }
@@ -47,15 +47,13 @@ pub fn run<R, F: RunFiles, D: RunFolders, I: Read, O: Write, E: Write>(
 // The same after the origin was checked.
 fn write_entries<R, F: RunFiles, D: RunFolders, I: Read, O: Write, E: Write>(
     env: &mut Env<'_, '_, '_, '_, R, F, D, I, O, E>,
-    key_bytes: &[u8],
     keys: &[Box<dyn Verifier>],
     entries: &CopyEntries<'_>,
 ) -> Result<u8, Error>
     ensures same { IsSameEnv env.old env.new }
-    ensures does { Performs sha256 (map (λ k. key k) keys.now) key_bytes.now
+    ensures does { Performs DoesCopyEntries IsLate KeepsFiles sha256 (map (λ k. key k) keys.now)
         (moment F.puts D.held D.puts I.remaining O.contents env.old)
-        (moment F.puts D.held D.puts I.remaining O.contents env.new)
-        (Command.CopyEntries entries.now) result }
+        (moment F.puts D.held D.puts I.remaining O.contents env.new) entries.now result }
 {
     let range = EntryRange {
         from: entries.range.from,
@@ -80,13 +78,13 @@ fn written<R, F: RunFiles, D: RunFolders, I, O, E>(
     entries: &CopyEntries<'_>,
     answer: Result<(), CopyEntriesFault>,
 ) -> Result<u8, Error>
-    ensures { result ≡ result_map_both (λ _. 0) (λ fault. RunFault.CopyEntries fault) answer }
+    ensures { result ≡ result_map_both (λ _. 0) (λ fault. CopyRunFault.CopyEntries fault) answer }
 {
     match answer {
         Ok(()) => Ok(0),
         Err(fault) => {
             let why = why_of(env, entries, fault);
-            Err(Error::new(RunFault::CopyEntries(fault), why))
+            Err(Error::new(CopyRunFault::CopyEntries(fault), why))
         }
     }
 }

@@ -2,13 +2,15 @@
 ghost use Rattle.std.specs.Prelude.{map};
 ghost use Rattle.sha2.specs.Sha256.{sha256};
 ghost use Rattle.program_env.specs.Envs.{IsSameEnv, moment};
-ghost use Rattle.program_env.specs.Performing.{Performs};
+ghost use Rattle.program_env.specs.Performing.{KeepsFiles, Performs};
+ghost use Rattle.copy_commands.specs.Faults.{IsLate};
+ghost use Rattle.copy_commands.specs.Asks.{DoesCopyProve};
 
 use crate::asking::asked;
+use crate::fault::Error;
 use program_copies::prove_copy;
-use program_env::{Env, Error};
+use program_env::Env;
 use program_whys::{RunFiles, RunFolders};
-use program_words::Command;
 use program_words::commands::prove::CopyProve;
 use signed_note::Verifier;
 use std::io::{Read, Write};
@@ -21,15 +23,13 @@ use tlog_hash::Sha256Tree;
 /// Those of `prove_copy`.
 pub fn run<R, F: RunFiles, D: RunFolders, I: Read, O: Write, E: Write>(
     env: &mut Env<'_, '_, '_, '_, R, F, D, I, O, E>,
-    key_bytes: &[u8],
     keys: &[Box<dyn Verifier>],
     prove: &CopyProve<'_>,
 ) -> Result<u8, Error>
     ensures same { IsSameEnv env.old env.new }
-    ensures does { Performs sha256 (map (λ k. key k) keys.now) key_bytes.now
+    ensures does { Performs DoesCopyProve IsLate KeepsFiles sha256 (map (λ k. key k) keys.now)
         (moment F.puts D.held D.puts I.remaining O.contents env.old)
-        (moment F.puts D.held D.puts I.remaining O.contents env.new)
-        (Command.CopyProve prove.now) result }
+        (moment F.puts D.held D.puts I.remaining O.contents env.new) prove.now result }
 {
     let copy = &prove.copy;
     let answer = prove_copy::<Sha256Tree, D, O>(

@@ -4,18 +4,20 @@ ghost use Rattle.std.specs.Result.{result_map_both};
 ghost use Rattle.sha2.specs.Sha256.{sha256};
 ghost use Rattle.mirror_sources.specs.Recorded.{KeepsRecord};
 ghost use Rattle.program_env.specs.Envs.{IsSameEnv, moment};
-ghost use Rattle.program_env.specs.Performing.{Performs};
-ghost use Rattle.program_env.specs.Works.{PrintsPort};
+ghost use Rattle.program_env.specs.Performing.{KeepsFiles, Performs};
+ghost use Rattle.copy_commands.specs.Faults.{IsLate};
+ghost use Rattle.copy_commands.specs.Serve.{DoesCopyServe};
+ghost use Rattle.program_env.specs.Ports.{PrintsPort};
 
 use crate::asking::of_file;
+use crate::fault::{CopyRunFault, Error};
 use byte_streams::TimedStream;
 use copy_server::{CopyAnswerFault, answer_from_copy};
 use mirror_server::HttpFault;
-use program_env::{Env, Error, RunFault, port_fault, print_fault, print_port};
+use program_env::{Env, ListenFault, port_fault, print_fault, print_port};
 use program_heads::check_origin;
 use program_whys::why::{FailedStreams, of_folder, of_origin, print_why};
 use program_whys::{RunFiles, RunFolders, write_front};
-use program_words::Command;
 use program_words::commands::serve::CopyServe;
 use signed_note::Verifier;
 use std::alloc::Global;
@@ -45,28 +47,26 @@ const ALL_SECONDS: u64 = 70;
 /// - `PortFault` if a connection cannot be accepted.
 pub fn run<R, F: RunFiles, D: RunFolders, I: Read, O: Write, E: Write>(
     env: &mut Env<'_, '_, '_, '_, R, F, D, I, O, E>,
-    key_bytes: &[u8],
     keys: &[Box<dyn Verifier>],
     serve: &CopyServe<'_>,
 ) -> Result<u8, Error>
 where
     R: Clock + Net<Stream = TcpStream, Listener = TcpListener>,
     ensures same { IsSameEnv env.old env.new }
-    ensures does { Performs sha256 (map (λ k. key k) keys.now) key_bytes.now
+    ensures does { Performs DoesCopyServe IsLate KeepsFiles sha256 (map (λ k. key k) keys.now)
         (moment F.puts D.held D.puts I.remaining O.contents env.old)
-        (moment F.puts D.held D.puts I.remaining O.contents env.new)
-        (Command.CopyServe serve.now) result }
+        (moment F.puts D.held D.puts I.remaining O.contents env.new) serve.now result }
 {
     match check_origin(env.alloc, serve.copy.log.origin) {
         Ok(()) => {}
         Err(fault) => {
             let why = of_origin(env.alloc, fault);
-            return Err(Error::new(RunFault::Origin(fault), why));
+            return Err(Error::new(CopyRunFault::Origin(fault), why));
         }
     }
     match env.folders.open(serve.copy.folder) {
         Ok(()) => {}
-        Err(_) => return Err(Error::no_memory()),
+        Err(_) => return Err(Error::new(CopyRunFault::Listen(ListenFault::OutOfMemory), None)),
     }
     served(serve_copy(
         env.rt,
@@ -79,12 +79,15 @@ where
 }
 
 // The status 0 if all connections were answered.
-fn served(answer: Result<(), Error>) -> Result<u8, Error>
-    ensures { result ≡ result_map_both (λ _. 0) (λ fault. fault) answer }
+fn served(answer: Result<(), program_env::Error<ListenFault>>) -> Result<u8, Error>
+    ensures { result ≡ result_map_both (λ _. 0) (λ fault. CopyRunFault.Listen fault) answer }
 {
     match answer {
         Ok(()) => Ok(0),
-        Err(error) => Err(error),
+        Err(error) => {
+            let (fault, why) = error.into_parts();
+            Err(Error::new(CopyRunFault::Listen(fault), why))
+        }
     }
 }
 
@@ -96,7 +99,7 @@ fn serve_copy<D: RunFolders, R, O: Write, E: Write>(
     serve: &CopyServe<'_>,
     output: &mut O,
     errors: &mut E,
-) -> Result<(), Error>
+) -> Result<(), program_env::Error<ListenFault>>
 where
     R: Clock + Net<Stream = TcpStream, Listener = TcpListener>,
     ensures line { PrintsPort serve.now.port (O.contents output.old) (O.contents output.new)

@@ -12,23 +12,22 @@ use Rattle.program_follow.specs.declared.fault.FollowRunFault.{FollowRunFault}
 use Rattle.program_follow.specs.declared.fault.FollowRunFault.TheVariants as follow
 use Rattle.program_monitor.specs.declared.fault.AuditRunFault.{AuditRunFault}
 use Rattle.program_monitor.specs.declared.fault.AuditRunFault.TheVariants as audit
-use Rattle.program_words.specs.declared.commands.Command.TheVariants as order
 use Rattle.program_words.specs.declared.commands.follow.Follow.{Follow as FollowWords}
 use Rattle.program_words.specs.declared.commands.audit.Audit.{Audit as AuditWords}
-use Rattle.program_env.specs.declared.fault.RunFault.{RunFault}
-use Rattle.program_env.specs.declared.fault.RunFault.TheVariants.{Audit, Follow}
-use Rattle.program_env.specs.declared.fault.RunFault.TheVariants.{OutOfMemory, WriteFault}
-use Rattle.program_env.specs.Done.{AuditsSource, FollowsOne, IsWriteFault, MayFollow}
 use Rattle.program_env.specs.Moment.{Moment}
-use Rattle.program_env.specs.Performing.{Performs}
-use Rattle.program_env.specs.Works.{IsStatus}
+use Rattle.program_env.specs.Performing.{IsStatus, MayLeave, Performs, Stays}
+use Rattle.place_commands.specs.Audit.{AuditsSource, DoesAudit}
+use Rattle.place_commands.specs.Faults.{IsLate}
+use Rattle.place_commands.specs.Follow.{DoesFollow, FollowsOne, MayFollow}
+use Rattle.place_commands.specs.declared.fault.PlaceRunFault.{PlaceRunFault}
+use Rattle.place_commands.specs.declared.fault.PlaceRunFault.TheVariants.{Audit, Follow}
 use Rattle.program_env.proofs.Performing.{performs, performs_done}
 
 -- -- follow
 
-module _ (digest : List ℕ → List ℕ) (keys : List Key) (key_bytes : List ℕ) (old new : Moment) (c : FollowWords) where
-  quiet_follow : (fault : FollowRunFault) → FollowsOne digest keys key_bytes old new c (Err fault) →
-      (¬ IsWriteFault (Follow fault)) → Keeps old.output new.output
+module _ (digest : List ℕ → List ℕ) (keys : List Key) (old new : Moment) (c : FollowWords) where
+  quiet_follow : (fault : FollowRunFault) → FollowsOne digest keys old new c (Err fault) →
+      (¬ IsLate (Follow fault)) → Keeps old.output new.output
   quiet_follow (follow.File fault) h other = h.0.text
   quiet_follow follow.OutOfMemory h other = h.0.text
   quiet_follow (follow.Follow fault) h other = h.0.text
@@ -36,13 +35,13 @@ module _ (digest : List ℕ → List ℕ) (keys : List Key) (key_bytes : List �
   quiet_follow (follow.Evidence fault) h other = absurd (other tt)
 
   -- a copy was followed
-  pub follows : (answer : Result ℕ FollowRunFault) → IfOk answer IsStatus → FollowsOne digest keys key_bytes old new c answer →
-      (is : Result ℕ RunFault) → is ≡ result_map_both (λ status. status) (λ fault. Follow fault) answer →
-      Performs digest keys key_bytes old new (order.Follow c) is
+  pub follows : (answer : Result ℕ FollowRunFault) → IfOk answer IsStatus → FollowsOne digest keys old new c answer →
+      (is : Result ℕ PlaceRunFault) → is ≡ result_map_both (λ status. status) (λ fault. Follow fault) answer →
+      Performs DoesFollow IsLate MayLeave digest keys old new c is
   follows (Ok status) status_is h is same =
-      rw same (performs_done digest keys key_bytes old new (order.Follow c) tt tt status status_is h)
+      rw same (performs_done DoesFollow IsLate MayLeave digest keys old new c tt status status_is h)
   follows (Err fault) status_is h is same =
-      rw same (performs digest keys key_bytes old new (order.Follow c) tt tt (Err (Follow fault)) tt
+      rw same (performs DoesFollow IsLate MayLeave digest keys old new c tt (Err (Follow fault)) tt
       (quiet_follow fault h) h)
 
 -- a note that a place or the file may give may be followed
@@ -54,19 +53,19 @@ may_follow may recorded (Some name) places note h = h
 
 -- -- audit
 
-module _ (digest : List ℕ → List ℕ) (keys : List Key) (key_bytes : List ℕ) (old new : Moment) (c : AuditWords)
+module _ (digest : List ℕ → List ℕ) (keys : List Key) (old new : Moment) (c : AuditWords)
     (files : new.files ≡ old.files) (folders : new.puts ≡ old.puts) where
-  quiet_audit : (fault : AuditRunFault) → AuditsSource digest keys key_bytes old new c (Err fault) →
-      (¬ IsWriteFault (Audit fault)) → Keeps old.output new.output
+  quiet_audit : (fault : AuditRunFault) → AuditsSource digest keys old new c (Err fault) →
+      (¬ IsLate (Audit fault)) → Keeps old.output new.output
   quiet_audit (audit.Audit fault) h other = h.2
   quiet_audit audit.WriteFault h other = absurd (other tt)
 
   -- a source was audited
-  pub audits : (answer : Result ℕ AuditRunFault) → AuditsSource digest keys key_bytes old new c answer →
-      (is : Result ℕ RunFault) → is ≡ result_map_both (λ status. status) (λ fault. Audit fault) answer →
-      Performs digest keys key_bytes old new (order.Audit c) is
+  pub audits : (answer : Result ℕ AuditRunFault) → AuditsSource digest keys old new c answer →
+      (is : Result ℕ PlaceRunFault) → is ≡ result_map_both (λ status. status) (λ fault. Audit fault) answer →
+      Performs DoesAudit IsLate Stays digest keys old new c is
   audits (Ok status) h is same =
-      rw same (performs_done digest keys key_bytes old new (order.Audit c) files folders status (inl h.0) h)
+      rw same (performs_done DoesAudit IsLate Stays digest keys old new c (files, folders) status (inl h.0) h)
   audits (Err fault) h is same =
-      rw same (performs digest keys key_bytes old new (order.Audit c) files folders (Err (Audit fault)) tt
+      rw same (performs DoesAudit IsLate Stays digest keys old new c (files, folders) (Err (Audit fault)) tt
       (quiet_audit fault h) h)

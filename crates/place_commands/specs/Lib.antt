@@ -1,0 +1,3 @@
+pub mod Faults
+pub mod Follow
+pub mod Audit

@@ -3,22 +3,25 @@ ghost use Rattle.std.specs.Prelude.{◌≡◌, map};
 ghost use Rattle.std.specs.Result.{result_map_both};
 ghost use Rattle.sha2.specs.Sha256.{sha256};
 ghost use Rattle.program_env.specs.Envs.{IsSameEnv, moment};
-ghost use Rattle.program_env.specs.Performing.{Performs};
+ghost use Rattle.program_env.specs.Performing.{Stays, Performs};
+ghost use Rattle.place_commands.specs.Faults.{IsLate};
+ghost use Rattle.place_commands.specs.Audit.{DoesAudit};
 ghost use Rattle.program_monitor.specs.Audits.{RunsAudit};
 
 use crate::any::{AnySource, FailingPlace};
+use crate::fault::{Error, PlaceRunFault};
 use crate::places::source_of;
 use mirror_audit::AuditFault;
 use mirror_progress::{CountingSource, Progress, StandardError, Task};
 use mirror_sources::Source;
-use program_env::{Env, Error, RunFault};
+use program_env::Env;
 use program_heads::check_origin;
 use program_monitor::{AuditRunFault, run_audit};
 use program_whys::places::{of_edge, of_file, of_refused, of_source};
 use program_whys::why::{Why, of_origin};
 use program_whys::{Failing, RunFiles, RunFolders, WatchedSource};
+use program_words::Place;
 use program_words::commands::audit::Audit;
-use program_words::{Command, Place};
 use signed_note::Verifier;
 use std::alloc::Global;
 use std::fs::Files;
@@ -35,26 +38,23 @@ use tlog_tiles::Path;
 /// `BadOrigin` before anything is read; then those of `run_audit`.
 pub fn run<R, F: RunFiles, D: RunFolders, I: Read, O: Write, E: Write>(
     env: &mut Env<'_, '_, '_, '_, R, F, D, I, O, E>,
-    key_bytes: &[u8],
     keys: &[Box<dyn Verifier>],
     audit: &Audit<'_>,
 ) -> Result<u8, Error>
 where
     R: Files + Clock + Eprint + Net<Stream = TcpStream>,
     ensures same { IsSameEnv env.old env.new }
-    ensures does { Performs sha256 (map (λ k. key k) keys.now) key_bytes.now
+    ensures does { Performs DoesAudit IsLate Stays sha256 (map (λ k. key k) keys.now)
         (moment F.puts D.held D.puts I.remaining O.contents env.old)
-        (moment F.puts D.held D.puts I.remaining O.contents env.new)
-        (Command.Audit audit.now) result }
+        (moment F.puts D.held D.puts I.remaining O.contents env.new) audit.now result }
 {
     let net = env.rt;
-    audit_over(env, key_bytes, keys, audit, net)
+    audit_over(env, keys, audit, net)
 }
 
 // The same over this net.
 fn audit_over<R, F: RunFiles, D: RunFolders, I: Read, O: Write, E: Write, N>(
     env: &mut Env<'_, '_, '_, '_, R, F, D, I, O, E>,
-    key_bytes: &[u8],
     keys: &[Box<dyn Verifier>],
     audit: &Audit<'_>,
     net: N,
@@ -63,28 +63,26 @@ where
     R: Files + Clock + Eprint,
     N: Net<Stream = TcpStream> + Clock + Clone + Drop,
     ensures same { IsSameEnv env.old env.new }
-    ensures does { Performs sha256 (map (λ k. key k) keys.now) key_bytes.now
+    ensures does { Performs DoesAudit IsLate Stays sha256 (map (λ k. key k) keys.now)
         (moment F.puts D.held D.puts I.remaining O.contents env.old)
-        (moment F.puts D.held D.puts I.remaining O.contents env.new)
-        (Command.Audit audit.now) result }
+        (moment F.puts D.held D.puts I.remaining O.contents env.new) audit.now result }
 {
     match check_origin(env.alloc, audit.log.origin) {
         Ok(()) => {}
         Err(fault) => {
             let why = of_origin(env.alloc, fault);
-            return Err(Error::new(RunFault::Origin(fault), why));
+            return Err(Error::new(PlaceRunFault::Origin(fault), why));
         }
     }
     match source_of(env.rt, &net, env.alloc, &audit.place, audit.ahead as usize) {
-        Ok(source) => audit_any(env, key_bytes, keys, audit, source),
-        Err(_) => Err(Error::no_memory()),
+        Ok(source) => audit_any(env, keys, audit, source),
+        Err(_) => Err(Error::new(PlaceRunFault::OutOfMemory, None)),
     }
 }
 
 // Audits this source.
 fn audit_any<R, F: RunFiles, D: RunFolders, I: Read, O: Write, E: Write, S: FailingPlace + Drop>(
     env: &mut Env<'_, '_, '_, '_, R, F, D, I, O, E>,
-    key_bytes: &[u8],
     keys: &[Box<dyn Verifier>],
     audit: &Audit<'_>,
     source: S,
@@ -92,10 +90,9 @@ fn audit_any<R, F: RunFiles, D: RunFolders, I: Read, O: Write, E: Write, S: Fail
 where
     R: Clock + Eprint,
     ensures same { IsSameEnv env.old env.new }
-    ensures does { Performs sha256 (map (λ k. key k) keys.now) key_bytes.now
+    ensures does { Performs DoesAudit IsLate Stays sha256 (map (λ k. key k) keys.now)
         (moment F.puts D.held D.puts I.remaining O.contents env.old)
-        (moment F.puts D.held D.puts I.remaining O.contents env.new)
-        (Command.Audit audit.now) result }
+        (moment F.puts D.held D.puts I.remaining O.contents env.new) audit.now result }
 {
     let source = WatchedSource::new(env.alloc, AnySource::new(source));
     let (answer, source) = audit_source(env.rt, env.alloc, audit, keys, source, env.output);
@@ -109,13 +106,13 @@ fn audited<S: Source + Failing + Drop>(
     source: WatchedSource<S>,
     answer: Result<u8, AuditRunFault>,
 ) -> Result<u8, Error>
-    ensures { result ≡ result_map_both (λ status. status) (λ fault. RunFault.Audit fault) answer }
+    ensures { result ≡ result_map_both (λ status. status) (λ fault. PlaceRunFault.Audit fault) answer }
 {
     match answer {
         Ok(status) => Ok(status),
         Err(fault) => {
             let why = why_of(alloc, &words.place, &source, fault);
-            Err(Error::new(RunFault::Audit(fault), why))
+            Err(Error::new(PlaceRunFault::Audit(fault), why))
         }
     }
 }

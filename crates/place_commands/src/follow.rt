@@ -3,19 +3,21 @@ ghost use Rattle.std.specs.Prelude.{◌≡◌, map};
 ghost use Rattle.std.specs.Result.{result_map_both};
 ghost use Rattle.sha2.specs.Sha256.{sha256};
 ghost use Rattle.program_env.specs.Envs.{IsSameEnv, moment};
-ghost use Rattle.program_env.specs.Performing.{Performs};
+ghost use Rattle.program_env.specs.Performing.{MayLeave, Performs};
+ghost use Rattle.place_commands.specs.Faults.{IsLate};
+ghost use Rattle.place_commands.specs.Follow.{DoesFollow};
 
+use crate::fault::{Error, PlaceRunFault};
 use crate::places::places_of;
 use mirror_follow::FollowFault;
 use mirror_places::Places;
 use mirror_sources::Source;
-use program_env::{Env, Error, RunFault};
+use program_env::Env;
 use program_follow::{FollowRunFault, Following, WatchedPlace, places_why, run_follow};
 use program_heads::check_origin;
 use program_whys::served::of_note;
 use program_whys::why::{Why, of_folder, of_named, of_origin};
 use program_whys::{RunFiles, RunFolders, write_front};
-use program_words::Command;
 use program_words::commands::follow::Follow;
 use signed_note::Verifier;
 use std::alloc::Global;
@@ -34,26 +36,23 @@ use tlog_tiles::Path;
 /// `BadOrigin` before anything is read; then those of `run_follow`.
 pub fn run<R, F: RunFiles, D: RunFolders, I: Read, O: Write, E: Write>(
     env: &mut Env<'_, '_, '_, '_, R, F, D, I, O, E>,
-    key_bytes: &[u8],
     keys: &[Box<dyn Verifier>],
     follow: &Follow<'_>,
 ) -> Result<u8, Error>
 where
     R: Files + Clock + Net<Stream = TcpStream>,
     ensures same { IsSameEnv env.old env.new }
-    ensures does { Performs sha256 (map (λ k. key k) keys.now) key_bytes.now
+    ensures does { Performs DoesFollow IsLate MayLeave sha256 (map (λ k. key k) keys.now)
         (moment F.puts D.held D.puts I.remaining O.contents env.old)
-        (moment F.puts D.held D.puts I.remaining O.contents env.new)
-        (Command.Follow follow.now) result }
+        (moment F.puts D.held D.puts I.remaining O.contents env.new) follow.now result }
 {
     let net = env.rt;
-    follow_over(env, key_bytes, keys, follow, net)
+    follow_over(env, keys, follow, net)
 }
 
 // The same over this net.
 fn follow_over<R, F: RunFiles, D: RunFolders, I: Read, O: Write, E: Write, N>(
     env: &mut Env<'_, '_, '_, '_, R, F, D, I, O, E>,
-    key_bytes: &[u8],
     keys: &[Box<dyn Verifier>],
     follow: &Follow<'_>,
     net: N,
@@ -62,16 +61,15 @@ where
     R: Files,
     N: Net<Stream = TcpStream> + Clock + Clone + Drop,
     ensures same { IsSameEnv env.old env.new }
-    ensures does { Performs sha256 (map (λ k. key k) keys.now) key_bytes.now
+    ensures does { Performs DoesFollow IsLate MayLeave sha256 (map (λ k. key k) keys.now)
         (moment F.puts D.held D.puts I.remaining O.contents env.old)
-        (moment F.puts D.held D.puts I.remaining O.contents env.new)
-        (Command.Follow follow.now) result }
+        (moment F.puts D.held D.puts I.remaining O.contents env.new) follow.now result }
 {
     match check_origin(env.alloc, follow.copy.log.origin) {
         Ok(()) => {}
         Err(fault) => {
             let why = of_origin(env.alloc, fault);
-            return Err(Error::new(RunFault::Origin(fault), why));
+            return Err(Error::new(PlaceRunFault::Origin(fault), why));
         }
     }
     match places_of(
@@ -81,24 +79,22 @@ where
         &follow.places,
         follow.ahead as usize,
     ) {
-        Ok(places) => follow_among(env, key_bytes, keys, follow, places),
-        Err(_) => Err(Error::no_memory()),
+        Ok(places) => follow_among(env, keys, follow, places),
+        Err(_) => Err(Error::new(PlaceRunFault::OutOfMemory, None)),
     }
 }
 
 // Follows these places.
 fn follow_among<R, F: RunFiles, D: RunFolders, I: Read, O: Write, E: Write, S: WatchedPlace + Drop>(
     env: &mut Env<'_, '_, '_, '_, R, F, D, I, O, E>,
-    key_bytes: &[u8],
     keys: &[Box<dyn Verifier>],
     follow: &Follow<'_>,
     mut places: Places<S>,
 ) -> Result<u8, Error>
     ensures same { IsSameEnv env.old env.new }
-    ensures does { Performs sha256 (map (λ k. key k) keys.now) key_bytes.now
+    ensures does { Performs DoesFollow IsLate MayLeave sha256 (map (λ k. key k) keys.now)
         (moment F.puts D.held D.puts I.remaining O.contents env.old)
-        (moment F.puts D.held D.puts I.remaining O.contents env.new)
-        (Command.Follow follow.now) result }
+        (moment F.puts D.held D.puts I.remaining O.contents env.new) follow.now result }
 {
     let following = Following {
         origin: follow.copy.log.origin,
@@ -142,13 +138,13 @@ fn followed<R, F: RunFiles, D: RunFolders, I, O, E>(
     lacked: Option<Path>,
     answer: Result<u8, FollowRunFault>,
 ) -> Result<u8, Error>
-    ensures { result ≡ result_map_both (λ status. status) (λ fault. RunFault.Follow fault) answer }
+    ensures { result ≡ result_map_both (λ status. status) (λ fault. PlaceRunFault.Follow fault) answer }
 {
     match answer {
         Ok(status) => Ok(status),
         Err(fault) => {
             let why = why_of(env, follow, lacked, fault);
-            Err(Error::new(RunFault::Follow(fault), why))
+            Err(Error::new(PlaceRunFault::Follow(fault), why))
         }
     }
 }

@@ -2,8 +2,8 @@
 use Rattle.std.specs.Prelude.{ℕ, List, Option, Result, Ok, Err, ⊤}
 use Rattle.program_library.specs.Runs.{no_name}
 use Rattle.program_parser.specs.Readings.{ReadsKeyFile}
-use Rattle.program_env.specs.declared.fault.RunFault.{RunFault}
-use Rattle.program_env.specs.declared.fault.RunFault.TheVariants.{Command, OutOfMemory}
+use Rattle.program_library.specs.declared.fault.RunFault.{RunFault}
+use Rattle.program_library.specs.declared.fault.RunFault.TheVariants.{Command, OutOfMemory}
 
 -- the meaning of each answer of the finder of the key file's name for the words
 abbrev pub NamesKeyFile : List (List ℕ) → Result (Option (List ℕ)) RunFault → Type 0

@@ -3,15 +3,15 @@ ghost use Rattle.std.specs.Prelude.{◌≡◌, IfErr, IfOk, List, map, string_by
 ghost use Rattle.std.specs.Io.KnownBytes.{Keeps};
 ghost use Rattle.sha2.specs.Sha256.{sha256};
 ghost use Rattle.program_parser.specs.Lines.{IsLine};
-ghost use Rattle.program_env.specs.Done.{IsDoable, IsWriteFault};
+ghost use Rattle.program_library.specs.Commands.{IsDoable, IsWriteFault};
 ghost use Rattle.program_env.specs.Moment.{on_system, seen_of};
 ghost use Rattle.program_env.specs.Performing.{Ends};
 ghost use Rattle.program_library.specs.Runs.{Runs};
-ghost use Rattle.program_env.specs.Works.{IsStatus};
+ghost use Rattle.program_env.specs.Performing.{IsStatus};
 
-use program_env::{Env, Error, RunFault};
+use program_env::Env;
 use program_files::SystemFiles;
-use program_library::{Keys, RunEnv, printed, refused, system_folders};
+use program_library::{Error, Keys, RunEnv, RunFault, printed, refused, system_folders};
 use program_parser::{Line, read_line};
 use program_whys::why::FailedStreams;
 use program_whys::{RunFiles, RunFolders};
@@ -139,7 +139,7 @@ fn obey<C: RunEnv>(
     ensures runs { (words : List (List ℕ)) → IsLine words line.entry → Runs sha256
         (map (λ k. key k) keys.now) key_bytes.now words (C.moment env.old)
         (C.moment env.new) result }
-    ensures ends { Ends (C.moment env.old).output (C.moment env.new).output result }
+    ensures ends { Ends IsWriteFault (C.moment env.old).output (C.moment env.new).output result }
 {
     let bad = line.bad;
     let asked = line.command;

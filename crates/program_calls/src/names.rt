@@ -3,7 +3,7 @@ ghost use Rattle.std.specs.Prelude.{map, option_map, string_bytes};
 ghost use Rattle.tlog_text.specs.Answers.{seen};
 ghost use Rattle.program_calls.specs.Named.{NamesKeyFile};
 
-use program_env::RunFault;
+use program_library::RunFault;
 use program_parser::read_line;
 use std::alloc::Global;
 

@@ -1,9 +1,6 @@
 pub mod Moment
 pub mod Envs
-pub mod Works
-pub mod Pulls
-pub mod Builds
-pub mod Named
-pub mod Done
 pub mod Performing
+pub mod Origins
+pub mod Ports
 pub mod FaultLines

@@ -1,4 +1,4 @@
-//! The environment of a `tlogmirror` command, its contract, and its faults.
+//! The environment of a `tlogmirror` command, its contract, and its error.
 //!
 //! ```text
 //! let mut env = Env { rt: &rt, alloc, files, folders, input, output, errors };
@@ -8,12 +8,10 @@
 
 mod env;
 mod error;
-mod fault;
 mod port;
 mod progress;
 
 pub use env::Env;
 pub use error::Error;
-pub use fault::RunFault;
-pub use port::{port_fault, print_fault, print_port};
+pub use port::{ListenFault, port_fault, print_fault, print_port};
 pub use progress::{report_end, report_puts};

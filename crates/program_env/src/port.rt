@@ -2,23 +2,37 @@
 ghost use Rattle.std.specs.Prelude.{◌≡◌, IfOk, string_bytes};
 ghost use Rattle.byte_streams.specs.Streams.{AppendsPrefix};
 ghost use Rattle.program_env.specs.FaultLines.{fault_line};
-ghost use Rattle.program_env.specs.Works.{PrintsPort, connection_fault, listening_text};
+ghost use Rattle.program_env.specs.Ports.{PrintsPort, connection_fault, listening_text};
 
 use crate::error::Error;
-use crate::fault::RunFault;
 use byte_streams::write_whole;
 use mirror_server::HttpFault;
 use program_whys::why::Why;
 use program_whys::write_front;
 use std::alloc::{AllocError, Global};
 use std::io::{self, Write};
+use thiserror::Error as FaultText;
+
+/// Why no clients were served.
+#[derive(Debug, Drop, Clone, Copy, FaultText)]
+pub enum ListenFault {
+    /// The port cannot be opened, or a connection cannot be accepted.
+    #[error("PortFault")]
+    PortFault,
+    /// The line with the port was not written completely.
+    #[error("WriteFault")]
+    WriteFault,
+    /// Memory was refused.
+    #[error("OutOfMemory")]
+    OutOfMemory,
+}
 
 /// The port cannot be opened, or a connection was not accepted.
-pub fn port_fault(alloc: Global, port: u16, error: &io::Error) -> Error
-    ensures { result ≡ RunFault.PortFault }
+pub fn port_fault(alloc: Global, port: u16, error: &io::Error) -> Error<ListenFault>
+    ensures { result ≡ ListenFault.PortFault }
 {
     let why = Why::of_port(alloc, port, error);
-    Error::new(RunFault::PortFault, why)
+    Error::new(ListenFault::PortFault, why)
 }
 
 /// Writes the line `listening 127.0.0.1:PORT`.
@@ -26,15 +40,19 @@ pub fn port_fault(alloc: Global, port: u16, error: &io::Error) -> Error
 /// # Errors
 ///
 /// `OutOfMemory`: nothing was written. `WriteFault`: a prefix of the line was written.
-pub fn print_port<O: Write>(alloc: Global, port: u16, output: &mut O) -> Result<(), Error>
+pub fn print_port<O: Write>(
+    alloc: Global,
+    port: u16,
+    output: &mut O,
+) -> Result<(), Error<ListenFault>>
     ensures line { PrintsPort port (O.contents output.old) (O.contents output.new) result }
 {
     let Ok(line) = listening_line(alloc, port) else {
-        return Err(Error::new(RunFault::OutOfMemory, None));
+        return Err(Error::new(ListenFault::OutOfMemory, None));
     };
     match write_whole(output, line.as_bytes()) {
         Ok(()) => Ok(()),
-        Err(_) => Err(Error::unwritten()),
+        Err(_) => Err(Error::new(ListenFault::WriteFault, Some(Why::Output))),
     }
 }
 

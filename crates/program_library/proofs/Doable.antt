@@ -6,7 +6,7 @@ use Rattle.program_words.specs.declared.commands.Command.{Command as Order}
 use Rattle.program_words.specs.declared.commands.Command.TheVariants as order
 use Rattle.program_words.specs.declared.commands.take.Kind.{Kind}
 use Rattle.program_words.specs.declared.commands.take.Kind.TheVariants as kind
-use Rattle.program_env.specs.Done.{IsDoable}
+use Rattle.program_library.specs.Commands.{IsDoable}
 
 take_width : (word : Option (List ℕ)) (width : ℕ) → IsTakeWidth word width → (1 ≤ width) × (width ≤ 256)
 take_width None width h = (omega (arith, h), omega (arith, h))

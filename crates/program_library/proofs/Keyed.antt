@@ -10,13 +10,13 @@ use Rattle.program_parser.specs.Readings.{Reads, ReadsKeyFile}
 use Rattle.program_words.specs.declared.commands.Command.{Command as Order}
 use Rattle.program_words.specs.declared.fault.CommandFault.{CommandFault}
 use Rattle.program_parser.specs.declared.words.Line.{Line}
-use Rattle.program_env.specs.Done.{IsDoable}
+use Rattle.program_library.specs.Commands.{IsDoable, IsWriteFault}
 use Rattle.program_env.specs.Moment.{Moment}
 use Rattle.program_env.specs.Performing.{Ends}
 use Rattle.program_library.specs.Runs.{AreKeyBytes, FailsAtKeys, FindsKeys, JoinsLines, ReadsKeyLines}
 use Rattle.program_library.specs.Runs.{Runs, RunsKeyed, no_lines}
-use Rattle.program_env.specs.declared.fault.RunFault.{RunFault}
-use Rattle.program_env.specs.declared.fault.RunFault.TheVariants.{Command, KeyFile, KeyLines}
+use Rattle.program_library.specs.declared.fault.RunFault.{RunFault}
+use Rattle.program_library.specs.declared.fault.RunFault.TheVariants.{Command, KeyFile, KeyLines}
 use Rattle.program_library.proofs.Doable.{asked_doable}
 use Rattle.program_whys.proofs.Written.{keeps_itself}
 
@@ -60,7 +60,7 @@ lines_missed printed name bytes lent fault error is same finds reads =
     record { bytes = bytes; finds = finds; reads = subst (λ (b : List ℕ). ReadsKeys b (no_lines fault)) same reads }
 
 -- nothing was written, and the run failed
-pub nothing_done : (now : Option (List ℕ)) (fault : RunFault) → Ends now now (Err fault)
+pub nothing_done : (now : Option (List ℕ)) (fault : RunFault) → Ends IsWriteFault now now (Err fault)
 nothing_done now fault = record { status = tt; quiet = λ other. keeps_itself now }
 
 module _ (digest : List ℕ → List ℕ) (now : Moment) (words : List (List ℕ)) where

@@ -3,3 +3,4 @@ mod MadeKeys
 pub mod Keyed
 mod Signers
 mod PulledStates
+mod Orders

@@ -6,8 +6,8 @@ use Rattle.std.specs.Io.KnownBytes.{Appends, Keeps}
 use Rattle.byte_streams.specs.Streams.{AppendsPrefix}
 use Rattle.program_words.specs.declared.fault.CommandFault.TheVariants.{Help, Words, BadArgument}
 use Rattle.program_env.specs.FaultLines.{fault_line}
-use Rattle.program_env.specs.declared.fault.RunFault.{RunFault}
-use Rattle.program_env.specs.declared.fault.RunFault.TheVariants.{Command}
+use Rattle.program_library.specs.declared.fault.RunFault.{RunFault}
+use Rattle.program_library.specs.declared.fault.RunFault.TheVariants.{Command}
 use Rattle.program_library.specs.declared.ending.Message.{Message}
 use Rattle.program_library.specs.declared.ending.Message.TheVariants.{Made, Fixed}
 use Rattle.program_library.specs.declared.ending.Stream.{Stream}

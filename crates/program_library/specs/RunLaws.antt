@@ -12,8 +12,8 @@ use Rattle.mirror_pull.specs.declared.fault.PullFault.{PullFault}
 use Rattle.mirror_pull.specs.declared.pulling.Pulled.{Pulled}
 use Rattle.program_files.specs.Named.{NamedFile}
 use Rattle.program_words.specs.declared.place.Place.{Place}
-use Rattle.program_env.specs.Builds.{FindsSigner}
-use Rattle.program_env.specs.Pulls.{PullsFromFile}
+use Rattle.state_commands.specs.Builds.{FindsSigner}
+use Rattle.state_commands.specs.Pulls.{PullsFromFile}
 
 -- the signing key of a key file is among the keys of its lines, after the pins were joined
 abbrev pub SignersAreKeys : Type 0

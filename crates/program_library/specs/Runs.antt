@@ -14,11 +14,11 @@ use Rattle.program_words.specs.declared.commands.Command.{Command as Order}
 use Rattle.program_words.specs.declared.fault.CommandFault.{CommandFault}
 use Rattle.program_parser.specs.Program.{AsksFor}
 use Rattle.program_parser.specs.Readings.{HasKeys, HasNoKeys, Reads, ReadsKeyFile}
-use Rattle.program_env.specs.declared.fault.RunFault.{RunFault}
-use Rattle.program_env.specs.declared.fault.RunFault.TheVariants.{Command, KeyFile, KeyLines}
-use Rattle.program_env.specs.declared.fault.RunFault.TheVariants.{OutOfMemory}
+use Rattle.program_library.specs.declared.fault.RunFault.{RunFault}
+use Rattle.program_library.specs.declared.fault.RunFault.TheVariants.{Command, KeyFile, KeyLines}
+use Rattle.program_library.specs.declared.fault.RunFault.TheVariants.{OutOfMemory}
 use Rattle.program_env.specs.Moment.{Moment}
-use Rattle.program_env.specs.Done.{Executes, LeavesFiles, LeavesFolders}
+use Rattle.program_library.specs.Commands.{Executes, LeavesFiles, LeavesFolders}
 
 module _ (digest : List ℕ → List ℕ) (keys : List Key) (key_bytes : List ℕ) (words : List (List ℕ))
     (old new : Moment) where

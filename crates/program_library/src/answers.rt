@@ -1,8 +1,8 @@
 //! The answers of a run.
 ghost use Rattle.std.specs.Prelude.{◌≡◌};
 
+use crate::fault::{Error, RunFault};
 use crate::run_env::RunEnv;
-use program_env::{Error, RunFault};
 use program_whys::why::{FailedStreams, Why};
 use program_words::{BadWord, CommandFault};
 use std::alloc::Global;

@@ -1,9 +1,13 @@
 //! The list of the commands.
+ghost use Rattle.std.specs.Prelude.{◌≡◌};
+ghost use Rattle.std.specs.Result.{result_map_both};
+
+use crate::fault::{Error, RunFault};
 use crate::keys::{Keys, key_lines};
 use crate::run_env::{RunEnv, WatchedEnv};
 use note_keys::KeyLine;
 use place_commands::{audit, follow};
-use program_env::{Env, Error};
+use program_env::Env;
 use program_whys::why::{FailedStreams, Why, print_why};
 use program_whys::{Failing, RunFiles, RunFolders};
 use program_words::Command;
@@ -42,35 +46,35 @@ where
         // Read once: each read in an arm costs the checker as much as the call.
         let (bytes, verifiers) = (keys.bytes, keys.verifiers);
         match command {
-            Command::Root(root) => root::run(self, bytes, verifiers, root),
-            Command::Check => check::run(self, bytes, verifiers),
-            Command::Build(build) => build::run(self, bytes, verifiers, build),
-            Command::Take(take) => take::run(self, bytes, verifiers, take),
-            Command::Merge(merge) => merge::run(self, bytes, verifiers, merge),
-            Command::Pull(pull) => pull::run(self, bytes, verifiers, pull),
-            Command::Follow(follow) => follow::run(self, bytes, verifiers, follow),
-            Command::Audit(audit) => audit::run(self, bytes, verifiers, audit),
-            Command::Status(status) => status::run(self, bytes, verifiers, status),
-            Command::CopyStatus(status) => copy_commands::status::run(
-                self, bytes, verifiers, status,
-            ),
-            Command::Missing(missing) => missing::run(self, bytes, verifiers, missing),
-            Command::Forks(forks) => forks::run(self, bytes, verifiers, forks),
-            Command::Compare(compare) => compare::run(self, bytes, verifiers, compare),
-            Command::CopyCompare(compare) => copy_commands::compare::run(
-                self, bytes, verifiers, compare,
-            ),
-            Command::Prove(prove) => prove::run(self, bytes, verifiers, prove),
-            Command::CopyProve(prove) => copy_commands::prove::run(self, bytes, verifiers, prove),
-            Command::Entries(entries) => entries::run(self, bytes, verifiers, entries),
-            Command::CopyEntries(entries) => copy_commands::entries::run(
-                self, bytes, verifiers, entries,
-            ),
-            Command::Export(export) => export::run(self, bytes, verifiers, export),
-            Command::Update(update) => export::run_with_update(self, bytes, verifiers, update),
-            Command::Notes(notes) => notes::run(self, bytes, verifiers, notes),
-            Command::Serve(serve) => serve::run(self, bytes, verifiers, serve),
-            Command::CopyServe(serve) => copy_commands::serve::run(self, bytes, verifiers, serve),
+            Command::Root(root) => of_report(root::run(self, verifiers, root)),
+            Command::Check => of_report(check::run(self, verifiers)),
+            Command::Build(build) => of_state(build::run(self, bytes, verifiers, build)),
+            Command::Take(take) => of_state(take::run(self, verifiers, take)),
+            Command::Merge(merge) => of_state(merge::run(self, verifiers, merge)),
+            Command::Pull(pull) => of_state(pull::run(self, verifiers, pull)),
+            Command::Follow(follow) => of_place(follow::run(self, verifiers, follow)),
+            Command::Audit(audit) => of_place(audit::run(self, verifiers, audit)),
+            Command::Status(status) => of_report(status::run(self, verifiers, status)),
+            Command::CopyStatus(status) => of_copy(copy_commands::status::run(
+                self, verifiers, status,
+            )),
+            Command::Missing(missing) => of_report(missing::run(self, verifiers, missing)),
+            Command::Forks(forks) => of_report(forks::run(self, verifiers, forks)),
+            Command::Compare(compare) => of_report(compare::run(self, verifiers, compare)),
+            Command::CopyCompare(compare) => of_copy(copy_commands::compare::run(
+                self, verifiers, compare,
+            )),
+            Command::Prove(prove) => of_report(prove::run(self, verifiers, prove)),
+            Command::CopyProve(prove) => of_copy(copy_commands::prove::run(self, verifiers, prove)),
+            Command::Entries(entries) => of_report(entries::run(self, verifiers, entries)),
+            Command::CopyEntries(entries) => of_copy(copy_commands::entries::run(
+                self, verifiers, entries,
+            )),
+            Command::Export(export) => of_state(export::run(self, verifiers, export)),
+            Command::Update(update) => of_state(export::run_with_update(self, verifiers, update)),
+            Command::Notes(notes) => of_state(notes::run(self, verifiers, notes)),
+            Command::Serve(serve) => of_report(serve::run(self, verifiers, serve)),
+            Command::CopyServe(serve) => of_copy(copy_commands::serve::run(self, verifiers, serve)),
         }
     }
 
@@ -85,6 +89,55 @@ impl<'r, 'i, 'o, 'e, R, F, D, I: Failing, O: Failing, E> WatchedEnv
         FailedStreams {
             input: self.input.last_failed(),
             output: self.output.last_failed(),
+        }
+    }
+}
+
+// The answers of commands, as those of a run.
+fn of_state(answer: Result<u8, state_commands::Error>) -> Result<u8, Error>
+    ensures { result ≡ result_map_both (λ status. status) (λ fault. RunFault.State fault) answer }
+{
+    match answer {
+        Ok(status) => Ok(status),
+        Err(error) => {
+            let (fault, why) = error.into_parts();
+            Err(Error::new(RunFault::State(fault), why))
+        }
+    }
+}
+
+fn of_report(answer: Result<u8, report_commands::Error>) -> Result<u8, Error>
+    ensures { result ≡ result_map_both (λ status. status) (λ fault. RunFault.Report fault) answer }
+{
+    match answer {
+        Ok(status) => Ok(status),
+        Err(error) => {
+            let (fault, why) = error.into_parts();
+            Err(Error::new(RunFault::Report(fault), why))
+        }
+    }
+}
+
+fn of_copy(answer: Result<u8, copy_commands::Error>) -> Result<u8, Error>
+    ensures { result ≡ result_map_both (λ status. status) (λ fault. RunFault.Copy fault) answer }
+{
+    match answer {
+        Ok(status) => Ok(status),
+        Err(error) => {
+            let (fault, why) = error.into_parts();
+            Err(Error::new(RunFault::Copy(fault), why))
+        }
+    }
+}
+
+fn of_place(answer: Result<u8, place_commands::Error>) -> Result<u8, Error>
+    ensures { result ≡ result_map_both (λ status. status) (λ fault. RunFault.Place fault) answer }
+{
+    match answer {
+        Ok(status) => Ok(status),
+        Err(error) => {
+            let (fault, why) = error.into_parts();
+            Err(Error::new(RunFault::Place(fault), why))
         }
     }
 }

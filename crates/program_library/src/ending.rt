@@ -3,8 +3,8 @@ ghost use Rattle.std.specs.Prelude.{◌≡◌, IfOk, string_bytes};
 ghost use Rattle.byte_streams.specs.Streams.{AppendsPrefix};
 ghost use Rattle.program_library.specs.Endings.{PrintsEnding, IsFaultLine, PrintsRun, message_bytes};
 
+use crate::fault::RunFault;
 use byte_streams::write_whole;
-use program_env::RunFault;
 use program_whys::write_front;
 use program_words::CommandFault;
 use std::alloc::{AllocError, Global};

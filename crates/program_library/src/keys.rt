@@ -3,8 +3,8 @@ ghost use Rattle.std.specs.Prelude.{option_map};
 ghost use Rattle.tlog_text.specs.Answers.{seen};
 ghost use Rattle.program_library.specs.Runs.{FindsKeys, ReadsJoined, ReadsKeyLines};
 
+use crate::fault::{Error, RunFault};
 use note_keys::{KeyFileFault, KeyLine, join_pins, read_keys};
-use program_env::{Error, RunFault};
 use program_whys::RunFiles;
 use program_whys::why::{Why, of_named};
 use signed_note::Verifier;

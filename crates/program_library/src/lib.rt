@@ -10,6 +10,7 @@
 mod answers;
 mod commands;
 mod ending;
+mod fault;
 mod keys;
 mod laws;
 mod run_env;
@@ -18,9 +19,10 @@ mod system;
 
 pub use answers::{printed, refused};
 pub use ending::{Message, ProgramEnd, Stream, ending_of, print_ending};
+pub use fault::{Error, RunFault};
 pub use keys::Keys;
 pub use laws::{pulled_state_law, signing_key_law};
-pub use program_env::{Env, RunFault};
+pub use program_env::Env;
 pub use program_streams::{CheckFault, RootFault, run_check, run_root};
 pub use program_whys::{RunFiles, RunFolders};
 pub use run_env::{RunEnv, WatchedEnv};

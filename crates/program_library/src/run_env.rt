@@ -1,7 +1,7 @@
 //! What a run needs of its environment.
+use crate::fault::Error;
 use crate::keys::Keys;
 use note_keys::KeyLine;
-use program_env::Error;
 use program_whys::why::{FailedStreams, Why};
 use program_words::Command;
 use std::alloc::Global;
@@ -12,9 +12,8 @@ pub trait RunEnv {
     ghost use Rattle.std.specs.Prelude.{◌≡◌, ℕ, map, option_map};
     ghost use Rattle.tlog_text.specs.Answers.{seen};
     ghost use Rattle.sha2.specs.Sha256.{sha256};
-    ghost use Rattle.program_env.specs.Done.{IsDoable};
+    ghost use Rattle.program_library.specs.Commands.{IsDoable, RunsOrder};
     ghost use Rattle.program_env.specs.Moment.{Moment};
-    ghost use Rattle.program_env.specs.Performing.{Performs};
     ghost use Rattle.program_library.specs.Runs.{ReadsKeyLines};
 
     /// The parts that contracts see.
@@ -48,7 +47,7 @@ pub trait RunEnv {
         requires { IsDoable command.now }
         ensures same { (input self.new ≡ input self.old) × (output self.new ≡ output self.old)
             × (errors self.new ≡ errors self.old) }
-        ensures does { Performs sha256 (map (λ k. key k) keys.now.verifiers.now)
+        ensures does { RunsOrder sha256 (map (λ k. key k) keys.now.verifiers.now)
             keys.now.bytes.now (moment self.old) (moment self.new) command.now result };
 
     /// Writes the line of `--why` to standard error, if the words ask for it and a thing is known.

@@ -4,16 +4,16 @@ ghost use Rattle.std.specs.Io.KnownBytes.{Keeps};
 ghost use Rattle.sha2.specs.Sha256.{sha256};
 ghost use Rattle.program_parser.specs.Program.{AsksFor};
 ghost use Rattle.program_parser.specs.Lines.{IsLine};
-ghost use Rattle.program_env.specs.Done.{IsDoable, IsWriteFault};
+ghost use Rattle.program_library.specs.Commands.{IsDoable, IsWriteFault};
 ghost use Rattle.program_env.specs.Performing.{Ends};
 ghost use Rattle.program_library.specs.Runs.{AreKeyBytes, JoinsLines, RunsKeyed};
-ghost use Rattle.program_env.specs.Works.{IsStatus};
+ghost use Rattle.program_env.specs.Performing.{IsStatus};
 
 use crate::answers::{printed, refused};
+use crate::fault::{Error, RunFault};
 use crate::keys::Keys;
 use crate::run_env::{RunEnv, WatchedEnv};
 use note_keys::{KeyFileFault, KeyLine};
-use program_env::{Error, RunFault};
 use program_parser::{Line, read_line};
 use program_words::Command;
 use signed_note::Verifier;
@@ -57,7 +57,7 @@ fn run_line<C: RunEnv>(env: &mut C, line: Line<'_>) -> Result<u8, Error>
         × (C.errors env.new ≡ C.errors env.old) }
     ensures runs { (words : List (List ℕ)) → IsLine words line.entry → RunsKeyed sha256 words
         (C.moment env.old) (C.moment env.new) result }
-    ensures ends { Ends (C.moment env.old).output (C.moment env.new).output result }
+    ensures ends { Ends IsWriteFault (C.moment env.old).output (C.moment env.new).output result }
 {
     let bad = line.bad;
     let asked = line.command;
@@ -84,7 +84,7 @@ fn run_keyed<C: RunEnv>(
         → AreKeyBytes (C.moment env.old).files words key_bytes.now
         → JoinsLines key_bytes.now lines.items → RunsKeyed sha256 words
         (C.moment env.old) (C.moment env.new) result }
-    ensures ends { Ends (C.moment env.old).output (C.moment env.new).output result }
+    ensures ends { Ends IsWriteFault (C.moment env.old).output (C.moment env.new).output result }
 {
     let mut keys: Vec<Box<dyn Verifier>> = Vec::new(env.alloc());
     for line in lines {

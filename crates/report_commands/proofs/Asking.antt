@@ -12,30 +12,32 @@ use Rattle.program_reports.specs.declared.question.Question.{Question}
 use Rattle.program_reports.specs.declared.fault.AskFault.{AskFault}
 use Rattle.program_reports.specs.declared.fault.AskFault.TheVariants as ask
 use Rattle.program_states.specs.States.{OpensFile}
-use Rattle.program_env.specs.declared.fault.RunFault.{RunFault}
-use Rattle.program_env.specs.declared.fault.RunFault.TheVariants.{Ask, Heads}
-use Rattle.program_env.specs.Done.{IsWriteFault}
-use Rattle.program_env.specs.Works.{AsksState, ComparesState, ComparesView, FindsHeads, IsStatus}
+use Rattle.report_commands.specs.declared.fault.ReportRunFault.{ReportRunFault}
+use Rattle.report_commands.specs.declared.fault.ReportRunFault.TheVariants.{Ask, Heads}
+use Rattle.report_commands.specs.Faults.{IsLate}
+use Rattle.program_env.specs.Performing.{IsStatus}
+use Rattle.report_commands.specs.Asks.{AsksState}
+use Rattle.report_commands.specs.Compare.{ComparesState, ComparesView, FindsHeads}
 
 -- the answer of a command from the answer of a reporter
-abbrev pub asked : Result ℕ AskFault → Result ℕ RunFault
+abbrev pub asked : Result ℕ AskFault → Result ℕ ReportRunFault
 asked was = result_map_both (λ status. status) (λ fault. Ask fault) was
 
-pub asked_status : (was : Result ℕ AskFault) (is : Result ℕ RunFault) → is ≡ asked was → IfOk was IsStatus →
+pub asked_status : (was : Result ℕ AskFault) (is : Result ℕ ReportRunFault) → is ≡ asked was → IfOk was IsStatus →
     IfOk is IsStatus
 asked_status (Ok status) is same h = rw same h
 asked_status (Err fault) is same h = rw same tt
 
 quiet_ask : (was : Result ℕ AskFault) (old new : Option (List ℕ)) →
     IfErr was (λ fault. fault ≢ ask.WriteFault → Keeps old new) →
-    IfErr (asked was) (λ fault. (¬ IsWriteFault fault) → Keeps old new)
+    IfErr (asked was) (λ fault. (¬ IsLate fault) → Keeps old new)
 quiet_ask (Ok status) old new h = tt
 quiet_ask (Err ask.WriteFault) old new h = λ other. absurd (other tt)
 quiet_ask (Err (ask.Report fault)) old new h = λ other. h (λ e. cc)
 
-pub asked_quietly : (was : Result ℕ AskFault) (is : Result ℕ RunFault) (old new : Option (List ℕ)) → is ≡ asked was →
+pub asked_quietly : (was : Result ℕ AskFault) (is : Result ℕ ReportRunFault) (old new : Option (List ℕ)) → is ≡ asked was →
     IfErr was (λ fault. fault ≢ ask.WriteFault → Keeps old new) →
-    IfErr is (λ fault. (¬ IsWriteFault fault) → Keeps old new)
+    IfErr is (λ fault. (¬ IsLate fault) → Keeps old new)
 asked_quietly was is old new same h = rw same (quiet_ask was old new h)
 
 module _ (digest : List ℕ → List ℕ) (keys : List Key) (recorded : Option (List NamedFile)) (name origin : List ℕ)
@@ -45,11 +47,11 @@ module _ (digest : List ℕ → List ℕ) (keys : List Key) (recorded : Option (
   asks question (Ok status) h = (v, opened, h)
   asks question (Err fault) h = (v, opened, h)
 
-  pub asks_state : (question : Question) (was : Result ℕ AskFault) (is : Result ℕ RunFault) → is ≡ asked was →
+  pub asks_state : (question : Question) (was : Result ℕ AskFault) (is : Result ℕ ReportRunFault) → is ≡ asked was →
       AnswersQuestion digest question v old new was → AsksState digest keys recorded name origin question old new is
   asks_state question was is same h = rw same (asks question was h)
 
-  pub compares_state : (files : List (List ℕ)) (answer : Result ℕ RunFault) →
+  pub compares_state : (files : List (List ℕ)) (answer : Result ℕ ReportRunFault) →
       ComparesView digest keys recorded files old new v answer →
       ComparesState digest keys recorded name origin files old new answer
   compares_state files (Ok status) h =
@@ -67,6 +69,6 @@ module _ (digest : List ℕ → List ℕ) (keys : List Key) (recorded : Option (
   compares (Ok status) h = record { heads = heads; given = given; answers = h }
   compares (Err fault) h = record { heads = heads; given = given; answers = h }
 
-  pub compares_view : (was : Result ℕ AskFault) (is : Result ℕ RunFault) → is ≡ asked was →
+  pub compares_view : (was : Result ℕ AskFault) (is : Result ℕ ReportRunFault) → is ≡ asked was →
       AnswersCompared digest v heads old new was → ComparesView digest keys recorded files old new v is
   compares_view was is same h = rw same (compares was h)

@@ -7,7 +7,7 @@ use Rattle.program_heads.specs.declared.fault.HeadFilesFault.{HeadFilesFault}
 use Rattle.program_files.specs.Named.{NamedFile}
 use Rattle.program_reports.specs.Comparisons.{AnswersCompared}
 use Rattle.program_reports.specs.declared.fault.AskFault.{AskFault}
-use Rattle.program_env.specs.Works.{FindsHeads}
+use Rattle.report_commands.specs.Compare.{FindsHeads}
 
 pub names_same : {A : Type 0} (text_of : A → List ℕ) (keys : List Key) (recorded : Option (List NamedFile))
     (origin : List ℕ) (names others : List A) (answer : Result (Option (List (ℕ × List ℕ))) HeadFilesFault) →

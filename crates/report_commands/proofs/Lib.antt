@@ -2,3 +2,4 @@ mod Asking
 mod Compares
 mod Writing
 mod Answering
+mod Serving

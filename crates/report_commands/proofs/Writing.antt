@@ -9,23 +9,23 @@ use Rattle.program_states.specs.States.{OpensFile}
 use Rattle.program_monitor.specs.Served.{AnswersServed}
 use Rattle.program_monitor.specs.declared.fault.StateEntriesFault.{StateEntriesFault}
 use Rattle.program_monitor.specs.declared.fault.StateEntriesFault.TheVariants as entries
-use Rattle.program_words.specs.declared.commands.Command.TheVariants as order
 use Rattle.program_words.specs.declared.commands.entries.Entries.{Entries as EntriesWords}
-use Rattle.program_env.specs.declared.fault.RunFault.{RunFault}
-use Rattle.program_env.specs.declared.fault.RunFault.TheVariants.{StateEntries}
-use Rattle.program_env.specs.Done.{IsWriteFault}
+use Rattle.report_commands.specs.declared.fault.ReportRunFault.{ReportRunFault}
+use Rattle.report_commands.specs.declared.fault.ReportRunFault.TheVariants.{StateEntries}
+use Rattle.report_commands.specs.Faults.{IsLate}
 use Rattle.program_env.specs.Moment.{Moment}
-use Rattle.program_env.specs.Performing.{Performs}
+use Rattle.program_env.specs.Performing.{Performs, Stays}
+use Rattle.report_commands.specs.Entries.{DoesEntries}
 use Rattle.program_env.proofs.Performing.{performs, performs_done}
 
-module _ (digest : List ℕ → List ℕ) (keys : List Key) (key_bytes : List ℕ) (old new : Moment) (c : EntriesWords)
+module _ (digest : List ℕ → List ℕ) (keys : List Key) (old new : Moment) (c : EntriesWords)
     (files : new.files ≡ old.files) (folders : new.puts ≡ old.puts) (v : View)
     (opened : OpensFile digest c.mirror.log.origin.now keys old.files c.mirror.state.now (Ok v)) where
   -- the bytes that were written for this answer belong to entries of the mirror
   abbrev Answers : Result (Unit {0}) StateEntriesFault → Type 0
   Answers answer = AnswersServed digest v c.range.from c.range.to c.range.base64 old.output new.output answer
 
-  quiet : (fault : StateEntriesFault) → Answers (Err fault) → (¬ IsWriteFault (StateEntries fault)) →
+  quiet : (fault : StateEntriesFault) → Answers (Err fault) → (¬ IsLate (StateEntries fault)) →
       Keeps old.output new.output
   quiet entries.NothingComplete h other = h.1
   quiet entries.NoSuchSize h other = h.1
@@ -34,12 +34,12 @@ module _ (digest : List ℕ → List ℕ) (keys : List Key) (key_bytes : List �
   quiet entries.OutOfMemory h other = absurd (other tt)
 
   -- entries of a mirror were written
-  pub writes_entries : (answer : Result (Unit {0}) StateEntriesFault) → Answers answer → (is : Result ℕ RunFault) →
+  pub writes_entries : (answer : Result (Unit {0}) StateEntriesFault) → Answers answer → (is : Result ℕ ReportRunFault) →
       is ≡ result_map_both (λ _. 0) (λ fault. StateEntries fault) answer →
-      Performs digest keys key_bytes old new (order.Entries c) is
+      Performs DoesEntries IsLate Stays digest keys old new c is
   writes_entries (Ok x) h is same =
-      rw same (performs_done digest keys key_bytes old new (order.Entries c) files folders 0 (inl refl)
+      rw same (performs_done DoesEntries IsLate Stays digest keys old new c (files, folders) 0 (inl refl)
       ((v, opened, h), refl))
   writes_entries (Err fault) h is same =
-      rw same (performs digest keys key_bytes old new (order.Entries c) files folders (Err (StateEntries fault)) tt
+      rw same (performs DoesEntries IsLate Stays digest keys old new c (files, folders) (Err (StateEntries fault)) tt
       (quiet fault h) (v, opened, h))

@@ -1,1 +1,7 @@
 pub mod Clients
+pub mod Faults
+pub mod Streams
+pub mod Asks
+pub mod Compare
+pub mod Entries
+pub mod Serve

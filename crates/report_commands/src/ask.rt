@@ -3,10 +3,11 @@ ghost use Rattle.std.specs.Prelude.{◌≡◌, IfErr, IfOk, map};
 ghost use Rattle.std.specs.Result.{result_map_both};
 ghost use Rattle.std.specs.Io.KnownBytes.{Keeps};
 ghost use Rattle.sha2.specs.Sha256.{sha256};
-ghost use Rattle.program_env.specs.Done.{IsWriteFault};
-ghost use Rattle.program_env.specs.Works.{AsksState, IsStatus};
+ghost use Rattle.program_env.specs.Performing.{IsStatus};
+ghost use Rattle.report_commands.specs.Asks.{AsksState};
+ghost use Rattle.report_commands.specs.Faults.{IsLate};
 
-use program_env::{Error, RunFault};
+use crate::fault::{Error, ReportRunFault};
 use program_reports::{AskFault, Question, ReportFault, print_report};
 use program_states::open_state;
 use program_whys::RunFiles;
@@ -38,7 +39,7 @@ pub(crate) fn run_ask<F: RunFiles, W: Write>(
         args.now.state.now args.now.log.origin.now question.now (W.contents output.old)
         (W.contents output.new) result }
     ensures status { IfOk result IsStatus }
-    ensures quiet { IfErr result (λ fault. (¬ IsWriteFault fault) → Keeps (W.contents output.old)
+    ensures quiet { IfErr result (λ fault. (¬ IsLate fault) → Keeps (W.contents output.old)
         (W.contents output.new)) }
 {
     match open_state::<Sha256Tree, F>(files, alloc, args.log.origin, keys, args.state) {
@@ -50,18 +51,18 @@ pub(crate) fn run_ask<F: RunFiles, W: Write>(
         }
         Err(fault) => {
             let why = of_state(alloc, files, Some(args.state), fault);
-            Err(Error::new(RunFault::State(fault), why))
+            Err(Error::new(ReportRunFault::State(fault), why))
         }
     }
 }
 
 /// The answer of a command from the answer of a reporter, with the thing that a fault is about.
 pub(crate) fn asked(answer: Result<u8, AskFault>, why: Option<Why>) -> Result<u8, Error>
-    ensures { result ≡ result_map_both (λ status. status) (λ fault. RunFault.Ask fault) answer }
+    ensures { result ≡ result_map_both (λ status. status) (λ fault. ReportRunFault.Ask fault) answer }
 {
     match answer {
         Ok(status) => Ok(status),
-        Err(fault) => Err(Error::new(RunFault::Ask(fault), why)),
+        Err(fault) => Err(Error::new(ReportRunFault::Ask(fault), why)),
     }
 }
 

@@ -1,14 +1,15 @@
 //! The command `check`: it verifies a proof.
 ghost use Rattle.std.specs.Prelude.{◌≡◌, map};
 ghost use Rattle.sha2.specs.Sha256.{sha256};
-ghost use Rattle.program_env.specs.Done.{verdict_status};
 ghost use Rattle.program_env.specs.Envs.{IsSameEnv, moment};
-ghost use Rattle.program_env.specs.Performing.{Performs};
+ghost use Rattle.program_env.specs.Performing.{Performs, Stays, verdict_status};
+ghost use Rattle.report_commands.specs.Streams.{DoesCheck};
+ghost use Rattle.report_commands.specs.Faults.{IsLate};
 
-use program_env::{Env, Error, RunFault};
+use crate::fault::{Error, ReportRunFault};
+use program_env::Env;
 use program_streams::run_check;
 use program_whys::{RunFiles, RunFolders};
-use program_words::Command;
 use signed_note::Verifier;
 use std::io::{Read, Write};
 
@@ -19,18 +20,16 @@ use std::io::{Read, Write};
 /// Those of `run_check`.
 pub fn run<R, F: RunFiles, D: RunFolders, I: Read, O: Write, E: Write>(
     env: &mut Env<'_, '_, '_, '_, R, F, D, I, O, E>,
-    key_bytes: &[u8],
     keys: &[Box<dyn Verifier>],
 ) -> Result<u8, Error>
     ensures same { IsSameEnv env.old env.new }
-    ensures does { Performs sha256 (map (λ k. key k) keys.now) key_bytes.now
+    ensures does { Performs DoesCheck IsLate Stays sha256 (map (λ k. key k) keys.now)
         (moment F.puts D.held D.puts I.remaining O.contents env.old)
-        (moment F.puts D.held D.puts I.remaining O.contents env.new)
-        Command.Check result }
+        (moment F.puts D.held D.puts I.remaining O.contents env.new) tt result }
 {
     match run_check(env.alloc, env.input, env.output) {
         Ok(verdict) => Ok(status_of(verdict)),
-        Err(fault) => Err(Error::new(RunFault::Check(fault), None)),
+        Err(fault) => Err(Error::new(ReportRunFault::Check(fault), None)),
     }
 }
 

@@ -3,20 +3,20 @@ ghost use Rattle.std.specs.Prelude.{◌≡◌, IfErr, IfOk, map, option_map};
 ghost use Rattle.std.specs.Io.KnownBytes.{Keeps};
 ghost use Rattle.sha2.specs.Sha256.{sha256};
 ghost use Rattle.tlog_text.specs.Answers.{seen};
-ghost use Rattle.program_env.specs.Done.{IsWriteFault};
 ghost use Rattle.program_env.specs.Envs.{IsSameEnv, moment};
-ghost use Rattle.program_env.specs.Performing.{Performs};
-ghost use Rattle.program_env.specs.Works.{ComparesState, ComparesView, FindsHeads, IsStatus};
+ghost use Rattle.program_env.specs.Performing.{IsStatus, Performs, Stays};
+ghost use Rattle.report_commands.specs.Compare.{ComparesState, ComparesView, DoesCompare, FindsHeads};
+ghost use Rattle.report_commands.specs.Faults.{IsLate};
 
 use crate::ask::{asked, why_of_report};
-use program_env::{Env, Error, RunFault};
+use crate::fault::{Error, ReportRunFault};
+use program_env::Env;
 use program_heads::{HeadFilesFault, read_heads};
 use program_reports::print_comparison;
 use program_states::open_state;
 use program_whys::served::of_heads;
 use program_whys::why::of_state;
 use program_whys::{RunFiles, RunFolders};
-use program_words::Command;
 use program_words::commands::compare::Compare;
 use signed_note::Verifier;
 use std::alloc::Global;
@@ -33,15 +33,13 @@ use tlog_mirror::Mirror;
 /// text may have been written.
 pub fn run<R, F: RunFiles, D: RunFolders, I: Read, O: Write, E: Write>(
     env: &mut Env<'_, '_, '_, '_, R, F, D, I, O, E>,
-    key_bytes: &[u8],
     keys: &[Box<dyn Verifier>],
     compare: &Compare<'_>,
 ) -> Result<u8, Error>
     ensures same { IsSameEnv env.old env.new }
-    ensures does { Performs sha256 (map (λ k. key k) keys.now) key_bytes.now
+    ensures does { Performs DoesCompare IsLate Stays sha256 (map (λ k. key k) keys.now)
         (moment F.puts D.held D.puts I.remaining O.contents env.old)
-        (moment F.puts D.held D.puts I.remaining O.contents env.new)
-        (Command.Compare compare.now) result }
+        (moment F.puts D.held D.puts I.remaining O.contents env.new) compare.now result }
 {
     run_compare(&env.files, env.alloc, compare, keys, env.output)
 }
@@ -59,7 +57,7 @@ fn run_compare<F: RunFiles, W: Write>(
         (map (λ name. name.now) compare.now.files.items) (W.contents output.old)
         (W.contents output.new) result }
     ensures status { IfOk result IsStatus }
-    ensures quiet { IfErr result (λ fault. (¬ IsWriteFault fault) → Keeps (W.contents output.old)
+    ensures quiet { IfErr result (λ fault. (¬ IsLate fault) → Keeps (W.contents output.old)
         (W.contents output.new)) }
 {
     let args = &compare.mirror;
@@ -71,7 +69,7 @@ fn run_compare<F: RunFiles, W: Write>(
         }
         Err(fault) => {
             let why = of_state(alloc, files, Some(args.state), fault);
-            Err(Error::new(RunFault::State(fault), why))
+            Err(Error::new(ReportRunFault::State(fault), why))
         }
     }
 }
@@ -89,14 +87,14 @@ fn compare_mirror<H: TreeHash, F: RunFiles, W: Write>(
         (map (λ name. name.now) compare.now.files.items) (W.contents output.old)
         (W.contents output.new) mirror.old.view result }
     ensures status { IfOk result IsStatus }
-    ensures quiet { IfErr result (λ fault. (¬ IsWriteFault fault) → Keeps (W.contents output.old)
+    ensures quiet { IfErr result (λ fault. (¬ IsLate fault) → Keeps (W.contents output.old)
         (W.contents output.new)) }
 {
     let heads = match heads_of(files, alloc, mirror, keys, compare.files.as_slice()) {
         Ok(heads) => heads,
         Err(fault) => {
             let why = of_heads(alloc, files, fault);
-            return Err(Error::new(RunFault::Heads(fault), why));
+            return Err(Error::new(ReportRunFault::Heads(fault), why));
         }
     };
     let answer = print_comparison(alloc, mirror, lend(&heads), output);

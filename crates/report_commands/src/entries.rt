@@ -3,16 +3,18 @@ ghost use Rattle.std.specs.Prelude.{◌≡◌, map};
 ghost use Rattle.std.specs.Result.{result_map_both};
 ghost use Rattle.sha2.specs.Sha256.{sha256};
 ghost use Rattle.program_env.specs.Envs.{IsSameEnv, moment};
-ghost use Rattle.program_env.specs.Performing.{Performs};
+ghost use Rattle.program_env.specs.Performing.{Performs, Stays};
+ghost use Rattle.report_commands.specs.Entries.{DoesEntries};
+ghost use Rattle.report_commands.specs.Faults.{IsLate};
 
 use crate::ask::served_size;
-use program_env::{Env, Error, RunFault};
+use crate::fault::{Error, ReportRunFault};
+use program_env::Env;
 use program_monitor::{EntryRange, StateEntriesFault, entries_of_state};
 use program_states::open_state;
 use program_whys::served::{of_backwards, of_size};
 use program_whys::why::{Why, of_state};
 use program_whys::{RunFiles, RunFolders};
-use program_words::Command;
 use program_words::commands::entries::Entries;
 use signed_note::Verifier;
 use std::alloc::Global;
@@ -27,15 +29,13 @@ use tlog_mirror::Mirror;
 /// In this order: those of `open_state`, and those of `entries_of_state`.
 pub fn run<R, F: RunFiles, D: RunFolders, I: Read, O: Write, E: Write>(
     env: &mut Env<'_, '_, '_, '_, R, F, D, I, O, E>,
-    key_bytes: &[u8],
     keys: &[Box<dyn Verifier>],
     entries: &Entries<'_>,
 ) -> Result<u8, Error>
     ensures same { IsSameEnv env.old env.new }
-    ensures does { Performs sha256 (map (λ k. key k) keys.now) key_bytes.now
+    ensures does { Performs DoesEntries IsLate Stays sha256 (map (λ k. key k) keys.now)
         (moment F.puts D.held D.puts I.remaining O.contents env.old)
-        (moment F.puts D.held D.puts I.remaining O.contents env.new)
-        (Command.Entries entries.now) result }
+        (moment F.puts D.held D.puts I.remaining O.contents env.new) entries.now result }
 {
     let mirror = &entries.mirror;
     match open_state::<Sha256Tree, F>(
@@ -63,18 +63,18 @@ pub fn run<R, F: RunFiles, D: RunFolders, I: Read, O: Write, E: Write>(
         }
         Err(fault) => {
             let why = of_state(env.alloc, &env.files, Some(mirror.state), fault);
-            Err(Error::new(RunFault::State(fault), why))
+            Err(Error::new(ReportRunFault::State(fault), why))
         }
     }
 }
 
 // The answer of the command from the answer of the writer.
 fn written(answer: Result<(), StateEntriesFault>, why: Option<Why>) -> Result<u8, Error>
-    ensures { result ≡ result_map_both (λ _. 0) (λ fault. RunFault.StateEntries fault) answer }
+    ensures { result ≡ result_map_both (λ _. 0) (λ fault. ReportRunFault.StateEntries fault) answer }
 {
     match answer {
         Ok(()) => Ok(0),
-        Err(fault) => Err(Error::new(RunFault::StateEntries(fault), why)),
+        Err(fault) => Err(Error::new(ReportRunFault::StateEntries(fault), why)),
     }
 }
 

@@ -2,13 +2,16 @@
 ghost use Rattle.std.specs.Prelude.{map};
 ghost use Rattle.sha2.specs.Sha256.{sha256};
 ghost use Rattle.program_env.specs.Envs.{IsSameEnv, moment};
-ghost use Rattle.program_env.specs.Performing.{Performs};
+ghost use Rattle.program_env.specs.Performing.{Performs, Stays};
+ghost use Rattle.report_commands.specs.Asks.{DoesForks};
+ghost use Rattle.report_commands.specs.Faults.{IsLate};
 
 use crate::ask::run_ask;
-use program_env::{Env, Error};
+use crate::fault::Error;
+use program_env::Env;
 use program_reports::Question;
 use program_whys::{RunFiles, RunFolders};
-use program_words::{Command, StateArgs};
+use program_words::StateArgs;
 use signed_note::Verifier;
 use std::io::{Read, Write};
 
@@ -19,15 +22,13 @@ use std::io::{Read, Write};
 /// Those of `run_ask`.
 pub fn run<R, F: RunFiles, D: RunFolders, I: Read, O: Write, E: Write>(
     env: &mut Env<'_, '_, '_, '_, R, F, D, I, O, E>,
-    key_bytes: &[u8],
     keys: &[Box<dyn Verifier>],
     forks: &StateArgs<'_>,
 ) -> Result<u8, Error>
     ensures same { IsSameEnv env.old env.new }
-    ensures does { Performs sha256 (map (λ k. key k) keys.now) key_bytes.now
+    ensures does { Performs DoesForks IsLate Stays sha256 (map (λ k. key k) keys.now)
         (moment F.puts D.held D.puts I.remaining O.contents env.old)
-        (moment F.puts D.held D.puts I.remaining O.contents env.new)
-        (Command.Forks forks.now) result }
+        (moment F.puts D.held D.puts I.remaining O.contents env.new) forks.now result }
 {
     let question = Question::Forks;
     run_ask(&env.files, env.alloc, forks, keys, &question, env.output)

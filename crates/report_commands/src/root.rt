@@ -2,12 +2,14 @@
 ghost use Rattle.std.specs.Prelude.{◌≤◌, map};
 ghost use Rattle.sha2.specs.Sha256.{sha256};
 ghost use Rattle.program_env.specs.Envs.{IsSameEnv, moment};
-ghost use Rattle.program_env.specs.Performing.{Performs};
+ghost use Rattle.program_env.specs.Performing.{Performs, Stays};
+ghost use Rattle.report_commands.specs.Streams.{DoesRoot};
+ghost use Rattle.report_commands.specs.Faults.{IsLate};
 
-use program_env::{Env, Error, RunFault};
+use crate::fault::{Error, ReportRunFault};
+use program_env::Env;
 use program_streams::run_root;
 use program_whys::{RunFiles, RunFolders};
-use program_words::Command;
 use program_words::commands::root::Root;
 use signed_note::Verifier;
 use std::io::{Read, Write};
@@ -20,19 +22,17 @@ use tlog_hash::Sha256Tree;
 /// Those of `run_root`.
 pub fn run<R, F: RunFiles, D: RunFolders, I: Read, O: Write, E: Write>(
     env: &mut Env<'_, '_, '_, '_, R, F, D, I, O, E>,
-    key_bytes: &[u8],
     keys: &[Box<dyn Verifier>],
     root: &Root,
 ) -> Result<u8, Error>
     requires { root.now.width ≤ 256 }
     ensures same { IsSameEnv env.old env.new }
-    ensures does { Performs sha256 (map (λ k. key k) keys.now) key_bytes.now
+    ensures does { Performs DoesRoot IsLate Stays sha256 (map (λ k. key k) keys.now)
         (moment F.puts D.held D.puts I.remaining O.contents env.old)
-        (moment F.puts D.held D.puts I.remaining O.contents env.new)
-        (Command.Root root.now) result }
+        (moment F.puts D.held D.puts I.remaining O.contents env.new) root.now result }
 {
     match run_root::<Sha256Tree, I, O>(env.alloc, root.width, env.input, env.output) {
         Ok(()) => Ok(0),
-        Err(fault) => Err(Error::new(RunFault::Root(fault), None)),
+        Err(fault) => Err(Error::new(ReportRunFault::Root(fault), None)),
     }
 }

@@ -4,15 +4,17 @@ ghost use Rattle.std.specs.Result.{result_map_both};
 ghost use Rattle.sha2.specs.Sha256.{sha256};
 ghost use Rattle.report_commands.specs.Clients.{AnswersClients};
 ghost use Rattle.program_env.specs.Envs.{IsSameEnv, moment};
-ghost use Rattle.program_env.specs.Performing.{Performs};
-ghost use Rattle.program_env.specs.Works.{PrintsPort};
+ghost use Rattle.program_env.specs.Performing.{Performs, Stays};
+ghost use Rattle.report_commands.specs.Serve.{DoesServe};
+ghost use Rattle.report_commands.specs.Faults.{IsLate};
+ghost use Rattle.program_env.specs.Ports.{PrintsPort};
 
 use crate::clients::Clients;
-use program_env::{Env, Error, RunFault, port_fault, print_fault, print_port};
+use crate::fault::{Error, ReportRunFault};
+use program_env::{Env, ListenFault, port_fault, print_fault, print_port};
 use program_states::open_state;
 use program_whys::why::of_state;
 use program_whys::{RunFiles, RunFolders};
-use program_words::Command;
 use program_words::commands::serve::Serve;
 use signed_note::Verifier;
 use std::alloc::{AllocError, Global};
@@ -35,17 +37,15 @@ use tlog_mirror::Mirror;
 /// - `PortFault` if a connection cannot be accepted.
 pub fn run<R, F: RunFiles, D: RunFolders, I: Read, O: Write, E: Write>(
     env: &mut Env<'_, '_, '_, '_, R, F, D, I, O, E>,
-    key_bytes: &[u8],
     keys: &[Box<dyn Verifier>],
     serve: &Serve<'_>,
 ) -> Result<u8, Error>
 where
     R: Clock + Net<Stream = TcpStream, Listener = TcpListener>,
     ensures same { IsSameEnv env.old env.new }
-    ensures does { Performs sha256 (map (λ k. key k) keys.now) key_bytes.now
+    ensures does { Performs DoesServe IsLate Stays sha256 (map (λ k. key k) keys.now)
         (moment F.puts D.held D.puts I.remaining O.contents env.old)
-        (moment F.puts D.held D.puts I.remaining O.contents env.new)
-        (Command.Serve serve.now) result }
+        (moment F.puts D.held D.puts I.remaining O.contents env.new) serve.now result }
 {
     let args = &serve.mirror;
     let origin = args.log.origin;
@@ -64,18 +64,21 @@ where
         }
         Err(fault) => {
             let why = of_state(env.alloc, &env.files, Some(args.state), fault);
-            Err(Error::new(RunFault::State(fault), why))
+            Err(Error::new(ReportRunFault::State(fault), why))
         }
     }
 }
 
 // The status 0 if all connections were answered.
-fn served(answer: Result<(), Error>) -> Result<u8, Error>
-    ensures { result ≡ result_map_both (λ _. 0) (λ fault. fault) answer }
+fn served(answer: Result<(), program_env::Error<ListenFault>>) -> Result<u8, Error>
+    ensures { result ≡ result_map_both (λ _. 0) (λ fault. ReportRunFault.Listen fault) answer }
 {
     match answer {
         Ok(()) => Ok(0),
-        Err(error) => Err(error),
+        Err(error) => {
+            let (fault, why) = error.into_parts();
+            Err(Error::new(ReportRunFault::Listen(fault), why))
+        }
     }
 }
 
@@ -87,7 +90,7 @@ fn serve_ready<H: TreeHash, R, O: Write, E: Write>(
     serve: &Serve<'_>,
     output: &mut O,
     errors: &mut E,
-) -> Result<(), Error>
+) -> Result<(), program_env::Error<ListenFault>>
 where
     R: Clock + Net<Stream = TcpStream, Listener = TcpListener>,
     ensures line { PrintsPort serve.now.port (O.contents output.old) (O.contents output.new)
@@ -95,7 +98,7 @@ where
 {
     match make_ready(alloc, mirror) {
         Ok(()) => serve_mirror(rt, alloc, mirror, serve, output, errors),
-        Err(_) => Err(Error::new(RunFault::OutOfMemory, None)),
+        Err(_) => Err(program_env::Error::new(ListenFault::OutOfMemory, None)),
     }
 }
 
@@ -119,7 +122,7 @@ fn serve_mirror<H: TreeHash, R, O: Write, E: Write>(
     serve: &Serve<'_>,
     output: &mut O,
     errors: &mut E,
-) -> Result<(), Error>
+) -> Result<(), program_env::Error<ListenFault>>
 where
     R: Clock + Net<Stream = TcpStream, Listener = TcpListener>,
     ensures line { PrintsPort serve.now.port (O.contents output.old) (O.contents output.new)

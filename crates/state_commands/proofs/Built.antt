@@ -8,7 +8,7 @@ use Rattle.mirror_folders.specs.Shelf.{Put}
 use Rattle.tlog_build.specs.Building.{BuildsLogUnder}
 use Rattle.tlog_build.specs.declared.fault.BuildFault.{BuildFault}
 use Rattle.tlog_build.specs.Entries.{AreEntries}
-use Rattle.program_env.specs.Builds.{BuildsInput, FindsSigner}
+use Rattle.state_commands.specs.Builds.{BuildsInput, FindsSigner}
 
 -- the opened shelf has what the folder held
 pub built : (digest : List ℕ → List ℕ) (origin : List ℕ) (keys : List Key) (key_bytes : List ℕ)

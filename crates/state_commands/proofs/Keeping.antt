@@ -12,7 +12,7 @@ use Rattle.program_files.specs.Named.{NamedFile}
 use Rattle.program_files.specs.declared.fault.NamedFault.{NamedFault}
 use Rattle.program_states.specs.Saved.{IsSaved}
 use Rattle.program_states.specs.States.{SavesFile}
-use Rattle.program_env.specs.Pulls.{IsHeld, IsKept, LeavesEarly, SavesPulled}
+use Rattle.state_commands.specs.Pulls.{IsHeld, IsKept, LeavesEarly, SavesPulled}
 
 -- a mirror loses nothing in a pull that ends early
 pub pulled_within : (digest : List ℕ → List ℕ) (keys : List Key) (old new : View) (fault : PullFault) →

@@ -1,0 +1,7 @@
+pub mod Faults
+pub mod Builds
+pub mod Take
+pub mod Merge
+pub mod Pulls
+pub mod Export
+pub mod Notes

@@ -1,18 +1,19 @@
 //! The command `build`: it makes a log from the entries on standard input.
 ghost use Rattle.std.specs.Prelude.{◌≡◌, map};
 ghost use Rattle.sha2.specs.Sha256.{sha256};
-ghost use Rattle.program_env.specs.Builds.{BuildsFrom};
 ghost use Rattle.program_env.specs.Envs.{IsSameEnv, moment};
-ghost use Rattle.program_env.specs.Performing.{Performs};
+ghost use Rattle.program_env.specs.Performing.{KeepsFiles, Performs};
+ghost use Rattle.state_commands.specs.Faults.{IsLate};
+ghost use Rattle.state_commands.specs.Builds.{BuildsFrom, DoesBuild};
 
+use crate::fault::{Error, StateRunFault};
 use mirror_export::ExportFault;
 use mirror_progress::Task;
 use note_keys::read_keys;
-use program_env::{Env, Error, RunFault, report_end, report_puts};
+use program_env::{Env, report_end, report_puts};
 use program_heads::check_origin;
 use program_whys::why::{Why, of_folder, of_origin};
 use program_whys::{RunFiles, RunFolders};
-use program_words::Command;
 use program_words::commands::build::Build;
 use signed_note::Verifier;
 use std::alloc::Global;
@@ -33,10 +34,9 @@ pub fn run<R, F: RunFiles, D: RunFolders, I: Read, O: Write, E: Write>(
     build: &Build<'_>,
 ) -> Result<u8, Error>
     ensures same { IsSameEnv env.old env.new }
-    ensures does { Performs sha256 (map (λ k. key k) keys.now) key_bytes.now
+    ensures does { Performs (DoesBuild key_bytes.now) IsLate KeepsFiles sha256 (map (λ k. key k) keys.now)
         (moment F.puts D.held D.puts I.remaining O.contents env.old)
-        (moment F.puts D.held D.puts I.remaining O.contents env.new)
-        (Command.Build build.now) result }
+        (moment F.puts D.held D.puts I.remaining O.contents env.new) build.now result }
 {
     match build_into(
         &mut env.folders,
@@ -67,24 +67,24 @@ fn build_into<D: RunFolders, I: Read>(
 {
     // The lines of keys were read before, so only memory can be lacking.
     let Ok(lines) = read_keys(alloc, key_bytes) else {
-        return Err(Error::new(RunFault::OutOfMemory, None));
+        return Err(Error::new(StateRunFault::OutOfMemory, None));
     };
     let Some(key) = signing_key(lines) else {
         let why = Why::of_thing(alloc, build.log.keys);
-        return Err(Error::new(RunFault::NoSigningKey, why));
+        return Err(Error::new(StateRunFault::NoSigningKey, why));
     };
     let origin = build.log.origin;
     match check_origin(alloc, origin) {
         Ok(()) => {}
-        Err(fault) => return Err(Error::new(RunFault::Origin(fault), of_origin(alloc, fault))),
+        Err(fault) => return Err(Error::new(StateRunFault::Origin(fault), of_origin(alloc, fault))),
     }
     let entries = match read_entries(alloc, input) {
         Ok(entries) => entries,
-        Err(fault) => return Err(Error::new(RunFault::Entries(fault), of_input(fault))),
+        Err(fault) => return Err(Error::new(StateRunFault::Entries(fault), of_input(fault))),
     };
     match folders.open(build.folder) {
         Ok(()) => {}
-        Err(_) => return Err(Error::new(RunFault::OutOfMemory, None)),
+        Err(_) => return Err(Error::new(StateRunFault::OutOfMemory, None)),
     }
     report_puts(folders, build.progress, Task::Build);
     match build_log::<Sha256Tree, D>(alloc, origin, keys, key, entries, folders) {
@@ -98,10 +98,10 @@ fn build_into<D: RunFolders, I: Read>(
 
 // The error for a log that was not built in that folder.
 fn not_built<D: RunFolders>(alloc: Global, folders: &D, folder: &str, fault: BuildFault) -> Error
-    ensures { result ≡ RunFault.Build fault }
+    ensures { result ≡ StateRunFault.Build fault }
 {
     Error::new(
-        RunFault::Build(fault),
+        StateRunFault::Build(fault),
         why_of(alloc, folders, folder, fault),
     )
 }

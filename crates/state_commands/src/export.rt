@@ -4,15 +4,17 @@ ghost use Rattle.sha2.specs.Sha256.{sha256};
 ghost use Rattle.program_commands.specs.Exported.{ExportsFile};
 ghost use Rattle.program_commands.specs.Updated.{UpdatesFile};
 ghost use Rattle.program_env.specs.Envs.{IsSameEnv, moment};
-ghost use Rattle.program_env.specs.Performing.{Performs};
+ghost use Rattle.program_env.specs.Performing.{KeepsFiles, Performs};
+ghost use Rattle.state_commands.specs.Faults.{IsLate};
+ghost use Rattle.state_commands.specs.Export.{DoesExport, DoesUpdate};
 
+use crate::fault::{Error, StateRunFault};
 use mirror_export::{ExportFault, UpdateFault};
 use mirror_progress::Task;
 use program_commands::{ExportFileFault, UpdateFileFault, run_export, run_update};
-use program_env::{Env, Error, RunFault, report_end, report_puts};
+use program_env::{Env, report_end, report_puts};
 use program_whys::why::{Why, of_folder, of_state};
 use program_whys::{RunFiles, RunFolders};
-use program_words::Command;
 use program_words::commands::export::Export;
 use signed_note::Verifier;
 use std::alloc::Global;
@@ -26,21 +28,19 @@ use tlog_hash::Sha256Tree;
 /// Those of `run_export`.
 pub fn run<R, F: RunFiles, D: RunFolders, I: Read, O: Write, E: Write>(
     env: &mut Env<'_, '_, '_, '_, R, F, D, I, O, E>,
-    key_bytes: &[u8],
     keys: &[Box<dyn Verifier>],
     export: &Export<'_>,
 ) -> Result<u8, Error>
     ensures same { IsSameEnv env.old env.new }
-    ensures does { Performs sha256 (map (λ k. key k) keys.now) key_bytes.now
+    ensures does { Performs DoesExport IsLate KeepsFiles sha256 (map (λ k. key k) keys.now)
         (moment F.puts D.held D.puts I.remaining O.contents env.old)
-        (moment F.puts D.held D.puts I.remaining O.contents env.new)
-        (Command.Export export.now) result }
+        (moment F.puts D.held D.puts I.remaining O.contents env.new) export.now result }
 {
     match put_all(&env.files, &mut env.folders, env.alloc, export, keys) {
         Ok(()) => Ok(0),
         Err(fault) => {
             let why = why_of_export(env, export, fault);
-            Err(Error::new(RunFault::Export(fault), why))
+            Err(Error::new(StateRunFault::Export(fault), why))
         }
     }
 }
@@ -78,21 +78,19 @@ fn put_all<F: RunFiles, D: RunFolders>(
 /// Those of `run_update`.
 pub fn run_with_update<R, F: RunFiles, D: RunFolders, I: Read, O: Write, E: Write>(
     env: &mut Env<'_, '_, '_, '_, R, F, D, I, O, E>,
-    key_bytes: &[u8],
     keys: &[Box<dyn Verifier>],
     update: &Export<'_>,
 ) -> Result<u8, Error>
     ensures same { IsSameEnv env.old env.new }
-    ensures does { Performs sha256 (map (λ k. key k) keys.now) key_bytes.now
+    ensures does { Performs DoesUpdate IsLate KeepsFiles sha256 (map (λ k. key k) keys.now)
         (moment F.puts D.held D.puts I.remaining O.contents env.old)
-        (moment F.puts D.held D.puts I.remaining O.contents env.new)
-        (Command.Update update.now) result }
+        (moment F.puts D.held D.puts I.remaining O.contents env.new) update.now result }
 {
     match put_new(&env.files, &mut env.folders, env.alloc, update, keys) {
         Ok(()) => Ok(0),
         Err(fault) => {
             let why = why_of_update(env, update, fault);
-            Err(Error::new(RunFault::Update(fault), why))
+            Err(Error::new(StateRunFault::Update(fault), why))
         }
     }
 }

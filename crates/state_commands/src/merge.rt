@@ -2,13 +2,15 @@
 ghost use Rattle.std.specs.Prelude.{map};
 ghost use Rattle.sha2.specs.Sha256.{sha256};
 ghost use Rattle.program_env.specs.Envs.{IsSameEnv, moment};
-ghost use Rattle.program_env.specs.Performing.{Performs};
+ghost use Rattle.program_env.specs.Performing.{KeepsFolders, Performs};
+ghost use Rattle.state_commands.specs.Faults.{IsLate};
+ghost use Rattle.state_commands.specs.Merge.{DoesMerge};
 
+use crate::fault::{Error, StateRunFault};
 use program_commands::{MergeFilesFault, run_merge};
-use program_env::{Env, Error, RunFault};
+use program_env::Env;
 use program_whys::why::{Why, of_named, of_state};
 use program_whys::{RunFiles, RunFolders};
-use program_words::Command;
 use program_words::commands::merge::Merge;
 use signed_note::Verifier;
 use std::alloc::Global;
@@ -23,15 +25,13 @@ use tlog_mirror::MergeFault;
 /// Those of `run_merge`.
 pub fn run<R, F: RunFiles, D: RunFolders, I: Read, O: Write, E: Write>(
     env: &mut Env<'_, '_, '_, '_, R, F, D, I, O, E>,
-    key_bytes: &[u8],
     keys: &[Box<dyn Verifier>],
     merge: &Merge<'_>,
 ) -> Result<u8, Error>
     ensures same { IsSameEnv env.old env.new }
-    ensures does { Performs sha256 (map (λ k. key k) keys.now) key_bytes.now
+    ensures does { Performs DoesMerge IsLate KeepsFolders sha256 (map (λ k. key k) keys.now)
         (moment F.puts D.held D.puts I.remaining O.contents env.old)
-        (moment F.puts D.held D.puts I.remaining O.contents env.new)
-        (Command.Merge merge.now) result }
+        (moment F.puts D.held D.puts I.remaining O.contents env.new) merge.now result }
 {
     match run_merge::<Sha256Tree, F>(
         &mut env.files,
@@ -45,7 +45,7 @@ pub fn run<R, F: RunFiles, D: RunFolders, I: Read, O: Write, E: Write>(
         Ok(()) => Ok(0),
         Err(fault) => {
             let why = why_of(env.alloc, &env.files, merge, fault);
-            Err(Error::new(RunFault::Merge(fault), why))
+            Err(Error::new(StateRunFault::Merge(fault), why))
         }
     }
 }

@@ -2,14 +2,16 @@
 ghost use Rattle.std.specs.Prelude.{map};
 ghost use Rattle.sha2.specs.Sha256.{sha256};
 ghost use Rattle.program_env.specs.Envs.{IsSameEnv, moment};
-ghost use Rattle.program_env.specs.Performing.{Performs};
+ghost use Rattle.program_env.specs.Performing.{KeepsFolders, Performs};
+ghost use Rattle.state_commands.specs.Faults.{IsLate};
+ghost use Rattle.state_commands.specs.Notes.{DoesNotes};
 
+use crate::fault::{Error, StateRunFault};
 use program_commands::{NotesFault, run_notes};
-use program_env::{Env, Error, RunFault};
+use program_env::Env;
 use program_files::NamedFault;
 use program_whys::why::{Why, of_named, of_state};
 use program_whys::{RunFiles, RunFolders};
-use program_words::Command;
 use program_words::commands::notes::Notes;
 use signed_note::Verifier;
 use std::alloc::Global;
@@ -23,15 +25,13 @@ use tlog_hash::Sha256Tree;
 /// Those of `run_notes`.
 pub fn run<R, F: RunFiles, D: RunFolders, I: Read, O: Write, E: Write>(
     env: &mut Env<'_, '_, '_, '_, R, F, D, I, O, E>,
-    key_bytes: &[u8],
     keys: &[Box<dyn Verifier>],
     notes: &Notes<'_>,
 ) -> Result<u8, Error>
     ensures same { IsSameEnv env.old env.new }
-    ensures does { Performs sha256 (map (λ k. key k) keys.now) key_bytes.now
+    ensures does { Performs DoesNotes IsLate KeepsFolders sha256 (map (λ k. key k) keys.now)
         (moment F.puts D.held D.puts I.remaining O.contents env.old)
-        (moment F.puts D.held D.puts I.remaining O.contents env.new)
-        (Command.Notes notes.now) result }
+        (moment F.puts D.held D.puts I.remaining O.contents env.new) notes.now result }
 {
     match run_notes::<Sha256Tree, F>(
         &mut env.files,
@@ -44,7 +44,7 @@ pub fn run<R, F: RunFiles, D: RunFolders, I: Read, O: Write, E: Write>(
         Ok(()) => Ok(0),
         Err(fault) => {
             let why = why_of(env.alloc, &env.files, notes, fault);
-            Err(Error::new(RunFault::Notes(fault), why))
+            Err(Error::new(StateRunFault::Notes(fault), why))
         }
     }
 }

@@ -9,28 +9,28 @@ ghost use Rattle.mirror_pull.specs.Taking.{PullsTo};
 ghost use Rattle.mirror_pull.specs.declared.fault.PullFault.TheVariants.{Source};
 ghost use Rattle.program_commands.specs.Gained.{IsHolding};
 ghost use Rattle.mirror_client.specs.declared.limits.TheConstants.{MAX_REPLY_LEN};
-ghost use Rattle.program_env.specs.Done.{IsWriteFault};
+ghost use Rattle.state_commands.specs.Faults.{IsLate};
 ghost use Rattle.program_env.specs.Envs.{IsSameEnv, moment};
-ghost use Rattle.program_env.specs.Performing.{Performs};
-ghost use Rattle.program_env.specs.Pulls.{FollowsShortReplies, IsHeld, LeavesEarly, SavesPulled, PrintsPull, PrintsPulled, most_replied};
-ghost use Rattle.program_env.specs.Works.{IsStatus};
+ghost use Rattle.state_commands.specs.Pulls.{FollowsShortReplies, IsHeld, LeavesEarly, DoesPull, SavesPulled, PrintsPull, PrintsPulled, most_replied};
+ghost use Rattle.program_env.specs.Performing.{IsStatus, KeepsFolders, Performs};
 
+use crate::fault::{Error, StateRunFault};
 use crate::pulling::pull_from;
 use byte_streams::write_whole;
-use mirror_client::{HttpSource, TcpDial};
+use mirror_client::{Dial, HttpSource};
 use mirror_folders::DirSource;
 use mirror_pull::{PullFault, Pulled};
 use mirror_sources::Source;
 use program_commands::{HeldCounts, has_gained, holding_of};
-use program_env::{Env, Error, RunFault};
+use program_env::Env;
 use program_files::NamedFault;
 use program_reports::{pulled_status, pulled_text};
 use program_states::{open_to_save, write_state};
 use program_whys::places::{of_edge, of_file, of_place, of_refused, of_source, server_of};
-use program_whys::why::{Why, of_named};
+use program_whys::why::{Why, of_named, of_state};
 use program_whys::{Failing, RunFiles, RunFolders, WatchedSource};
+use program_words::Place;
 use program_words::commands::pull::Pull;
-use program_words::{Command, Place};
 use signed_note::Verifier;
 use std::alloc::Global;
 use std::fs::{Files, metadata};
@@ -57,17 +57,15 @@ use tlog_tiles::Path;
 /// and `WriteFault`.
 pub fn run<R, F: RunFiles, D: RunFolders, I: Read, O: Write, E: Write>(
     env: &mut Env<'_, '_, '_, '_, R, F, D, I, O, E>,
-    key_bytes: &[u8],
     keys: &[Box<dyn Verifier>],
     pull: &Pull<'_>,
 ) -> Result<u8, Error>
 where
     R: Files + Clock + Eprint + Net<Stream = TcpStream>,
     ensures same { IsSameEnv env.old env.new }
-    ensures does { Performs sha256 (map (λ k. key k) keys.now) key_bytes.now
+    ensures does { Performs DoesPull IsLate KeepsFolders sha256 (map (λ k. key k) keys.now)
         (moment F.puts D.held D.puts I.remaining O.contents env.old)
-        (moment F.puts D.held D.puts I.remaining O.contents env.new)
-        (Command.Pull pull.now) result }
+        (moment F.puts D.held D.puts I.remaining O.contents env.new) pull.now result }
 {
     run_pull(env.rt, &mut env.files, env.alloc, pull, keys, env.output)
 }
@@ -86,7 +84,7 @@ fn run_pull<R: Files + Clock + Eprint + Net<Stream = TcpStream>, F: RunFiles, W:
         words.now.keep words.now.mirror.out.now (F.puts files.new) (W.contents output.old)
         (W.contents output.new) result }
     ensures status { IfOk result IsStatus }
-    ensures quiet { IfErr result (λ fault. (¬ IsWriteFault fault) → Keeps (W.contents output.old)
+    ensures quiet { IfErr result (λ fault. (¬ IsLate fault) → Keeps (W.contents output.old)
         (W.contents output.new)) }
 {
     let origin = words.mirror.log.origin;
@@ -100,7 +98,10 @@ fn run_pull<R: Files + Clock + Eprint + Net<Stream = TcpStream>, F: RunFiles, W:
         out,
     ) {
         Ok((mirror, is_saved)) => (mirror, is_saved),
-        Err(fault) => return Err(Error::of_state(alloc, files, words.state, fault)),
+        Err(fault) => {
+            let why = of_state(alloc, files, words.state, fault);
+            return Err(Error::new(StateRunFault::State(fault), why));
+        }
     };
     match pull_kept(rt, files, alloc, words, keys, &mut mirror) {
         Ok((pulled, gained)) => {
@@ -141,9 +142,9 @@ impl Stopped {
 
     // The error of the command.
     fn into_error(self) -> Error
-        ensures { result ≡ RunFault.Pull self }
+        ensures { result ≡ StateRunFault.Pull self }
     {
-        Error::new(RunFault::Pull(self.fault), self.why)
+        Error::new(StateRunFault::Pull(self.fault), self.why)
     }
 }
 
@@ -198,22 +199,22 @@ fn report_pulled<H: TreeHash, F: RunFiles, W: Write>(
         → PrintsPulled state start mirror.now.view pulled.now out.now (F.puts files.old)
         (F.puts files.new) (W.contents output.old) (W.contents output.new) result }
     ensures status { IfOk result IsStatus }
-    ensures quiet { IfErr result (λ fault. (¬ IsWriteFault fault) → Keeps (W.contents output.old)
+    ensures quiet { IfErr result (λ fault. (¬ IsLate fault) → Keeps (W.contents output.old)
         (W.contents output.new)) }
 {
     match save_pulled(files, alloc, out, mirror, is_held) {
         Ok(()) => {}
         Err(fault) => {
             let why = of_named(alloc, files, fault);
-            return Err(Error::new(RunFault::Out(fault), why));
+            return Err(Error::new(StateRunFault::Out(fault), why));
         }
     }
     let Ok(text) = pulled_text(alloc, pulled) else {
-        return Err(Error::no_memory());
+        return Err(Error::new(StateRunFault::OutOfMemory, None));
     };
     match write_whole(output, text.as_bytes()) {
         Ok(()) => Ok(pulled_status(pulled)),
-        Err(_) => Err(Error::unwritten()),
+        Err(_) => Err(Error::new(StateRunFault::WriteFault, Some(Why::Output))),
     }
 }
 
@@ -329,12 +330,12 @@ fn from_place<'a, H: TreeHash, R: Files + Clock + Eprint + Net<Stream = TcpStrea
 }
 
 // Pulls from a server into the mirror, and returns the thing that a fault is about.
-fn from_server<H: TreeHash, R: Clock + Eprint, N: Net<Stream = TcpStream> + Clock + Clone + Drop>(
+fn from_server<H: TreeHash, R: Clock + Eprint, D: Dial + Drop>(
     rt: &R,
     alloc: Global,
     mirror: &mut Mirror<H>,
     keys: &[Box<dyn Verifier>],
-    source: HttpSource<TcpDial<N>>,
+    source: HttpSource<D>,
     words: &Pull<'_>,
 ) -> (Result<Pulled, PullFault>, Option<Why>)
     ensures pulls { PullsTo H.digest (map (λ k. key k) keys.now) mirror.old.view mirror.new.view

@@ -2,16 +2,17 @@
 ghost use Rattle.std.specs.Prelude.{◌≤◌, ◌∷◌, length, map};
 ghost use Rattle.sha2.specs.Sha256.{sha256};
 ghost use Rattle.program_commands.specs.Takes.{NamesWidth};
-ghost use Rattle.program_env.specs.Named.{AsksItem};
 ghost use Rattle.program_env.specs.Envs.{IsSameEnv, moment};
-ghost use Rattle.program_env.specs.Performing.{Performs};
+ghost use Rattle.program_env.specs.Performing.{KeepsFolders, Performs};
+ghost use Rattle.state_commands.specs.Faults.{IsLate};
+ghost use Rattle.state_commands.specs.Take.{AsksItem, DoesTake};
 
+use crate::fault::{Error, StateRunFault};
 use program_commands::{ItemFiles, TakeFilesFault, run_take};
-use program_env::{Env, Error, RunFault};
+use program_env::Env;
 use program_whys::served::{of_edge_count, of_edge_length, of_note};
 use program_whys::why::{Why, of_named, of_state};
 use program_whys::{RunFiles, RunFolders};
-use program_words::Command;
 use program_words::commands::take::{Kind, Take};
 use signed_note::Verifier;
 use std::alloc::Global;
@@ -26,7 +27,6 @@ use tlog_mirror::TakeFault;
 /// Those of `run_take`.
 pub fn run<R, F: RunFiles, D: RunFolders, I: Read, O: Write, E: Write>(
     env: &mut Env<'_, '_, '_, '_, R, F, D, I, O, E>,
-    key_bytes: &[u8],
     keys: &[Box<dyn Verifier>],
     take: &Take<'_>,
 ) -> Result<u8, Error>
@@ -34,10 +34,9 @@ pub fn run<R, F: RunFiles, D: RunFolders, I: Read, O: Write, E: Write>(
     requires most { take.now.width ≤ 256 }
     requires some { 1 ≤ length take.now.files.items }
     ensures same { IsSameEnv env.old env.new }
-    ensures does { Performs sha256 (map (λ k. key k) keys.now) key_bytes.now
+    ensures does { Performs DoesTake IsLate KeepsFolders sha256 (map (λ k. key k) keys.now)
         (moment F.puts D.held D.puts I.remaining O.contents env.old)
-        (moment F.puts D.held D.puts I.remaining O.contents env.new)
-        (Command.Take take.now) result }
+        (moment F.puts D.held D.puts I.remaining O.contents env.new) take.now result }
 {
     // The words name at least one file.
     let names = take.files.as_slice();
@@ -56,7 +55,7 @@ pub fn run<R, F: RunFiles, D: RunFolders, I: Read, O: Write, E: Write>(
         Ok(()) => Ok(0),
         Err(fault) => {
             let why = why_of(env.alloc, &env.files, take, fault);
-            Err(Error::new(RunFault::Take(fault), why))
+            Err(Error::new(StateRunFault::Take(fault), why))
         }
     }
 }
@@ -88,10 +87,10 @@ fn why_of<F: RunFiles>(
     match fault {
         TakeFilesFault::State(fault) => of_state(alloc, files, take.state, fault),
         TakeFilesFault::Item(fault) | TakeFilesFault::Out(fault) => of_named(alloc, files, fault),
-        TakeFilesFault::Take(fault) => match take.files.as_slice() {
-            [note, rows @ ..] => of_item(alloc, files, note, rows, fault),
-            [] => None,
-        },
+        TakeFilesFault::Take(fault) => {
+            let (note, rows) = take.files.split_first()?;
+            of_item(alloc, files, note, rows, fault)
+        }
     }
 }
 

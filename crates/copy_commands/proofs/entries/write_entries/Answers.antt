@@ -4,5 +4,5 @@ use Rattle.copy_commands.proofs.entries.write_entries.Goals as goal
 
 pub returns-clause-does : goal.returns-clause-does
 returns-clause-does g c =
-    writes_entries _ _ _ _ _ c.args.entries.now refl c.entries_of_copy-answer.result
+    writes_entries _ _ _ _ c.args.entries.now refl c.entries_of_copy-answer.result
     (c.entries_of_copy-answer.ensures.answer, c.entries_of_copy-answer.ensures.same) c.written.result c.written.ensures

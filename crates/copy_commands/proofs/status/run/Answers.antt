@@ -4,5 +4,5 @@ use Rattle.copy_commands.proofs.status.run.Goals as goal
 
 pub returns-clause-does : goal.returns-clause-does
 returns-clause-does g c =
-    prints_copy _ _ _ _ _ _ c.args.status.now _ refl tt (λ answer h. h) c.status_copy-answer.result c.status_copy-answer.ensures.status
+    prints_copy _ _ _ _ _ c.args.status.now c.args.status.now _ refl (λ answer h. h) c.status_copy-answer.result c.status_copy-answer.ensures.status
     c.status_copy-answer.ensures.quiet c.status_copy-answer.ensures.answer c.status_copy-answer.ensures.kept c.asked.result c.asked.ensures

@@ -1,5 +1,5 @@
 use Rattle.std.proofs.Common.{refl}
-use Rattle.program_env.specs.declared.fault.RunFault.TheVariants.{State}
+use Rattle.report_commands.specs.declared.fault.ReportRunFault.TheVariants.{State}
 use Rattle.program_env.proofs.Performing.{performs_failed}
 use Rattle.program_whys.proofs.Written.{keeps_itself}
 use Rattle.report_commands.proofs.Writing.{writes_entries}
@@ -7,10 +7,10 @@ use Rattle.report_commands.proofs.entries.run.Goals as goal
 
 pub returns-in-Ok-clause-does : goal.returns-in-Ok-clause-does
 returns-in-Ok-clause-does g c =
-    writes_entries _ _ _ _ _ c.args.entries.now refl refl c.in-Ok.opened.view c.in-Ok.ensures c.entries_of_state-answer.result
+    writes_entries _ _ _ _ c.args.entries.now refl refl c.in-Ok.opened.view c.in-Ok.ensures c.entries_of_state-answer.result
     c.entries_of_state-answer.ensures.answer c.written.result c.written.ensures
 
 pub returns-in-Err-clause-does : goal.returns-in-Err-clause-does
 returns-in-Err-clause-does g c =
-    performs_failed _ _ _ _ _ _ refl refl (State c.in-Err.fault) _ c.new.ensures (keeps_itself _)
+    performs_failed _ _ _ _ _ _ _ _ (refl, refl) (State c.in-Err.fault) _ c.new.ensures (keeps_itself _)
     (c.in-Err.ensures, keeps_itself _)

@@ -1,13 +1,13 @@
 use Rattle.std.proofs.Common.{inl, refl}
 use Rattle.program_streams.specs.declared.root.RootFault.TheVariants as root
-use Rattle.program_env.specs.declared.fault.RunFault.TheVariants.{Root}
+use Rattle.report_commands.specs.declared.fault.ReportRunFault.TheVariants.{Root}
 use Rattle.program_env.proofs.Performing.{performs_done, performs_part}
 use Rattle.report_commands.proofs.root.run.Goals as goal
 
 pub returns-in-Ok-clause-does : goal.returns-in-Ok-clause-does
-returns-in-Ok-clause-does g c = performs_done _ _ _ _ _ _ refl refl 0 (inl refl) (c.in-Ok.ensures.answer, refl)
+returns-in-Ok-clause-does g c = performs_done _ _ _ _ _ _ _ _ (refl, refl) 0 (inl refl) (c.in-Ok.ensures.answer, refl)
 
 pub returns-in-Err-clause-does : goal.returns-in-Err-clause-does
 returns-in-Err-clause-does g c =
-    performs_part _ _ _ _ _ _ refl refl (λ f. Root f) root.WriteFault c.in-Err.fault _ c.new.ensures tt
+    performs_part _ _ _ _ _ _ _ _ (refl, refl) (λ f. Root f) root.WriteFault c.in-Err.fault _ c.new.ensures tt
     c.in-Err.ensures.quiet c.in-Err.ensures.answer

@@ -5,8 +5,8 @@ use Rattle.state_commands.proofs.build.run.Goals as goal
 
 pub returns-in-Ok-clause-does : goal.returns-in-Ok-clause-does
 returns-in-Ok-clause-does g c =
-    performs_done _ _ _ _ _ _ refl tt 0 (inl refl) (c.in-Ok.ensures, keeps_itself _, refl)
+    performs_done _ _ _ _ _ _ _ _ refl 0 (inl refl) (c.in-Ok.ensures, keeps_itself _, refl)
 
 pub returns-in-Err-clause-does : goal.returns-in-Err-clause-does
 returns-in-Err-clause-does g c =
-    performs _ _ _ _ _ _ refl tt (Err c.in-Err.error) tt (λ other. keeps_itself _) (c.in-Err.ensures, keeps_itself _)
+    performs _ _ _ _ _ _ _ _ refl (Err c.in-Err.error) tt (λ other. keeps_itself _) (c.in-Err.ensures, keeps_itself _)

@@ -11,7 +11,7 @@ returns-in-Err-clause-answer g c = λ state start held.
 
 pub returns-in_default-clause-answer : goal.returns-in_default-clause-answer
 returns-in_default-clause-answer g c = λ state start held.
-    rw c.no_memory.ensures (c.in-Ok.ensures state start held, keeps_itself (g.W.Write.contents c.args.output.now))
+    rw c.new-in_default.ensures (c.in-Ok.ensures state start held, keeps_itself (g.W.Write.contents c.args.output.now))
 
 pub returns-in-Ok-write_whole-clause-answer : goal.returns-in-Ok-write_whole-clause-answer
 returns-in-Ok-write_whole-clause-answer g c = λ state start held.
@@ -29,7 +29,7 @@ returns-clause-answer g c = λ state start held.
     let old = g.W.Write.contents c.args.output.now in
     let new = g.W.Write.contents c.write_whole.new.writer in
     let text : c.as_bytes.result.now ≡ pulled_lines c.args.pulled.now = c.as_bytes.ensures.value ∙
-    c.in-Ok-pulled_text.ensures in rw c.unwritten.ensures (
+    c.in-Ok-pulled_text.ensures in rw c.new-in-Err-write_whole.ensures (
       c.in-Ok.ensures state start held,
       subst (λ (b : List ℕ). AppendsPrefix old new b) text c.in-Err-write_whole.ensures.err,
     )

@@ -1,14 +1,14 @@
 use Rattle.std.proofs.Common.{List, Option, inl, inr, option_map, refl, subst}
 use Rattle.std.specs.Prelude.{IsTrue}
 use Rattle.program_files.specs.Named.{NamedFile}
-use Rattle.program_env.specs.Pulls.{IsHeld, PrintsPulled}
+use Rattle.state_commands.specs.Pulls.{IsHeld, PrintsPulled}
 use Rattle.state_commands.proofs.Keeping.{held_still}
 use Rattle.program_whys.proofs.Written.{keeps_itself}
 use Rattle.state_commands.proofs.pull.run_pull.Goals as goal
 
 pub returns-in-Err-clause-answer : goal.returns-in-Err-clause-answer
 returns-in-Err-clause-answer g c =
-    rw c.of_state.ensures (inl ((c.in-Err.ensures.begins, refl), keeps_itself (g.W.Write.contents c.args.output.now)))
+    rw c.new.ensures (inl ((c.in-Err.ensures.begins, refl), keeps_itself (g.W.Write.contents c.args.output.now)))
 
 pub returns-in-Ok-pull_kept-clause-answer : goal.returns-in-Ok-pull_kept-clause-answer
 returns-in-Ok-pull_kept-clause-answer g c =

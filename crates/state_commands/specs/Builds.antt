@@ -1,12 +1,10 @@
 -- The meaning of each answer of `build` for the key file, the input, and the files that were put into its folder.
-use Rattle.std.specs.Prelude.{◌≡◌, ℕ, List, Option, Some, None, Result, Ok, Err, IfSome, ⊤}
+use Rattle.std.specs.Prelude.{◌≡◌, ℕ, List, Option, Some, None, Result, Ok, Err, IfSome}
 use Rattle.signed_note.specs.Keys.{Key}
 use Rattle.note_keys.specs.Keys.{Secret, secret_key}
 use Rattle.note_keys.specs.KeyFiles.{IsKeyFile}
 use Rattle.note_keys.specs.declared.key_line.KeyLine.{KeyLine}
 use Rattle.mirror_model.specs.Origin.{IsOrigin}
-use Rattle.tlog_mirror.specs.declared.fault.NewFault.{NewFault}
-use Rattle.tlog_mirror.specs.declared.fault.NewFault.TheVariants as made
 use Rattle.mirror_folders.specs.Shelf.{Put}
 use Rattle.tlog_build.specs.Building.{BuildsLogUnder}
 use Rattle.tlog_build.specs.Signing.{first_secret}
@@ -14,18 +12,16 @@ use Rattle.tlog_build.specs.declared.fault.BuildFault.{BuildFault}
 use Rattle.program_commands.specs.Answers.{done, failed}
 use Rattle.tlog_build.specs.Entries.{AreEntries, ReadsEntries}
 use Rattle.tlog_build.specs.declared.entries.EntriesFault.{EntriesFault}
-use Rattle.program_env.specs.declared.fault.RunFault.{RunFault}
-use Rattle.program_env.specs.declared.fault.RunFault.TheVariants.{Build, Entries, NoSigningKey, Origin}
-use Rattle.program_env.specs.declared.fault.RunFault.TheVariants.{OutOfMemory}
+use Rattle.program_words.specs.declared.commands.build.Build.{Build as BuildWords}
+use Rattle.std.specs.Io.KnownBytes.{Keeps}
+use Rattle.program_env.specs.Origins.{RefusesOrigin}
+use Rattle.program_env.specs.Moment.{Moment}
+use Rattle.state_commands.specs.declared.fault.StateRunFault.{StateRunFault}
+use Rattle.state_commands.specs.declared.fault.StateRunFault.TheVariants.{Build, Entries, NoSigningKey, Origin, OutOfMemory}
 
 -- the result of a failed reader of entries
 abbrev pub no_entries : EntriesFault → Result (List (List ℕ)) EntriesFault
 no_entries fault = Err fault
-
--- the origin is refused: it is no origin, or memory was refused
-abbrev pub RefusesOrigin : List ℕ → NewFault → Type 0
-RefusesOrigin origin made.BadOrigin = ¬ IsOrigin origin
-RefusesOrigin origin made.OutOfMemory = ⊤
 
 -- the bytes are lines of keys, and this is the first shared secret among them; None if there is no shared secret
 pub record FindsSigner (bytes : List ℕ) (signer : Option Secret) : Type 0 where
@@ -59,7 +55,7 @@ module _
     pub reads : IfSome input (λ bytes. ReadsEntries bytes (no_entries fault))
 
   -- the meaning of each answer: a log was built, completely or in part, or the first fault before that, after which nothing was put
-  abbrev pub BuildsFrom : Option (List ℕ) → Result (Unit {0}) RunFault → Type 0
+  abbrev pub BuildsFrom : Option (List ℕ) → Result (Unit {0}) StateRunFault → Type 0
   BuildsFrom input (Ok x) = BuildsInput input done
   BuildsFrom input (Err (Build fault)) = BuildsInput input (failed fault)
   BuildsFrom input (Err NoSigningKey) = FindsSigner key_bytes None × (put ≡ before)
@@ -68,3 +64,14 @@ module _
   BuildsFrom input (Err (Entries fault)) = LacksEntries input fault × (put ≡ before)
   BuildsFrom input (Err OutOfMemory) = put ≡ before
   BuildsFrom input (Err other) = ⊥
+
+module _ (key_bytes : List ℕ) (digest : List ℕ → List ℕ) (keys : List Key) (old new : Moment) where
+  -- the meaning of an answer of `build` for the key file, the input, and the named folder
+  abbrev pub BuildsOne : BuildWords → Result (Unit {0}) StateRunFault → Type 0
+  BuildsOne c answer =
+      BuildsFrom digest c.log.origin.now keys key_bytes (old.held c.folder.now) old.puts new.puts
+      old.input answer
+
+  abbrev pub DoesBuild : BuildWords → Result ℕ StateRunFault → Type 0
+  DoesBuild c (Ok status) = BuildsOne c done × Keeps old.output new.output × (status ≡ 0)
+  DoesBuild c (Err fault) = BuildsOne c (failed fault) × Keeps old.output new.output

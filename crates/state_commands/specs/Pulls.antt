@@ -1,5 +1,5 @@
 -- The command `pull`: what it reads from a state file, writes to its state file, and prints.
-use Rattle.std.specs.Prelude.{◌≡◌, ◌≢◌, ◌⊎◌, ℕ, List, Option, None, Result, Ok, Err, Bool, IsTrue}
+use Rattle.std.specs.Prelude.{◌≡◌, ◌≢◌, ◌⊎◌, ℕ, List, Option, None, Result, Ok, Err, Bool, IsTrue, option_map}
 use Rattle.std.specs.Io.KnownBytes.{Appends, Keeps}
 use Rattle.byte_streams.specs.Streams.{AppendsPrefix}
 use Rattle.signed_note.specs.Keys.{Key}
@@ -20,9 +20,10 @@ use Rattle.program_files.specs.Named.{FailsToPut}
 use Rattle.program_files.specs.declared.fault.NamedFault.{NamedFault}
 use Rattle.program_states.specs.Saved.{IsSaved}
 use Rattle.program_states.specs.States.{BeginsWith, SavesFile, WritesState}
-use Rattle.program_env.specs.declared.fault.RunFault.{RunFault}
-use Rattle.program_env.specs.declared.fault.RunFault.TheVariants.{WriteFault, Out, OutOfMemory, Pull}
-use Rattle.program_env.specs.declared.fault.RunFault.TheVariants.{State}
+use Rattle.program_words.specs.declared.commands.pull.Pull.{Pull as PullWords}
+use Rattle.program_env.specs.Moment.{Moment}
+use Rattle.state_commands.specs.declared.fault.StateRunFault.{StateRunFault}
+use Rattle.state_commands.specs.declared.fault.StateRunFault.TheVariants.{WriteFault, Out, OutOfMemory, Pull, State}
 
 module _ (state : Option (List ℕ)) (start v : View) (out : List ℕ)
     (recorded : Option (List NamedFile)) where
@@ -45,7 +46,7 @@ module _ (state : Option (List ℕ)) (start v : View) (out : List ℕ)
 -- were printed, or the fault says what failed
 module _ (state : Option (List ℕ)) (start v : View) (pulled : Pulled) (out : List ℕ)
     (recorded left : Option (List NamedFile)) where
-  abbrev pub PrintsPulled : Option (List ℕ) → Option (List ℕ) → Result ℕ RunFault → Type 0
+  abbrev pub PrintsPulled : Option (List ℕ) → Option (List ℕ) → Result ℕ StateRunFault → Type 0
   PrintsPulled old new (Ok status) =
       LeavesState state start v out recorded left × Appends old new (pulled_lines pulled)
       × IsPulledStatus pulled status
@@ -102,14 +103,14 @@ module _ (digest : List ℕ → List ℕ) (origin : List ℕ) (keys : List Key)
       pub leaves : LeavesEarly keep out recorded left pulls.start view fault written
 
     -- there is nothing to report: no mirror was read, and the files are unchanged; or the pull ended early
-    abbrev pub PullsNothing : Result ℕ RunFault → Type 0
+    abbrev pub PullsNothing : Result ℕ StateRunFault → Type 0
     PullsNothing (Err (State fault)) =
         BeginsWith digest origin keys recorded state (Err fault) × (left ≡ recorded)
     PullsNothing (Err (Pull fault)) = PullsEarly fault
     PullsNothing other = ⊥
 
     -- a pull was completed, and its report was printed
-    pub record PullsAndTells (answer : Result ℕ RunFault) : Type 0 where
+    pub record PullsAndTells (answer : Result ℕ StateRunFault) : Type 0 where
       pub view : View
       pub pulled : Pulled
       pub pulls : PullsFromFile view (Ok pulled)
@@ -117,5 +118,11 @@ module _ (digest : List ℕ → List ℕ) (origin : List ℕ) (keys : List Key)
 
     -- the meaning of each answer of `pull`: a pull was completed, its state is in the file, and its two lines were printed; or
     -- there was nothing to report, and nothing was written to standard output
-    abbrev pub PrintsPull : Result ℕ RunFault → Type 0
+    abbrev pub PrintsPull : Result ℕ StateRunFault → Type 0
     PrintsPull answer = (PullsNothing answer × Keeps old new) ⊎ PullsAndTells answer
+
+module _ (digest : List ℕ → List ℕ) (keys : List Key) (old new : Moment) where
+  abbrev pub DoesPull : PullWords → Result ℕ StateRunFault → Type 0
+  DoesPull c answer =
+      PrintsPull digest c.mirror.log.origin.now keys (option_map (λ name. name.now) c.state) c.place
+      old.files c.keep c.mirror.out.now new.files old.output new.output answer

@@ -1,5 +1,6 @@
--- The words of `take` as named files.
-use Rattle.std.specs.Prelude.{◌≡◌, ℕ, List, ◌∷◌, map, Option, Result}
+-- The command `take`: the meaning of each answer for the named files.
+use Rattle.std.specs.Prelude.{◌≡◌, ℕ, List, ◌∷◌, map, Option, Result, Ok, Err}
+use Rattle.std.specs.Io.KnownBytes.{Keeps}
 use Rattle.std.specs.Prelude.{option_map}
 use Rattle.signed_note.specs.Keys.{Key}
 use Rattle.program_files.specs.Named.{NamedFile}
@@ -10,6 +11,10 @@ use Rattle.program_commands.specs.Takes.{LeavesTaken}
 use Rattle.program_commands.specs.declared.item.ItemFiles.{ItemFiles}
 use Rattle.program_commands.specs.declared.item.ItemFiles.TheVariants.{Head, Tile, Bundle}
 use Rattle.program_commands.specs.declared.fault.TakeFilesFault.{TakeFilesFault}
+use Rattle.program_commands.specs.Answers.{done, failed}
+use Rattle.program_env.specs.Moment.{Moment}
+use Rattle.state_commands.specs.declared.fault.StateRunFault.{StateRunFault}
+use Rattle.state_commands.specs.declared.fault.StateRunFault.TheVariants.{Take as TakeFault}
 
 -- the file names of this kind give this item; a tile or a bundle has only the first name
 abbrev pub AsksItem : Kind → ℕ → List (List ℕ) → ItemFiles → Type 0
@@ -28,3 +33,11 @@ TakesWords digest keys take old new answer =
     × AsksItem take.kind take.width (map (λ name. name.now) take.files.items) item
     × LeavesTaken digest take.mirror.log.origin.now keys old
     (option_map (λ name. name.now) take.state) item take.mirror.out.now new answer
+
+module _ (digest : List ℕ → List ℕ) (keys : List Key) (old new : Moment) where
+  abbrev pub DoesTake : Take → Result ℕ StateRunFault → Type 0
+  DoesTake c (Ok status) =
+      TakesWords digest keys c old.files new.files done × Keeps old.output new.output × (status ≡ 0)
+  DoesTake c (Err (TakeFault fault)) =
+      TakesWords digest keys c old.files new.files (failed fault) × Keeps old.output new.output
+  DoesTake c (Err other) = ⊥

@@ -1,0 +1,13 @@
+-- The faults of the commands over places after which text may have been written.
+use Rattle.std.specs.Prelude.{⊤}
+use Rattle.program_follow.specs.declared.fault.FollowRunFault.TheVariants as follow
+use Rattle.program_monitor.specs.declared.fault.AuditRunFault.TheVariants as audit
+use Rattle.place_commands.specs.declared.fault.PlaceRunFault.{PlaceRunFault}
+use Rattle.place_commands.specs.declared.fault.PlaceRunFault.TheVariants.{Audit, Follow}
+
+-- a write failed; the evidence, which follows the text, was not put
+abbrev pub IsLate : PlaceRunFault → Type 0
+IsLate (Follow follow.WriteFault) = ⊤
+IsLate (Follow (follow.Evidence fault)) = ⊤
+IsLate (Audit audit.WriteFault) = ⊤
+IsLate other = ⊥
