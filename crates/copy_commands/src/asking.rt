@@ -22,7 +22,8 @@ pub(crate) fn asked<R, F: RunFiles, D: RunFolders, I, O, E>(
     ask: Option<Ask>,
     answer: Result<u8, CopyAskFault>,
 ) -> Result<u8, Error>
-    ensures { result ≡ result_map_both (λ status. status) (λ fault. CopyRunFault.Copy fault) answer }
+    ensures { result ≡ result_map_both (λ status. status) (λ fault. CopyRunFault.Copy fault)
+        answer }
 {
     match answer {
         Ok(status) => Ok(status),

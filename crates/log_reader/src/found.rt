@@ -16,7 +16,8 @@ pub(crate) fn get_file<S: Source>(
     lacking: Path,
 ) -> Result<Vec<u8>, ReadFault>
     ensures answer { IfOk result (λ bytes. S.may_answer source.old path.now (Some bytes.items)) }
-    ensures lacks { IfErr result (λ fault. IsFailure fault ⊎ S.may_answer source.old path.now None) }
+    ensures lacks { IfErr result (λ fault. IsFailure fault
+        ⊎ S.may_answer source.old path.now None) }
     ensures later { StaysWithin (S.may_answer source.old) (S.may_answer source.new) }
     ensures kept { KeepsRecord (S.files source.old) (S.files source.new) }
     ensures counted { CountsFailure (S.failed source.old) (S.failed source.new) result }

@@ -106,7 +106,8 @@ fn audited<S: Source + Failing + Drop>(
     source: WatchedSource<S>,
     answer: Result<u8, AuditRunFault>,
 ) -> Result<u8, Error>
-    ensures { result ≡ result_map_both (λ status. status) (λ fault. PlaceRunFault.Audit fault) answer }
+    ensures { result ≡ result_map_both (λ status. status) (λ fault. PlaceRunFault.Audit fault)
+        answer }
 {
     match answer {
         Ok(status) => Ok(status),

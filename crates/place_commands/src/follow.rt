@@ -138,7 +138,8 @@ fn followed<R, F: RunFiles, D: RunFolders, I, O, E>(
     lacked: Option<Path>,
     answer: Result<u8, FollowRunFault>,
 ) -> Result<u8, Error>
-    ensures { result ≡ result_map_both (λ status. status) (λ fault. PlaceRunFault.Follow fault) answer }
+    ensures { result ≡ result_map_both (λ status. status) (λ fault. PlaceRunFault.Follow fault)
+        answer }
 {
     match answer {
         Ok(status) => Ok(status),

@@ -58,7 +58,8 @@ pub(crate) fn run_ask<F: RunFiles, W: Write>(
 
 /// The answer of a command from the answer of a reporter, with the thing that a fault is about.
 pub(crate) fn asked(answer: Result<u8, AskFault>, why: Option<Why>) -> Result<u8, Error>
-    ensures { result ≡ result_map_both (λ status. status) (λ fault. ReportRunFault.Ask fault) answer }
+    ensures { result ≡ result_map_both (λ status. status) (λ fault. ReportRunFault.Ask fault)
+        answer }
 {
     match answer {
         Ok(status) => Ok(status),

@@ -70,7 +70,8 @@ pub fn run<R, F: RunFiles, D: RunFolders, I: Read, O: Write, E: Write>(
 
 // The answer of the command from the answer of the writer.
 fn written(answer: Result<(), StateEntriesFault>, why: Option<Why>) -> Result<u8, Error>
-    ensures { result ≡ result_map_both (λ _. 0) (λ fault. ReportRunFault.StateEntries fault) answer }
+    ensures { result ≡ result_map_both (λ _. 0) (λ fault. ReportRunFault.StateEntries fault)
+        answer }
 {
     match answer {
         Ok(()) => Ok(0),

@@ -34,7 +34,8 @@ pub fn run<R, F: RunFiles, D: RunFolders, I: Read, O: Write, E: Write>(
     build: &Build<'_>,
 ) -> Result<u8, Error>
     ensures same { IsSameEnv env.old env.new }
-    ensures does { Performs (DoesBuild key_bytes.now) IsLate KeepsFiles sha256 (map (λ k. key k) keys.now)
+    ensures does { Performs (DoesBuild key_bytes.now) IsLate KeepsFiles sha256
+        (map (λ k. key k) keys.now)
         (moment F.puts D.held D.puts I.remaining O.contents env.old)
         (moment F.puts D.held D.puts I.remaining O.contents env.new) build.now result }
 {
