@@ -1,24 +1,33 @@
 //! The reasons why a run of `follow` ended early.
 use mirror_follow::FollowFault;
 use program_files::NamedFault;
-use thiserror::Error;
+use std::fmt;
 
 /// The reason why a run of `follow` ended early, in the order of its steps. It prints as the name of the innermost variant.
-#[derive(Debug, Drop, Clone, Copy, Error)]
+#[derive(Debug, Drop, Clone, Copy)]
 pub enum FollowRunFault {
     /// The file of the given note was not read.
-    #[error(transparent)]
     File(NamedFault),
     /// Memory for the folder's name was refused.
-    #[error("OutOfMemory")]
     OutOfMemory,
     /// `follow` ended with this fault, or memory for the text was refused.
-    #[error(transparent)]
     Follow(FollowFault),
     /// The output could not be written.
-    #[error("WriteFault")]
     WriteFault,
     /// The output was written, but then a file of a fork's evidence was not.
-    #[error(transparent)]
     Evidence(NamedFault),
 }
+
+/// Prints the name of the innermost variant. A derived one takes the checker seconds more.
+impl fmt::Display for FollowRunFault {
+    fn fmt<W: fmt::Write>(&self, f: &mut fmt::Formatter<W>) -> fmt::Result {
+        match self {
+            FollowRunFault::File(fault) => fmt::Display::fmt(fault, f),
+            FollowRunFault::Follow(fault) => fmt::Display::fmt(fault, f),
+            FollowRunFault::Evidence(fault) => fmt::Display::fmt(fault, f),
+            _ => fmt::Debug::fmt(self, f),
+        }
+    }
+}
+
+impl std::error::Error for FollowRunFault {}

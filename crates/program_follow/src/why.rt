@@ -69,8 +69,23 @@ fn line_of(alloc: Global, name: &str, path: &Path, reason: &str) -> Result<Strin
     why_line(alloc, &thing, reason)
 }
 
-// Adds the line about the first thing that was wrong at a place, if anything was.
+// Adds the line about a file of a place, with a reason.
 #[tactic(auto, using(crate::proofs::Whys::whys_more))]
+fn push_line(
+    alloc: Global,
+    text: &mut String,
+    name: &str,
+    path: &Path,
+    reason: &str,
+) -> Result<(), AllocError>
+    requires { AreWhyLines (string_bytes text.old) }
+    ensures { OnOk result (AreWhyLines (string_bytes text.new)) }
+{
+    let line = line_of(alloc, name, path, reason)?;
+    text.push_str(&line)
+}
+
+// Adds the line about the first thing that was wrong at a place, if anything was.
 fn push_place<S: WatchedPlace + Drop>(
     alloc: Global,
     text: &mut String,
@@ -83,17 +98,13 @@ fn push_place<S: WatchedPlace + Drop>(
 {
     let source = place.source();
     if let Some(reason) = reason_of_note(alloc, origin, keys, source)? {
-        let line = line_of(alloc, source.name(), &Path::Checkpoint, &reason)?;
-        text.push_str(&line)?;
-        return Ok(());
+        return push_line(alloc, text, source.name(), &Path::Checkpoint, &reason);
     }
     let Some(WrongFile { path, wrong }) = place.first_wrong() else {
         return Ok(());
     };
     let reason = reason_of_file(alloc, source, wrong)?;
-    let line = line_of(alloc, source.name(), &path, &reason)?;
-    text.push_str(&line)?;
-    Ok(())
+    push_line(alloc, text, source.name(), &path, &reason)
 }
 
 /// The lines about the places of a run, in order. Each place at which something was wrong has one line, about the first such thing. Each
