@@ -1,6 +1,7 @@
 use Rattle.std.proofs.Common.{ap, ◌∙◌, ◌++◌}
 use Rattle.std.proofs.lemmas.List.{get_or_default}
 use Rattle.std.proofs.lemmas.Result.{on_ok_weaker}
+use Rattle.std.proofs.lemmas.Result.{IfOk-from_err}
 use Rattle.note_keys.specs.Keys.{Pins}
 use Rattle.note_keys.proofs.JoinedPins.{joined_at}
 use Rattle.note_keys.proofs.gathering.gather.Goals as goal
@@ -12,3 +13,6 @@ returns-in-Some c =
     within (rw c.deref.ensures.value at c.in-Some.ensures.found)
     (λ d. is ∙ ap (λ (old : Pins). record old { digests = old.digests ++ c.args.texts.digests })
     (c.index_mut.ensures.value ∙ get_or_default c.args.gathered.now.items c.in-Some.at _ d within))) c.append.ensures
+
+pub returns-in_err-push : goal.returns-in_err-push
+returns-in_err-push c = IfOk-from_err c.from_residual.result _ c.from_residual.ensures.0

@@ -30,3 +30,9 @@ loop-rest-preserved c =
           (file_more front line c.loop-rest.keys.items c.in_ok-key_of.field-0 c.loop-rest.invariant.2
           c.in_ok-key_of.ensures),
     )
+
+pub returns-in_err-push : goal.returns-in_err-push
+returns-in_err-push c =
+    let exit = c.from_residual-in_err-push in
+    let p = err_from_is_err_and exit.result exit.ensures.1 in
+    rw (p.1, p.2) tt

@@ -44,3 +44,21 @@ returns-clause-first c =
     split_parts space c.args.text.now (Some (c.in_ok-name.name, c.in_ok-name.rest)) c.in_ok-name.ensures.cases
     (lit< tt) in
     first.1
+
+pub returns-in_err-name-clause-found : goal.returns-in_err-name-clause-found
+returns-in_err-name-clause-found c = rw c.from_residual.ensures tt
+
+pub returns-in_err-name-clause-first : goal.returns-in_err-name-clause-first
+returns-in_err-name-clause-first c = rw c.from_residual.ensures tt
+
+pub returns-in_err-id_digits-clause-found : goal.returns-in_err-id_digits-clause-found
+returns-in_err-id_digits-clause-found c = rw c.from_residual-in_err-id_digits.ensures tt
+
+pub returns-in_err-id_digits-clause-first : goal.returns-in_err-id_digits-clause-first
+returns-in_err-id_digits-clause-first c = rw c.from_residual-in_err-id_digits.ensures tt
+
+pub returns-in_err-id-clause-found : goal.returns-in_err-id-clause-found
+returns-in_err-id-clause-found c = rw c.from_residual-in_err-id.ensures tt
+
+pub returns-in_err-id-clause-first : goal.returns-in_err-id-clause-first
+returns-in_err-id-clause-first c = rw c.from_residual-in_err-id.ensures tt

@@ -1,4 +1,5 @@
 use Rattle.std.proofs.Common.{◌≡◌, ◌++◌, ◌∷◌, List, ℕ, ap, ◌∙◌, arith}
+use Rattle.std.proofs.lemmas.Result.{IfOk-from_err}
 use Rattle.byteorder.specs.Endian.{big_bytes}
 use Rattle.note_keys.specs.Hmac.{hmac}
 use Rattle.signed_note.specs.Names.{newline}
@@ -32,3 +33,21 @@ returns-clause-note c =
 
 pub returns-clause-opens : goal.returns-clause-opens
 returns-clause-opens c = signed_opens c.args.text.now c.args.key.now
+
+pub returns-in_err-encoded-clause-bytes : goal.returns-in_err-encoded-clause-bytes
+returns-in_err-encoded-clause-bytes c = IfOk-from_err c.from_residual.result _ c.from_residual.ensures.0
+
+pub returns-in_err-encoded-clause-note : goal.returns-in_err-encoded-clause-note
+returns-in_err-encoded-clause-note c = IfOk-from_err c.from_residual.result _ c.from_residual.ensures.0
+
+pub returns-in_err-encoded-clause-opens : goal.returns-in_err-encoded-clause-opens
+returns-in_err-encoded-clause-opens c = IfOk-from_err c.from_residual.result _ c.from_residual.ensures.0
+
+pub returns-in_err-note-clause-bytes : goal.returns-in_err-note-clause-bytes
+returns-in_err-note-clause-bytes c = let exit = c.from_residual-in_err-note in IfOk-from_err exit.result _ exit.ensures.0
+
+pub returns-in_err-note-clause-note : goal.returns-in_err-note-clause-note
+returns-in_err-note-clause-note c = let exit = c.from_residual-in_err-note in IfOk-from_err exit.result _ exit.ensures.0
+
+pub returns-in_err-note-clause-opens : goal.returns-in_err-note-clause-opens
+returns-in_err-note-clause-opens c = let exit = c.from_residual-in_err-note in IfOk-from_err exit.result _ exit.ensures.0

@@ -23,3 +23,15 @@ returns-then-len-lt5 c =
     too_short c.args.line.now c.in-Some.name.now c.in-Some.encoded.now c.in_ok-payload.payload.items
     c.in-Some.ensures.found (Lacks-from_reads space c.in-Some.name.now c.in-Some.ensures.first)
     c.in_ok-payload.ensures.1 c.in_ok-payload.ensures.0 (omega arith)
+
+pub returns-in_err-from_str : goal.returns-in_err-from_str
+returns-in_err-from_str c =
+    let exit = c.from_residual-in_err-from_str in
+    let p = err_from_is_err_and exit.result exit.ensures.1 in
+    rw (p.1, p.2) tt
+
+pub returns-in_err-from_slice : goal.returns-in_err-from_slice
+returns-in_err-from_slice c =
+    let exit = c.from_residual-in_err-from_slice in
+    let p = err_from_is_err_and exit.result exit.ensures.1 in
+    rw (p.1, p.2) tt

@@ -25,3 +25,6 @@ returns-clause-found c =
     grind arith in
     rw (c.range.ensures.value, c.range_from.ensures.value, front)
     (split_at_blank c.args.whole.now c.in_ok-at.at blank (rw c.as_bytes.ensures.value at c.in_ok-at.ensures.last))
+
+pub returns-in_err-at-clause-found : goal.returns-in_err-at-clause-found
+returns-in_err-at-clause-found c = rw c.from_residual.ensures tt

@@ -50,3 +50,9 @@ loop-rest-preserved c =
           (Lacks-from_reads newline c.in-Some.line.now parts.1) more.1 in
           (next.1, next.4);
     }
+
+pub returns-in_err-push : goal.returns-in_err-push
+returns-in_err-push c =
+    let exit = c.from_residual-in_err-push in
+    let p = err_from_is_err_and exit.result exit.ensures.1 in
+    rw (p.1, p.2) tt

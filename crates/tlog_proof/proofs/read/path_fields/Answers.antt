@@ -64,3 +64,9 @@ returns-in_err-hash-clause-sound c = IfOk-from_err c.from_residual.result _ c.fr
 
 pub returns-in_err-push-clause-sound : goal.returns-in_err-push-clause-sound
 returns-in_err-push-clause-sound c = let exit = c.from_residual-in_err-push in IfOk-from_err exit.result _ exit.ensures.0
+
+pub returns-in_err-push-clause-complete : goal.returns-in_err-push-clause-complete
+returns-in_err-push-clause-complete c =
+    let exit = c.from_residual-in_err-push in
+    let p = err_from_is_err_and exit.result exit.ensures.1 in
+    rw (p.1, p.2) (λ path hashes short same. tt)

@@ -1,4 +1,4 @@
-use Rattle.std.proofs.Common.{◌≡◌, ◌≤◌, [], List, ℕ, sym, ◌∙◌, ap, arith}
+use Rattle.std.proofs.Common.{◌≡◌, ◌<◌, ◌≤◌, [], List, ℕ, sym, ◌∙◌, ap, arith}
 use Rattle.std.specs.List.{list_all}
 use Rattle.std.specs.Str.{chars}
 use Rattle.std.proofs.lemmas.Bool.{false≢true}
@@ -83,3 +83,19 @@ returns c =
           (note_from_lines c.args.bytes.now c.in-Some.text.now c.in-Some.signed.now c.in_ok-lines.lines.items part few
           c.in_ok-lines.ensures),
     )
+
+pub returns-in_err-from_str : goal.returns-in_err-from_str
+returns-in_err-from_str c =
+    let exit = c.from_residual-in_err-from_str in
+    let p = err_from_is_err_and exit.result exit.ensures.1 in
+    rw (p.1, p.2) tt
+
+pub returns-then-count_lines-gt-MAX_LINES : goal.returns-then-count_lines-gt-MAX_LINES
+returns-then-count_lines-gt-MAX_LINES c =
+    let same = c.in-Ok.ensures.cases.0 in
+    let part = part_of c.args.bytes.now _ c.in-Some.text.now c.in-Some.signed.now (omega arith) same
+    c.in-Ok.ensures.cases.1 (sym c.is_note_text.ensures ∙ c.if-not-is_note_text.false) c.in-Some.ensures.found
+    (sym c.is_empty.ensures ∙ c.if-is_empty.false) in
+    let many : MAX_LINES < line_count c.in-Some.signed.now =
+    omega (arith, c.count_lines.ensures ∙ ap line_count c.as_bytes.ensures.value) in
+    (c.in-Some.text.now, c.in-Some.signed.now, part, many)
