@@ -5,8 +5,8 @@
 ghost use Rattle.std.specs.Prelude.{map, IfOk};
 ghost use Rattle.mirror_model.specs.TrueLaws.{AreShort};
 
-use mirror_pull::{PullFault, Pulled, pull};
 use list_source::ListSource;
+use mirror_pull::{PullFault, Pulled, pull};
 use mirror_sources::Source;
 use note_keys::{HmacKey, KeyFault};
 use signed_note::Verifier;

@@ -11,10 +11,10 @@ ghost use Rattle.tlog_build.specs.Building.{BuildsLogUnder, ChecksOrigin};
 
 use crate::fault::BuildFault;
 use crate::putting::put_files;
+use list_source::ListSource;
 use mirror_export::ExportFault;
 use mirror_folders::Shelf;
 use mirror_pull::PullFault;
-use list_source::ListSource;
 use note_keys::HmacKey;
 use signed_note::Verifier;
 use std::alloc::Global;

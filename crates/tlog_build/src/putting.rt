@@ -6,10 +6,10 @@ ghost use Rattle.log_paths.specs.Files.{files_at, paths_of};
 ghost use Rattle.mirror_folders.specs.Shelf.{CountsFailures};
 ghost use Rattle.tlog_build.specs.Building.{PutsFiles};
 
+use list_source::ListSource;
 use log_paths::{files_law, log_paths};
 use mirror_export::ExportFault;
 use mirror_folders::{Shelf, ShelfError};
-use list_source::ListSource;
 use std::alloc::Global;
 use tlog_hash::TreeHash;
 use tlog_tiles::Path;
