@@ -81,7 +81,7 @@ fn export_at_last<H: TreeHash, S: Shelf>(
     let mut answer = put_onto(alloc, mirror, shelf);
     if answer == Err(ExportFault::OutOfMemory) {
         let found = shelf.has(&Path::Checkpoint);
-        assert!(rt; found == Ok(false));
+        assert!(rt; matches!(found, Ok(false)));
         answer = put_onto(alloc, mirror, shelf);
     }
     assert!(rt; answer == Ok(()));
