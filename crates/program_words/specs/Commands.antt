@@ -12,6 +12,10 @@ use Rattle.program_words.specs.App.{list_rule, log_app, made_app, option_rule, p
 use Rattle.program_words.specs.App.{ahead_rule, progress_rule, words_rule}
 use Rattle.program_words.specs.declared.commands.Command.{Command}
 use Rattle.program_words.specs.declared.commands.Command.TheVariants as order
+use Rattle.program_words.specs.declared.commands.CopyCommand.TheVariants as copy
+use Rattle.program_words.specs.declared.commands.PlaceCommand.TheVariants as place
+use Rattle.program_words.specs.declared.commands.ReportCommand.TheVariants as report
+use Rattle.program_words.specs.declared.commands.StateCommand.TheVariants as state
 use Rattle.program_words.specs.declared.commands.root.Root.{Root as RootWords}
 use Rattle.program_words.specs.declared.parts.Log.{Log}
 use Rattle.program_words.specs.declared.parts.StateArgs.{StateArgs}
@@ -414,52 +418,67 @@ command_apps =
 
 -- the word for the command
 abbrev pub name_of : Command → Text
-name_of (order.Root c) = codes "root"
-name_of order.Check = codes "check"
-name_of (order.Build c) = codes "build"
-name_of (order.Take c) = codes "take"
-name_of (order.Merge c) = codes "merge"
-name_of (order.Pull c) = codes "pull"
-name_of (order.Follow c) = codes "follow"
-name_of (order.Audit c) = codes "audit"
-name_of (order.Status c) = codes "status"
-name_of (order.CopyStatus c) = codes "status"
-name_of (order.Missing c) = codes "missing"
-name_of (order.Forks c) = codes "forks"
-name_of (order.Compare c) = codes "compare"
-name_of (order.CopyCompare c) = codes "compare"
-name_of (order.Prove c) = codes "prove"
-name_of (order.CopyProve c) = codes "prove"
-name_of (order.Entries c) = codes "entries"
-name_of (order.CopyEntries c) = codes "entries"
-name_of (order.Export c) = codes "export"
-name_of (order.Update c) = codes "export"
-name_of (order.Notes c) = codes "notes"
-name_of (order.Serve c) = codes "serve"
-name_of (order.CopyServe c) = codes "serve"
+name_of (order.Report (report.Root c)) = codes "root"
+name_of (order.Report report.Check) = codes "check"
+name_of (order.State (state.Build c)) = codes "build"
+name_of (order.State (state.Take c)) = codes "take"
+name_of (order.State (state.Merge c)) = codes "merge"
+name_of (order.State (state.Pull c)) = codes "pull"
+name_of (order.Place (place.Follow c)) = codes "follow"
+name_of (order.Place (place.Audit c)) = codes "audit"
+name_of (order.Report (report.Status c)) = codes "status"
+name_of (order.Copy (copy.Status c)) = codes "status"
+name_of (order.Report (report.Missing c)) = codes "missing"
+name_of (order.Report (report.Forks c)) = codes "forks"
+name_of (order.Report (report.Compare c)) = codes "compare"
+name_of (order.Copy (copy.Compare c)) = codes "compare"
+name_of (order.Report (report.Prove c)) = codes "prove"
+name_of (order.Copy (copy.Prove c)) = codes "prove"
+name_of (order.Report (report.Entries c)) = codes "entries"
+name_of (order.Copy (copy.Entries c)) = codes "entries"
+name_of (order.State (state.Export c)) = codes "export"
+name_of (order.State (state.Update c)) = codes "export"
+name_of (order.State (state.Notes c)) = codes "notes"
+name_of (order.Report (report.Serve c)) = codes "serve"
+name_of (order.Copy (copy.Serve c)) = codes "serve"
+
+-- the names of the commands of each group; a command over a copy has that of one over a state
+abbrev pub state_names : List Text
+state_names = codes "build" ∷ codes "take" ∷ codes "merge" ∷ codes "pull" ∷ codes "export" ∷ codes "notes" ∷ []
+
+abbrev pub report_names : List Text
+report_names =
+    codes "root" ∷ codes "check" ∷ codes "status" ∷ codes "missing" ∷ codes "forks" ∷ codes "compare" ∷ codes "prove"
+    ∷ codes "entries" ∷ codes "serve" ∷ []
+
+abbrev pub copy_names : List Text
+copy_names = codes "status" ∷ codes "compare" ∷ codes "prove" ∷ codes "entries" ∷ codes "serve" ∷ []
+
+abbrev pub place_names : List Text
+place_names = codes "follow" ∷ codes "audit" ∷ []
 
 -- the options are those of this command, among the commands with its name
 abbrev pub Says : List Row → Command → Type 0
-Says options (order.Root c) = IsRoot options c
-Says options order.Check = ⊤
-Says options (order.Build c) = IsBuild options c
-Says options (order.Take c) = IsTake options c
-Says options (order.Merge c) = IsMerge options c
-Says options (order.Pull c) = IsPull options c
-Says options (order.Follow c) = IsFollow options c
-Says options (order.Audit c) = IsAudit options c
-Says options (order.Status c) = IsStateAlone options c
-Says options (order.CopyStatus c) = IsCopyAlone options c
-Says options (order.Missing c) = IsMissingAsk options c
-Says options (order.Forks c) = IsStateArgs options c
-Says options (order.Compare c) = IsCompare options c
-Says options (order.CopyCompare c) = IsCopyCompare options c
-Says options (order.Prove c) = IsProve options c
-Says options (order.CopyProve c) = IsCopyProve options c
-Says options (order.Entries c) = IsEntries options c
-Says options (order.CopyEntries c) = IsCopyEntries options c
-Says options (order.Export c) = IsExport options c × (¬ HasFlag options (codes "update"))
-Says options (order.Update c) = IsExport options c × HasFlag options (codes "update")
-Says options (order.Notes c) = IsNotes options c
-Says options (order.Serve c) = IsServe options c
-Says options (order.CopyServe c) = IsCopyServe options c
+Says options (order.Report (report.Root c)) = IsRoot options c
+Says options (order.Report report.Check) = ⊤
+Says options (order.State (state.Build c)) = IsBuild options c
+Says options (order.State (state.Take c)) = IsTake options c
+Says options (order.State (state.Merge c)) = IsMerge options c
+Says options (order.State (state.Pull c)) = IsPull options c
+Says options (order.Place (place.Follow c)) = IsFollow options c
+Says options (order.Place (place.Audit c)) = IsAudit options c
+Says options (order.Report (report.Status c)) = IsStateAlone options c
+Says options (order.Copy (copy.Status c)) = IsCopyAlone options c
+Says options (order.Report (report.Missing c)) = IsMissingAsk options c
+Says options (order.Report (report.Forks c)) = IsStateArgs options c
+Says options (order.Report (report.Compare c)) = IsCompare options c
+Says options (order.Copy (copy.Compare c)) = IsCopyCompare options c
+Says options (order.Report (report.Prove c)) = IsProve options c
+Says options (order.Copy (copy.Prove c)) = IsCopyProve options c
+Says options (order.Report (report.Entries c)) = IsEntries options c
+Says options (order.Copy (copy.Entries c)) = IsCopyEntries options c
+Says options (order.State (state.Export c)) = IsExport options c × (¬ HasFlag options (codes "update"))
+Says options (order.State (state.Update c)) = IsExport options c × HasFlag options (codes "update")
+Says options (order.State (state.Notes c)) = IsNotes options c
+Says options (order.Report (report.Serve c)) = IsServe options c
+Says options (order.Copy (copy.Serve c)) = IsCopyServe options c

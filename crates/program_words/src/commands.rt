@@ -80,13 +80,22 @@ WriteFault, standard output could not be written, and a part may have been; OutO
 
 Documents: README.md; docs/OPERATING.md, with each fault and what to do; docs/FORMATS.md.";
 
-/// A command with its options.
+/// A command with its options. Each group is carried out by a crate of its own.
 #[derive(Drop)]
 pub enum Command<'a> {
-    /// Prints the tree hash of the entry bundle on standard input.
-    Root(root::Root),
-    /// Verifies the proof on standard input.
-    Check,
+    /// Makes, changes or writes out a state.
+    State(StateCommand<'a>),
+    /// Asks a state, or needs none.
+    Report(ReportCommand<'a>),
+    /// Asks a copy.
+    Copy(CopyCommand<'a>),
+    /// Reads from places.
+    Place(PlaceCommand<'a>),
+}
+
+/// The commands that make, change or write out a state.
+#[derive(Drop)]
+pub enum StateCommand<'a> {
     /// Makes a log from the entries on standard input.
     Build(build::Build<'a>),
     /// Takes files into a mirror.
@@ -95,38 +104,57 @@ pub enum Command<'a> {
     Merge(merge::Merge<'a>),
     /// Fetches what is missing.
     Pull(pull::Pull<'a>),
-    /// Brings a copy to the newest checkpoint of its places.
-    Follow(follow::Follow<'a>),
-    /// Verifies a complete log at a place, file by file.
-    Audit(audit::Audit<'a>),
-    /// Prints the heads of a mirror.
-    Status(StateArgs<'a>),
-    /// Prints the checkpoint of a copy: `status --dir`.
-    CopyStatus(CopyArgs<'a>),
-    /// Prints the paths that the tree of a head lacks.
-    Missing(missing::Missing<'a>),
-    /// Prints the forks between the heads of a mirror.
-    Forks(StateArgs<'a>),
-    /// Compares checkpoints with the served one.
-    Compare(compare::Compare<'a>),
-    /// Compares checkpoints with a copy: `compare --dir`.
-    CopyCompare(compare::CopyCompare<'a>),
-    /// Prints a proof about the served entries.
-    Prove(prove::Prove<'a>),
-    /// Prints a proof about a copy: `prove --dir`.
-    CopyProve(prove::CopyProve<'a>),
-    /// Writes served entries.
-    Entries(entries::Entries<'a>),
-    /// Writes entries of a copy: `entries --dir`.
-    CopyEntries(entries::CopyEntries<'a>),
     /// Writes the served files to a folder.
     Export(export::Export<'a>),
     /// Updates a folder to the served files: `export --update`.
     Update(export::Export<'a>),
     /// Writes the notes of a mirror to files of a folder.
     Notes(notes::Notes<'a>),
+}
+
+/// The commands that ask a state, or need none.
+#[derive(Drop)]
+pub enum ReportCommand<'a> {
+    /// Prints the tree hash of the entry bundle on standard input.
+    Root(root::Root),
+    /// Verifies the proof on standard input.
+    Check,
+    /// Prints the heads of a mirror.
+    Status(StateArgs<'a>),
+    /// Prints the paths that the tree of a head lacks.
+    Missing(missing::Missing<'a>),
+    /// Prints the forks between the heads of a mirror.
+    Forks(StateArgs<'a>),
+    /// Compares checkpoints with the served one.
+    Compare(compare::Compare<'a>),
+    /// Prints a proof about the served entries.
+    Prove(prove::Prove<'a>),
+    /// Writes served entries.
+    Entries(entries::Entries<'a>),
     /// Answers over HTTP from a mirror.
     Serve(serve::Serve<'a>),
-    /// Answers over HTTP from a copy: `serve --dir`.
-    CopyServe(serve::CopyServe<'a>),
+}
+
+/// The commands that ask a copy, each by `--dir`.
+#[derive(Drop)]
+pub enum CopyCommand<'a> {
+    /// Prints the checkpoint of a copy.
+    Status(CopyArgs<'a>),
+    /// Compares checkpoints with a copy.
+    Compare(compare::CopyCompare<'a>),
+    /// Prints a proof about a copy.
+    Prove(prove::CopyProve<'a>),
+    /// Writes entries of a copy.
+    Entries(entries::CopyEntries<'a>),
+    /// Answers over HTTP from a copy.
+    Serve(serve::CopyServe<'a>),
+}
+
+/// The commands that read from places.
+#[derive(Drop)]
+pub enum PlaceCommand<'a> {
+    /// Brings a copy to the newest checkpoint of its places.
+    Follow(follow::Follow<'a>),
+    /// Verifies a complete log at a place, file by file.
+    Audit(audit::Audit<'a>),
 }

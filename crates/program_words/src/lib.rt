@@ -16,7 +16,7 @@ mod place;
 mod refusals;
 
 pub use bad::BadWord;
-pub use commands::Command;
+pub use commands::{Command, CopyCommand, PlaceCommand, ReportCommand, StateCommand};
 pub use fault::CommandFault;
 pub use line::{Argument, Base, CommandLine, ORIGIN, WHY};
 pub use parts::{CopyArgs, Log, OutputArgs, StateArgs, has_flag};

@@ -4,7 +4,7 @@ ghost use Rattle.clap.specs.Words.{found_of, rows_of};
 ghost use Rattle.program_words.specs.Refusals.{JudgesPart};
 ghost use Rattle.program_words.specs.Readings.{IsSaid};
 
-use crate::commands::Command;
+use crate::commands::{Command, PlaceCommand};
 use crate::line::{AHEAD, Argument, Base, CommandLine, PROGRESS};
 use crate::parts::{Log, ahead_of, has_flag, log_of};
 use crate::place::{Place, place_given};
@@ -81,10 +81,10 @@ pub fn read<'a>(alloc: Global, found: &ArgMatches<'a>, refusals: &mut Refusals) 
     let ahead = ahead_of(found, refusals);
     let progress = has_flag(found, "progress");
     let place = place_given(alloc, found, refusals);
-    Command::Audit(Audit {
+    Command::Place(PlaceCommand::Audit(Audit {
         log,
         ahead,
         progress,
         place,
-    })
+    }))
 }

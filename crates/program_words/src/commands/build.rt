@@ -4,7 +4,7 @@ ghost use Rattle.clap.specs.Words.{found_of, rows_of};
 ghost use Rattle.program_words.specs.Refusals.{JudgesPart};
 ghost use Rattle.program_words.specs.Readings.{IsSaid};
 
-use crate::commands::Command;
+use crate::commands::{Command, StateCommand};
 use crate::line::{Argument, Base, CommandLine, ORIGIN, PROGRESS, WHY};
 use crate::parts::{Log, has_flag, log_of, word_of};
 use crate::refusals::Refusals;
@@ -69,9 +69,9 @@ pub fn read<'a>(found: &ArgMatches<'a>, refusals: &mut Refusals) -> Command<'a>
     let log = log_of(found, refusals);
     let folder = word_of(found, "dir", refusals);
     let progress = has_flag(found, "progress");
-    Command::Build(Build {
+    Command::State(StateCommand::Build(Build {
         log,
         folder,
         progress,
-    })
+    }))
 }

@@ -4,7 +4,7 @@ ghost use Rattle.clap.specs.Words.{found_of, rows_of};
 ghost use Rattle.program_words.specs.Refusals.{JudgesPart};
 ghost use Rattle.program_words.specs.Readings.{IsSaid};
 
-use crate::commands::Command;
+use crate::commands::{Command, ReportCommand};
 use crate::line::{Base, CommandLine};
 use crate::refusals::Refusals;
 use clap::ArgMatches;
@@ -37,5 +37,5 @@ pub fn read<'a>(_found: &ArgMatches<'a>, _refusals: &mut Refusals) -> Command<'a
     ensures { JudgesPart (IsSaid (codes "check") (rows_of (found_of _found.now))) _refusals.old
         _refusals.new result }
 {
-    Command::Check
+    Command::Report(ReportCommand::Check)
 }

@@ -4,7 +4,7 @@ ghost use Rattle.clap.specs.Words.{found_of, rows_of};
 ghost use Rattle.program_words.specs.Refusals.{JudgesPart};
 ghost use Rattle.program_words.specs.Readings.{IsSaid};
 
-use crate::commands::Command;
+use crate::commands::{Command, CopyCommand, ReportCommand};
 use crate::line::{Argument, Base, CommandLine};
 use crate::parts::{CopyArgs, Source, StateArgs, files_of, source_of};
 use crate::refusals::Refusals;
@@ -70,7 +70,7 @@ pub fn read<'a>(alloc: Global, found: &ArgMatches<'a>, refusals: &mut Refusals) 
     let source = source_of(found, refusals);
     let files = files_of(alloc, found, refusals);
     match source {
-        Source::State(mirror) => Command::Compare(Compare { mirror, files }),
-        Source::Copy(copy) => Command::CopyCompare(CopyCompare { copy, files }),
+        Source::State(mirror) => Command::Report(ReportCommand::Compare(Compare { mirror, files })),
+        Source::Copy(copy) => Command::Copy(CopyCommand::Compare(CopyCompare { copy, files })),
     }
 }

@@ -5,7 +5,7 @@ ghost use Rattle.program_words.specs.Commands.{IsEntryRange};
 ghost use Rattle.program_words.specs.Refusals.{JudgesPart};
 ghost use Rattle.program_words.specs.Readings.{IsSaid};
 
-use crate::commands::Command;
+use crate::commands::{Command, CopyCommand, ReportCommand};
 use crate::line::{Argument, Base, CommandLine};
 use crate::parts::{CopyArgs, Source, StateArgs, has_flag, size_of, source_of};
 use crate::refusals::Refusals;
@@ -88,7 +88,7 @@ pub fn read<'a>(found: &ArgMatches<'a>, refusals: &mut Refusals) -> Command<'a>
     let source = source_of(found, refusals);
     let range = range_of(found, refusals);
     match source {
-        Source::State(mirror) => Command::Entries(Entries { mirror, range }),
-        Source::Copy(copy) => Command::CopyEntries(CopyEntries { copy, range }),
+        Source::State(mirror) => Command::Report(ReportCommand::Entries(Entries { mirror, range })),
+        Source::Copy(copy) => Command::Copy(CopyCommand::Entries(CopyEntries { copy, range })),
     }
 }

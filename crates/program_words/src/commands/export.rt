@@ -4,7 +4,7 @@ ghost use Rattle.clap.specs.Words.{found_of, rows_of};
 ghost use Rattle.program_words.specs.Refusals.{JudgesPart};
 ghost use Rattle.program_words.specs.Readings.{IsSaid};
 
-use crate::commands::Command;
+use crate::commands::{Command, StateCommand};
 use crate::line::{Argument, Base, CommandLine, PROGRESS};
 use crate::parts::{StateArgs, has_flag, state_args, word_of};
 use crate::refusals::Refusals;
@@ -68,8 +68,8 @@ pub fn read<'a>(found: &ArgMatches<'a>, refusals: &mut Refusals) -> Command<'a>
         progress,
     };
     if has_flag(found, "update") {
-        Command::Update(export)
+        Command::State(StateCommand::Update(export))
     } else {
-        Command::Export(export)
+        Command::State(StateCommand::Export(export))
     }
 }

@@ -6,7 +6,7 @@ ghost use Rattle.program_words.specs.Refusals.{JudgesPart};
 ghost use Rattle.program_words.specs.Readings.{IsSaid};
 
 use crate::bad::BadWord;
-use crate::commands::Command;
+use crate::commands::{Command, PlaceCommand};
 use crate::line::{AHEAD, Argument, Base, CommandLine, PROGRESS};
 use crate::parts::{CopyArgs, ahead_of, copy_args, has_flag};
 use crate::place::{Place, places_or_bad};
@@ -132,7 +132,7 @@ pub fn read<'a>(alloc: Global, found: &ArgMatches<'a>, refusals: &mut Refusals) 
     let progress = has_flag(found, "progress");
     let why = has_flag(found, "why");
     let places = places_given(alloc, found, refusals);
-    Command::Follow(Follow {
+    Command::Place(PlaceCommand::Follow(Follow {
         copy,
         checkpoint,
         forks,
@@ -140,5 +140,5 @@ pub fn read<'a>(alloc: Global, found: &ArgMatches<'a>, refusals: &mut Refusals) 
         progress,
         why,
         places,
-    })
+    }))
 }

@@ -4,7 +4,7 @@ ghost use Rattle.clap.specs.Words.{found_of, rows_of};
 ghost use Rattle.program_words.specs.Refusals.{JudgesPart};
 ghost use Rattle.program_words.specs.Readings.{IsSaid};
 
-use crate::commands::Command;
+use crate::commands::{Command, ReportCommand};
 use crate::line::{Base, CommandLine};
 use crate::parts::state_args;
 use crate::refusals::Refusals;
@@ -35,5 +35,5 @@ pub fn read<'a>(found: &ArgMatches<'a>, refusals: &mut Refusals) -> Command<'a>
     ensures { JudgesPart (IsSaid (codes "forks") (rows_of (found_of found.now))) refusals.old
         refusals.new result }
 {
-    Command::Forks(state_args(found, refusals))
+    Command::Report(ReportCommand::Forks(state_args(found, refusals)))
 }

@@ -4,7 +4,7 @@ ghost use Rattle.clap.specs.Words.{found_of, rows_of};
 ghost use Rattle.program_words.specs.Refusals.{JudgesPart};
 ghost use Rattle.program_words.specs.Readings.{IsSaid};
 
-use crate::commands::Command;
+use crate::commands::{Command, StateCommand};
 use crate::line::{Argument, Base, CommandLine};
 use crate::parts::{OutputArgs, output_args, word_of};
 use crate::refusals::Refusals;
@@ -51,9 +51,9 @@ pub fn read<'a>(found: &ArgMatches<'a>, refusals: &mut Refusals) -> Command<'a>
     let mirror = output_args(found, refusals);
     let first = word_of(found, "a", refusals);
     let second = word_of(found, "b", refusals);
-    Command::Merge(Merge {
+    Command::State(StateCommand::Merge(Merge {
         mirror,
         first,
         second,
-    })
+    }))
 }

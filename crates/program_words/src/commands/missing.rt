@@ -7,7 +7,7 @@ ghost use Rattle.program_words.specs.Refusals.{JudgesPart};
 ghost use Rattle.program_words.specs.Readings.{IsSaid};
 
 use crate::bad::BadWord;
-use crate::commands::Command;
+use crate::commands::{Command, ReportCommand};
 use crate::line::{Argument, Base, CommandLine};
 use crate::parts::{StateArgs, size_of, state_args};
 use crate::refusals::Refusals;
@@ -81,5 +81,5 @@ pub fn read<'a>(found: &ArgMatches<'a>, refusals: &mut Refusals) -> Command<'a>
     let mirror = state_args(found, refusals);
     let size = size_of(found, "size", "--size", refusals);
     let root = root_of(found, refusals);
-    Command::Missing(Missing { mirror, size, root })
+    Command::Report(ReportCommand::Missing(Missing { mirror, size, root }))
 }

@@ -4,7 +4,7 @@ ghost use Rattle.clap.specs.Words.{found_of, rows_of};
 ghost use Rattle.program_words.specs.Refusals.{JudgesPart};
 ghost use Rattle.program_words.specs.Readings.{IsSaid};
 
-use crate::commands::Command;
+use crate::commands::{Command, StateCommand};
 use crate::line::{Argument, Base, CommandLine};
 use crate::parts::{StateArgs, state_args, word_of};
 use crate::refusals::Refusals;
@@ -46,5 +46,5 @@ pub fn read<'a>(found: &ArgMatches<'a>, refusals: &mut Refusals) -> Command<'a>
 {
     let mirror = state_args(found, refusals);
     let folder = word_of(found, "dir", refusals);
-    Command::Notes(Notes { mirror, folder })
+    Command::State(StateCommand::Notes(Notes { mirror, folder }))
 }

@@ -7,7 +7,7 @@ ghost use Rattle.program_words.specs.Refusals.{JudgesPart};
 ghost use Rattle.program_words.specs.Readings.{IsSaid, proof_name};
 
 use crate::bad::BadWord;
-use crate::commands::Command;
+use crate::commands::{Command, CopyCommand, ReportCommand};
 use crate::line::{Argument, Base, CommandLine};
 use crate::parts::{CopyArgs, Source, StateArgs, size_of, source_of, word_given};
 use crate::refusals::Refusals;
@@ -120,7 +120,7 @@ pub fn read<'a>(found: &ArgMatches<'a>, refusals: &mut Refusals) -> Command<'a>
     let source = source_of(found, refusals);
     let ask = ask_of(found, refusals);
     match source {
-        Source::State(mirror) => Command::Prove(Prove { mirror, ask }),
-        Source::Copy(copy) => Command::CopyProve(CopyProve { copy, ask }),
+        Source::State(mirror) => Command::Report(ReportCommand::Prove(Prove { mirror, ask })),
+        Source::Copy(copy) => Command::Copy(CopyCommand::Prove(CopyProve { copy, ask })),
     }
 }

@@ -4,7 +4,7 @@ ghost use Rattle.clap.specs.Words.{found_of, rows_of};
 ghost use Rattle.program_words.specs.Refusals.{JudgesPart};
 ghost use Rattle.program_words.specs.Readings.{IsSaid};
 
-use crate::commands::Command;
+use crate::commands::{Command, StateCommand};
 use crate::line::{AHEAD, Argument, Base, CommandLine, FIRST_STATE, PROGRESS};
 use crate::parts::{OutputArgs, ahead_of, has_flag, output_args};
 use crate::place::{Place, place_given};
@@ -96,12 +96,12 @@ pub fn read<'a>(alloc: Global, found: &ArgMatches<'a>, refusals: &mut Refusals) 
     let ahead = ahead_of(found, refusals);
     let progress = has_flag(found, "progress");
     let place = place_given(alloc, found, refusals);
-    Command::Pull(Pull {
+    Command::State(StateCommand::Pull(Pull {
         mirror,
         state,
         keep,
         ahead,
         progress,
         place,
-    })
+    }))
 }

@@ -6,7 +6,7 @@ ghost use Rattle.program_words.specs.Refusals.{JudgesPart};
 ghost use Rattle.program_words.specs.Readings.{IsSaid};
 
 use crate::bad::BadWord;
-use crate::commands::Command;
+use crate::commands::{Command, ReportCommand};
 use crate::line::{Argument, Base, CommandLine};
 use crate::parts::number_of;
 use crate::refusals::Refusals;
@@ -63,5 +63,5 @@ pub fn read<'a>(found: &ArgMatches<'a>, refusals: &mut Refusals) -> Command<'a>
         refusals.new result }
 {
     let width = width_of(found, refusals);
-    Command::Root(Root { width })
+    Command::Report(ReportCommand::Root(Root { width }))
 }

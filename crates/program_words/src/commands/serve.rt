@@ -6,7 +6,7 @@ ghost use Rattle.program_words.specs.Refusals.{JudgesPart};
 ghost use Rattle.program_words.specs.Readings.{IsSaid};
 
 use crate::bad::BadWord;
-use crate::commands::Command;
+use crate::commands::{Command, CopyCommand, ReportCommand};
 use crate::line::{Argument, Base, CommandLine};
 use crate::parts::{CopyArgs, Source, StateArgs, has_flag, number_of, size_of, source_of};
 use crate::refusals::Refusals;
@@ -92,16 +92,16 @@ pub fn read<'a>(found: &ArgMatches<'a>, refusals: &mut Refusals) -> Command<'a>
     let requests = size_of(found, "requests", "--requests", refusals);
     let why = has_flag(found, "why");
     match source {
-        Source::State(mirror) => Command::Serve(Serve {
+        Source::State(mirror) => Command::Report(ReportCommand::Serve(Serve {
             mirror,
             port,
             requests,
-        }),
-        Source::Copy(copy) => Command::CopyServe(CopyServe {
+        })),
+        Source::Copy(copy) => Command::Copy(CopyCommand::Serve(CopyServe {
             copy,
             port,
             requests,
             why,
-        }),
+        })),
     }
 }

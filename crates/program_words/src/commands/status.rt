@@ -5,7 +5,7 @@ ghost use Rattle.clap.specs.Words.{found_of, rows_of};
 ghost use Rattle.program_words.specs.Refusals.{JudgesPart};
 ghost use Rattle.program_words.specs.Readings.{IsSaid};
 
-use crate::commands::Command;
+use crate::commands::{Command, CopyCommand, ReportCommand};
 use crate::line::{Base, CommandLine};
 use crate::parts::{Source, source_of};
 use crate::refusals::Refusals;
@@ -36,7 +36,7 @@ pub fn read<'a>(found: &ArgMatches<'a>, refusals: &mut Refusals) -> Command<'a>
         refusals.new result }
 {
     match source_of(found, refusals) {
-        Source::State(args) => Command::Status(args),
-        Source::Copy(args) => Command::CopyStatus(args),
+        Source::State(args) => Command::Report(ReportCommand::Status(args)),
+        Source::Copy(args) => Command::Copy(CopyCommand::Status(args)),
     }
 }

@@ -7,7 +7,7 @@ ghost use Rattle.program_words.specs.Refusals.{JudgesPart};
 ghost use Rattle.program_words.specs.Readings.{AreFilesOf, IsSaid};
 
 use crate::bad::BadWord;
-use crate::commands::Command;
+use crate::commands::{Command, StateCommand};
 use crate::line::{Argument, Base, CommandLine, FIRST_STATE};
 use crate::number::number_in;
 use crate::parts::{OutputArgs, files_of, output_args, word_given};
@@ -197,11 +197,11 @@ pub fn read<'a>(alloc: Global, found: &ArgMatches<'a>, refusals: &mut Refusals) 
     let width = width_of(found, refusals);
     let kind = kind_given(found, refusals);
     let files = files_given(alloc, found, kind, refusals);
-    Command::Take(Take {
+    Command::State(StateCommand::Take(Take {
         mirror,
         state,
         width,
         kind,
         files,
-    })
+    }))
 }

@@ -2,16 +2,17 @@ use Rattle.std.proofs.Common.{◌∙◌, List, codes, refl}
 use Rattle.clap.specs.Words.{Row, found_of, rows_of}
 use Rattle.program_words.specs.Commands.{IsAudit, name_of}
 use Rattle.program_words.specs.Readings.{IsSaid}
-use Rattle.program_words.specs.declared.commands.Command.{Command}
 use Rattle.program_words.specs.declared.commands.Command.TheVariants as order
+use Rattle.program_words.specs.declared.commands.PlaceCommand.{PlaceCommand}
+use Rattle.program_words.specs.declared.commands.PlaceCommand.TheVariants as place
 use Rattle.program_words.specs.declared.commands.audit.Audit.{Audit}
-use Rattle.program_words.proofs.Named.{apart}
+use Rattle.program_words.proofs.Named.{apart, by_place}
 use Rattle.program_words.proofs.commands.audit.read.Goals as goal
 
 -- a command with this name
-named : (options : List Row) (command : Command) → IsSaid (codes "audit") options command → (c : Audit) × IsAudit options c
-named options (order.Audit c) said = (c, said.1)
-named options other said = absurd (apart (codes "audit") (codes "audit") (name_of other) refl said.0 refl)
+named : (options : List Row) (c : PlaceCommand) → IsSaid (codes "audit") options (order.Place c) → (c : Audit) × IsAudit options c
+named options (place.Audit c) said = (c, said.1)
+named options other said = absurd (apart (codes "audit") (codes "audit") (name_of (order.Place other)) refl said.0 refl)
 
 pub returns : goal.returns
 returns c = record {
@@ -21,7 +22,7 @@ returns c = record {
       let s0 = c.log_of-log.ensures.good s1.0 in
       (s0.0, (refl, record { log = s0.1; ahead = s1.1; progress = c.has_flag-progress.ensures; place = s2.1 }));
   bad = λ command said.
-      let m = named (rows_of (found_of c.args.found.now)) command said in
+      let m = by_place (codes "audit") refl refl refl (named (rows_of (found_of c.args.found.now))) command said in
       c.place_given-place.ensures.bad m.0.place m.1.place
       ∙ (c.ahead_of-ahead.ensures.bad m.0.ahead m.1.ahead
       ∙ (c.log_of-log.ensures.bad m.0.log m.1.log));

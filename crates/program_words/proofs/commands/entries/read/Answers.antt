@@ -4,19 +4,26 @@ use Rattle.program_words.specs.declared.commands.entries.EntryRange.{EntryRange}
 use Rattle.program_words.specs.Commands.{IsEntryRange}
 use Rattle.program_words.specs.Commands.{name_of}
 use Rattle.program_words.specs.Readings.{IsSaid, IsSource}
-use Rattle.program_words.specs.declared.commands.Command.{Command}
 use Rattle.program_words.specs.declared.commands.Command.TheVariants as order
+use Rattle.program_words.specs.declared.commands.CopyCommand.{CopyCommand}
+use Rattle.program_words.specs.declared.commands.CopyCommand.TheVariants as copy
+use Rattle.program_words.specs.declared.commands.ReportCommand.{ReportCommand}
+use Rattle.program_words.specs.declared.commands.ReportCommand.TheVariants as report
 use Rattle.program_words.specs.declared.parts.Source.{Source}
 use Rattle.program_words.specs.declared.parts.Source.TheVariants as source
-use Rattle.program_words.proofs.Named.{apart}
+use Rattle.program_words.proofs.Named.{apart, by_source}
 use Rattle.program_words.proofs.commands.entries.read.Goals as goal
 
--- the options of a command with this name
-named : (options : List Row) (command : Command) → IsSaid (codes "entries") options command →
+-- the options of the commands with this name
+over_state : (options : List Row) (c : ReportCommand) → IsSaid (codes "entries") options (order.Report c) →
     (s : Source) × IsSource options s × (range : EntryRange) × IsEntryRange options range
-named options (order.Entries c) said = (source.State c.mirror, said.1.mirror, c.range, said.1.range)
-named options (order.CopyEntries c) said = (source.Copy c.copy, said.1.copy, c.range, said.1.range)
-named options other said = absurd (apart (codes "entries") (codes "entries") (name_of other) refl said.0 refl)
+over_state options (report.Entries c) said = (source.State c.mirror, said.1.mirror, c.range, said.1.range)
+over_state options other said = absurd (apart (codes "entries") (codes "entries") (name_of (order.Report other)) refl said.0 refl)
+
+over_copy : (options : List Row) (c : CopyCommand) → IsSaid (codes "entries") options (order.Copy c) →
+    (s : Source) × IsSource options s × (range : EntryRange) × IsEntryRange options range
+over_copy options (copy.Entries c) said = (source.Copy c.copy, said.1.copy, c.range, said.1.range)
+over_copy options other said = absurd (apart (codes "entries") (codes "entries") (name_of (order.Copy other)) refl said.0 refl)
 
 pub returns-in-State : goal.returns-in-State
 returns-in-State c = record {
@@ -26,7 +33,8 @@ returns-in-State c = record {
       let args = subst (λ s. IsSource (rows_of (found_of c.args.found.now)) s) c.in-State.is s0.1 in
       (s0.0, (refl, record { mirror = args; range = s1.1 }));
   bad = λ command said.
-      let m = named (rows_of (found_of c.args.found.now)) command said in
+      let m = by_source (codes "entries") refl refl (over_state (rows_of (found_of c.args.found.now)))
+      (over_copy (rows_of (found_of c.args.found.now))) command said in
       c.range_of-range.ensures.bad m.2 m.3
       ∙ c.source_of-source.ensures.bad m.0 m.1;
 }
@@ -39,7 +47,8 @@ returns-in-Copy c = record {
       let args = subst (λ s. IsSource (rows_of (found_of c.args.found.now)) s) c.in-Copy.is s0.1 in
       (s0.0, (refl, record { copy = args; range = s1.1 }));
   bad = λ command said.
-      let m = named (rows_of (found_of c.args.found.now)) command said in
+      let m = by_source (codes "entries") refl refl (over_state (rows_of (found_of c.args.found.now)))
+      (over_copy (rows_of (found_of c.args.found.now))) command said in
       c.range_of-range.ensures.bad m.2 m.3
       ∙ c.source_of-source.ensures.bad m.0 m.1;
 }

@@ -2,17 +2,18 @@ use Rattle.std.proofs.Common.{◌∙◌, List, codes, refl, option_map}
 use Rattle.clap.specs.Words.{Row, found_of, rows_of}
 use Rattle.program_words.specs.Commands.{IsFollow, name_of}
 use Rattle.program_words.specs.Readings.{IsSaid}
-use Rattle.program_words.specs.declared.commands.Command.{Command}
 use Rattle.program_words.specs.declared.commands.Command.TheVariants as order
+use Rattle.program_words.specs.declared.commands.PlaceCommand.{PlaceCommand}
+use Rattle.program_words.specs.declared.commands.PlaceCommand.TheVariants as place
 use Rattle.program_words.specs.declared.commands.follow.Follow.{Follow}
 use Rattle.program_words.proofs.Refusing.{given_or_none}
-use Rattle.program_words.proofs.Named.{apart}
+use Rattle.program_words.proofs.Named.{apart, by_place}
 use Rattle.program_words.proofs.commands.follow.read.Goals as goal
 
 -- a command with this name
-named : (options : List Row) (command : Command) → IsSaid (codes "follow") options command → (c : Follow) × IsFollow options c
-named options (order.Follow c) said = (c, said.1)
-named options other said = absurd (apart (codes "follow") (codes "follow") (name_of other) refl said.0 refl)
+named : (options : List Row) (c : PlaceCommand) → IsSaid (codes "follow") options (order.Place c) → (c : Follow) × IsFollow options c
+named options (place.Follow c) said = (c, said.1)
+named options other said = absurd (apart (codes "follow") (codes "follow") (name_of (order.Place other)) refl said.0 refl)
 
 pub returns : goal.returns
 returns c = record {
@@ -35,7 +36,7 @@ returns c = record {
         ),
       );
   bad = λ command said.
-      let m = named (rows_of (found_of c.args.found.now)) command said in
+      let m = by_place (codes "follow") refl refl refl (named (rows_of (found_of c.args.found.now))) command said in
       c.places_given-places.ensures.bad m.0.places.items m.1.places
       ∙ (c.ahead_of-ahead.ensures.bad m.0.ahead m.1.ahead
       ∙ (c.copy_args-copy.ensures.bad m.0.copy m.1.copy));

@@ -2,16 +2,17 @@ use Rattle.std.proofs.Common.{List, codes, refl}
 use Rattle.clap.specs.Words.{Row, found_of, rows_of}
 use Rattle.program_words.specs.Commands.{IsStateArgs, name_of}
 use Rattle.program_words.specs.Readings.{IsSaid}
-use Rattle.program_words.specs.declared.commands.Command.{Command}
 use Rattle.program_words.specs.declared.commands.Command.TheVariants as order
+use Rattle.program_words.specs.declared.commands.ReportCommand.{ReportCommand}
+use Rattle.program_words.specs.declared.commands.ReportCommand.TheVariants as report
 use Rattle.program_words.specs.declared.parts.StateArgs.{StateArgs}
-use Rattle.program_words.proofs.Named.{apart}
+use Rattle.program_words.proofs.Named.{apart, by_report}
 use Rattle.program_words.proofs.commands.forks.read.Goals as goal
 
 -- a command with this name
-named : (options : List Row) (command : Command) → IsSaid (codes "forks") options command → (c : StateArgs) × IsStateArgs options c
-named options (order.Forks c) said = (c, said.1)
-named options other said = absurd (apart (codes "forks") (codes "forks") (name_of other) refl said.0 refl)
+named : (options : List Row) (c : ReportCommand) → IsSaid (codes "forks") options (order.Report c) → (c : StateArgs) × IsStateArgs options c
+named options (report.Forks c) said = (c, said.1)
+named options other said = absurd (apart (codes "forks") (codes "forks") (name_of (order.Report other)) refl said.0 refl)
 
 pub returns : goal.returns
 returns c = record {
@@ -19,6 +20,6 @@ returns c = record {
       let s0 = c.state_args.ensures.good g in
       (s0.0, (refl, s0.1));
   bad = λ command said.
-      let m = named (rows_of (found_of c.args.found.now)) command said in
+      let m = by_report (codes "forks") refl refl refl (named (rows_of (found_of c.args.found.now))) command said in
       c.state_args.ensures.bad m.0 m.1;
 }

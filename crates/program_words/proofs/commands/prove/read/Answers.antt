@@ -4,19 +4,26 @@ use Rattle.tlog_proof.specs.declared.proof.Ask.{Ask}
 use Rattle.program_words.specs.Commands.{IsAskGiven}
 use Rattle.program_words.specs.Commands.{name_of}
 use Rattle.program_words.specs.Readings.{IsSaid, IsSource}
-use Rattle.program_words.specs.declared.commands.Command.{Command}
 use Rattle.program_words.specs.declared.commands.Command.TheVariants as order
+use Rattle.program_words.specs.declared.commands.CopyCommand.{CopyCommand}
+use Rattle.program_words.specs.declared.commands.CopyCommand.TheVariants as copy
+use Rattle.program_words.specs.declared.commands.ReportCommand.{ReportCommand}
+use Rattle.program_words.specs.declared.commands.ReportCommand.TheVariants as report
 use Rattle.program_words.specs.declared.parts.Source.{Source}
 use Rattle.program_words.specs.declared.parts.Source.TheVariants as source
-use Rattle.program_words.proofs.Named.{apart}
+use Rattle.program_words.proofs.Named.{apart, by_source}
 use Rattle.program_words.proofs.commands.prove.read.Goals as goal
 
--- the options of a command with this name
-named : (options : List Row) (command : Command) → IsSaid (codes "prove") options command →
+-- the options of the commands with this name
+over_state : (options : List Row) (c : ReportCommand) → IsSaid (codes "prove") options (order.Report c) →
     (s : Source) × IsSource options s × (ask : Ask) × IsAskGiven options ask
-named options (order.Prove c) said = (source.State c.mirror, said.1.mirror, c.ask, said.1.ask)
-named options (order.CopyProve c) said = (source.Copy c.copy, said.1.copy, c.ask, said.1.ask)
-named options other said = absurd (apart (codes "prove") (codes "prove") (name_of other) refl said.0 refl)
+over_state options (report.Prove c) said = (source.State c.mirror, said.1.mirror, c.ask, said.1.ask)
+over_state options other said = absurd (apart (codes "prove") (codes "prove") (name_of (order.Report other)) refl said.0 refl)
+
+over_copy : (options : List Row) (c : CopyCommand) → IsSaid (codes "prove") options (order.Copy c) →
+    (s : Source) × IsSource options s × (ask : Ask) × IsAskGiven options ask
+over_copy options (copy.Prove c) said = (source.Copy c.copy, said.1.copy, c.ask, said.1.ask)
+over_copy options other said = absurd (apart (codes "prove") (codes "prove") (name_of (order.Copy other)) refl said.0 refl)
 
 pub returns-in-State : goal.returns-in-State
 returns-in-State c = record {
@@ -26,7 +33,8 @@ returns-in-State c = record {
       let args = subst (λ s. IsSource (rows_of (found_of c.args.found.now)) s) c.in-State.is s0.1 in
       (s0.0, (refl, record { mirror = args; ask = s1.1 }));
   bad = λ command said.
-      let m = named (rows_of (found_of c.args.found.now)) command said in
+      let m = by_source (codes "prove") refl refl (over_state (rows_of (found_of c.args.found.now)))
+      (over_copy (rows_of (found_of c.args.found.now))) command said in
       c.ask_of-ask.ensures.bad m.2 m.3
       ∙ c.source_of-source.ensures.bad m.0 m.1;
 }
@@ -39,7 +47,8 @@ returns-in-Copy c = record {
       let args = subst (λ s. IsSource (rows_of (found_of c.args.found.now)) s) c.in-Copy.is s0.1 in
       (s0.0, (refl, record { copy = args; ask = s1.1 }));
   bad = λ command said.
-      let m = named (rows_of (found_of c.args.found.now)) command said in
+      let m = by_source (codes "prove") refl refl (over_state (rows_of (found_of c.args.found.now)))
+      (over_copy (rows_of (found_of c.args.found.now))) command said in
       c.ask_of-ask.ensures.bad m.2 m.3
       ∙ c.source_of-source.ensures.bad m.0 m.1;
 }

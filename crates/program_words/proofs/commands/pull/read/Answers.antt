@@ -2,17 +2,18 @@ use Rattle.std.proofs.Common.{◌∙◌, List, codes, refl, option_map}
 use Rattle.clap.specs.Words.{Row, found_of, rows_of}
 use Rattle.program_words.specs.Commands.{IsPull, name_of}
 use Rattle.program_words.specs.Readings.{IsSaid}
-use Rattle.program_words.specs.declared.commands.Command.{Command}
 use Rattle.program_words.specs.declared.commands.Command.TheVariants as order
+use Rattle.program_words.specs.declared.commands.StateCommand.{StateCommand}
+use Rattle.program_words.specs.declared.commands.StateCommand.TheVariants as state
 use Rattle.program_words.specs.declared.commands.pull.Pull.{Pull}
 use Rattle.program_words.proofs.Refusing.{given_or_none}
-use Rattle.program_words.proofs.Named.{apart}
+use Rattle.program_words.proofs.Named.{apart, by_state}
 use Rattle.program_words.proofs.commands.pull.read.Goals as goal
 
 -- a command with this name
-named : (options : List Row) (command : Command) → IsSaid (codes "pull") options command → (c : Pull) × IsPull options c
-named options (order.Pull c) said = (c, said.1)
-named options other said = absurd (apart (codes "pull") (codes "pull") (name_of other) refl said.0 refl)
+named : (options : List Row) (c : StateCommand) → IsSaid (codes "pull") options (order.State c) → (c : Pull) × IsPull options c
+named options (state.Pull c) said = (c, said.1)
+named options other said = absurd (apart (codes "pull") (codes "pull") (name_of (order.State other)) refl said.0 refl)
 
 pub returns : goal.returns
 returns c = record {
@@ -34,7 +35,7 @@ returns c = record {
         ),
       );
   bad = λ command said.
-      let m = named (rows_of (found_of c.args.found.now)) command said in
+      let m = by_state (codes "pull") refl refl refl (named (rows_of (found_of c.args.found.now))) command said in
       c.place_given-place.ensures.bad m.0.place m.1.place
       ∙ (c.ahead_of-ahead.ensures.bad m.0.ahead m.1.ahead
       ∙ (c.output_args-mirror.ensures.bad m.0.mirror m.1.mirror));

@@ -2,19 +2,26 @@ use Rattle.std.proofs.Common.{List, codes, refl, subst}
 use Rattle.clap.specs.Words.{Row, found_of, rows_of}
 use Rattle.program_words.specs.Commands.{name_of}
 use Rattle.program_words.specs.Readings.{IsSaid, IsSource}
-use Rattle.program_words.specs.declared.commands.Command.{Command}
 use Rattle.program_words.specs.declared.commands.Command.TheVariants as order
+use Rattle.program_words.specs.declared.commands.CopyCommand.{CopyCommand}
+use Rattle.program_words.specs.declared.commands.CopyCommand.TheVariants as copy
+use Rattle.program_words.specs.declared.commands.ReportCommand.{ReportCommand}
+use Rattle.program_words.specs.declared.commands.ReportCommand.TheVariants as report
 use Rattle.program_words.specs.declared.parts.Source.{Source}
 use Rattle.program_words.specs.declared.parts.Source.TheVariants as source
-use Rattle.program_words.proofs.Named.{apart}
+use Rattle.program_words.proofs.Named.{apart, by_source}
 use Rattle.program_words.proofs.commands.status.read.Goals as goal
 
--- the options of a command with this name
-named : (options : List Row) (command : Command) → IsSaid (codes "status") options command →
+-- the options of the commands with this name
+over_state : (options : List Row) (c : ReportCommand) → IsSaid (codes "status") options (order.Report c) →
     (s : Source) × IsSource options s
-named options (order.Status c) said = (source.State c, said.1)
-named options (order.CopyStatus c) said = (source.Copy c, said.1)
-named options other said = absurd (apart (codes "status") (codes "status") (name_of other) refl said.0 refl)
+over_state options (report.Status c) said = (source.State c, said.1)
+over_state options other said = absurd (apart (codes "status") (codes "status") (name_of (order.Report other)) refl said.0 refl)
+
+over_copy : (options : List Row) (c : CopyCommand) → IsSaid (codes "status") options (order.Copy c) →
+    (s : Source) × IsSource options s
+over_copy options (copy.Status c) said = (source.Copy c, said.1)
+over_copy options other said = absurd (apart (codes "status") (codes "status") (name_of (order.Copy other)) refl said.0 refl)
 
 pub returns-in-State : goal.returns-in-State
 returns-in-State c = record {
@@ -23,7 +30,8 @@ returns-in-State c = record {
       let args = subst (λ s. IsSource (rows_of (found_of c.args.found.now)) s) c.in-State.is s0.1 in
       (s0.0, (refl, args));
   bad = λ command said.
-      let m = named (rows_of (found_of c.args.found.now)) command said in
+      let m = by_source (codes "status") refl refl (over_state (rows_of (found_of c.args.found.now)))
+      (over_copy (rows_of (found_of c.args.found.now))) command said in
       c.source_of.ensures.bad m.0 m.1;
 }
 
@@ -34,6 +42,7 @@ returns-in-Copy c = record {
       let args = subst (λ s. IsSource (rows_of (found_of c.args.found.now)) s) c.in-Copy.is s0.1 in
       (s0.0, (refl, args));
   bad = λ command said.
-      let m = named (rows_of (found_of c.args.found.now)) command said in
+      let m = by_source (codes "status") refl refl (over_state (rows_of (found_of c.args.found.now)))
+      (over_copy (rows_of (found_of c.args.found.now))) command said in
       c.source_of.ensures.bad m.0 m.1;
 }

@@ -3,17 +3,18 @@ use Rattle.std.proofs.lemmas.List.{length-map}
 use Rattle.clap.specs.Words.{Row, found_of, rows_of}
 use Rattle.program_words.specs.Commands.{IsCount, IsTake, name_of}
 use Rattle.program_words.specs.Readings.{IsSaid}
-use Rattle.program_words.specs.declared.commands.Command.{Command}
 use Rattle.program_words.specs.declared.commands.Command.TheVariants as order
+use Rattle.program_words.specs.declared.commands.StateCommand.{StateCommand}
+use Rattle.program_words.specs.declared.commands.StateCommand.TheVariants as state
 use Rattle.program_words.specs.declared.commands.take.Take.{Take}
 use Rattle.program_words.proofs.Refusing.{given_or_none}
-use Rattle.program_words.proofs.Named.{apart}
+use Rattle.program_words.proofs.Named.{apart, by_state}
 use Rattle.program_words.proofs.commands.take.read.Goals as goal
 
 -- a command with this name
-named : (options : List Row) (command : Command) → IsSaid (codes "take") options command → (c : Take) × IsTake options c
-named options (order.Take c) said = (c, said.1)
-named options other said = absurd (apart (codes "take") (codes "take") (name_of other) refl said.0 refl)
+named : (options : List Row) (c : StateCommand) → IsSaid (codes "take") options (order.State c) → (c : Take) × IsTake options c
+named options (state.Take c) said = (c, said.1)
+named options other said = absurd (apart (codes "take") (codes "take") (name_of (order.State other)) refl said.0 refl)
 
 pub returns : goal.returns
 returns c = record {
@@ -36,7 +37,7 @@ returns c = record {
         ),
       );
   bad = λ command said.
-      let m = named (rows_of (found_of c.args.found.now)) command said in
+      let m = by_state (codes "take") refl refl refl (named (rows_of (found_of c.args.found.now))) command said in
       let same = c.kind_given-kind.ensures.one m.0.kind m.1.kind in
       let count = subst (λ n. IsCount c.kind_given-kind.result n) (sym (length-map m.0.files.items (λ f. f.now)))
       (subst (λ k. IsCount k (length m.0.files.items)) (sym same) m.1.count) in
