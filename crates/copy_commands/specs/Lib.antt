@@ -2,3 +2,4 @@ pub mod Faults
 pub mod Asks
 pub mod Entries
 pub mod Serve
+pub mod Commands

@@ -14,7 +14,8 @@ use Rattle.program_words.specs.Spelling.{IsNumberIn}
 use Rattle.program_parser.specs.Program.{AsksFor, faults, mirror_app}
 use Rattle.program_words.specs.Commands.{Says, name_of}
 use Rattle.program_parser.specs.Laws.{IsOneOf, LawfulWordsName, WordsAskForOneName, command_names}
-use Rattle.program_words.specs.declared.commands.Command.TheVariants.{Root, Check}
+use Rattle.program_words.specs.declared.commands.Command.TheVariants.{Report}
+use Rattle.program_words.specs.declared.commands.ReportCommand.TheVariants.{Root, Check}
 
 abbrev pub root_words : Text → List Text
 root_words width = codes "root" ∷ codes "--width" ∷ width ∷ []
@@ -23,12 +24,12 @@ root_lawful : faults (root_words (codes "200")) ≡ []
 unfolding clap_on_literals
 root_lawful = refl
 
-root_is : (n : ℕ) → IsNumberIn 0 256 n (codes "200") → AsksFor (root_words (codes "200")) (Root (record { width = n }))
+root_is : (n : ℕ) → IsNumberIn 0 256 n (codes "200") → AsksFor (root_words (codes "200")) (Report (Root (record { width = n })))
 unfolding clap_on_literals
 root_is n w =
     (_, record { lawful = root_lawful; named = refl }, w)
 
-pub root_asked : AsksFor (root_words (codes "200")) (Root (record { width = 200 }))
+pub root_asked : AsksFor (root_words (codes "200")) (Report (Root (record { width = 200 })))
 root_asked = root_is 200 (record {
   number = decimal_here (codes "200") (lit< tt) refl (λ two zero. cc);
   least_is = lit≤ tt;
@@ -43,7 +44,7 @@ check_named : subcommand_of mirror_app (codes "check" ∷ []) ≡ Some (codes "c
 unfolding clap_on_literals
 check_named = refl
 
-pub check_asked : AsksFor (codes "check" ∷ []) Check
+pub check_asked : AsksFor (codes "check" ∷ []) (Report Check)
 check_asked = ([], record { lawful = check_lawful; named = check_named }, tt)
 
 pub no_width : faults (codes "root" ∷ []) ≡ kind.MissingRequiredArgument ∷ []

@@ -13,7 +13,7 @@ use program_words::commands::{
     audit, build, check, compare, entries, export, follow, forks, merge, missing, notes, prove,
     pull, root, serve, status, take,
 };
-use program_words::{BadWord, Command, Refusals};
+use program_words::{BadWord, Command, Refusals, ReportCommand};
 use std::alloc::{AllocError, Global};
 
 // The parser of the program, with the first of its commands: in three parts they are checked in less time than at once.
@@ -119,7 +119,7 @@ fn third_command<'a>(name: &str, found: &ArgMatches<'a>, refusals: &mut Refusals
         // It never gets here: words in which `clap` finds no fault name a command.
         _ => {
             refusals.note(BadWord::new("COMMAND", "one of those of the help is due"));
-            Command::Check
+            Command::Report(ReportCommand::Check)
         }
     }
 }

@@ -7,13 +7,14 @@ ghost use Rattle.clap.specs.declared.error.kind.ErrorKind.TheVariants.{
 };
 ghost use Rattle.program_parser.specs.Program.{AsksFor, faults};
 ghost use Rattle.program_parser.specs.Laws.{LawfulWordsName, WordsAskForOneName};
-ghost use Rattle.program_words.specs.declared.commands.Command.TheVariants.{Root, Check};
+ghost use Rattle.program_words.specs.declared.commands.Command.TheVariants.{Report};
+ghost use Rattle.program_words.specs.declared.commands.ReportCommand.TheVariants.{Root, Check};
 
 /// Some command lines and their commands.
 pub fn words_example()
     ensures root { AsksFor (codes "root" ∷ codes "--width" ∷ codes "200" ∷ [])
-        (Root (record { width = 200 })) }
-    ensures check { AsksFor (codes "check" ∷ []) Check }
+        (Report (Root (record { width = 200 }))) }
+    ensures check { AsksFor (codes "check" ∷ []) (Report Check) }
     ensures no_width { faults (codes "root" ∷ []) ≡ MissingRequiredArgument ∷ [] }
     ensures help { faults (codes "root" ∷ codes "--help" ∷ []) ≡ DisplayHelp ∷ [] }
     ensures version { faults (codes "--version" ∷ []) ≡ DisplayVersion ∷ [] }

@@ -5,7 +5,7 @@
 //!
 //! ```text
 //! match read_line(alloc, &words)?.command? {
-//!     Command::Root(root) => run_root(alloc, root.width, input, output)?,
+//!     Command::Report(ReportCommand::Root(root)) => run_root(alloc, root.width, input, output)?,
 //!     ..
 //! }
 //! ```

@@ -95,7 +95,7 @@ pub struct Line<'a> {
 /// have bad values, so that the key file is read before these are refused.
 ///
 /// ```text
-/// read_line(alloc, &words)?.command   // Ok(Command::Check)
+/// read_line(alloc, &words)?.command   // Ok(Command::Report(ReportCommand::Check))
 /// ```
 ///
 /// # Errors

@@ -5,3 +5,4 @@ pub mod Asks
 pub mod Compare
 pub mod Entries
 pub mod Serve
+pub mod Commands

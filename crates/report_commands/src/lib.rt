@@ -1,21 +1,68 @@
 //! The commands of `tlogmirror` that print what a state, a proof or a bundle says: one module for each command.
 //!
 //! ```text
-//! report_commands::status::run(&mut env, &keys, &words)? // 0, or 3 if nothing is served
+//! report_commands::run(&mut env, &keys, &command)? // 0, or 3 if nothing is served
 //! ```
 #![tactic(auto)]
+ghost use Rattle.std.specs.Prelude.{map};
+ghost use Rattle.sha2.specs.Sha256.{sha256};
+ghost use Rattle.program_env.specs.Envs.{IsSameEnv, moment};
+ghost use Rattle.program_env.specs.Performing.{Ends};
+ghost use Rattle.report_commands.specs.Commands.{ExecutesReport, IsReportDoable};
+ghost use Rattle.report_commands.specs.Faults.{IsLate};
 
 mod ask;
-pub mod check;
+mod check;
 mod clients;
-pub mod compare;
-pub mod entries;
+mod compare;
+mod entries;
 mod fault;
-pub mod forks;
-pub mod missing;
-pub mod prove;
-pub mod root;
-pub mod serve;
-pub mod status;
+mod forks;
+mod missing;
+mod prove;
+mod root;
+mod serve;
+mod status;
 
 pub use fault::{Error, ReportRunFault};
+
+use program_env::Env;
+use program_whys::{RunFiles, RunFolders};
+use program_words::ReportCommand;
+use signed_note::Verifier;
+use std::io::{Read, Write};
+use std::net::{Net, TcpListener, TcpStream};
+use std::rt::Clock;
+
+/// Carries out the command, and returns the exit status: 0, or 3 for no.
+///
+/// # Errors
+///
+/// Those of the command, each with the thing that it is about. After a late one (`IsLate`) text may have been written.
+pub fn run<R, F: RunFiles, D: RunFolders, I: Read, O: Write, E: Write>(
+    env: &mut Env<'_, '_, '_, '_, R, F, D, I, O, E>,
+    keys: &[Box<dyn Verifier>],
+    command: &ReportCommand<'_>,
+) -> Result<u8, Error>
+where
+    R: Clock + Net<Stream = TcpStream, Listener = TcpListener>,
+    requires { IsReportDoable command.now }
+    ensures same { IsSameEnv env.old env.new }
+    ensures does { ExecutesReport sha256 (map (λ k. key k) keys.now)
+        (moment F.puts D.held D.puts I.remaining O.contents env.old)
+        (moment F.puts D.held D.puts I.remaining O.contents env.new) command.now result }
+    ensures ends { Ends IsLate (O.contents env.old.output.now) (O.contents env.new.output.now)
+        result }
+{
+    match command {
+        ReportCommand::Root(root) => root::run(env, keys, root),
+        ReportCommand::Check => check::run(env, keys),
+        ReportCommand::Status(status) => status::run(env, keys, status),
+        ReportCommand::Missing(missing) => missing::run(env, keys, missing),
+        ReportCommand::Forks(forks) => forks::run(env, keys, forks),
+        ReportCommand::Compare(compare) => compare::run(env, keys, compare),
+        ReportCommand::Prove(prove) => prove::run(env, keys, prove),
+        ReportCommand::Entries(entries) => entries::run(env, keys, entries),
+        ReportCommand::Serve(serve) => serve::run(env, keys, serve),
+    }
+}

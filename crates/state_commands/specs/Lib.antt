@@ -5,3 +5,4 @@ pub mod Merge
 pub mod Pulls
 pub mod Export
 pub mod Notes
+pub mod Commands
