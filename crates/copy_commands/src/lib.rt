@@ -4,6 +4,7 @@
 //! copy_commands::run(&mut env, &keys, &command)? // 0, or 3 if nothing is served
 //! ```
 #![tactic(auto)]
+
 ghost use Rattle.std.specs.Prelude.{map};
 ghost use Rattle.sha2.specs.Sha256.{sha256};
 ghost use Rattle.program_env.specs.Envs.{IsSameEnv, moment};
@@ -20,7 +21,6 @@ mod serve;
 mod status;
 
 pub use fault::{CopyRunFault, Error};
-
 use program_env::Env;
 use program_whys::{RunFiles, RunFolders};
 use program_words::CopyCommand;

@@ -4,6 +4,8 @@ use Rattle.program_parser.specs.Program.{AsksFor}
 use Rattle.program_words.specs.Commands.{IsCount, IsNumberGiven, IsTakeWidth}
 use Rattle.program_words.specs.declared.commands.Command.{Command as Order}
 use Rattle.program_words.specs.declared.commands.Command.TheVariants as order
+use Rattle.program_words.specs.declared.commands.ReportCommand.TheVariants as report
+use Rattle.program_words.specs.declared.commands.StateCommand.TheVariants as state
 use Rattle.program_words.specs.declared.commands.take.Kind.{Kind}
 use Rattle.program_words.specs.declared.commands.take.Kind.TheVariants as kind
 use Rattle.program_library.specs.Commands.{IsDoable}
@@ -22,8 +24,8 @@ some_file kind.Tile count h = omega (arith, h)
 some_file kind.Bundle count h = omega (arith, h)
 
 pub asked_doable : (words : List (List ℕ)) (c : Order) → AsksFor words c → IsDoable c
-asked_doable words (order.Root c) h = most_given 0 256 _ c.width h.2
-asked_doable words (order.Take c) h =
+asked_doable words (order.Report (report.Root c)) h = most_given 0 256 _ c.width h.2
+asked_doable words (order.State (state.Take c)) h =
     let width = take_width _ c.width h.2.width in
     (width.0, width.1, some_file c.kind (length c.files.items) h.2.count)
 asked_doable words other h = tt

@@ -1,10 +1,7 @@
--- The commands of each crate, as commands of a run.
-use Rattle.std.proofs.Common.{◌≡◌, ℕ, List, Result, Ok, Err}
+-- The answers of each crate of commands, as those of a run.
+use Rattle.std.proofs.Common.{◌≡◌, ℕ, List, Option, Result, Ok, Err}
 use Rattle.std.specs.Result.{result_map_both}
-use Rattle.signed_note.specs.Keys.{Key}
-use Rattle.program_words.specs.declared.commands.Command.{Command as Order}
-use Rattle.program_env.specs.Moment.{Moment}
-use Rattle.program_env.specs.Performing.{Performs}
+use Rattle.program_env.specs.Performing.{Ends}
 use Rattle.state_commands.specs.declared.fault.StateRunFault.{StateRunFault}
 use Rattle.state_commands.specs.Faults.{IsLate as IsStateLate}
 use Rattle.report_commands.specs.declared.fault.ReportRunFault.{ReportRunFault}
@@ -13,82 +10,48 @@ use Rattle.copy_commands.specs.declared.fault.CopyRunFault.{CopyRunFault}
 use Rattle.copy_commands.specs.Faults.{IsLate as IsCopyLate}
 use Rattle.place_commands.specs.declared.fault.PlaceRunFault.{PlaceRunFault}
 use Rattle.place_commands.specs.Faults.{IsLate as IsPlaceLate}
-use Rattle.program_library.specs.Commands.{ByCopy, ByPlace, ByReport, ByState, Executes, LeavesFiles, LeavesFolders}
-use Rattle.program_library.specs.Commands.{RunsOrder}
+use Rattle.program_library.specs.Commands.{ByCopy, ByPlace, ByReport, ByState, IsWriteFault}
 use Rattle.program_library.specs.declared.fault.RunFault.{RunFault}
 use Rattle.program_library.specs.declared.fault.RunFault.TheVariants.{Copy, Place, Report, State}
 
-module _ {C : Type 0} (Leaves : Moment → Moment → Type 0) (digest : List ℕ → List ℕ) (keys : List Key)
-    (key_bytes : List ℕ) (old new : Moment) (words : C) (c : Order)
-    (leaves : Leaves old new → LeavesFiles c old.files new.files × LeavesFolders c old.puts new.puts) where
-  pub by_state : (Does : (List ℕ → List ℕ) → List Key → Moment → Moment → C → Result ℕ StateRunFault → Type 0) →
-      ((answer : Result ℕ RunFault) → ByState (Does digest keys old new words) answer →
-      Executes digest keys key_bytes old new c answer) → (was : Result ℕ StateRunFault) →
-      Performs Does IsStateLate Leaves digest keys old new words was → (is : Result ℕ RunFault) →
-      is ≡ result_map_both (λ status. status) (λ fault. State fault) was → RunsOrder digest keys key_bytes old new c is
-  by_state Does executes (Ok status) h is same = rw same (record {
-    done = executes (Ok status) h.done;
-    files = (leaves h.leaves).0;
-    folders = (leaves h.leaves).1;
-    ends = record { status = h.ends.status; quiet = tt };
-  })
-  by_state Does executes (Err fault) h is same = rw same (record {
-    done = executes (Err (State fault)) h.done;
-    files = (leaves h.leaves).0;
-    folders = (leaves h.leaves).1;
-    ends = record { status = tt; quiet = h.ends.quiet };
-  })
+module _ (is : Result ℕ RunFault) where
+  pub by_state : (Does : Result ℕ StateRunFault → Type 0) (was : Result ℕ StateRunFault) →
+      is ≡ result_map_both (λ status. status) (λ fault. State fault) was → Does was → ByState Does is
+  by_state Does (Ok status) same h = rw same h
+  by_state Does (Err fault) same h = rw same h
 
-  pub by_report : (Does : (List ℕ → List ℕ) → List Key → Moment → Moment → C → Result ℕ ReportRunFault → Type 0) →
-      ((answer : Result ℕ RunFault) → ByReport (Does digest keys old new words) answer →
-      Executes digest keys key_bytes old new c answer) → (was : Result ℕ ReportRunFault) →
-      Performs Does IsReportLate Leaves digest keys old new words was → (is : Result ℕ RunFault) →
-      is ≡ result_map_both (λ status. status) (λ fault. Report fault) was → RunsOrder digest keys key_bytes old new c is
-  by_report Does executes (Ok status) h is same = rw same (record {
-    done = executes (Ok status) h.done;
-    files = (leaves h.leaves).0;
-    folders = (leaves h.leaves).1;
-    ends = record { status = h.ends.status; quiet = tt };
-  })
-  by_report Does executes (Err fault) h is same = rw same (record {
-    done = executes (Err (Report fault)) h.done;
-    files = (leaves h.leaves).0;
-    folders = (leaves h.leaves).1;
-    ends = record { status = tt; quiet = h.ends.quiet };
-  })
+  pub by_report : (Does : Result ℕ ReportRunFault → Type 0) (was : Result ℕ ReportRunFault) →
+      is ≡ result_map_both (λ status. status) (λ fault. Report fault) was → Does was → ByReport Does is
+  by_report Does (Ok status) same h = rw same h
+  by_report Does (Err fault) same h = rw same h
 
-  pub by_copy : (Does : (List ℕ → List ℕ) → List Key → Moment → Moment → C → Result ℕ CopyRunFault → Type 0) →
-      ((answer : Result ℕ RunFault) → ByCopy (Does digest keys old new words) answer →
-      Executes digest keys key_bytes old new c answer) → (was : Result ℕ CopyRunFault) →
-      Performs Does IsCopyLate Leaves digest keys old new words was → (is : Result ℕ RunFault) →
-      is ≡ result_map_both (λ status. status) (λ fault. Copy fault) was → RunsOrder digest keys key_bytes old new c is
-  by_copy Does executes (Ok status) h is same = rw same (record {
-    done = executes (Ok status) h.done;
-    files = (leaves h.leaves).0;
-    folders = (leaves h.leaves).1;
-    ends = record { status = h.ends.status; quiet = tt };
-  })
-  by_copy Does executes (Err fault) h is same = rw same (record {
-    done = executes (Err (Copy fault)) h.done;
-    files = (leaves h.leaves).0;
-    folders = (leaves h.leaves).1;
-    ends = record { status = tt; quiet = h.ends.quiet };
-  })
+  pub by_copy : (Does : Result ℕ CopyRunFault → Type 0) (was : Result ℕ CopyRunFault) →
+      is ≡ result_map_both (λ status. status) (λ fault. Copy fault) was → Does was → ByCopy Does is
+  by_copy Does (Ok status) same h = rw same h
+  by_copy Does (Err fault) same h = rw same h
 
-  pub by_place : (Does : (List ℕ → List ℕ) → List Key → Moment → Moment → C → Result ℕ PlaceRunFault → Type 0) →
-      ((answer : Result ℕ RunFault) → ByPlace (Does digest keys old new words) answer →
-      Executes digest keys key_bytes old new c answer) → (was : Result ℕ PlaceRunFault) →
-      Performs Does IsPlaceLate Leaves digest keys old new words was → (is : Result ℕ RunFault) →
-      is ≡ result_map_both (λ status. status) (λ fault. Place fault) was → RunsOrder digest keys key_bytes old new c is
-  by_place Does executes (Ok status) h is same = rw same (record {
-    done = executes (Ok status) h.done;
-    files = (leaves h.leaves).0;
-    folders = (leaves h.leaves).1;
-    ends = record { status = h.ends.status; quiet = tt };
-  })
-  by_place Does executes (Err fault) h is same = rw same (record {
-    done = executes (Err (Place fault)) h.done;
-    files = (leaves h.leaves).0;
-    folders = (leaves h.leaves).1;
-    ends = record { status = tt; quiet = h.ends.quiet };
-  })
+  pub by_place : (Does : Result ℕ PlaceRunFault → Type 0) (was : Result ℕ PlaceRunFault) →
+      is ≡ result_map_both (λ status. status) (λ fault. Place fault) was → Does was → ByPlace Does is
+  by_place Does (Ok status) same h = rw same h
+  by_place Does (Err fault) same h = rw same h
+
+  module _ (old new : Option (List ℕ)) where
+    pub ends_state : (was : Result ℕ StateRunFault) → is ≡ result_map_both (λ status. status) (λ fault. State fault) was →
+        Ends IsStateLate old new was → Ends IsWriteFault old new is
+    ends_state (Ok status) same h = rw same (record { status = h.status; quiet = tt })
+    ends_state (Err fault) same h = rw same (record { status = tt; quiet = h.quiet })
+
+    pub ends_report : (was : Result ℕ ReportRunFault) → is ≡ result_map_both (λ status. status) (λ fault. Report fault) was →
+        Ends IsReportLate old new was → Ends IsWriteFault old new is
+    ends_report (Ok status) same h = rw same (record { status = h.status; quiet = tt })
+    ends_report (Err fault) same h = rw same (record { status = tt; quiet = h.quiet })
+
+    pub ends_copy : (was : Result ℕ CopyRunFault) → is ≡ result_map_both (λ status. status) (λ fault. Copy fault) was →
+        Ends IsCopyLate old new was → Ends IsWriteFault old new is
+    ends_copy (Ok status) same h = rw same (record { status = h.status; quiet = tt })
+    ends_copy (Err fault) same h = rw same (record { status = tt; quiet = h.quiet })
+
+    pub ends_place : (was : Result ℕ PlaceRunFault) → is ≡ result_map_both (λ status. status) (λ fault. Place fault) was →
+        Ends IsPlaceLate old new was → Ends IsWriteFault old new is
+    ends_place (Ok status) same h = rw same (record { status = h.status; quiet = tt })
+    ends_place (Err fault) same h = rw same (record { status = tt; quiet = h.quiet })

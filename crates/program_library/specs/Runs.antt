@@ -18,7 +18,7 @@ use Rattle.program_library.specs.declared.fault.RunFault.{RunFault}
 use Rattle.program_library.specs.declared.fault.RunFault.TheVariants.{Command, KeyFile, KeyLines}
 use Rattle.program_library.specs.declared.fault.RunFault.TheVariants.{OutOfMemory}
 use Rattle.program_env.specs.Moment.{Moment}
-use Rattle.program_library.specs.Commands.{Executes, LeavesFiles, LeavesFolders}
+use Rattle.program_library.specs.Commands.{Executes}
 
 module _ (digest : List ℕ → List ℕ) (keys : List Key) (key_bytes : List ℕ) (words : List (List ℕ))
     (old new : Moment) where
@@ -27,8 +27,6 @@ module _ (digest : List ℕ → List ℕ) (keys : List Key) (key_bytes : List �
     pub command : Order
     pub asked : AsksFor words command
     pub done : Executes digest keys key_bytes old new command answer
-    pub files : LeavesFiles command old.files new.files
-    pub folders : LeavesFolders command old.puts new.puts
 
   -- the words are those of no command: the answer says so, nothing was written, and no file was changed
   pub record RefusesWords (answer : Result ℕ RunFault) : Type 0 where

@@ -1,4 +1,4 @@
-//! The list of the commands.
+//! The list of the groups of commands.
 ghost use Rattle.std.specs.Prelude.{◌≡◌};
 ghost use Rattle.std.specs.Result.{result_map_both};
 
@@ -6,13 +6,10 @@ use crate::fault::{Error, RunFault};
 use crate::keys::{Keys, key_lines};
 use crate::run_env::{RunEnv, WatchedEnv};
 use note_keys::KeyLine;
-use place_commands::{audit, follow};
 use program_env::Env;
 use program_whys::why::{FailedStreams, Why, print_why};
 use program_whys::{Failing, RunFiles, RunFolders};
 use program_words::Command;
-use report_commands::{check, compare, entries, forks, missing, prove, root, serve, status};
-use state_commands::{build, export, merge, notes, pull, take};
 use std::alloc::Global;
 use std::fs::Files;
 use std::io::{Read, Write};
@@ -46,35 +43,10 @@ where
         // Read once: each read in an arm costs the checker as much as the call.
         let (bytes, verifiers) = (keys.bytes, keys.verifiers);
         match command {
-            Command::Root(root) => of_report(root::run(self, verifiers, root)),
-            Command::Check => of_report(check::run(self, verifiers)),
-            Command::Build(build) => of_state(build::run(self, bytes, verifiers, build)),
-            Command::Take(take) => of_state(take::run(self, verifiers, take)),
-            Command::Merge(merge) => of_state(merge::run(self, verifiers, merge)),
-            Command::Pull(pull) => of_state(pull::run(self, verifiers, pull)),
-            Command::Follow(follow) => of_place(follow::run(self, verifiers, follow)),
-            Command::Audit(audit) => of_place(audit::run(self, verifiers, audit)),
-            Command::Status(status) => of_report(status::run(self, verifiers, status)),
-            Command::CopyStatus(status) => of_copy(copy_commands::status::run(
-                self, verifiers, status,
-            )),
-            Command::Missing(missing) => of_report(missing::run(self, verifiers, missing)),
-            Command::Forks(forks) => of_report(forks::run(self, verifiers, forks)),
-            Command::Compare(compare) => of_report(compare::run(self, verifiers, compare)),
-            Command::CopyCompare(compare) => of_copy(copy_commands::compare::run(
-                self, verifiers, compare,
-            )),
-            Command::Prove(prove) => of_report(prove::run(self, verifiers, prove)),
-            Command::CopyProve(prove) => of_copy(copy_commands::prove::run(self, verifiers, prove)),
-            Command::Entries(entries) => of_report(entries::run(self, verifiers, entries)),
-            Command::CopyEntries(entries) => of_copy(copy_commands::entries::run(
-                self, verifiers, entries,
-            )),
-            Command::Export(export) => of_state(export::run(self, verifiers, export)),
-            Command::Update(update) => of_state(export::run_with_update(self, verifiers, update)),
-            Command::Notes(notes) => of_state(notes::run(self, verifiers, notes)),
-            Command::Serve(serve) => of_report(serve::run(self, verifiers, serve)),
-            Command::CopyServe(serve) => of_copy(copy_commands::serve::run(self, verifiers, serve)),
+            Command::State(state) => of_state(state_commands::run(self, bytes, verifiers, state)),
+            Command::Report(report) => of_report(report_commands::run(self, verifiers, report)),
+            Command::Copy(copy) => of_copy(copy_commands::run(self, verifiers, copy)),
+            Command::Place(place) => of_place(place_commands::run(self, verifiers, place)),
         }
     }
 

@@ -12,7 +12,8 @@ pub trait RunEnv {
     ghost use Rattle.std.specs.Prelude.{◌≡◌, ℕ, map, option_map};
     ghost use Rattle.tlog_text.specs.Answers.{seen};
     ghost use Rattle.sha2.specs.Sha256.{sha256};
-    ghost use Rattle.program_library.specs.Commands.{IsDoable, RunsOrder};
+    ghost use Rattle.program_library.specs.Commands.{Executes, IsDoable, IsWriteFault};
+    ghost use Rattle.program_env.specs.Performing.{Ends};
     ghost use Rattle.program_env.specs.Moment.{Moment};
     ghost use Rattle.program_library.specs.Runs.{ReadsKeyLines};
 
@@ -47,8 +48,9 @@ pub trait RunEnv {
         requires { IsDoable command.now }
         ensures same { (input self.new ≡ input self.old) × (output self.new ≡ output self.old)
             × (errors self.new ≡ errors self.old) }
-        ensures does { RunsOrder sha256 (map (λ k. key k) keys.now.verifiers.now)
-            keys.now.bytes.now (moment self.old) (moment self.new) command.now result };
+        ensures does { Executes sha256 (map (λ k. key k) keys.now.verifiers.now) keys.now.bytes.now
+            (moment self.old) (moment self.new) command.now result }
+        ensures ends { Ends IsWriteFault (moment self.old).output (moment self.new).output result };
 
     /// Writes the line of `--why` to standard error, if the words ask for it and a thing is known.
     fn print_why(&mut self, asked: bool, why: Option<Why>, streams: FailedStreams)

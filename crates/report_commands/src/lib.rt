@@ -4,6 +4,7 @@
 //! report_commands::run(&mut env, &keys, &command)? // 0, or 3 if nothing is served
 //! ```
 #![tactic(auto)]
+
 ghost use Rattle.std.specs.Prelude.{map};
 ghost use Rattle.sha2.specs.Sha256.{sha256};
 ghost use Rattle.program_env.specs.Envs.{IsSameEnv, moment};
@@ -25,7 +26,6 @@ mod serve;
 mod status;
 
 pub use fault::{Error, ReportRunFault};
-
 use program_env::Env;
 use program_whys::{RunFiles, RunFolders};
 use program_words::ReportCommand;

@@ -4,6 +4,7 @@
 //! state_commands::run(&mut env, &key_bytes, &keys, &command)? // 0, or 3 if the pull is partial
 //! ```
 #![tactic(auto)]
+
 ghost use Rattle.std.specs.Prelude.{map};
 ghost use Rattle.sha2.specs.Sha256.{sha256};
 ghost use Rattle.program_env.specs.Envs.{IsSameEnv, moment};
@@ -21,7 +22,6 @@ mod pulling;
 mod take;
 
 pub use fault::{Error, StateRunFault};
-
 use program_env::Env;
 use program_whys::{RunFiles, RunFolders};
 use program_words::StateCommand;

@@ -76,14 +76,12 @@ returns-clause-runs g c = λ words asks are joins. inr record {
       (inr record {
         command = c.args.command.now;
         asked = asks;
-        done = c.run_command.ensures.does.done;
-        files = c.run_command.ensures.does.files;
-        folders = c.run_command.ensures.does.folders;
+        done = c.run_command.ensures.does;
       });
 }
 
 pub returns-clause-ends : goal.returns-clause-ends
-returns-clause-ends g c = c.run_command.ensures.does.ends
+returns-clause-ends g c = c.run_command.ensures.ends
 
 pub returns-clause-same : goal.returns-clause-same
 returns-clause-same g c = c.run_command.ensures.same
