@@ -11,13 +11,11 @@ pub returns-in-Ok-clause-runs : goal.returns-in-Ok-clause-runs
 returns-in-Ok-clause-runs g c = λ words is. inr record {
   command = c.in-Ok.command;
   asked = rw c.in-Ok.is at is.command;
-  done = c.run_command.ensures.does.done;
-  files = c.run_command.ensures.does.files;
-  folders = c.run_command.ensures.does.folders;
+  done = c.run_command.ensures.does;
 }
 
 pub returns-in-Ok-clause-ends : goal.returns-in-Ok-clause-ends
-returns-in-Ok-clause-ends g c = c.run_command.ensures.does.ends
+returns-in-Ok-clause-ends g c = c.run_command.ensures.ends
 
 pub returns-in-Err-clause-runs : goal.returns-in-Err-clause-runs
 returns-in-Err-clause-runs g c = λ words is. inl record {
