@@ -2,7 +2,7 @@
 //!
 //! ```text
 //! let mut env = Env { rt: &rt, alloc, files, folders, input, output, errors };
-//! report_commands::status::run(&mut env, &key_bytes, &keys, &words)? // 0, or 3 if nothing is served
+//! report_commands::run(&mut env, &keys, &command)? // 0, or 3 if nothing is served
 //! ```
 #![tactic(auto)]
 
