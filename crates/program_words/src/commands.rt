@@ -80,7 +80,7 @@ WriteFault, standard output could not be written, and a part may have been; OutO
 
 Documents: README.md; docs/OPERATING.md, with each fault and what to do; docs/FORMATS.md.";
 
-/// A command with its options. Each group is carried out by a crate of its own.
+/// A command with its options. A crate of its own carries out each group.
 #[derive(Drop)]
 pub enum Command<'a> {
     /// Makes, changes or writes out a state.
