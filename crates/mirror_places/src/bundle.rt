@@ -123,6 +123,7 @@ pub fn bundle_at_places<H: TreeHash, S: Source + Drop>(
         → AreShort entries → HasTrueLeaves H.digest entries path.now row.now
         → ¬ HasTruePlace H.digest entries S.may_answer places.old places.new)) }
     ensures lacked { IfOk result (λ found. IfNone found (IsSome places.new.lacked)) }
+    ensures named { IfOk result (λ found. IfNone found (places.new.lacked ≡ Some path.now)) }
 {
     let first = places.first();
     for turn in 0..places.len() {

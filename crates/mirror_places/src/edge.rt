@@ -1,7 +1,7 @@
 //! The edge rows of a tree, all from one place.
-ghost use Rattle.std.specs.Prelude.{◌≡◌, ◌<◌, ◌≤◌, ℕ, List, IfNone, IfOk, IfSome, IsSome, length, option_map};
+ghost use Rattle.std.specs.Prelude.{◌≡◌, ◌<◌, ◌≤◌, ℕ, List, IfNone, IfOk, IfSome, IsSome, IsSomeAnd, length, option_map};
 ghost use Rattle.log_reader.specs.EdgeRows.{LeadsTo};
-ghost use Rattle.mirror_places.specs.Asked.{IsEdgeTile};
+ghost use Rattle.mirror_places.specs.Asked.{IsEdgeTile, IsLowestEdgeTile};
 ghost use Rattle.mirror_places.specs.AskedOnce.{AsksOnce, IsAtPlace, IsEdgeTileAt};
 ghost use Rattle.mirror_places.specs.Giving.{IsEdgeFrom, IsRowFrom, MayGive};
 ghost use Rattle.mirror_places.specs.PlaceGets.{AsksPlaces};
@@ -80,7 +80,9 @@ fn rows_at_place<S: Source + Drop>(
 }
 
 // The path of the lowest partial tile of a size.
-fn lowest_edge_path(size: u64) -> Path {
+fn lowest_edge_path(size: u64) -> Path
+    ensures { IsLowestEdgeTile size result }
+{
     for level in 0..7u32 {
         if edge_width(size, level) > 0 {
             return edge_path(size, level);
@@ -149,6 +151,8 @@ pub fn edge_at_places<H: TreeHash, S: Source + Drop>(
         → IsRootOf H.digest entries size root.now
         → ¬ HasTruePlace H.digest entries S.may_answer places.old places.new)) }
     ensures lacked { IfOk result (λ found. IfNone found (IsSome places.new.lacked)) }
+    ensures named { IfOk result (λ found. IfNone found
+        (IsSomeAnd places.new.lacked (IsLowestEdgeTile size))) }
 {
     let first = places.first();
     for turn in 0..places.len() {

@@ -1,5 +1,5 @@
 //! A full file that verifies, from a place.
-ghost use Rattle.std.specs.Prelude.{◌≡◌, ◌<◌, ℕ, List, IfNone, IfOk, IfSome, IsSome, get_or, length};
+ghost use Rattle.std.specs.Prelude.{◌≡◌, ◌<◌, ℕ, List, IfNone, IfOk, IfSome, IsSome, Some, get_or, length};
 ghost use Rattle.mirror_model.specs.TrueLaws.{AreShort};
 ghost use Rattle.log_reader.specs.Verified.{Verifies};
 ghost use Rattle.mirror_places.specs.Asked.{IsAskedInVain};
@@ -118,6 +118,7 @@ pub fn file_at_places<H: TreeHash, S: Source + Drop>(
     ensures given { IfOk result (λ found. IfSome found
         (λ f. MayGive S.may_answer places.old path.now f.bytes.items)) }
     ensures lacked { IfOk result (λ found. IfNone found (IsSome places.new.lacked)) }
+    ensures named { IfOk result (λ found. IfNone found (places.new.lacked ≡ Some path.now)) }
     ensures honest { IfOk result (λ found. IfNone found ((entries : List (List ℕ))
         → AreShort entries → IsFileUnder H.digest entries kind path.now hash.now
         → ¬ HasTruePlace H.digest entries S.may_answer places.old places.new)) }
