@@ -34,6 +34,15 @@ AnswersGet may path old new (File bytes) = may path (Some bytes.items)
 AnswersGet may path old new NotFound = may path None
 AnswersGet may path old new Failed = (old < new) ⊎ (8 ≤ old)
 
+-- the place of index k has a first wrong file, unless it had failed 8 times before
+abbrev pub IsBlamed : {S : Type 0} → Places S → Places S → ℕ → Type 0
+IsBlamed {S} old new k =
+    (d : Place S) → (get_or old.list.items k d).failures < 8 → IsSome (get_or new.list.items k d).first_wrong
+
+-- all places have
+abbrev pub AreBlamed : {S : Type 0} → Places S → Places S → Type 0
+AreBlamed old new = (k : ℕ) → k < length old.list.items → IsBlamed old new k
+
 -- the answer for a tile in which a tree ends: one that the place gave before and that is kept, or else the answer to a get
 abbrev pub AnswersEnd : {S : Type 0} → (S → Path → Option (List ℕ) → Type 0) → ℕ → Path → Places S → Places S →
     PlaceAnswer → Type 0
@@ -54,6 +63,7 @@ module _ {S : Type 0} (may : S → Path → Option (List ℕ) → Type 0) (faile
     pub counted : RoseTimes (new.failures - old.failures) (failed old.source) (failed new.source)
     pub given_up : 8 ≤ old.failures → new.source ≡ old.source
     pub first : IsSome old.first_wrong → new.first_wrong ≡ old.first_wrong
+    pub noted : old.failures < new.failures → IsSome new.first_wrong
 
   -- a place failed
   pub record APlaceFailed (old new : Places S) : Type 0 where

@@ -216,7 +216,8 @@ impl<S: Source + Drop> Places<S> {
     /// Records that a file of a place was wrong.
     pub(crate) fn note_wrong(&mut self, index: usize, path: &Path, wrong: Wrong)
         requires { index < length self.old.list.items }
-        ensures { AsksPlaces S.may_answer S.failed S.asked (λ p. ⊥) self.old self.new }
+        ensures asks { AsksPlaces S.may_answer S.failed S.asked (λ p. ⊥) self.old self.new }
+        ensures noted { (d : Place S) → IsSome (get_or self.new.list.items index d).first_wrong }
     {
         self.list[index].note_wrong(path, wrong);
     }
