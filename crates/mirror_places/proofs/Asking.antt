@@ -47,7 +47,7 @@ first_kept (Some file) path wrong some = refl
 -- the answers that are kept
 
 pub still_same : (e : EndTiles) → KeepsAnswers e e
-still_same e = record { sizes_are = refl; heard = λ k path h. h }
+still_same e = record { sizes_are = refl; heard = λ k path h. h; answers = λ k path answer some h. h }
 
 pub still_is : (a b : EndTiles) → b ≡ a → KeepsAnswers a b
 still_is a b e = subst (λ t. KeepsAnswers a t) (sym e) (still_same a)
@@ -56,6 +56,7 @@ pub still_then : (a b c : EndTiles) → KeepsAnswers a b → KeepsAnswers b c �
 still_then a b c p q = record {
   sizes_are = q.sizes_are ∙ p.sizes_are;
   heard = λ k path h. q.heard k path (p.heard k path h);
+  answers = λ k path answer some h. q.answers k path answer some (p.answers k path answer some h);
 }
 
 module _ {S : Type 0} (may : S → Path → Option (List ℕ) → Type 0) (failed : S → ℕ) (asked : S → Option (List Path)) where

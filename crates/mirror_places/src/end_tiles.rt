@@ -1,6 +1,6 @@
 //! The tiles in which two trees end, as places answered for them.
-ghost use Rattle.std.specs.Prelude.{◌≡◌, ◌↔◌, ℕ, IfNone, IfOk, IfSome, IsSomeAnd, IsTrue, OnOk};
-ghost use Rattle.mirror_places.specs.EndTiles.{IsEndTile, IsHeard, IsKeptAnswer, IsTileOf, KeepsAnswers, said};
+ghost use Rattle.std.specs.Prelude.{◌≡◌, ◌↔◌, [], ℕ, IfNone, IfOk, IfSome, IsSomeAnd, IsTrue, OnOk};
+ghost use Rattle.mirror_places.specs.EndTiles.{IsEmpty, IsEndTile, IsHeard, IsKeptAnswer, IsTileOf, KeepsAnswers, said};
 
 use crate::place::PlaceAnswer;
 use std::alloc::{AllocError, Global};
@@ -68,7 +68,8 @@ impl EndTiles {
 
     /// Forgets all answers. From now on those for trees of these sizes are kept.
     pub(crate) fn begin(&mut self, sizes: (u64, u64))
-        ensures { self.new.sizes ≡ sizes }
+        ensures sizes { self.new.sizes ≡ sizes }
+        ensures none { self.new.tiles.items ≡ [] }
     {
         self.sizes = sizes;
         self.tiles.clear();
@@ -82,6 +83,7 @@ impl EndTiles {
             → IsHeard self.new.tiles.items place path.now) }
         ensures place { IfOk result (λ at. IsEndTile self.old.sizes path.now
             → IsSomeAnd at (IsTileOf self.new.tiles.items place path.now)) }
+        ensures empty { IfOk result (λ at. IfSome at (IsEmpty self.new.tiles.items)) }
     {
         if !is_end_tile(self.sizes, path) {
             return Ok(None);
@@ -97,6 +99,7 @@ impl EndTiles {
 
     /// Keeps a copy of an answer where it belongs.
     pub(crate) fn keep(&mut self, at: Option<usize>, answer: &PlaceAnswer) -> Result<(), AllocError>
+        requires { IfSome at (IsEmpty self.old.tiles.items) }
         ensures kept { KeepsAnswers self.old self.new }
         ensures answer { OnOk result (IfSome at (λ i. (k : ℕ) (path : Path)
             → IsTileOf self.old.tiles.items k path i

@@ -191,6 +191,7 @@ impl<S: Source + Drop> Places<S> {
         ensures list { self.new.list.items ≡ self.old.list.items }
         ensures failed { self.new.has_failed ≡ self.old.has_failed }
         ensures ends { self.new.ends.sizes ≡ (old_size, size) }
+        ensures none { self.new.ends.tiles.items ≡ [] }
     {
         self.ends.begin((old_size, size));
     }
