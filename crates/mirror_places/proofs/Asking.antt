@@ -1,6 +1,7 @@
 -- The requests to places, call after call.
-use Rattle.std.proofs.Common.{◌≡◌, ◌≢◌, inl, inr, ℕ, ◌+◌, ◌-◌, ◌^◌, ◌<◌, ◌≤◌, min, List, [], ◌++◌, length, get_or, Option, Some, None}
+use Rattle.std.proofs.Common.{◌≡◌, ◌≢◌, ◌⊎◌, inl, inr, ℕ, ◌+◌, ◌-◌, ◌^◌, ◌<◌, ◌≤◌, min, List, [], ◌++◌, length, get_or, Option, Some, None}
 use Rattle.std.proofs.Common.{IsTrue, IsFalse, IsSome, Bool, true, false, refl, sym, subst, ap, ◌∙◌, arith, append_assoc}
+use Rattle.std.specs.Prelude.{IfNone, is_some}
 use Rattle.std.proofs.Math.ListN.{set}
 use Rattle.std.proofs.lemmas.Bool.{cases_lt, cases_order}
 use Rattle.std.proofs.lemmas.List.{append-nil, get_or_default, length-set, get_or-set_same, get_or-set_other}
@@ -9,11 +10,13 @@ use Rattle.tlog_tiles.specs.declared.paths.Path.{Path}
 use Rattle.mirror_sources.specs.Source.{StaysWithin}
 use Rattle.mirror_sources.specs.Recorded.{AddsToRecord}
 use Rattle.mirror_places.specs.declared.place.Place.{Place}
+use Rattle.mirror_places.specs.declared.place.Wrong.{Wrong}
+use Rattle.mirror_places.specs.declared.place.WrongFile.{WrongFile}
 use Rattle.mirror_places.specs.declared.end_tiles.EndTiles.{EndTiles}
 use Rattle.mirror_places.specs.declared.places.Places.{Places}
 use Rattle.mirror_places.specs.Asked.{IsAskedInVain, IsAskedInTurn}
 use Rattle.mirror_places.specs.EndTiles.{KeepsAnswers}
-use Rattle.mirror_places.specs.PlaceGets.{RoseTimes, IsAskedFor, APlaceFailed, AsksPlaces}
+use Rattle.mirror_places.specs.PlaceGets.{RoseTimes, with_first, AreBlamed, IsAskedFor, IsBlamed, APlaceFailed, AsksPlaces}
 
 pub recorded_same : {X : Type 0} (a : Option (List X)) → AddsToRecord a a []
 recorded_same None = tt
@@ -37,10 +40,14 @@ rose_then m n a b c p q =
     let q1 : 1 ≤ n → c ≡ min (b + n) (2 ^ 64 - 1) = q.1 in
     (λ none. grind arith, λ some. grind arith)
 
+first_kept : (file : Option WrongFile) (path : Path) (wrong : Wrong) → IsSome file → with_first file path wrong ≡ file
+first_kept None path wrong some = absurd (cc some)
+first_kept (Some file) path wrong some = refl
+
 -- the answers that are kept
 
 pub still_same : (e : EndTiles) → KeepsAnswers e e
-still_same e = record { sizes_are = refl; heard = λ k path h. h }
+still_same e = record { sizes_are = refl; heard = λ k path h. h; answers = λ k path answer some h. h }
 
 pub still_is : (a b : EndTiles) → b ≡ a → KeepsAnswers a b
 still_is a b e = subst (λ t. KeepsAnswers a t) (sym e) (still_same a)
@@ -49,6 +56,7 @@ pub still_then : (a b c : EndTiles) → KeepsAnswers a b → KeepsAnswers b c �
 still_then a b c p q = record {
   sizes_are = q.sizes_are ∙ p.sizes_are;
   heard = λ k path h. q.heard k path (p.heard k path h);
+  answers = λ k path answer some h. q.answers k path answer some (p.answers k path answer some h);
 }
 
 module _ {S : Type 0} (may : S → Path → Option (List ℕ) → Type 0) (failed : S → ℕ) (asked : S → Option (List Path)) where
@@ -62,6 +70,7 @@ module _ {S : Type 0} (may : S → Path → Option (List ℕ) → Type 0) (faile
     counted = (λ none. refl, λ some. absurd (omega arith));
     given_up = λ given. refl;
     first = λ some. refl;
+    noted = λ rose. absurd (omega (arith, rose));
   }
 
   pub asked_then : (so : Path → Type 0) (a b c : Place S) → IsAskedFor may failed asked so a b →
@@ -79,6 +88,10 @@ module _ {S : Type 0} (may : S → Path → Option (List ℕ) → Type 0) (faile
         p.counted q.counted);
     given_up = λ given. let m = p.more in q.given_up (omega arith) ∙ p.given_up given;
     first = λ some. q.first (some_same a.first_wrong b.first_wrong (p.first some) some) ∙ p.first some;
+    noted = λ rose. elim (cases_lt b.failures c.failures) [
+      | inl more ↦ q.noted more
+      | inr less ↦ let was = p.noted (omega (arith, rose, less)) in some_same b.first_wrong c.first_wrong (q.first was) was
+    ];
   }
 
   pub asked_weaker : (so also : Path → Type 0) → ((path : Path) → so path → also path) → (a b : Place S) →
@@ -92,6 +105,7 @@ module _ {S : Type 0} (may : S → Path → Option (List ℕ) → Type 0) (faile
     counted = p.counted;
     given_up = p.given_up;
     first = p.first;
+    noted = p.noted;
   }
 
   -- a place got a hint
@@ -107,6 +121,22 @@ module _ {S : Type 0} (may : S → Path → Option (List ℕ) → Type 0) (faile
     counted = (λ none. counted, λ some. absurd (omega (arith, same, some)));
     given_up = given;
     first = λ some. first;
+    noted = λ rose. absurd (omega (arith, same, rose));
+  }
+
+  -- a wrong file was recorded, without a request
+  pub asked_noted : (so : Path → Type 0) (a b : Place S) (path : Path) (wrong : Wrong) → b.source ≡ a.source →
+      b.failures ≡ a.failures → b.first_wrong ≡ with_first a.first_wrong path wrong → IsAskedFor may failed asked so a b
+  asked_noted so a b path wrong is same noted = record {
+    later = record { stays = λ path answer h. subst (λ s. may s path answer) is h };
+    paths = [];
+    recorded = subst (λ s. AddsToRecord (asked a.source) (asked s) []) (sym is) (recorded_same (asked a.source));
+    are_so = All-nil so;
+    more = omega (arith, same);
+    counted = (λ none. ap failed is, λ some. absurd (omega (arith, same, some)));
+    given_up = λ given. is;
+    first = λ some. noted ∙ first_kept a.first_wrong path wrong some;
+    noted = λ rose. absurd (omega (arith, same, rose));
   }
 
   pub asks_same : (so : Path → Type 0) (x : Places S) → AsksPlaces may failed asked so x x
@@ -285,3 +315,59 @@ turn_of first k n lt within = elim (cases_order k first) [
   | inr (inl less) ↦ (k + 1, omega arith, inr (inl (omega arith, omega arith, omega arith)))
   | inr (inr more) ↦ (k, omega arith, inr (inr (more, refl)))
 ]
+
+-- ---- first wrong files
+
+pub none_given : {T : Type 0} (o : Option T) (P : Type 0) → P → IfNone o P
+none_given None P p = p
+none_given (Some x) P p = tt
+
+pub some_found : {T : Type 0} (o : Option T) (P : Type 0) → is_some o ≡ true → IfNone o P
+some_found None P is = absurd (cc is)
+some_found (Some x) P is = tt
+
+module _ {S : Type 0} (may : S → Path → Option (List ℕ) → Type 0) (failed : S → ℕ) (asked : S → Option (List Path)) where
+  -- a place that has a first wrong file keeps it
+  pub blamed_still : (so : Path → Type 0) (x y : Places S) → AsksPlaces may failed asked so x y → (k : ℕ) (d : Place S) →
+      IsSome (get_or x.list.items k d).first_wrong → IsSome (get_or y.list.items k d).first_wrong
+  blamed_still so x y p k d some = some_same (get_or x.list.items k d).first_wrong (get_or y.list.items k d).first_wrong
+      ((p.each k d).first some) some
+
+  -- a place that failed in the calls before has one too
+  pub blamed_then : (so also : Path → Type 0) (x y z : Places S) → AsksPlaces may failed asked so x y →
+      AsksPlaces may failed asked also y z → (k : ℕ) → IsBlamed y z k → IsBlamed x z k
+  blamed_then so also x y z p q k blamed = λ d few. elim (cases_lt (get_or x.list.items k d).failures (get_or y.list.items k d).failures) [
+    | inl rose ↦ blamed_still also y z q k d ((p.each k d).noted rose)
+    | inr same ↦ blamed d (omega (arith, few, same))
+  ]
+
+  -- a place that failed in a get, or had failed 8 times before it
+  pub blamed_failed : (so : Path → Type 0) (x y : Places S) → AsksPlaces may failed asked so x y → (k : ℕ) →
+      ((d : Place S) → ((get_or x.list.items k d).failures < (get_or y.list.items k d).failures)
+      ⊎ (8 ≤ (get_or x.list.items k d).failures)) → IsBlamed x y k
+  blamed_failed so x y p k h = λ d few. elim (h d) [
+    | inl rose ↦ (p.each k d).noted rose
+    | inr many ↦ absurd (omega (arith, few, many))
+  ]
+
+  -- the places of the turns so far, and the next one
+  pub blamed_turn : (so also : Path → Type 0) (x y z : Places S) → AsksPlaces may failed asked so x y →
+      AsksPlaces may failed asked also y z → (first turn index : ℕ) → IsAskedInTurn first turn index →
+      ((t k : ℕ) → t < turn → IsAskedInTurn first t k → IsBlamed x y k) → IsBlamed y z index →
+      (t k : ℕ) → t < turn + 1 → IsAskedInTurn first t k → IsBlamed x z k
+  blamed_turn so also x y z p q first turn index this each blamed t k lt is = elim (cases_lt t turn) [
+    | inl less ↦ λ d few. blamed_still also y z q k d (each t k less is d few)
+    | inr more ↦
+        let same : t ≡ turn = omega (arith, lt, more) in
+        let at : index ≡ k = turn_one first turn index k this (subst (λ u. IsAskedInTurn first u k) same is) in
+        blamed_then so also x y z p q k (subst (λ j. IsBlamed y z j) at blamed)
+  ]
+
+  -- all places had a turn
+  pub blamed_all : (so : Path → Type 0) (x y z : Places S) → AsksPlaces may failed asked so y z → (first turn : ℕ) →
+      (0 < length x.list.items → first < length x.list.items) → length x.list.items ≤ turn →
+      ((t k : ℕ) → t < turn → IsAskedInTurn first t k → IsBlamed x y k) → AreBlamed x z
+  blamed_all so x y z q first turn within past each = λ k lt d few.
+      let at = turn_of first k (length x.list.items) lt (within (omega (arith, lt))) in
+      let before = at.1 in
+      blamed_still so y z q k d (each at.0 k (omega (arith, before, past)) at.2 d few)

@@ -1,6 +1,7 @@
 pub mod Asking
 pub mod AskingOnce
 pub mod Getting
+pub mod KeptAnswers
 pub mod EdgeLevels
 pub mod Prefixes
 pub mod Cutting

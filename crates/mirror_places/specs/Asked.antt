@@ -28,3 +28,11 @@ pub record IsEdgeTile (n : ℕ) (path : Path) : Type 0 where
   pub upto : level ≤ 7
   pub some : 1 ≤ width_of n level
   pub is : IsPathOrFull (Tile level (edge_index_of n level) (width_of n level)) path
+
+-- the path of the lowest partial tile at the right edge of n entries. Without entries, the path of level 7
+pub record IsLowestEdgeTile (n : ℕ) (path : Path) : Type 0 where
+  pub level : ℕ
+  pub upto : level ≤ 7
+  pub some : level < 7 → 1 ≤ width_of n level
+  pub lowest : (below : ℕ) → below < level → width_of n below ≡ 0
+  pub is : path ≡ Tile level (edge_index_of n level) (width_of n level)

@@ -1,10 +1,12 @@
 -- The tiles in which the copy and the larger tree end. The answers of the places for them are kept.
-use Rattle.std.specs.Prelude.{◌≡◌, ◌⊎◌, ℕ, ◌<◌, ◌≤◌, List, length, get_or}
+use Rattle.std.specs.Prelude.{◌≡◌, ◌≢◌, ◌⊎◌, ℕ, ◌<◌, ◌≤◌, List, length, get_or, Option, Some, None}
 use Rattle.tlog_shape.specs.Edge.{edge_index_of}
 use Rattle.tlog_tiles.specs.declared.paths.Path.{Path}
 use Rattle.tlog_tiles.specs.declared.paths.Path.TheVariants.{Checkpoint, Tile, Entries}
 use Rattle.mirror_places.specs.declared.end_tiles.EndTile.{EndTile}
 use Rattle.mirror_places.specs.declared.end_tiles.EndTiles.{EndTiles}
+use Rattle.mirror_places.specs.declared.place.PlaceAnswer.{PlaceAnswer}
+use Rattle.mirror_places.specs.declared.place.PlaceAnswer.TheVariants.{File, NotFound, Failed}
 use Rattle.mirror_places.specs.declared.places.Places.{Places}
 
 -- a tile, partial or full, in which a tree of one of two sizes ends: the one after the full tiles of its level
@@ -20,11 +22,34 @@ pub record IsHeard (tiles : List EndTile) (k : ℕ) (path : Path) : Type 0 where
   pub listed : at < length tiles
   pub is : (d : EndTile) → ((get_or tiles at d).place ≡ k) × ((get_or tiles at d).path ≡ path)
 
+-- the tile at that index is that of the place of index k for the path
+pub record IsTileOf (tiles : List EndTile) (k : ℕ) (path : Path) (at : ℕ) : Type 0 where
+  pub listed : at < length tiles
+  pub is : (d : EndTile) → ((get_or tiles at d).place ≡ k) × ((get_or tiles at d).path ≡ path)
+
+-- what an answer says: the bytes, or that there is no such file. None: the place failed
+abbrev pub said : PlaceAnswer → Option (Option (List ℕ))
+said (File bytes) = Some (Some bytes.items)
+said NotFound = Some None
+said Failed = None
+
+-- no answer is kept at that index
+abbrev pub IsEmpty : List EndTile → ℕ → Type 0
+IsEmpty tiles at = (d : EndTile) → said (get_or tiles at d).answer ≡ None
+
+-- the place of index k gave that answer for the path, and it is kept
+pub record IsKeptAnswer (tiles : List EndTile) (k : ℕ) (path : Path) (answer : PlaceAnswer) : Type 0 where
+  pub at : ℕ
+  pub tile : IsTileOf tiles k path at
+  pub says : (d : EndTile) → said (get_or tiles at d).answer ≡ said answer
+
 -- if the path is that of such a tile, the answer of the place is kept
 abbrev pub IsKept : {S : Type 0} → Places S → ℕ → Path → Type 0
 IsKept places k path = IsEndTile places.ends.sizes path → IsHeard places.ends.tiles.items k path
 
--- the two sizes are the same, and each answer that was kept still is
+-- the two sizes are the same. Each tile that was there still is, and each answer that was kept, unless the place failed
 pub record KeepsAnswers (old new : EndTiles) : Type 0 where
   pub sizes_are : new.sizes ≡ old.sizes
   pub heard : (k : ℕ) (path : Path) → IsHeard old.tiles.items k path → IsHeard new.tiles.items k path
+  pub answers : (k : ℕ) (path : Path) (answer : PlaceAnswer) → said answer ≢ None →
+      IsKeptAnswer old.tiles.items k path answer → IsKeptAnswer new.tiles.items k path answer

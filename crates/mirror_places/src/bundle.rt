@@ -5,7 +5,7 @@ ghost use Rattle.mirror_model.specs.TrueLaws.{AreShort};
 ghost use Rattle.mirror_places.specs.Asked.{IsPathOrFull};
 ghost use Rattle.mirror_places.specs.AskedOnce.{AsksOnce, IsAtPlace};
 ghost use Rattle.mirror_places.specs.Giving.{MayGive, PartOf};
-ghost use Rattle.mirror_places.specs.PlaceGets.{AsksPlaces};
+ghost use Rattle.mirror_places.specs.PlaceGets.{AreBlamed, AsksPlaces, IsBlamed};
 ghost use Rattle.mirror_places.specs.TrueAnswers.{HasTrueLeaves};
 ghost use Rattle.mirror_places.specs.TruePlaces.{HasTruePlace, IsTruePlace};
 ghost use Rattle.mirror_sources.specs.Files.{full_of};
@@ -80,6 +80,7 @@ fn bundle_at_place<H: TreeHash, S: Source + Drop>(
     ensures honest { IfOk result (λ found. IfNone found ((entries : List (List ℕ))
         → AreShort entries → HasTrueLeaves H.digest entries path.now row.now
         → ¬ IsTruePlace H.digest entries S.may_answer places.old places.new index)) }
+    ensures blamed { IfOk result (λ found. IfNone found (IsBlamed places.old places.new index)) }
 {
     let Some(bytes) = get_partial::<S>(alloc, places, index, path)? else {
         return Ok(None);
@@ -123,6 +124,8 @@ pub fn bundle_at_places<H: TreeHash, S: Source + Drop>(
         → AreShort entries → HasTrueLeaves H.digest entries path.now row.now
         → ¬ HasTruePlace H.digest entries S.may_answer places.old places.new)) }
     ensures lacked { IfOk result (λ found. IfNone found (IsSome places.new.lacked)) }
+    ensures named { IfOk result (λ found. IfNone found (places.new.lacked ≡ Some path.now)) }
+    ensures blamed { IfOk result (λ found. IfNone found (AreBlamed places.old places.new)) }
 {
     let first = places.first();
     for turn in 0..places.len() {

@@ -1,10 +1,10 @@
 //! The edge rows of a tree, all from one place.
-ghost use Rattle.std.specs.Prelude.{◌≡◌, ◌<◌, ◌≤◌, ℕ, List, IfNone, IfOk, IfSome, IsSome, length, option_map};
+ghost use Rattle.std.specs.Prelude.{◌≡◌, ◌<◌, ◌≤◌, ℕ, List, IfNone, IfOk, IfSome, IsSome, IsSomeAnd, length, option_map};
 ghost use Rattle.log_reader.specs.EdgeRows.{LeadsTo};
-ghost use Rattle.mirror_places.specs.Asked.{IsEdgeTile};
+ghost use Rattle.mirror_places.specs.Asked.{IsEdgeTile, IsLowestEdgeTile};
 ghost use Rattle.mirror_places.specs.AskedOnce.{AsksOnce, IsAtPlace, IsEdgeTileAt};
 ghost use Rattle.mirror_places.specs.Giving.{IsEdgeFrom, IsRowFrom, MayGive};
-ghost use Rattle.mirror_places.specs.PlaceGets.{AsksPlaces};
+ghost use Rattle.mirror_places.specs.PlaceGets.{AreBlamed, AsksPlaces, IsBlamed};
 ghost use Rattle.mirror_places.specs.TrueAnswers.{FindsTrueEdge, FindsTrueRow, IsRootOf};
 ghost use Rattle.mirror_places.specs.TruePlaces.{HasTruePlace, IsTruePlace};
 
@@ -37,6 +37,7 @@ fn row_at_place<S: Source + Drop>(
         (λ row. IsRowFrom (MayGive S.may_answer places.old) size level row.items)) }
     ensures honest { IfOk result (λ found. FindsTrueRow S.may_answer places.old places.new index
         size level (option_map (λ row. row.items) found)) }
+    ensures blamed { IfOk result (λ found. IfNone found (IsBlamed places.old places.new index)) }
 {
     let width = edge_width(size, level);
     if width == 0 {
@@ -68,6 +69,7 @@ fn rows_at_place<S: Source + Drop>(
         (λ edge. IsEdgeFrom (MayGive S.may_answer places.old) size edge)) }
     ensures honest { IfOk result (λ found. FindsTrueEdge S.may_answer places.old places.new index
         size found) }
+    ensures blamed { IfOk result (λ found. IfNone found (IsBlamed places.old places.new index)) }
 {
     let mut rows = Vec::new(alloc);
     for level in 0..8u32 {
@@ -80,7 +82,9 @@ fn rows_at_place<S: Source + Drop>(
 }
 
 // The path of the lowest partial tile of a size.
-fn lowest_edge_path(size: u64) -> Path {
+fn lowest_edge_path(size: u64) -> Path
+    ensures { IsLowestEdgeTile size result }
+{
     for level in 0..7u32 {
         if edge_width(size, level) > 0 {
             return edge_path(size, level);
@@ -108,6 +112,7 @@ fn edge_at_place<H: TreeHash, S: Source + Drop>(
     ensures honest { IfOk result (λ found. IfNone found ((entries : List (List ℕ))
         → IsRootOf H.digest entries size root.now
         → ¬ IsTruePlace H.digest entries S.may_answer places.old places.new index)) }
+    ensures blamed { IfOk result (λ found. IfNone found (IsBlamed places.old places.new index)) }
 {
     let Some(edge) = rows_at_place::<S>(alloc, places, index, size)? else {
         return Ok(None);
@@ -149,6 +154,9 @@ pub fn edge_at_places<H: TreeHash, S: Source + Drop>(
         → IsRootOf H.digest entries size root.now
         → ¬ HasTruePlace H.digest entries S.may_answer places.old places.new)) }
     ensures lacked { IfOk result (λ found. IfNone found (IsSome places.new.lacked)) }
+    ensures named { IfOk result (λ found. IfNone found
+        (IsSomeAnd places.new.lacked (IsLowestEdgeTile size))) }
+    ensures blamed { IfOk result (λ found. IfNone found (AreBlamed places.old places.new)) }
 {
     let first = places.first();
     for turn in 0..places.len() {

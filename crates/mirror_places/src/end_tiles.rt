@@ -1,6 +1,6 @@
 //! The tiles in which two trees end, as places answered for them.
-ghost use Rattle.std.specs.Prelude.{◌≡◌, ◌↔◌, ◌<◌, IfNone, IfOk, IfSome, IsTrue, length};
-ghost use Rattle.mirror_places.specs.EndTiles.{IsEndTile, IsHeard, KeepsAnswers};
+ghost use Rattle.std.specs.Prelude.{◌≡◌, ◌↔◌, [], ℕ, IfNone, IfOk, IfSome, IsSomeAnd, IsTrue, OnOk};
+ghost use Rattle.mirror_places.specs.EndTiles.{IsEmpty, IsEndTile, IsHeard, IsKeptAnswer, IsTileOf, KeepsAnswers, said};
 
 use crate::place::PlaceAnswer;
 use std::alloc::{AllocError, Global};
@@ -25,7 +25,9 @@ pub(crate) struct EndTiles {
 }
 
 // A copy of an answer.
-fn copy_of(alloc: Global, answer: &PlaceAnswer) -> Result<PlaceAnswer, AllocError> {
+fn copy_of(alloc: Global, answer: &PlaceAnswer) -> Result<PlaceAnswer, AllocError>
+    ensures { IfOk result (λ copy. said copy ≡ said answer.now) }
+{
     match answer {
         PlaceAnswer::File(bytes) => Ok(PlaceAnswer::File(Vec::from_slice(alloc, bytes)?)),
         PlaceAnswer::NotFound => Ok(PlaceAnswer::NotFound),
@@ -66,7 +68,8 @@ impl EndTiles {
 
     /// Forgets all answers. From now on those for trees of these sizes are kept.
     pub(crate) fn begin(&mut self, sizes: (u64, u64))
-        ensures { self.new.sizes ≡ sizes }
+        ensures sizes { self.new.sizes ≡ sizes }
+        ensures none { self.new.tiles.items ≡ [] }
     {
         self.sizes = sizes;
         self.tiles.clear();
@@ -78,6 +81,9 @@ impl EndTiles {
         ensures kept { KeepsAnswers self.old self.new }
         ensures heard { IfOk result (λ at. IsEndTile self.old.sizes path.now
             → IsHeard self.new.tiles.items place path.now) }
+        ensures place { IfOk result (λ at. IsEndTile self.old.sizes path.now
+            → IsSomeAnd at (IsTileOf self.new.tiles.items place path.now)) }
+        ensures empty { IfOk result (λ at. IfSome at (IsEmpty self.new.tiles.items)) }
     {
         if !is_end_tile(self.sizes, path) {
             return Ok(None);
@@ -93,7 +99,11 @@ impl EndTiles {
 
     /// Keeps a copy of an answer where it belongs.
     pub(crate) fn keep(&mut self, at: Option<usize>, answer: &PlaceAnswer) -> Result<(), AllocError>
-        ensures { KeepsAnswers self.old self.new }
+        requires { IfSome at (IsEmpty self.old.tiles.items) }
+        ensures kept { KeepsAnswers self.old self.new }
+        ensures answer { OnOk result (IfSome at (λ i. (k : ℕ) (path : Path)
+            → IsTileOf self.old.tiles.items k path i
+            → IsKeptAnswer self.new.tiles.items k path answer.now)) }
     {
         if let Some(i) = at {
             let copy = copy_of(self.alloc, answer)?;
@@ -107,7 +117,7 @@ impl EndTiles {
     // The index of the answer of a place for a path.
     fn index_of(&self, place: usize, path: &Path) -> Option<usize>
         ensures none { IfNone result (¬ IsHeard self.now.tiles.items place path.now) }
-        ensures within { IfSome result (λ i. i < length self.now.tiles.items) }
+        ensures some { IfSome result (IsTileOf self.now.tiles.items place path.now) }
     {
         for i in 0..self.tiles.len() {
             if self.tiles[i].place == place && self.tiles[i].path == *path {
@@ -119,8 +129,10 @@ impl EndTiles {
 
     /// A copy of what a place answered for a path. None: it was not asked.
     pub(crate) fn find(&self, place: usize, path: &Path) -> Result<Option<PlaceAnswer>, AllocError>
-        ensures { IfOk result (λ found. IfNone found
+        ensures none { IfOk result (λ found. IfNone found
             (¬ IsHeard self.now.tiles.items place path.now)) }
+        ensures some { IfOk result (λ found. IfSome found
+            (IsKeptAnswer self.now.tiles.items place path.now)) }
     {
         match self.index_of(place, path) {
             Some(i) => Ok(Some(copy_of(self.alloc, &self.tiles[i].answer)?)),

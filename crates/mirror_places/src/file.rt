@@ -1,11 +1,11 @@
 //! A full file that verifies, from a place.
-ghost use Rattle.std.specs.Prelude.{◌≡◌, ◌<◌, ℕ, List, IfNone, IfOk, IfSome, IsSome, get_or, length};
+ghost use Rattle.std.specs.Prelude.{◌≡◌, ◌<◌, ℕ, List, IfNone, IfOk, IfSome, IsSome, Some, get_or, length};
 ghost use Rattle.mirror_model.specs.TrueLaws.{AreShort};
 ghost use Rattle.log_reader.specs.Verified.{Verifies};
 ghost use Rattle.mirror_places.specs.Asked.{IsAskedInVain};
 ghost use Rattle.mirror_places.specs.AskedOnce.{AsksOnce, IsAtPlace};
 ghost use Rattle.mirror_places.specs.Giving.{MayGive};
-ghost use Rattle.mirror_places.specs.PlaceGets.{AsksPlaces};
+ghost use Rattle.mirror_places.specs.PlaceGets.{AreBlamed, AsksPlaces, IsBlamed};
 ghost use Rattle.mirror_places.specs.TruePlaces.{HasTruePlace, IsFileUnder};
 ghost use Rattle.mirror_places.specs.declared.place.Place.{Place};
 
@@ -71,6 +71,7 @@ fn file_at_place<H: TreeHash, S: Source + Drop>(
         path.now (λ bytes. (row : List (List ℕ)) × Verifies H.digest kind hash.now bytes row))) }
     ensures given { IfOk result (λ found. IfSome found
         (λ f. MayGive S.may_answer places.old path.now f.bytes.items)) }
+    ensures blamed { IfOk result (λ found. IfNone found (IsBlamed places.old places.new index)) }
 {
     match places.get(index, path)? {
         PlaceAnswer::File(bytes) => match accept_file::<H>(alloc, kind, hash, bytes)? {
@@ -118,9 +119,11 @@ pub fn file_at_places<H: TreeHash, S: Source + Drop>(
     ensures given { IfOk result (λ found. IfSome found
         (λ f. MayGive S.may_answer places.old path.now f.bytes.items)) }
     ensures lacked { IfOk result (λ found. IfNone found (IsSome places.new.lacked)) }
+    ensures named { IfOk result (λ found. IfNone found (places.new.lacked ≡ Some path.now)) }
     ensures honest { IfOk result (λ found. IfNone found ((entries : List (List ℕ))
         → AreShort entries → IsFileUnder H.digest entries kind path.now hash.now
         → ¬ HasTruePlace H.digest entries S.may_answer places.old places.new)) }
+    ensures blamed { IfOk result (λ found. IfNone found (AreBlamed places.old places.new)) }
 {
     expect_from::<S>(alloc, places, path, bundles);
     let first = places.first();

@@ -1,7 +1,7 @@
 //! A place of a run: a source that is not trusted.
 ghost use Rattle.std.specs.Prelude.{◌≡◌, ◌↔◌, ◌≤◌, IfOk, IsTrue, None};
 ghost use Rattle.mirror_places.specs.AskedOnce.{IsAskedOnce};
-ghost use Rattle.mirror_places.specs.PlaceGets.{AnswersGet, IsAskedFor, with_first};
+ghost use Rattle.mirror_places.specs.PlaceGets.{AnswersGet, IsAskedFor, NotesFailure, with_first};
 
 use mirror_sources::{Source, SourceFault};
 use std::alloc::AllocError;
@@ -125,6 +125,7 @@ impl<S: Source + Drop> Place<S> {
         ensures once { IsAskedOnce S.asked (λ p. p ≡ path.now) self.old self.new }
         ensures answer { IfOk result (λ answer. AnswersGet (S.may_answer self.old.source) path.now
             self.old.failures self.new.failures answer) }
+        ensures wrong { NotesFailure path.now self.old self.new }
     {
         if self.is_given_up() {
             return Ok(PlaceAnswer::Failed);

@@ -1,9 +1,9 @@
 //! The edge files at a place.
-ghost use Rattle.std.specs.Prelude.{◌≡◌, ◌≢◌, ◌<◌, IfOk, IfSome, length, option_map};
+ghost use Rattle.std.specs.Prelude.{◌≡◌, ◌≢◌, ◌<◌, IfNone, IfOk, IfSome, length, option_map};
 ghost use Rattle.mirror_sources.specs.Files.{full_of};
 ghost use Rattle.mirror_places.specs.Asked.{IsPathOrFull};
 ghost use Rattle.mirror_places.specs.AskedOnce.{AsksOnce, IsAtPlace};
-ghost use Rattle.mirror_places.specs.PlaceGets.{AsksPlaces};
+ghost use Rattle.mirror_places.specs.PlaceGets.{AsksPlaces, IsBlamed};
 ghost use Rattle.mirror_places.specs.Giving.{MayGive, PartOf};
 ghost use Rattle.mirror_places.specs.TrueAnswers.{FindsPart, FindsTrue};
 
@@ -30,6 +30,7 @@ fn get_part<S: Source + Drop>(
         (λ bytes. PartOf (MayGive S.may_answer places.old) path.now bytes.items)) }
     ensures honest { IfOk result (λ found. FindsPart S.may_answer places.old places.new index
         path.now (option_map (λ v. v.items) found)) }
+    ensures blamed { IfOk result (λ found. IfNone found (IsBlamed places.old places.new index)) }
 {
     let full_path = full_of(path);
     match places.get(index, &full_path)? {
@@ -65,6 +66,7 @@ pub(crate) fn get_partial<S: Source + Drop>(
         (λ bytes. PartOf (MayGive S.may_answer places.old) path.now bytes.items)) }
     ensures honest { IfOk result (λ found. FindsTrue S.may_answer places.old places.new index
         path.now (option_map (λ v. v.items) found)) }
+    ensures blamed { IfOk result (λ found. IfNone found (IsBlamed places.old places.new index)) }
 {
     match places.get(index, path)? {
         PlaceAnswer::File(bytes) => Ok(Some(bytes)),

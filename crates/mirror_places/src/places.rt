@@ -1,9 +1,9 @@
 //! The places of a run.
-ghost use Rattle.std.specs.Prelude.{◌≡◌, ◌∷◌, ◌++◌, [], ◌<◌, ℕ, IfOk, IsFalse, IsSome, MatchResult, get_or, length};
+ghost use Rattle.std.specs.Prelude.{◌≡◌, ◌∷◌, ◌++◌, [], ◌<◌, ℕ, IfOk, IsFalse, IsSome, MatchResult, None, Some, get_or, length};
 ghost use Rattle.mirror_places.specs.Asked.{IsAskedInTurn};
 ghost use Rattle.mirror_places.specs.AskedOnce.{AsksEachOnce, AsksMore, AsksOnce, IsAtPlace};
-ghost use Rattle.mirror_places.specs.EndTiles.{IsEndTile};
-ghost use Rattle.mirror_places.specs.PlaceGets.{AnswersGet, AsksPlaces};
+ghost use Rattle.mirror_places.specs.EndTiles.{IsEndTile, IsKeptAnswer};
+ghost use Rattle.mirror_places.specs.PlaceGets.{AnswersEnd, AnswersGet, AsksPlaces, NotesFailure};
 ghost use Rattle.mirror_places.specs.declared.place.Place.{Place};
 
 use crate::end_tiles::EndTiles;
@@ -101,6 +101,8 @@ impl<S: Source + Drop> Places<S> {
             (S.may_answer (get_or self.old.list.items index d).source) path.now
             (get_or self.old.list.items index d).failures (get_or self.new.list.items index d).failures
             answer) }
+        ensures wrong { (d : Place S) → NotesFailure path.now
+            (get_or self.old.list.items index d) (get_or self.new.list.items index d) }
     {
         let place = &mut self.list[index];
         let before = place.failures();
@@ -125,6 +127,10 @@ impl<S: Source + Drop> Places<S> {
             (S.may_answer (get_or self.old.list.items index d).source) path.now
             (get_or self.old.list.items index d).failures (get_or self.new.list.items index d).failures
             answer) }
+        ensures wrong { (d : Place S) → NotesFailure path.now
+            (get_or self.old.list.items index d) (get_or self.new.list.items index d) }
+        ensures kept { IfOk result (λ answer. IsEndTile self.old.ends.sizes path.now
+            → IsKeptAnswer self.new.ends.tiles.items index path.now answer) }
     {
         let at = self.ends.note(index, path)?;
         let answer = self.ask(index, path)?;
@@ -144,6 +150,8 @@ impl<S: Source + Drop> Places<S> {
         ensures asks { AsksPlaces S.may_answer S.failed S.asked (λ p. p ≡ path.now)
             self.old self.new }
         ensures more { AsksMore S.asked self.old self.new }
+        ensures answer { IfOk result
+            (AnswersEnd S.may_answer index path.now self.old self.new) }
     {
         match self.ends.find(index, path)? {
             Some(answer) => Ok(answer),
@@ -168,10 +176,11 @@ impl<S: Source + Drop> Places<S> {
         }
     }
 
-    /// Begins a call: no place has failed in it yet.
+    /// Begins a call: no place has failed in it yet, and no file is lacked.
     pub fn begin(&mut self)
         ensures list { self.new.list.items ≡ self.old.list.items }
         ensures failed { IsFalse self.new.has_failed }
+        ensures lacked { self.new.lacked ≡ None }
     {
         self.has_failed = false;
         self.lacked = None;
@@ -182,6 +191,7 @@ impl<S: Source + Drop> Places<S> {
         ensures list { self.new.list.items ≡ self.old.list.items }
         ensures failed { self.new.has_failed ≡ self.old.has_failed }
         ensures ends { self.new.ends.sizes ≡ (old_size, size) }
+        ensures none { self.new.ends.tiles.items ≡ [] }
     {
         self.ends.begin((old_size, size));
     }
@@ -207,7 +217,8 @@ impl<S: Source + Drop> Places<S> {
     /// Records that a file of a place was wrong.
     pub(crate) fn note_wrong(&mut self, index: usize, path: &Path, wrong: Wrong)
         requires { index < length self.old.list.items }
-        ensures { AsksPlaces S.may_answer S.failed S.asked (λ p. ⊥) self.old self.new }
+        ensures asks { AsksPlaces S.may_answer S.failed S.asked (λ p. ⊥) self.old self.new }
+        ensures noted { (d : Place S) → IsSome (get_or self.new.list.items index d).first_wrong }
     {
         self.list[index].note_wrong(path, wrong);
     }
@@ -217,6 +228,7 @@ impl<S: Source + Drop> Places<S> {
         ensures list { self.new.list.items ≡ self.old.list.items }
         ensures asks { AsksPlaces S.may_answer S.failed S.asked (λ p. ⊥) self.old self.new }
         ensures lacked { IsSome self.new.lacked }
+        ensures named { self.new.lacked ≡ Some path.now }
     {
         self.lacked = Some(*path);
     }

@@ -1,5 +1,5 @@
 //! Reads the head of a request, and no more.
-ghost use Rattle.std.specs.Prelude.{◌≡◌, ◌-◌, ◌<◌, IfErr, IfOk, IfSome, vec_len};
+ghost use Rattle.std.specs.Prelude.{◌≡◌, ◌≢◌, ◌-◌, ◌<◌, IfErr, IfOk, IfSome, vec_len};
 ghost use Rattle.std.specs.Io.KnownBytes.{Keeps};
 ghost use Rattle.byte_streams.specs.Streams.{TakesAtMost};
 ghost use Rattle.mirror_server.specs.Answered.{FailsBeforeHead};
@@ -69,6 +69,7 @@ fn read_more<R: Read>(reader: &mut R, received: &mut Vec<u8>) -> Result<ReadStep
         (R.remaining reader.new) }
     ensures fault { IfErr result (λ e. e ≡ HttpFault.ReadFault
         → Keeps (R.remaining reader.old) (R.remaining reader.new)) }
+    ensures read { IfErr result (λ e. e ≢ HttpFault.WriteFault) }
 {
     let mut chunk = [0u8; CHUNK];
     let room = chunk.len().min(MAX_HEAD_LEN - received.len());
@@ -97,6 +98,7 @@ pub fn read_head<R: Read>(alloc: Global, reader: &mut R) -> Result<(Received, Ve
     ensures limit { TakesAtMost MAX_HEAD_LEN (R.remaining reader.old) (R.remaining reader.new) }
     ensures fault { IfErr result (λ e. e ≡ HttpFault.ReadFault
         → FailsBeforeHead (R.remaining reader.old) (R.remaining reader.new)) }
+    ensures read { IfErr result (λ e. e ≢ HttpFault.WriteFault) }
 {
     let mut received = Vec::new(alloc);
     for _ in 0..u64::MAX {

@@ -1,5 +1,5 @@
 //! Requests of clients.
-ghost use Rattle.std.specs.Prelude.{◌≡◌, ◌↔◌, IfErr, IfOk, IfSome, IsTrue, codes};
+ghost use Rattle.std.specs.Prelude.{◌≡◌, ◌≢◌, ◌↔◌, IfErr, IfOk, IfSome, IsTrue, codes};
 ghost use Rattle.byte_streams.specs.Streams.{TakesAtMost};
 ghost use Rattle.mirror_server.specs.Answered.{FailsBeforeHead, IsForHead, IsForTarget, IsRequestOf};
 
@@ -72,6 +72,7 @@ pub fn read_request<R: Read>(alloc: Global, reader: &mut R) -> Result<Request, H
     ensures limit { TakesAtMost MAX_HEAD_LEN (R.remaining reader.old) (R.remaining reader.new) }
     ensures fault { IfErr result (λ e. e ≡ HttpFault.ReadFault
         → FailsBeforeHead (R.remaining reader.old) (R.remaining reader.new)) }
+    ensures read { IfErr result (λ e. e ≢ HttpFault.WriteFault) }
 {
     let (seen, received) = read_head(alloc, reader)?;
     match seen {

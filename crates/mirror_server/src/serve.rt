@@ -43,6 +43,7 @@ fn response<H: TreeHash, R: Read>(
     ensures limit { TakesAtMost MAX_HEAD_LEN (R.remaining reader.old) (R.remaining reader.new) }
     ensures fault { IfErr result (λ e. e ≡ HttpFault.ReadFault
         → FailsBeforeHead (R.remaining reader.old) (R.remaining reader.new)) }
+    ensures read { IfErr result (λ e. e ≢ HttpFault.WriteFault) }
 {
     let request = read_request(alloc, reader)?;
     let body = requested_body(alloc, mirror, &request)?;

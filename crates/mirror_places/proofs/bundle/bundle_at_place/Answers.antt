@@ -1,5 +1,6 @@
+use Rattle.std.proofs.Common.{sym, ◌∙◌}
 use Rattle.mirror_places.specs.Asked.{IsPathOrFull}
-use Rattle.mirror_places.proofs.Asking.{asks_noted, asks_same}
+use Rattle.mirror_places.proofs.Asking.{asks_noted, asks_same, none_given, some_found}
 use Rattle.mirror_places.proofs.TruePlaces.{true_between}
 use Rattle.mirror_places.proofs.TrueAnswers.{leaves_there, leaves_within, none_weaker}
 use Rattle.mirror_places.proofs.AskingOnce.{once_noted}
@@ -12,7 +13,7 @@ returns-clause-asks g c = elim c.if-is_some.branch [
   | then-is_some w ↦ rw w.places-is (asks_noted g.S.Source.may_answer g.S.Source.failed g.S.Source.asked (IsPathOrFull c.args.path.now) c.args.places.now
       c.get_partial.new.places w.note_verified.new.self c.get_partial.ensures.asks w.note_verified.ensures)
   | else-is_some w ↦ rw w.places-is (asks_noted g.S.Source.may_answer g.S.Source.failed g.S.Source.asked (IsPathOrFull c.args.path.now) c.args.places.now
-      c.get_partial.new.places w.note_wrong.new.self c.get_partial.ensures.asks w.note_wrong.ensures)
+      c.get_partial.new.places w.note_wrong.new.self c.get_partial.ensures.asks w.note_wrong.ensures.asks)
 ]
 
 pub returns-in_default-clause-honest : goal.returns-in_default-clause-honest
@@ -47,7 +48,7 @@ returns-clause-honest g c =
       | else-is_some w ↦ rw w.places-is (none_weaker c.in_ok-found.found _ _ (λ no entries short leaves t.
           let is = given digest hash entries short
           (true_between may failed asked digest entries so so (λ p. ⊥) x x y w.note_wrong.new.self
-          (asks_same may failed asked so x) c.get_partial.ensures.asks w.note_wrong.ensures c.args.index t)
+          (asks_same may failed asked so x) c.get_partial.ensures.asks w.note_wrong.ensures.asks c.args.index t)
           (leaves_within digest entries path row leaves) in
           no (leaves_there digest hash entries short path row bytes leaves (cc is))) c.in_ok-found.ensures.none)
     ]
@@ -58,5 +59,11 @@ returns-clause-once g c =
       | then-is_some w ↦ rw w.places-is (λ differ. once_noted g.S.Source.asked g.S.Source.may_answer g.S.Source.failed (IsAtPlace c.args.index (IsPathOrFull c.args.path.now)) c.args.places.now
           c.get_partial.new.places w.note_verified.new.self (c.get_partial.ensures.once differ) w.note_verified.ensures)
       | else-is_some w ↦ rw w.places-is (λ differ. once_noted g.S.Source.asked g.S.Source.may_answer g.S.Source.failed (IsAtPlace c.args.index (IsPathOrFull c.args.path.now)) c.args.places.now
-          c.get_partial.new.places w.note_wrong.new.self (c.get_partial.ensures.once differ) w.note_wrong.ensures)
+          c.get_partial.new.places w.note_wrong.new.self (c.get_partial.ensures.once differ) w.note_wrong.ensures.asks)
     ]
+
+pub returns-clause-blamed : goal.returns-clause-blamed
+returns-clause-blamed g c = elim c.if-is_some.branch [
+  | then-is_some w ↦ some_found c.in_ok-found.found _ (sym c.is_some.ensures ∙ w.if-is_some.true)
+  | else-is_some w ↦ rw w.places-is (none_given c.in_ok-found.found _ (λ d few. w.note_wrong.ensures.noted d))
+]

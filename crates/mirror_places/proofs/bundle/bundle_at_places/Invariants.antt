@@ -3,7 +3,7 @@ use Rattle.mirror_sources.specs.Files.{full_of}
 use Rattle.mirror_places.specs.Asked.{IsAskedInTurn, IsPathOrFull}
 use Rattle.mirror_model.specs.TrueLaws.{AreShort}
 use Rattle.mirror_places.specs.AskedOnce.{AsksOnce, IsBeforeTurn}
-use Rattle.mirror_places.specs.PlaceGets.{AsksPlaces}
+use Rattle.mirror_places.specs.PlaceGets.{AsksPlaces, IsBlamed}
 use Rattle.mirror_places.specs.TruePlaces.{IsTruePlace}
 use Rattle.mirror_places.specs.TrueAnswers.{HasTrueLeaves}
 use Rattle.mirror_places.proofs.bundle.bundle_at_places.Given as goal
@@ -15,4 +15,5 @@ invariant-loop-turn g l = record {
   honest : (turn k : ℕ) → turn < l.turn → IsAskedInTurn l.first turn k → (entries : List (List ℕ)) →
       AreShort entries → HasTrueLeaves g.H.TreeHash.digest entries l.path l.row →
       IsTruePlace g.H.TreeHash.digest entries g.S.Source.may_answer l.fn.places l.places k → ⊥;
+  blamed : (turn k : ℕ) → turn < l.turn → IsAskedInTurn l.first turn k → IsBlamed l.fn.places l.places k;
 }

@@ -16,7 +16,7 @@ returns-then-branch-clause-asks g c =
 pub returns-else-branch-clause-asks : goal.returns-else-branch-clause-asks
 returns-else-branch-clause-asks g c =
     asks_noted g.S.Source.may_answer g.S.Source.failed g.S.Source.asked (IsEdgeTile c.args.size) c.args.places.now
-    c.rows_at_place.new.places c.note_wrong.new.self c.rows_at_place.ensures.asks c.note_wrong.ensures
+    c.rows_at_place.new.places c.note_wrong.new.self c.rows_at_place.ensures.asks c.note_wrong.ensures.asks
 
 pub returns-in_default-clause-honest : goal.returns-in_default-clause-honest
 returns-in_default-clause-honest g c = λ entries r t.
@@ -35,7 +35,7 @@ returns-else-branch-clause-honest g c = λ entries r t.
     let taken = rw c.in-Some.is at c.in_ok-edge.ensures.taken in
     let rows = found digest g.met.H.TreeHash.digest_length entries r.short
     (true_between may failed asked digest entries so so (λ p. ⊥) x x c.rows_at_place.new.places c.note_wrong.new.self
-    (asks_same may failed asked so x) c.rows_at_place.ensures.asks c.note_wrong.ensures c.args.index t) r.upto in
+    (asks_same may failed asked so x) c.rows_at_place.ensures.asks c.note_wrong.ensures.asks c.args.index t) r.upto in
     let small : c.args.size < 2 ^ 64 = omega (arith, c.ranges.size.fits) in
     false≢true (sym c.if-branch.false ∙ c.in_ok-leads_to.ensures.1
     (edge_leads digest entries c.args.size c.args.root.now small c.in-Some.edge taken.size_is rows r))
@@ -48,4 +48,4 @@ returns-then-branch-clause-once g c =
 pub returns-else-branch-clause-once : goal.returns-else-branch-clause-once
 returns-else-branch-clause-once g c =
     once_noted g.S.Source.asked g.S.Source.may_answer g.S.Source.failed (IsAtPlace c.args.index (IsEdgeTile c.args.size)) c.args.places.now
-    c.rows_at_place.new.places c.note_wrong.new.self c.rows_at_place.ensures.once c.note_wrong.ensures
+    c.rows_at_place.new.places c.note_wrong.new.self c.rows_at_place.ensures.once c.note_wrong.ensures.asks

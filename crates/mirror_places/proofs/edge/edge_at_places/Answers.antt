@@ -3,7 +3,7 @@ use Rattle.std.proofs.lemmas.Bool.{cases_lt}
 use Rattle.mirror_places.specs.Asked.{IsAskedInTurn, IsEdgeTile}
 use Rattle.mirror_places.specs.TruePlaces.{IsTruePlace}
 use Rattle.mirror_places.specs.Giving.{MayGive}
-use Rattle.mirror_places.proofs.Asking.{asks_noted, asks_same, asks_then, turn_of, turn_one}
+use Rattle.mirror_places.proofs.Asking.{asks_noted, asks_same, asks_then, blamed_all, blamed_turn, turn_of, turn_one}
 use Rattle.mirror_places.proofs.Giving.{given_before}
 use Rattle.mirror_places.proofs.TruePlaces.{true_between, true_noted}
 use Rattle.mirror_places.proofs.Giving.{edge_weaker}
@@ -56,6 +56,10 @@ loop-turn-preserved g c =
             none entries root (subst (λ j. IsTruePlace digest entries may y z j) (sym at)
             (true_between may failed asked digest entries so so so x y z z before now (asks_same may failed asked so z) k t))
       ];
+      blamed = blamed_turn g.S.Source.may_answer g.S.Source.failed g.S.Source.asked (IsEdgeTile c.args.size) (IsEdgeTile c.args.size)
+          c.args.places.now c.loop-turn.places c.edge_at_place.new.places c.loop-turn.invariant.asks c.edge_at_place.ensures.asks
+          c.first-first.result c.loop-turn.turn c.in_turn-index.result c.in_turn-index.ensures.turn c.loop-turn.invariant.blamed
+          (rw c.in-None.is at c.in_ok-edge.ensures.blamed);
     }
 
 pub returns-clause-honest : goal.returns-clause-honest
@@ -92,3 +96,11 @@ returns-clause-once g c =
     c.loop-turn.places c.note_lacked.new.self
     (once_turns g.S.Source.asked (IsEdgeTile c.args.size) c.first-first.result c.loop-turn.turn c.args.places.now
     c.loop-turn.places c.loop-turn.invariant.once) c.note_lacked.ensures.asks
+
+pub returns-clause-blamed : goal.returns-clause-blamed
+returns-clause-blamed g c =
+    let long = c.len-turn-end.ensures in
+    let past = c.loop-turn-test.false in
+    blamed_all g.S.Source.may_answer g.S.Source.failed g.S.Source.asked (λ p. ⊥) c.args.places.now c.loop-turn.places
+    c.note_lacked.new.self c.note_lacked.ensures.asks c.first-first.result c.loop-turn.turn c.first-first.ensures
+    (omega (arith, long, past)) c.loop-turn.invariant.blamed

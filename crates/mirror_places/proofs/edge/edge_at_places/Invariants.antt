@@ -1,7 +1,7 @@
 use Rattle.std.proofs.Common.{◌<◌, ℕ, List}
 use Rattle.mirror_places.specs.Asked.{IsAskedInTurn, IsEdgeTile}
 use Rattle.mirror_places.specs.AskedOnce.{AsksOnce, IsBeforeTurn}
-use Rattle.mirror_places.specs.PlaceGets.{AsksPlaces}
+use Rattle.mirror_places.specs.PlaceGets.{AsksPlaces, IsBlamed}
 use Rattle.mirror_places.specs.TruePlaces.{IsTruePlace}
 use Rattle.mirror_places.specs.TrueAnswers.{IsRootOf}
 use Rattle.mirror_places.proofs.edge.edge_at_places.Given as goal
@@ -13,4 +13,5 @@ invariant-loop-turn g l = record {
   honest : (turn k : ℕ) → turn < l.turn → IsAskedInTurn l.first turn k → (entries : List (List ℕ)) →
       IsRootOf g.H.TreeHash.digest entries l.size l.root →
       IsTruePlace g.H.TreeHash.digest entries g.S.Source.may_answer l.fn.places l.places k → ⊥;
+  blamed : (turn k : ℕ) → turn < l.turn → IsAskedInTurn l.first turn k → IsBlamed l.fn.places l.places k;
 }

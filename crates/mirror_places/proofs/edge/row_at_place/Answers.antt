@@ -1,10 +1,10 @@
-use Rattle.std.proofs.Common.{◌≤◌, ℕ, List, Vec, Global, length, sym, subst, arith}
+use Rattle.std.proofs.Common.{◌≤◌, ℕ, List, Vec, Global, length, not, ap, sym, subst, arith, ◌∙◌}
 use Rattle.tlog_shape.specs.Edge.{edge_index_of, width_of}
 use Rattle.tlog_tiles.specs.Row.{IsRow}
 use Rattle.tlog_tiles.specs.Tiles.{IsWithin}
 use Rattle.mirror_places.specs.Asked.{IsEdgeTile, IsPathOrFull}
 use Rattle.mirror_places.specs.Giving.{IsRowFrom, MayGive, PartOf}
-use Rattle.mirror_places.proofs.Asking.{asks_noted, asks_same, asks_weaker}
+use Rattle.mirror_places.proofs.Asking.{asks_noted, asks_same, asks_weaker, none_given, some_found}
 use Rattle.mirror_places.proofs.EdgeLevels.{edge_tile_asked}
 use Rattle.mirror_places.proofs.TruePlaces.{true_between}
 use Rattle.mirror_places.proofs.TrueAnswers.{edge_within, row_there, some_weaker}
@@ -24,7 +24,7 @@ returns-clause-asks g c =
     c.edge_path-path.ensures h) c.args.places.now c.get_partial.new.places c.get_partial.ensures.asks in
     elim c.if-is_none.branch [
       | then-is_none w ↦ rw w.places-is (asks_noted g.S.Source.may_answer g.S.Source.failed g.S.Source.asked (IsEdgeTile c.args.size) c.args.places.now
-          c.get_partial.new.places w.note_wrong.new.self asks w.note_wrong.ensures)
+          c.get_partial.new.places w.note_wrong.new.self asks w.note_wrong.ensures.asks)
       | else-is_none w ↦ rw w.places-is asks
     ]
 
@@ -73,7 +73,7 @@ returns-clause-honest g c =
           c.edge_path-path.result c.in_ok-row.row c.edge_width-width.ensures c.edge_path-path.ensures c.deref.ensures.value
           (found digest hash entries short
           (true_between may failed asked digest entries so so (λ p. ⊥) x x y w.note_wrong.new.self (asks_same may failed asked so x)
-          c.get_partial.ensures.asks w.note_wrong.ensures c.args.index t)
+          c.get_partial.ensures.asks w.note_wrong.ensures.asks c.args.index t)
           (subst (λ p. IsWithin (length entries) p) (sym c.edge_path-path.ensures)
           (edge_within c.args.size (length entries) c.args.level le c.requires.level some)))
           c.in_ok-row.ensures.row c.in_ok-row.ensures.none)
@@ -100,7 +100,7 @@ returns-clause-once g c =
     c.args.places.now c.get_partial.new.places (c.get_partial.ensures.once differ) in
     elim c.if-is_none.branch [
       | then-is_none w ↦ rw w.places-is (once_noted g.S.Source.asked g.S.Source.may_answer g.S.Source.failed so c.args.places.now
-          c.get_partial.new.places w.note_wrong.new.self once w.note_wrong.ensures)
+          c.get_partial.new.places w.note_wrong.new.self once w.note_wrong.ensures.asks)
       | else-is_none w ↦ rw w.places-is once
     ]
 
@@ -142,3 +142,9 @@ returns-in_err-row-clause-once g c =
     let once = once_weaker g.S.Source.asked (IsAtPlace c.args.index (IsPathOrFull path)) so
     (λ k p h. (h.0, tile_at c.args.size c.args.level c.requires.level some path p c.edge_path-path.ensures h.1))
     c.args.places.now c.get_partial.new.places (c.get_partial.ensures.once differ) in once
+
+pub returns-clause-blamed : goal.returns-clause-blamed
+returns-clause-blamed g c = elim c.if-is_none.branch [
+  | then-is_none w ↦ rw w.places-is (none_given c.in_ok-row.row _ (λ d few. w.note_wrong.ensures.noted d))
+  | else-is_none w ↦ some_found c.in_ok-row.row _ (c.is_none.ensures ∙ ap not w.if-is_none.false)
+]

@@ -3,7 +3,7 @@ use Rattle.tlog_shape.specs.Edge.{edge_index_of, width_of}
 use Rattle.tlog_hash.specs.Rows.{level_row}
 use Rattle.mirror_places.specs.Asked.{IsEdgeTile}
 use Rattle.mirror_places.specs.Giving.{IsRowFrom, MayGive}
-use Rattle.mirror_places.proofs.Asking.{asks_same, asks_then}
+use Rattle.mirror_places.proofs.Asking.{asks_same, asks_then, blamed_then}
 use Rattle.mirror_places.proofs.Giving.{given_before}
 use Rattle.mirror_places.proofs.TruePlaces.{true_between}
 use Rattle.mirror_places.proofs.Giving.{row_weaker}
@@ -112,3 +112,9 @@ returns-in-None-clause-once g c =
 pub returns-clause-once : goal.returns-clause-once
 returns-clause-once g c =
     once_levels g.S.Source.asked c.args.size c.loop-level.level c.args.index c.args.places.now c.loop-level.places c.loop-level.invariant.once
+
+pub returns-in-None-clause-blamed : goal.returns-in-None-clause-blamed
+returns-in-None-clause-blamed g c =
+    blamed_then g.S.Source.may_answer g.S.Source.failed g.S.Source.asked (IsEdgeTile c.args.size) (IsEdgeTile c.args.size)
+    c.args.places.now c.loop-level.places c.row_at_place.new.places c.loop-level.invariant.asks c.row_at_place.ensures.asks
+    c.args.index (rw c.in-None.is at c.in_ok-row.ensures.blamed)

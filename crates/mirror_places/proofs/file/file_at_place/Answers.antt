@@ -1,5 +1,5 @@
 use Rattle.std.proofs.Common.{◌≡◌, ℕ, List, Some, None, get_or, inl, inr, subst, sym}
-use Rattle.mirror_places.proofs.Asking.{asks_noted}
+use Rattle.mirror_places.proofs.Asking.{asks_noted, blamed_failed}
 use Rattle.mirror_places.proofs.AskingOnce.{once_noted}
 use Rattle.mirror_places.specs.AskedOnce.{IsAtPlace}
 use Rattle.mirror_places.proofs.file.file_at_place.Goals as goal
@@ -12,12 +12,12 @@ returns-in-Some-clause-asks g c =
 pub returns-in-None-clause-asks : goal.returns-in-None-clause-asks
 returns-in-None-clause-asks g c =
     asks_noted g.S.Source.may_answer g.S.Source.failed g.S.Source.asked (λ p. p ≡ c.args.path.now) c.args.places.now
-    c.get.new.self c.note_wrong.new.self c.get.ensures.asks c.note_wrong.ensures
+    c.get.new.self c.note_wrong.new.self c.get.ensures.asks c.note_wrong.ensures.asks
 
 pub returns-in-NotFound-clause-asks : goal.returns-in-NotFound-clause-asks
 returns-in-NotFound-clause-asks g c =
     asks_noted g.S.Source.may_answer g.S.Source.failed g.S.Source.asked (λ p. p ≡ c.args.path.now) c.args.places.now
-    c.get.new.self c.note_wrong-in-NotFound.new.self c.get.ensures.asks c.note_wrong-in-NotFound.ensures
+    c.get.new.self c.note_wrong-in-NotFound.new.self c.get.ensures.asks c.note_wrong-in-NotFound.ensures.asks
 
 pub returns-in-None-clause-none : goal.returns-in-None-clause-none
 returns-in-None-clause-none g c = λ d.
@@ -53,9 +53,14 @@ returns-in-Some-clause-once g c =
 pub returns-in-None-clause-once : goal.returns-in-None-clause-once
 returns-in-None-clause-once g c =
     once_noted g.S.Source.asked g.S.Source.may_answer g.S.Source.failed (IsAtPlace c.args.index (λ p. p ≡ c.args.path.now)) c.args.places.now c.get.new.self
-    c.note_wrong.new.self c.get.ensures.once c.note_wrong.ensures
+    c.note_wrong.new.self c.get.ensures.once c.note_wrong.ensures.asks
 
 pub returns-in-NotFound-clause-once : goal.returns-in-NotFound-clause-once
 returns-in-NotFound-clause-once g c =
     once_noted g.S.Source.asked g.S.Source.may_answer g.S.Source.failed (IsAtPlace c.args.index (λ p. p ≡ c.args.path.now)) c.args.places.now c.get.new.self
-    c.note_wrong-in-NotFound.new.self c.get.ensures.once c.note_wrong-in-NotFound.ensures
+    c.note_wrong-in-NotFound.new.self c.get.ensures.once c.note_wrong-in-NotFound.ensures.asks
+
+pub returns-in-Failed-clause-blamed : goal.returns-in-Failed-clause-blamed
+returns-in-Failed-clause-blamed g c =
+    blamed_failed g.S.Source.may_answer g.S.Source.failed g.S.Source.asked (λ p. p ≡ c.args.path.now) c.args.places.now
+    c.get.new.self c.get.ensures.asks c.args.index (λ d. rw c.in-Failed.is at (c.in_ok-bytes.ensures.answer d))

@@ -3,7 +3,7 @@ use Rattle.std.proofs.lemmas.Bool.{cases_lt}
 use Rattle.log_reader.specs.Verified.{Verifies}
 use Rattle.mirror_places.specs.Asked.{IsAskedInVain, IsAskedInTurn}
 use Rattle.mirror_places.proofs.Giving.{given_before}
-use Rattle.mirror_places.proofs.Asking.{asks_noted, asks_same, asks_then, noted_asks, turn_of, turn_one, vain_between}
+use Rattle.mirror_places.proofs.Asking.{asks_noted, asks_same, asks_then, blamed_all, blamed_turn, noted_asks, turn_of, turn_one, vain_between}
 use Rattle.mirror_places.proofs.AskingOnce.{noted_once, once_last, once_noted, once_same, once_turn, once_turns}
 use Rattle.mirror_places.proofs.TruePlaces.{lacks_none}
 use Rattle.mirror_places.specs.AskedOnce.{IsBeforeTurn}
@@ -48,6 +48,10 @@ loop-turn-preserved g c = record {
             (get_or c.loop-turn.places.list.items n d).failures (get_or c.file_at_place.new.places.list.items n d).failures
             c.args.path.now good) at (none d))
       ];
+  blamed = blamed_turn g.S.Source.may_answer g.S.Source.failed g.S.Source.asked (λ p. p ≡ c.args.path.now) (λ p. p ≡ c.args.path.now)
+      c.args.places.now c.loop-turn.places c.file_at_place.new.places c.loop-turn.invariant.asks c.file_at_place.ensures.asks
+      c.first-first.result c.loop-turn.turn c.in_turn-index.result c.in_turn-index.ensures.turn c.loop-turn.invariant.blamed
+      (rw c.in-None.is at c.in_ok-found.ensures.blamed);
 }
 
 pub loop-turn-init : goal.loop-turn-init
@@ -63,6 +67,7 @@ loop-turn-init g c =
       once = noted_once asked may failed (IsBeforeTurn c.first-first.result 0 so) x hinted hinted c.expect_from.ensures
           (once_same asked (IsBeforeTurn c.first-first.result 0 so) hinted);
       none = λ turn k d none. absurd (omega (arith, none));
+      blamed = λ turn k none. absurd (omega (arith, none));
     }
 
 pub returns-clause-asks : goal.returns-clause-asks
@@ -106,3 +111,13 @@ returns-clause-once g c =
     c.loop-turn.places c.note_lacked.new.self
     (once_turns g.S.Source.asked (λ p. p ≡ c.args.path.now) c.first-first.result c.loop-turn.turn c.args.places.now
     c.loop-turn.places c.loop-turn.invariant.once) c.note_lacked.ensures.asks
+
+pub returns-clause-blamed : goal.returns-clause-blamed
+returns-clause-blamed g c =
+    let long = c.len-turn-end.ensures in
+    let past = c.loop-turn-test.false in
+    let same = c.expect_from.ensures.count in
+    blamed_all g.S.Source.may_answer g.S.Source.failed g.S.Source.asked (λ p. ⊥) c.args.places.now c.loop-turn.places
+    c.note_lacked.new.self c.note_lacked.ensures.asks c.first-first.result c.loop-turn.turn
+    (λ some. let first = c.first-first.ensures (omega (arith, same, some)) in omega (arith, first, same))
+    (omega (arith, long, past, same)) c.loop-turn.invariant.blamed

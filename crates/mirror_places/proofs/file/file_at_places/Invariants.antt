@@ -2,7 +2,7 @@ use Rattle.std.proofs.Common.{◌≡◌, ◌<◌, ℕ, List, get_or}
 use Rattle.log_reader.specs.Verified.{Verifies}
 use Rattle.mirror_places.specs.Asked.{IsAskedInVain, IsAskedInTurn}
 use Rattle.mirror_places.specs.AskedOnce.{AsksOnce, IsBeforeTurn}
-use Rattle.mirror_places.specs.PlaceGets.{AsksPlaces}
+use Rattle.mirror_places.specs.PlaceGets.{AsksPlaces, IsBlamed}
 use Rattle.mirror_places.specs.declared.place.Place.{Place}
 use Rattle.mirror_places.proofs.file.file_at_places.Given as goal
 
@@ -14,4 +14,5 @@ invariant-loop-turn g l = record {
       IsAskedInVain (g.S.Source.may_answer (get_or l.fn.places.list.items k d).source)
       (get_or l.fn.places.list.items k d).failures (get_or l.places.list.items k d).failures l.path
       (λ bytes. (row : List (List ℕ)) × Verifies g.H.TreeHash.digest l.kind l.hash bytes row);
+  blamed : (turn k : ℕ) → turn < l.turn → IsAskedInTurn l.first turn k → IsBlamed l.fn.places l.places k;
 }

@@ -2,7 +2,7 @@ use Rattle.std.proofs.Common.{◌≡◌, ℕ, List, length, Some, inr, sym, ap, 
 use Rattle.mirror_sources.specs.Files.{full_of}
 use Rattle.mirror_sources.specs.Honest.{true_bytes}
 use Rattle.mirror_places.specs.Giving.{IsFirstOf, MayGive}
-use Rattle.mirror_places.proofs.Asking.{asks_noted}
+use Rattle.mirror_places.proofs.Asking.{asks_noted, blamed_failed}
 use Rattle.mirror_places.proofs.TrueAnswers.{full_stays, got_file, got_none, not_failed}
 use Rattle.mirror_places.proofs.AskingOnce.{once_noted}
 use Rattle.mirror_places.specs.AskedOnce.{IsAtPlace}
@@ -11,13 +11,13 @@ use Rattle.mirror_places.proofs.place_files.get_part.Goals as goal
 pub returns-in-File-clause-asks : goal.returns-in-File-clause-asks
 returns-in-File-clause-asks g c =
     asks_noted g.S.Source.may_answer g.S.Source.failed g.S.Source.asked (λ p. p ≡ full_of c.args.path.now) c.args.places.now
-    c.get.new.self c.note_wrong.new.self (rw c.full_of-full_path.ensures at c.get.ensures.asks) c.note_wrong.ensures
+    c.get.new.self c.note_wrong.new.self (rw c.full_of-full_path.ensures at c.get.ensures.asks) c.note_wrong.ensures.asks
 
 pub returns-in-NotFound-clause-asks : goal.returns-in-NotFound-clause-asks
 returns-in-NotFound-clause-asks g c =
     asks_noted g.S.Source.may_answer g.S.Source.failed g.S.Source.asked (λ p. p ≡ full_of c.args.path.now) c.args.places.now
     c.get.new.self c.note_wrong-in-NotFound.new.self (rw c.full_of-full_path.ensures at c.get.ensures.asks)
-    c.note_wrong-in-NotFound.ensures
+    c.note_wrong-in-NotFound.ensures.asks
 
 pub returns-in-Some-clause-taken : goal.returns-in-Some-clause-taken
 returns-in-Some-clause-taken g c =
@@ -68,12 +68,12 @@ returns-in-NotFound-clause-honest g c = λ digest hash entries short t within go
 pub returns-in-File-clause-once : goal.returns-in-File-clause-once
 returns-in-File-clause-once g c =
     once_noted g.S.Source.asked g.S.Source.may_answer g.S.Source.failed (IsAtPlace c.args.index (λ p. p ≡ full_of c.args.path.now)) c.args.places.now c.get.new.self
-    c.note_wrong.new.self (rw c.full_of-full_path.ensures at c.get.ensures.once) c.note_wrong.ensures
+    c.note_wrong.new.self (rw c.full_of-full_path.ensures at c.get.ensures.once) c.note_wrong.ensures.asks
 
 pub returns-in-NotFound-clause-once : goal.returns-in-NotFound-clause-once
 returns-in-NotFound-clause-once g c =
     once_noted g.S.Source.asked g.S.Source.may_answer g.S.Source.failed (IsAtPlace c.args.index (λ p. p ≡ full_of c.args.path.now)) c.args.places.now c.get.new.self
-    c.note_wrong-in-NotFound.new.self (rw c.full_of-full_path.ensures at c.get.ensures.once) c.note_wrong-in-NotFound.ensures
+    c.note_wrong-in-NotFound.new.self (rw c.full_of-full_path.ensures at c.get.ensures.once) c.note_wrong-in-NotFound.ensures.asks
 
 pub returns-in_err-full-clause-once : goal.returns-in_err-full-clause-once
 returns-in_err-full-clause-once g c = rw c.full_of-full_path.ensures at c.get.ensures.once
@@ -86,3 +86,8 @@ returns-in-Some-clause-once g c = rw c.full_of-full_path.ensures at c.get.ensure
 
 pub returns-clause-once : goal.returns-clause-once
 returns-clause-once g c = rw c.full_of-full_path.ensures at c.get.ensures.once
+
+pub returns-clause-blamed : goal.returns-clause-blamed
+returns-clause-blamed g c =
+    blamed_failed g.S.Source.may_answer g.S.Source.failed g.S.Source.asked (λ p. p ≡ c.full_of-full_path.result) c.args.places.now
+    c.get.new.self c.get.ensures.asks c.args.index (λ d. rw c.in-Failed.is at (c.in_ok-full.ensures.answer d))

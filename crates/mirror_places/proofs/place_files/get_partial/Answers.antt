@@ -1,16 +1,17 @@
 use Rattle.std.proofs.Common.{◌≡◌, ℕ, List, Option, Vec, Global, Some, inl, inr, ap}
-use Rattle.std.specs.Prelude.{option_map}
+use Rattle.std.specs.Prelude.{option_map, IfNone}
 use Rattle.mirror_sources.specs.Files.{full_of}
 use Rattle.mirror_places.specs.Asked.{IsPathOrFull}
 use Rattle.mirror_places.specs.Giving.{MayGive, PartOf}
 use Rattle.mirror_places.specs.TrueAnswers.{FindsPart, FindsTrue}
-use Rattle.mirror_places.proofs.Asking.{asks_same, asks_then, asks_weaker}
+use Rattle.mirror_places.proofs.Asking.{asks_same, asks_then, asks_weaker, blamed_failed, blamed_then}
 use Rattle.mirror_places.proofs.Giving.{given_before}
 use Rattle.mirror_places.proofs.TruePlaces.{true_between}
 use Rattle.mirror_places.proofs.Giving.{part_weaker}
-use Rattle.mirror_places.proofs.TrueAnswers.{got_file, got_none, not_failed, ok_some_weaker, ok_weaker}
+use Rattle.mirror_places.proofs.TrueAnswers.{got_file, got_none, none_weaker, not_failed, ok_some_weaker, ok_weaker}
 use Rattle.mirror_places.proofs.AskingOnce.{once_part, once_weaker}
 use Rattle.mirror_places.specs.AskedOnce.{IsAtPlace}
+use Rattle.mirror_places.specs.PlaceGets.{IsBlamed}
 use Rattle.mirror_places.proofs.place_files.get_partial.Goals as goal
 
 pub returns-in-NotFound-clause-asks : goal.returns-in-NotFound-clause-asks
@@ -90,3 +91,20 @@ returns-in-Failed-clause-once g c =
     λ differ. once_weaker g.S.Source.asked (IsAtPlace c.args.index (λ p. p ≡ c.args.path.now))
     (IsAtPlace c.args.index (IsPathOrFull c.args.path.now)) (λ k p h. (h.0, inl h.1)) c.args.places.now c.get.new.self
     c.get.ensures.once
+
+pub returns-in-Failed-clause-blamed : goal.returns-in-Failed-clause-blamed
+returns-in-Failed-clause-blamed g c =
+    blamed_failed g.S.Source.may_answer g.S.Source.failed g.S.Source.asked (λ p. p ≡ c.args.path.now) c.args.places.now
+    c.get.new.self c.get.ensures.asks c.args.index (λ d. rw c.in-Failed.is at (c.in_ok-bytes.ensures.answer d))
+
+pub returns-in-NotFound-clause-blamed : goal.returns-in-NotFound-clause-blamed
+returns-in-NotFound-clause-blamed g c =
+    let x = c.args.places.now in
+    let y = c.get.new.self in
+    let z = c.get_part.new.places in
+    ok_weaker c.get_part.result
+    (λ (o : Option (Vec ℕ Global)). IfNone o (IsBlamed y z c.args.index))
+    (λ (o : Option (Vec ℕ Global)). IfNone o (IsBlamed x z c.args.index))
+    (λ o h. none_weaker o (IsBlamed y z c.args.index) (IsBlamed x z c.args.index)
+    (blamed_then g.S.Source.may_answer g.S.Source.failed g.S.Source.asked (λ p. p ≡ c.args.path.now) (λ p. p ≡ full_of c.args.path.now)
+    x y z c.get.ensures.asks c.get_part.ensures.asks c.args.index) h) c.get_part.ensures.blamed

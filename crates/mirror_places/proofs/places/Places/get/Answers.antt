@@ -26,21 +26,21 @@ returns-in_err-answer-clause-once g c =
 pub returns-in_err-keep-clause-asks : goal.returns-in_err-keep-clause-asks
 returns-in_err-keep-clause-asks g c =
     kept_asks g.S.Source.may_answer g.S.Source.failed g.S.Source.asked (λ p. p ≡ c.args.path.now) c.args.self.now c.note.new.self
-    c.ask.new.self c.keep.new.self c.note.ensures.kept c.ask.ensures.asks c.keep.ensures
+    c.ask.new.self c.keep.new.self c.note.ensures.kept c.ask.ensures.asks c.keep.ensures.kept
 
 pub returns-in_err-keep-clause-once : goal.returns-in_err-keep-clause-once
 returns-in_err-keep-clause-once g c =
     kept_once g.S.Source.may_answer g.S.Source.failed g.S.Source.asked c.args.index c.args.path.now c.args.self.now c.note.new.self
     c.ask.new.self c.keep.new.self c.note.ensures.kept c.in_ok-at.ensures.heard c.ask.ensures.ends c.ask.ensures.once
-    c.keep.ensures
+    c.keep.ensures.kept
 
 pub returns-clause-asks : goal.returns-clause-asks
 returns-clause-asks g c =
     kept_asks g.S.Source.may_answer g.S.Source.failed g.S.Source.asked (λ p. p ≡ c.args.path.now) c.args.self.now c.note.new.self
-    c.ask.new.self c.keep.new.self c.note.ensures.kept c.ask.ensures.asks c.keep.ensures
+    c.ask.new.self c.keep.new.self c.note.ensures.kept c.ask.ensures.asks c.keep.ensures.kept
 
 pub returns-clause-once : goal.returns-clause-once
 returns-clause-once g c =
     kept_once g.S.Source.may_answer g.S.Source.failed g.S.Source.asked c.args.index c.args.path.now c.args.self.now c.note.new.self
     c.ask.new.self c.keep.new.self c.note.ensures.kept c.in_ok-at.ensures.heard c.ask.ensures.ends c.ask.ensures.once
-    c.keep.ensures
+    c.keep.ensures.kept
