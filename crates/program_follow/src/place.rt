@@ -79,7 +79,7 @@ impl<'a, R: Files, D: Dial + Drop> PlaceSource<'a, R, D> {
         })
     }
 
-    /// A place over the folder of that name.
+    /// A place over the folder of that name. No get failed yet.
     ///
     /// # Errors
     ///
@@ -88,16 +88,20 @@ impl<'a, R: Files, D: Dial + Drop> PlaceSource<'a, R, D> {
         alloc: Global,
         name: &str,
         source: DirSource<'a, R>,
-    ) -> Result<Self, AllocError> {
+    ) -> Result<Self, AllocError>
+        ensures { IfOk result (λ place. place.failures ≡ 0) }
+    {
         PlaceSource::new(alloc, name, Kind::Folder(source))
     }
 
-    /// A place over the server of that name.
+    /// A place over the server of that name. No get failed yet.
     ///
     /// # Errors
     ///
     /// `AllocError`: memory was refused.
-    pub fn of_server(alloc: Global, name: &str, source: HttpSource<D>) -> Result<Self, AllocError> {
+    pub fn of_server(alloc: Global, name: &str, source: HttpSource<D>) -> Result<Self, AllocError>
+        ensures { IfOk result (λ place. place.failures ≡ 0) }
+    {
         PlaceSource::new(alloc, name, Kind::Server(source))
     }
 

@@ -1,5 +1,5 @@
 //! The size and the origin of a checkpoint, by its note.
-ghost use Rattle.std.specs.Prelude.{IfSome, List, ℕ};
+ghost use Rattle.std.specs.Prelude.{IfSome, List, ℕ, string_bytes};
 ghost use Rattle.mirror_model.specs.Heads.{IsHead};
 
 use signed_note::Note;
@@ -31,7 +31,10 @@ pub fn checkpoint_size(alloc: Global, note: &[u8]) -> Option<u64>
 /// ```text
 /// checkpoint_origin(alloc, note) // Some("example.com/log")
 /// ```
-pub fn checkpoint_origin(alloc: Global, note: &[u8]) -> Option<String> {
+pub fn checkpoint_origin(alloc: Global, note: &[u8]) -> Option<String>
+    ensures { IfSome result (λ origin. (size : ℕ) × (root : List ℕ)
+        × IsHead note.now (string_bytes origin) size root) }
+{
     let Ok(note) = Note::read(alloc, note) else {
         return None;
     };

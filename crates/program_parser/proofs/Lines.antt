@@ -1,6 +1,6 @@
 -- The matches of a parser and the words.
 use Rattle.std.proofs.Common.{◌≡◌, ◌∙◌, ap, sym, subst, inl, inr, List, [], option_map, unwrap_or, Option, Some, None}
-use Rattle.std.proofs.Common.{Result, Ok, Err, true≢false, is_some, refl, codes, Bool, IsTrue, ◌↔◌}
+use Rattle.std.proofs.Common.{Result, Ok, Err, true≢false, is_some, refl, codes, Bool, true, false, IsTrue, ◌↔◌}
 use Rattle.std.specs.Prelude.{Box}
 use Rattle.std.specs.Box.{box_value}
 use Rattle.clap.specs.Words.{HasKind, HasMatchesOf, Row, Text, first_of, kind_of, subcommand_name_of, subcommand_rows}
@@ -11,7 +11,7 @@ use Rattle.clap.specs.declared.parser.matches.ArgMatches.TheViews.{out-ArgMatche
 use Rattle.clap.specs.declared.parser.matches.SubCommand.{SubCommand}
 use Rattle.program_parser.specs.Program.{Calls, faults, mirror_app}
 use Rattle.program_words.specs.Commands.{HasFlag, Says, name_of}
-use Rattle.program_words.specs.Refusals.{ReadsPart}
+use Rattle.program_words.specs.Refusals.{ReadsPart, judged_by}
 use Rattle.program_parser.specs.Readings.{AsksWhy, Reads, ReadsKeyFile, IsFaultOf, no_keys}
 use Rattle.program_words.specs.Readings.{IsSaid}
 use Rattle.program_words.specs.declared.commands.Command.{Command}
@@ -97,3 +97,9 @@ why_read words name options b calls flag = (
       flag.1 (subst (λ (o : List Row). HasFlag o (codes "why")) (same_options words asks.name name asks.options options asks.calls calls)
       asks.given),
 )
+
+-- a command is refused for a bad word only if there is one
+pub bad_named : (memory bad : Bool) (command : Command) → judged_by memory bad command ≡ Err BadArgument → bad ≡ true
+bad_named true bad command e = cc e
+bad_named false true command e = refl
+bad_named false false command e = cc e

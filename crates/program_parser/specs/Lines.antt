@@ -1,6 +1,7 @@
 -- All that the words of a command line say.
-use Rattle.std.specs.Prelude.{List, Ok, IsTrue, ◌↔◌, option_map}
+use Rattle.std.specs.Prelude.{◌≡◌, List, Ok, Err, IsTrue, ◌↔◌, is_some, option_map, true}
 use Rattle.clap.specs.Words.{Text}
+use Rattle.program_words.specs.declared.fault.CommandFault.TheVariants.{BadArgument}
 use Rattle.program_parser.specs.declared.words.Line.{Line}
 use Rattle.program_parser.specs.Readings.{AsksWhy, Reads, ReadsKeyFile}
 
@@ -10,3 +11,7 @@ pub record IsLine (words : List Text) (line : Line) : Type 0 where
   pub keys : ReadsKeyFile words (Ok (option_map (λ name. name.now) line.keys))
   pub why : IsTrue line.why ↔ AsksWhy words
   pub command : Reads words line.command
+
+-- if the command is refused for the spelling, the range or the fit of its words, the line names a bad one
+abbrev pub NamesBad : Line → Type 0
+NamesBad line = line.command ≡ Err BadArgument → is_some line.bad ≡ true

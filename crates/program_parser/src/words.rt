@@ -6,7 +6,7 @@ ghost use Rattle.program_words.specs.Commands.{HasFlag};
 ghost use Rattle.program_words.specs.Refusals.{ReadsPart};
 ghost use Rattle.program_parser.specs.Readings.{IsMatched, Reads, ReadsKeyFile, IsFaultOf, no_keys};
 ghost use Rattle.program_words.specs.Readings.{IsSaid};
-ghost use Rattle.program_parser.specs.Lines.{IsLine};
+ghost use Rattle.program_parser.specs.Lines.{IsLine, NamesBad};
 
 use crate::commands::{command_of, parser};
 use clap::ArgMatches;
@@ -104,6 +104,7 @@ pub struct Line<'a> {
 /// reported after the faults of the key file.
 pub fn read_line<'a>(alloc: Global, words: &'a [String]) -> Result<Line<'a>, CommandFault>
     ensures line { IfOk result (λ line. IsLine (map string_bytes words.now) line) }
+    ensures bad { IfOk result NamesBad }
     ensures none { IfErr result (λ fault. Reads (map string_bytes words.now) (Err fault)) }
     ensures refused { IfErr result (λ fault. ReadsKeyFile (map string_bytes words.now)
         (no_keys fault)) }
@@ -124,6 +125,7 @@ fn line_of<'a>(alloc: Global, name: &str, found: &ArgMatches<'a>) -> Line<'a>
         ≡ option_map (λ keys. keys.now) result.keys }
     ensures why { IsTrue result.why ↔ HasFlag (rows_of (found_of found.now)) (codes "why") }
     ensures command { ReadsPart (IsSaid name.now (rows_of (found_of found.now))) result.command }
+    ensures bad { NamesBad result }
 {
     let keys = found.get_str("keys");
     let why = has_flag(found, "why");

@@ -37,8 +37,7 @@ module _
     (digest : List ℕ → List ℕ) (origin : List ℕ) (keys : List Key) (key_bytes : List ℕ)
     (held before put : Option (List Put)) where
   -- a log of these entries was built over what the folder held, and signed with the first shared secret; the answer says how far;
-  -- an input that records its bytes has these entries; the log is known if the key is among the keys and no two strings of it
-  -- share a digest
+  -- its checkpoint opens under the keys; an input that records its bytes has these entries
   pub record BuildsInput (input : Option (List ℕ)) (answer : Result (Unit {0}) BuildFault)
       : Type 0 where
     pub signer : Secret

@@ -1,9 +1,10 @@
 -- Logs that are built from entries (C2SP tlog-tiles). Only contracts of private functions cite
--- `ChecksOrigin` and `PutsFiles`.
+-- `ChecksOrigin`, `IsOpenNote` and `PutsFiles`.
 use Rattle.std.specs.Prelude.{◌≡◌, ◌⊎◌, ℕ, List, length, Contains, Option, Result, Ok, Err, ⊤}
 use Rattle.signed_note.specs.Keys.{Key}
 use Rattle.tlog_hash.specs.Tree.{mth}
 use Rattle.tlog_tiles.specs.declared.paths.Path.TheVariants.{Checkpoint}
+use Rattle.mirror_model.specs.Heads.{IsOpenHead}
 use Rattle.mirror_model.specs.Origin.{IsOrigin}
 use Rattle.list_source.specs.ListSource.{OpensAnywhere}
 use Rattle.mirror_sources.specs.Recorded.{KeepsRecord, AddsToRecord}
@@ -13,7 +14,7 @@ use Rattle.mirror_export.specs.Exports.{AddsPrefix}
 use Rattle.mirror_export.specs.declared.fault.ExportFault.{ExportFault}
 use Rattle.mirror_export.specs.declared.fault.ExportFault.TheVariants as export
 use Rattle.tlog_build.specs.declared.fault.BuildFault.{BuildFault}
-use Rattle.tlog_build.specs.declared.fault.BuildFault.TheVariants.{BadOrigin, Export}
+use Rattle.tlog_build.specs.declared.fault.BuildFault.TheVariants.{BadOrigin, Pull, Export}
 use Rattle.tlog_build.specs.declared.fault.BuildFault.TheVariants.{OutOfMemory}
 
 -- when the check of an origin may return each answer: a mirror may have it or not
@@ -22,6 +23,10 @@ ChecksOrigin origin (Ok x) = IsOrigin origin
 ChecksOrigin origin (Err BadOrigin) = ¬ IsOrigin origin
 ChecksOrigin origin (Err OutOfMemory) = ⊤
 ChecksOrigin origin (Err fault) = ⊥
+
+-- the note is a checkpoint of the origin, and opens under the keys
+abbrev pub IsOpenNote : List ℕ → List ℕ → List Key → Type 0
+IsOpenNote note origin keys = (size : ℕ) × (root : List ℕ) × IsOpenHead note origin keys size root
 
 module _ (digest : List ℕ → List ℕ) (note : List ℕ) (entries : List (List ℕ)) where
   -- the files put for the log of the entries under that note, by the answer of the call
@@ -50,23 +55,26 @@ module _ (digest : List ℕ → List ℕ) where
       pub is_note : IsLogNote note
       pub files_are : files ≡ files_at digest note entries (paths_of (length entries))
 
-    -- the files that building the log puts onto a shelf; for Ok all its files, onto a shelf that
-    -- had no checkpoint
-    abbrev pub BuildsLog : {T : Type 0} → Option (List Put) → Option (List Put) →
-        Result T BuildFault → Type 0
-    BuildsLog old new (Ok x) =
-        (files : List Put) × AreLogFiles files × RecordsNone old Checkpoint × AddsToRecord old new files
-    BuildsLog old new (Err BadOrigin) = (¬ IsOrigin origin) × KeepsRecord old new
-    BuildsLog old new (Err (Export export.ShelfInUse)) =
-        KeepsRecord old new × RecordsSome old Checkpoint
-    BuildsLog old new (Err (Export export.ShelfFault)) =
-        (files : List Put) × AreLogFiles files × AddsPrefix old new files
-    BuildsLog old new (Err OutOfMemory) =
-        KeepsRecord old new ⊎ ((files : List Put) × AreLogFiles files × AddsPrefix old new files)
-    BuildsLog old new (Err fault) = ⊥
+    -- the same, and the note opens under these keys
+    pub record AreFilesUnder (keys : List Key) (files : List Put) : Type 0 where
+      pub are : AreLogFiles files
+      pub opens : IsOpenHead are.note origin keys (length entries) (mth digest entries)
 
-    -- this holds if the key of the log is among these keys
+    -- the files that building the log puts onto a shelf, under these keys; for Ok all its files,
+    -- onto a shelf that had no checkpoint. A Pull comes only if the key of the log is not among them
     abbrev pub BuildsLogUnder : {T : Type 0} → List Key → Option (List Put) → Option (List Put) →
         Result T BuildFault → Type 0
-    BuildsLogUnder keys old new result =
-        Contains keys key → BuildsLog old new result
+    BuildsLogUnder keys old new (Ok x) =
+        (files : List Put) × AreFilesUnder keys files × RecordsNone old Checkpoint
+        × AddsToRecord old new files
+    BuildsLogUnder keys old new (Err BadOrigin) = (¬ IsOrigin origin) × KeepsRecord old new
+    BuildsLogUnder keys old new (Err (Pull fault)) = (¬ Contains keys key) × KeepsRecord old new
+    BuildsLogUnder keys old new (Err (Export export.NothingComplete)) = ⊥
+    BuildsLogUnder keys old new (Err (Export export.ShelfInUse)) =
+        KeepsRecord old new × RecordsSome old Checkpoint
+    BuildsLogUnder keys old new (Err (Export export.ShelfFault)) =
+        (files : List Put) × AreFilesUnder keys files × AddsPrefix old new files
+    BuildsLogUnder keys old new (Err (Export export.OutOfMemory)) = ⊥
+    BuildsLogUnder keys old new (Err OutOfMemory) =
+        KeepsRecord old new
+        ⊎ ((files : List Put) × AreFilesUnder keys files × AddsPrefix old new files)

@@ -1,5 +1,5 @@
 //! Builds a log from entries.
-ghost use Rattle.std.specs.Prelude.{◌≡◌, ℕ, List, IfErr, IfOk, map};
+ghost use Rattle.std.specs.Prelude.{◌≡◌, ℕ, List, IfErr, IfOk, OnOk, map};
 ghost use Rattle.mirror_sources.specs.Recorded.{Rose};
 ghost use Rattle.mirror_model.specs.Origin.{IsOrigin};
 ghost use Rattle.mirror_model.specs.TrueLaws.{AreShort};
@@ -7,7 +7,7 @@ ghost use Rattle.mirror_model.specs.View.{nothing};
 ghost use Rattle.note_keys.specs.Keys.{secret_key};
 ghost use Rattle.mirror_model.specs.Heads.{IsOpenHead};
 ghost use Rattle.mirror_pull.specs.declared.fault.PullFault.TheVariants.{OutOfMemory};
-ghost use Rattle.tlog_build.specs.Building.{BuildsLogUnder, ChecksOrigin};
+ghost use Rattle.tlog_build.specs.Building.{BuildsLogUnder, ChecksOrigin, IsOpenNote};
 
 use crate::fault::BuildFault;
 use crate::putting::put_files;
@@ -92,7 +92,9 @@ fn check_note<H: TreeHash>(
     mirror: &Mirror<H>,
     source: &ListSource<H>,
 ) -> Result<(), PullFault>
-    ensures { (size : ℕ) (root : List ℕ)
+    ensures opens { OnOk result (IsOpenNote source.now.note mirror.now.view.origin
+        (map (λ k. key k) keys.now)) }
+    ensures fault { (size : ℕ) (root : List ℕ)
         → IsOpenHead source.now.note mirror.now.view.origin (map (λ k. key k) keys.now) size root
         → IfErr result (λ fault. fault ≡ OutOfMemory) }
 {

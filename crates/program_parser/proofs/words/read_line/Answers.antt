@@ -15,6 +15,7 @@ returns-in-Ok c =
         why = why_read words c.in-Ok.name.now options line.why calls c.line_of-line.ensures.why;
         command = understood words c.in-Ok.name.now options line.command calls c.line_of-line.ensures.command;
       };
+      bad = c.line_of-line.ensures.bad;
       none = tt;
       refused = tt;
     }
@@ -22,6 +23,7 @@ returns-in-Ok c =
 pub returns-in-Err : goal.returns-in-Err
 returns-in-Err c = record {
   line = tt;
+  bad = tt;
   none = read_refused (map string_bytes c.args.words.now) c.in-Err.fault c.in-Err.ensures.refused;
   refused = c.in-Err.ensures.refused;
 }

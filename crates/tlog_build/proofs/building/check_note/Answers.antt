@@ -1,11 +1,19 @@
 use Rattle.std.proofs.Common.{◌≡◌}
 use Rattle.std.proofs.lemmas.Result.{err_from_is_err_and}
+use Rattle.mirror_pull.proofs.HeadsRead.{opened_head}
 use Rattle.mirror_pull.proofs.TruePulls.{some_same}
-use Rattle.tlog_build.proofs.Logs.{note_refused}
+use Rattle.tlog_build.proofs.Logs.{note_opens, note_refused}
 use Rattle.tlog_build.proofs.building.check_note.Goals as goal
 
-pub returns-in_err-check_head : goal.returns-in_err-check_head
-returns-in_err-check_head g c =
+pub returns-clause-opens : goal.returns-clause-opens
+returns-clause-opens g c =
+    let s = c.args.source.now in
+    let note_is : c.in-Some.note.now ≡ s.note = some_same c.in-Some.note.now s.note (rw c.in-Some.is at c.file_at.ensures) in
+    note_opens c.in-Some.note.now s.note c.args.mirror.now.view.origin _ _ _ note_is
+    (opened_head c.in-Some.note.now c.args.mirror.now.view.origin _ c.in_ok-check_head.field-0 c.in_ok-check_head.ensures)
+
+pub returns-in_err-check_head-clause-fault : goal.returns-in_err-check_head-clause-fault
+returns-in_err-check_head-clause-fault g c =
     let p = err_from_is_err_and c.from_residual.result c.from_residual.ensures.1 in
     let s = c.args.source.now in
     let note_is : c.in-Some.note.now ≡ s.note = some_same c.in-Some.note.now s.note (rw c.in-Some.is at c.file_at.ensures) in
