@@ -51,3 +51,7 @@ returns-then-is_none-clause-once g c =
 pub returns-clause-once : goal.returns-clause-once
 returns-clause-once g c =
     once_same g.S.Source.asked (λ k path. ⊤) c.args.places.now
+
+pub returns-clause-asks : goal.returns-clause-asks
+returns-clause-asks g c =
+    asks_same g.S.Source.may_answer g.S.Source.failed g.S.Source.asked (MayBeAsked c.args.tip.now.size c.args.candidate.now.size) c.args.places.now

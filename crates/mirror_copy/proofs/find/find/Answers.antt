@@ -66,3 +66,11 @@ returns-in_err-found-2 g c =
       taken = IfOk-from_err exit.result _ exit.ensures.0;
       suffices = err_exit _ exit.result OutOfMemory exit.ensures (λ entries short is t. no_lack OutOfMemory tt);
     }
+
+pub returns-in_err-bytes-clause-asks : goal.returns-in_err-bytes-clause-asks
+returns-in_err-bytes-clause-asks g c =
+    asks_same g.S.Source.may_answer g.S.Source.failed g.S.Source.asked (λ p. p ≡ c.args.path.now) c.args.places.now
+
+pub returns-in-Some-2-clause-asks : goal.returns-in-Some-2-clause-asks
+returns-in-Some-2-clause-asks g c =
+    asks_same g.S.Source.may_answer g.S.Source.failed g.S.Source.asked (λ p. p ≡ c.args.path.now) c.args.places.now

@@ -65,3 +65,7 @@ returns-in-Some-2-clause-taken g c =
     let x = c.args.places.now in
     edge_weaker (MayGive may x) (MayTake may x (g.D.Shelf.puts c.args.shelf.now)) (λ path bytes given. inr given) c.args.size
     c.in-Some-2.edge (rw c.in-Some-2.is at c.in_ok-edge-2.ensures.taken)
+
+pub returns-in-Some-clause-asks : goal.returns-in-Some-clause-asks
+returns-in-Some-clause-asks g c =
+    asks_same g.S.Source.may_answer g.S.Source.failed g.S.Source.asked (IsEdgeTile c.args.size) c.args.places.now
