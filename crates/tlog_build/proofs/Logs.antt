@@ -18,7 +18,7 @@ use Rattle.mirror_folders.specs.Shelf.{Put}
 use Rattle.log_paths.specs.Files.{files_at, paths_of}
 use Rattle.mirror_export.specs.declared.fault.ExportFault.{ExportFault}
 use Rattle.mirror_export.specs.declared.fault.ExportFault.TheVariants as export
-use Rattle.tlog_build.specs.Building.{IsLogNote, IsOpenNote, AreFilesUnder, BuildsLogUnder, PutsFiles}
+use Rattle.tlog_build.specs.Building.{IsLogNote, OpensUnder, AreFilesUnder, BuildsLogUnder, PutsFiles}
 use Rattle.tlog_build.specs.Faults.{of_export, of_pull}
 
 at_first : (key : Key) → Contains (key ∷ []) key
@@ -39,8 +39,8 @@ note_refused note held origin keys f is reads size root opens =
 
 -- a note that was read is an open tree head
 pub note_opens : (note held origin : List ℕ) (keys : List Key) (size : ℕ) (root : List ℕ) → note ≡ held →
-    IsOpenHead note origin keys size root → IsOpenNote held origin keys
-note_opens note held origin keys size root is opens = subst (λ n. IsOpenNote n origin keys) is (size, root, opens)
+    IsOpenHead note origin keys size root → OpensUnder held origin keys
+note_opens note held origin keys size root is opens = subst (λ n. OpensUnder n origin keys) is (size, root, opens)
 
 module _ (digest : List ℕ → List ℕ) (origin : List ℕ) (key : Key) (entries listed : List (List ℕ)) (note : List ℕ)
     (listed_are : listed ≡ entries) (honest : IsHonestAnywhere digest listed origin key note) where
@@ -59,10 +59,10 @@ module _ (digest : List ℕ → List ℕ) (origin : List ℕ) (key : Key) (entri
       (sym (ap (λ (w : View). w.origin) empty)) (log_note keys has)
 
   -- if the note was read for an empty mirror, the files of the source are those of the log under these keys
-  module _ (keys : List Key) (v : View) (empty : v ≡ nothing origin) (opened : IsOpenNote note v.origin keys) where
+  module _ (keys : List Key) (v : View) (empty : v ≡ nothing origin) (opened : OpensUnder note v.origin keys) where
     log_head : IsOpenHead note origin keys (length entries) (mth digest entries)
     log_head =
-        let h = subst (λ o. IsOpenNote note o keys) (ap (λ (w : View). w.origin) empty) opened in
+        let h = subst (λ o. OpensUnder note o keys) (ap (λ (w : View). w.origin) empty) opened in
         let s = head_once note origin origin h.0 (length entries) h.1 (mth digest entries)
         (head_of note origin keys h.0 h.1 h.2)
         (head_of note origin (key ∷ []) (length entries) (mth digest entries) (log_note (key ∷ []) (at_first key))) in

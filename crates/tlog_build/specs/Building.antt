@@ -1,5 +1,5 @@
 -- Logs that are built from entries (C2SP tlog-tiles). Only contracts of private functions cite
--- `ChecksOrigin`, `IsOpenNote` and `PutsFiles`.
+-- `ChecksOrigin`, `OpensUnder` and `PutsFiles`.
 use Rattle.std.specs.Prelude.{◌≡◌, ◌⊎◌, ℕ, List, length, Contains, Option, Result, Ok, Err, ⊤}
 use Rattle.signed_note.specs.Keys.{Key}
 use Rattle.tlog_hash.specs.Tree.{mth}
@@ -25,8 +25,8 @@ ChecksOrigin origin (Err OutOfMemory) = ⊤
 ChecksOrigin origin (Err fault) = ⊥
 
 -- the note is a checkpoint of the origin, and opens under the keys
-abbrev pub IsOpenNote : List ℕ → List ℕ → List Key → Type 0
-IsOpenNote note origin keys = (size : ℕ) × (root : List ℕ) × IsOpenHead note origin keys size root
+abbrev pub OpensUnder : List ℕ → List ℕ → List Key → Type 0
+OpensUnder note origin keys = (size : ℕ) × (root : List ℕ) × IsOpenHead note origin keys size root
 
 module _ (digest : List ℕ → List ℕ) (note : List ℕ) (entries : List (List ℕ)) where
   -- the files put for the log of the entries under that note, by the answer of the call

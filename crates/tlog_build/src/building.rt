@@ -7,7 +7,7 @@ ghost use Rattle.mirror_model.specs.View.{nothing};
 ghost use Rattle.note_keys.specs.Keys.{secret_key};
 ghost use Rattle.mirror_model.specs.Heads.{IsOpenHead};
 ghost use Rattle.mirror_pull.specs.declared.fault.PullFault.TheVariants.{OutOfMemory};
-ghost use Rattle.tlog_build.specs.Building.{BuildsLogUnder, ChecksOrigin, IsOpenNote};
+ghost use Rattle.tlog_build.specs.Building.{BuildsLogUnder, ChecksOrigin, OpensUnder};
 
 use crate::fault::BuildFault;
 use crate::putting::put_files;
@@ -92,7 +92,7 @@ fn check_note<H: TreeHash>(
     mirror: &Mirror<H>,
     source: &ListSource<H>,
 ) -> Result<(), PullFault>
-    ensures opens { OnOk result (IsOpenNote source.now.note mirror.now.view.origin
+    ensures opens { OnOk result (OpensUnder source.now.note mirror.now.view.origin
         (map (λ k. key k) keys.now)) }
     ensures fault { (size : ℕ) (root : List ℕ)
         → IsOpenHead source.now.note mirror.now.view.origin (map (λ k. key k) keys.now) size root
