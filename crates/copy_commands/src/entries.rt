@@ -9,12 +9,11 @@ ghost use Rattle.copy_commands.specs.Entries.{DoesCopyEntries};
 
 use crate::asking::{of_file, of_head};
 use crate::fault::{CopyRunFault, Error};
-use program_env::Env;
+use program_env::served::{copy_size, of_backwards, of_size};
+use program_env::why::{Why, of_folder, of_origin};
+use program_env::{Env, RunFiles, RunFolders};
 use program_heads::check_origin;
 use program_monitor::{CopyEntriesFault, EntryRange, entries_of_copy};
-use program_whys::served::{copy_size, of_backwards, of_size};
-use program_whys::why::{Why, of_folder, of_origin};
-use program_whys::{RunFiles, RunFolders};
 use program_words::commands::entries::CopyEntries;
 use signed_note::Verifier;
 use std::io::{Read, Write};

@@ -21,8 +21,7 @@ mod serve;
 mod status;
 
 pub use fault::{CopyRunFault, Error};
-use program_env::Env;
-use program_whys::{RunFiles, RunFolders};
+use program_env::{Env, RunFiles, RunFolders};
 use program_words::CopyCommand;
 use signed_note::Verifier;
 use std::io::{Read, Write};

@@ -14,10 +14,11 @@ use crate::fault::{CopyRunFault, Error};
 use byte_streams::TimedStream;
 use copy_server::{CopyAnswerFault, answer_from_copy};
 use mirror_server::HttpFault;
-use program_env::{Env, ListenFault, port_fault, print_fault, print_port};
+use program_env::why::{FailedStreams, of_folder, of_origin, print_why};
+use program_env::{
+    Env, ListenFault, RunFiles, RunFolders, port_fault, print_fault, print_port, write_front,
+};
 use program_heads::check_origin;
-use program_whys::why::{FailedStreams, of_folder, of_origin, print_why};
-use program_whys::{RunFiles, RunFolders, write_front};
 use program_words::commands::serve::CopyServe;
 use signed_note::Verifier;
 use std::alloc::Global;

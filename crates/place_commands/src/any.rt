@@ -1,8 +1,8 @@
 //! A place of the system as a source that keeps what `--why` needs.
 use mirror_client::Dial;
 use mirror_sources::{Source, SourceFault};
+use program_env::{Failed, Failing};
 use program_follow::{FailedAt, PlaceSource};
-use program_whys::{Failed, Failing};
 use std::fs::Files;
 use tlog_tiles::Path;
 

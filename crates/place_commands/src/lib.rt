@@ -19,8 +19,7 @@ mod follow;
 mod places;
 
 pub use fault::{Error, PlaceRunFault};
-use program_env::Env;
-use program_whys::{RunFiles, RunFolders};
+use program_env::{Env, RunFiles, RunFolders};
 use program_words::PlaceCommand;
 use signed_note::Verifier;
 use std::fs::Files;

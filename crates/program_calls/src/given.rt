@@ -9,12 +9,11 @@ ghost use Rattle.program_env.specs.Performing.{Ends};
 ghost use Rattle.program_library.specs.Runs.{Runs};
 ghost use Rattle.program_env.specs.Performing.{IsStatus};
 
-use program_env::Env;
+use program_env::why::FailedStreams;
+use program_env::{Env, RunFiles, RunFolders};
 use program_files::SystemFiles;
 use program_library::{Error, Keys, RunEnv, RunFault, printed, refused, system_folders};
 use program_parser::{Line, read_line};
-use program_whys::why::FailedStreams;
-use program_whys::{RunFiles, RunFolders};
 use signed_note::Verifier;
 use std::alloc::Global;
 use std::fs::Files;

@@ -4,3 +4,4 @@ pub mod Performing
 pub mod Origins
 pub mod Ports
 pub mod FaultLines
+pub mod Whys

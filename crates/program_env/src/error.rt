@@ -1,7 +1,7 @@
 //! Why a command was not done, and what the reason is about.
 ghost use Rattle.std.specs.Prelude.{◌≡◌};
 
-use program_whys::why::Why;
+use crate::why::Why;
 use std::marker::Model;
 
 /// Why a command was not done, and, if it is known, what the reason is about. It is made where the fault is found. Contracts

@@ -5,10 +5,10 @@ ghost use Rattle.program_env.specs.FaultLines.{fault_line};
 ghost use Rattle.program_env.specs.Ports.{PrintsPort, connection_fault, listening_text};
 
 use crate::error::Error;
+use crate::front::write_front;
+use crate::why::Why;
 use byte_streams::write_whole;
 use mirror_server::HttpFault;
-use program_whys::why::Why;
-use program_whys::write_front;
 use std::alloc::{AllocError, Global};
 use std::io::{self, Write};
 use thiserror::Error as FaultText;

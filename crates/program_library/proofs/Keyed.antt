@@ -18,7 +18,7 @@ use Rattle.program_library.specs.Runs.{Runs, RunsKeyed, no_lines}
 use Rattle.program_library.specs.declared.fault.RunFault.{RunFault}
 use Rattle.program_library.specs.declared.fault.RunFault.TheVariants.{Command, KeyFile, KeyLines}
 use Rattle.program_library.proofs.Doable.{asked_doable}
-use Rattle.program_whys.proofs.Written.{keeps_itself}
+use Rattle.program_env.proofs.Written.{keeps_itself}
 
 -- the command of a line can be done
 doable : (words : List (List ℕ)) (command : Result Order CommandFault) → Reads words command → IfOk command IsDoable

@@ -5,8 +5,8 @@ ghost use Rattle.program_library.specs.Runs.{FindsKeys, ReadsJoined, ReadsKeyLin
 
 use crate::fault::{Error, RunFault};
 use note_keys::{KeyFileFault, KeyLine, join_pins, read_keys};
-use program_whys::RunFiles;
-use program_whys::why::{Why, of_named};
+use program_env::RunFiles;
+use program_env::why::{Why, of_named};
 use signed_note::Verifier;
 use std::alloc::Global;
 

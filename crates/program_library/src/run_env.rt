@@ -2,7 +2,7 @@
 use crate::fault::Error;
 use crate::keys::Keys;
 use note_keys::KeyLine;
-use program_whys::why::{FailedStreams, Why};
+use program_env::why::{FailedStreams, Why};
 use program_words::Command;
 use std::alloc::Global;
 

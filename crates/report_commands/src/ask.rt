@@ -8,11 +8,11 @@ ghost use Rattle.report_commands.specs.Asks.{AsksState};
 ghost use Rattle.report_commands.specs.Faults.{IsLate};
 
 use crate::fault::{Error, ReportRunFault};
+use program_env::RunFiles;
+use program_env::served::{of_proof, of_unheld};
+use program_env::why::{Why, of_state};
 use program_reports::{AskFault, Question, ReportFault, print_report};
 use program_states::open_state;
-use program_whys::RunFiles;
-use program_whys::served::{of_proof, of_unheld};
-use program_whys::why::{Why, of_state};
 use program_words::StateArgs;
 use signed_note::Verifier;
 use std::alloc::Global;

@@ -7,9 +7,8 @@ ghost use Rattle.report_commands.specs.Streams.{DoesCheck};
 ghost use Rattle.report_commands.specs.Faults.{IsLate};
 
 use crate::fault::{Error, ReportRunFault};
-use program_env::Env;
+use program_env::{Env, RunFiles, RunFolders};
 use program_streams::run_check;
-use program_whys::{RunFiles, RunFolders};
 use signed_note::Verifier;
 use std::io::{Read, Write};
 

@@ -10,13 +10,12 @@ ghost use Rattle.report_commands.specs.Faults.{IsLate};
 
 use crate::ask::{asked, why_of_report};
 use crate::fault::{Error, ReportRunFault};
-use program_env::Env;
+use program_env::served::of_heads;
+use program_env::why::of_state;
+use program_env::{Env, RunFiles, RunFolders};
 use program_heads::{HeadFilesFault, read_heads};
 use program_reports::print_comparison;
 use program_states::open_state;
-use program_whys::served::of_heads;
-use program_whys::why::of_state;
-use program_whys::{RunFiles, RunFolders};
 use program_words::commands::compare::Compare;
 use signed_note::Verifier;
 use std::alloc::Global;

@@ -9,12 +9,11 @@ ghost use Rattle.report_commands.specs.Faults.{IsLate};
 
 use crate::ask::served_size;
 use crate::fault::{Error, ReportRunFault};
-use program_env::Env;
+use program_env::served::{of_backwards, of_size};
+use program_env::why::{Why, of_state};
+use program_env::{Env, RunFiles, RunFolders};
 use program_monitor::{EntryRange, StateEntriesFault, entries_of_state};
 use program_states::open_state;
-use program_whys::served::{of_backwards, of_size};
-use program_whys::why::{Why, of_state};
-use program_whys::{RunFiles, RunFolders};
 use program_words::commands::entries::Entries;
 use signed_note::Verifier;
 use std::alloc::Global;

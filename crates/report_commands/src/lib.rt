@@ -26,8 +26,7 @@ mod serve;
 mod status;
 
 pub use fault::{Error, ReportRunFault};
-use program_env::Env;
-use program_whys::{RunFiles, RunFolders};
+use program_env::{Env, RunFiles, RunFolders};
 use program_words::ReportCommand;
 use signed_note::Verifier;
 use std::io::{Read, Write};

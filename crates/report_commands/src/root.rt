@@ -7,9 +7,8 @@ ghost use Rattle.report_commands.specs.Streams.{DoesRoot};
 ghost use Rattle.report_commands.specs.Faults.{IsLate};
 
 use crate::fault::{Error, ReportRunFault};
-use program_env::Env;
+use program_env::{Env, RunFiles, RunFolders};
 use program_streams::run_root;
-use program_whys::{RunFiles, RunFolders};
 use program_words::commands::root::Root;
 use signed_note::Verifier;
 use std::io::{Read, Write};

@@ -11,10 +11,9 @@ ghost use Rattle.program_env.specs.Ports.{PrintsPort};
 
 use crate::clients::Clients;
 use crate::fault::{Error, ReportRunFault};
-use program_env::{Env, ListenFault, port_fault, print_fault, print_port};
+use program_env::why::of_state;
+use program_env::{Env, ListenFault, RunFiles, RunFolders, port_fault, print_fault, print_port};
 use program_states::open_state;
-use program_whys::why::of_state;
-use program_whys::{RunFiles, RunFolders};
 use program_words::commands::serve::Serve;
 use signed_note::Verifier;
 use std::alloc::{AllocError, Global};

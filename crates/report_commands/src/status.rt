@@ -8,9 +8,8 @@ ghost use Rattle.report_commands.specs.Faults.{IsLate};
 
 use crate::ask::run_ask;
 use crate::fault::Error;
-use program_env::Env;
+use program_env::{Env, RunFiles, RunFolders};
 use program_reports::Question;
-use program_whys::{RunFiles, RunFolders};
 use program_words::StateArgs;
 use signed_note::Verifier;
 use std::io::{Read, Write};

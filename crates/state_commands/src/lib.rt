@@ -22,8 +22,7 @@ mod pulling;
 mod take;
 
 pub use fault::{Error, StateRunFault};
-use program_env::Env;
-use program_whys::{RunFiles, RunFolders};
+use program_env::{Env, RunFiles, RunFolders};
 use program_words::StateCommand;
 use signed_note::Verifier;
 use std::fs::Files;

@@ -8,9 +8,8 @@ ghost use Rattle.state_commands.specs.Merge.{DoesMerge};
 
 use crate::fault::{Error, StateRunFault};
 use program_commands::{MergeFilesFault, run_merge};
-use program_env::Env;
-use program_whys::why::{Why, of_named, of_state};
-use program_whys::{RunFiles, RunFolders};
+use program_env::why::{Why, of_named, of_state};
+use program_env::{Env, RunFiles, RunFolders};
 use program_words::commands::merge::Merge;
 use signed_note::Verifier;
 use std::alloc::Global;

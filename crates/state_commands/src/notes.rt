@@ -8,10 +8,9 @@ ghost use Rattle.state_commands.specs.Notes.{DoesNotes};
 
 use crate::fault::{Error, StateRunFault};
 use program_commands::{NotesFault, run_notes};
-use program_env::Env;
+use program_env::why::{Why, of_named, of_state};
+use program_env::{Env, RunFiles, RunFolders};
 use program_files::NamedFault;
-use program_whys::why::{Why, of_named, of_state};
-use program_whys::{RunFiles, RunFolders};
 use program_words::commands::notes::Notes;
 use signed_note::Verifier;
 use std::alloc::Global;

@@ -9,10 +9,9 @@ ghost use Rattle.state_commands.specs.Take.{AsksItem, DoesTake};
 
 use crate::fault::{Error, StateRunFault};
 use program_commands::{ItemFiles, TakeFilesFault, run_take};
-use program_env::Env;
-use program_whys::served::{of_edge_count, of_edge_length, of_note};
-use program_whys::why::{Why, of_named, of_state};
-use program_whys::{RunFiles, RunFolders};
+use program_env::served::{of_edge_count, of_edge_length, of_note};
+use program_env::why::{Why, of_named, of_state};
+use program_env::{Env, RunFiles, RunFolders};
 use program_words::commands::take::{Kind, Take};
 use signed_note::Verifier;
 use std::alloc::Global;

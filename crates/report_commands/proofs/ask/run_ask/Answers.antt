@@ -1,5 +1,5 @@
 use Rattle.report_commands.proofs.Asking.{asked_quietly, asked_status, asks_state}
-use Rattle.program_whys.proofs.Written.{keeps_itself}
+use Rattle.program_env.proofs.Written.{keeps_itself}
 use Rattle.report_commands.proofs.ask.run_ask.Goals as goal
 
 pub returns-in-Err : goal.returns-in-Err

@@ -1,7 +1,7 @@
 use Rattle.std.proofs.Common.{Ok, Err, option_map}
 use Rattle.report_commands.proofs.Asking.{asked_quietly, asked_status, compares_view}
 use Rattle.report_commands.proofs.Compares.{heads_same, names_same}
-use Rattle.program_whys.proofs.Written.{keeps_itself}
+use Rattle.program_env.proofs.Written.{keeps_itself}
 use Rattle.report_commands.proofs.compare.compare_mirror.Goals as goal
 
 pub returns-in-Err : goal.returns-in-Err

@@ -1,5 +1,5 @@
 use Rattle.report_commands.proofs.Asking.{compares_state}
-use Rattle.program_whys.proofs.Written.{keeps_itself}
+use Rattle.program_env.proofs.Written.{keeps_itself}
 use Rattle.report_commands.proofs.compare.run_compare.Goals as goal
 
 pub returns-in-Err : goal.returns-in-Err

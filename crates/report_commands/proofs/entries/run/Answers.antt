@@ -1,7 +1,7 @@
 use Rattle.std.proofs.Common.{refl}
 use Rattle.report_commands.specs.declared.fault.ReportRunFault.TheVariants.{State}
 use Rattle.program_env.proofs.Performing.{performs_failed}
-use Rattle.program_whys.proofs.Written.{keeps_itself}
+use Rattle.program_env.proofs.Written.{keeps_itself}
 use Rattle.report_commands.proofs.Writing.{writes_entries}
 use Rattle.report_commands.proofs.entries.run.Goals as goal
 

@@ -2,7 +2,7 @@ use Rattle.std.proofs.Common.{refl}
 use Rattle.report_commands.specs.declared.fault.ReportRunFault.TheVariants.{State}
 use Rattle.program_env.proofs.Performing.{performs_failed}
 use Rattle.report_commands.proofs.Serving.{serves}
-use Rattle.program_whys.proofs.Written.{keeps_itself}
+use Rattle.program_env.proofs.Written.{keeps_itself}
 use Rattle.report_commands.proofs.serve.run.Goals as goal
 
 pub returns-in-Ok-clause-does : goal.returns-in-Ok-clause-does

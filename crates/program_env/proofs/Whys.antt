@@ -2,8 +2,8 @@
 use Rattle.std.proofs.Common.{ℕ, List, Option, Bool, IsTrue, inl, inr}
 use Rattle.byte_streams.specs.Streams.{AppendsPrefix}
 use Rattle.program_files.specs.Why.{IsWhyLine}
-use Rattle.program_whys.specs.Whys.{PrintsLine, PrintsWhy}
-use Rattle.program_whys.proofs.Written.{keeps_itself}
+use Rattle.program_env.specs.Whys.{PrintsLine, PrintsWhy}
+use Rattle.program_env.proofs.Written.{keeps_itself}
 
 -- nothing was written
 pub no_line : (c : Option (List ℕ)) → PrintsLine c c

@@ -1,5 +1,5 @@
-use Rattle.program_whys.proofs.Written.{front_written}
-use Rattle.program_whys.proofs.front.write_front.Goals as goal
+use Rattle.program_env.proofs.Written.{front_written}
+use Rattle.program_env.proofs.front.write_front.Goals as goal
 
 pub returns : goal.returns
 returns g c =

@@ -1,5 +1,5 @@
 //! The output of `--why`: the thing that a fault is about, and what is wrong with it.
-ghost use Rattle.program_whys.specs.Whys.{PrintsLine, PrintsWhy};
+ghost use Rattle.program_env.specs.Whys.{PrintsLine, PrintsWhy};
 
 use crate::failing::{Failed, RunFiles, RunFolders};
 use crate::front::write_front;
