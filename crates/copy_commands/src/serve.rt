@@ -18,7 +18,7 @@ use program_env::why::{FailedStreams, of_folder, of_origin, print_why};
 use program_env::{
     Env, ListenFault, RunFiles, RunFolders, port_fault, print_fault, print_port, write_front,
 };
-use program_heads::check_origin;
+use program_states::check_origin;
 use program_words::commands::serve::CopyServe;
 use signed_note::Verifier;
 use std::alloc::Global;

@@ -16,7 +16,7 @@ use program_env::served::of_note;
 use program_env::why::{Why, of_folder, of_named, of_origin};
 use program_env::{Env, RunFiles, RunFolders, write_front};
 use program_follow::{FollowRunFault, Following, WatchedPlace, places_why, run_follow};
-use program_heads::check_origin;
+use program_states::check_origin;
 use program_words::commands::follow::Follow;
 use signed_note::Verifier;
 use std::alloc::Global;

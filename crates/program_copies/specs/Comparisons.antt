@@ -8,7 +8,7 @@ use Rattle.mirror_reports.specs.declared.compare.Compared.{Compared}
 use Rattle.mirror_reports.specs.declared.compare.Compared.TheVariants.{Same, Fork, Larger}
 use Rattle.mirror_model.specs.Origin.{IsOrigin}
 use Rattle.program_files.specs.Named.{NamedFile}
-use Rattle.program_heads.specs.HeadFiles.{ReadsHeads}
+use Rattle.program_states.specs.HeadFiles.{ReadsHeads}
 use Rattle.program_reports.specs.Comparisons.{compare_status}
 use Rattle.program_reports.specs.Reports.{printed}
 use Rattle.program_reports.specs.declared.reports.Report.{Report as Printout}

@@ -2,7 +2,7 @@
 use crate::failing::RunFiles;
 use crate::why::{Why, of_named};
 use mirror_model::TakeFault;
-use program_heads::{HeadFilesFault, checkpoint_origin, checkpoint_size};
+use program_states::{HeadFilesFault, checkpoint_origin, checkpoint_size};
 use std::alloc::Global;
 use tlog_proof::{Ask, ProofFault};
 use tlog_tiles::{Path, edge_paths};

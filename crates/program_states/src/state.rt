@@ -6,9 +6,9 @@ ghost use Rattle.program_states.specs.Saved.{HoldsState, IsSaved};
 ghost use Rattle.program_states.specs.States.{BeginsWith, OpensFile, SavesFile};
 
 use crate::fault::StateFault;
+use crate::origin::check_origin;
 use mirror_state::{LoadFault, is_as_saved, load_bytes, refused_note, save};
 use program_files::{NamedFault, NamedFiles};
-use program_heads::check_origin;
 use signed_note::Verifier;
 use std::alloc::{AllocError, Global};
 use tlog_hash::TreeHash;

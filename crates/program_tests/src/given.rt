@@ -2,7 +2,7 @@
 use crate::states::COMPLETE;
 use mirror_state::{LoadFault, SaveFault, load, save};
 use note_keys::{HmacKey, KeyFault};
-use program_heads::check_origin;
+use program_states::check_origin;
 use signed_note::Verifier;
 use std::alloc::Global;
 use std::io::{Read, Write};

@@ -3,7 +3,7 @@ use Rattle.std.proofs.Common.{◌≡◌, ℕ, List, Option, map, subst}
 use Rattle.std.specs.Prelude.{Result}
 use Rattle.signed_note.specs.Keys.{Key}
 use Rattle.mirror_model.specs.View.{View}
-use Rattle.program_heads.specs.declared.fault.HeadFilesFault.{HeadFilesFault}
+use Rattle.program_states.specs.declared.fault.HeadFilesFault.{HeadFilesFault}
 use Rattle.program_files.specs.Named.{NamedFile}
 use Rattle.program_reports.specs.Comparisons.{AnswersCompared}
 use Rattle.program_reports.specs.declared.fault.AskFault.{AskFault}

@@ -6,8 +6,8 @@ use Rattle.mirror_model.specs.View.{View}
 use Rattle.program_files.specs.Named.{NamedFile}
 use Rattle.program_reports.specs.Comparisons.{AnswersCompared}
 use Rattle.program_reports.specs.declared.fault.AskFault.{AskFault}
-use Rattle.program_heads.specs.HeadFiles.{ReadsHeads}
-use Rattle.program_heads.specs.declared.fault.HeadFilesFault.{HeadFilesFault}
+use Rattle.program_states.specs.HeadFiles.{ReadsHeads}
+use Rattle.program_states.specs.declared.fault.HeadFilesFault.{HeadFilesFault}
 use Rattle.program_states.specs.States.{OpensFile}
 use Rattle.program_words.specs.declared.commands.compare.Compare.{Compare as CompareWords}
 use Rattle.program_env.specs.Moment.{Moment}

@@ -1,9 +1,8 @@
 //! Why a command over a state, a bundle or a proof was not done.
 use program_env::ListenFault;
-use program_heads::HeadFilesFault;
 use program_monitor::StateEntriesFault;
 use program_reports::AskFault;
-use program_states::StateFault;
+use program_states::{HeadFilesFault, StateFault};
 use program_streams::{CheckFault, RootFault};
 use std::fmt;
 use thiserror::Error as FaultText;

@@ -12,7 +12,7 @@ use mirror_progress::Task;
 use note_keys::read_keys;
 use program_env::why::{Why, of_folder, of_origin};
 use program_env::{Env, RunFiles, RunFolders, report_end, report_puts};
-use program_heads::check_origin;
+use program_states::check_origin;
 use program_words::commands::build::Build;
 use signed_note::Verifier;
 use std::alloc::Global;

@@ -1,7 +1,7 @@
 //! The checkpoints for `compare`: files that each hold a signed note.
 ghost use Rattle.std.specs.Prelude.{map};
 ghost use Rattle.tlog_text.specs.Answers.{seen};
-ghost use Rattle.program_heads.specs.HeadFiles.{ChecksHeads, ReadsHeads};
+ghost use Rattle.program_states.specs.HeadFiles.{ChecksHeads, ReadsHeads};
 
 use crate::fault::HeadFilesFault;
 use crate::note::checkpoint_origin;

@@ -1,6 +1,6 @@
 use Rattle.std.proofs.Common.{map, take}
-use Rattle.program_heads.specs.HeadFiles.{AreOpen}
-use Rattle.program_heads.proofs.heads.check_notes.Given as goal
+use Rattle.program_states.specs.HeadFiles.{AreOpen}
+use Rattle.program_states.proofs.heads.check_notes.Given as goal
 
 -- the notes so far open
 abbrev pub invariant-loop-note : goal.invariant-loop-note

@@ -6,8 +6,8 @@ use Rattle.mirror_model.specs.Heads.{IsOpenHead}
 use Rattle.mirror_model.specs.Refusals.{ReadsHead}
 use Rattle.mirror_model.specs.declared.fault.TakeFault.{TakeFault}
 use Rattle.program_files.specs.Named.{NamedFile, FailsToRead, HaveContents}
-use Rattle.program_heads.specs.declared.fault.HeadFilesFault.{HeadFilesFault}
-use Rattle.program_heads.specs.declared.fault.HeadFilesFault.TheVariants.{File, Head}
+use Rattle.program_states.specs.declared.fault.HeadFilesFault.{HeadFilesFault}
+use Rattle.program_states.specs.declared.fault.HeadFilesFault.TheVariants.{File, Head}
 
 module _ (origin : List ℕ) (keys : List Key) where
   -- the notes open under the keys, and are checkpoints of this origin with these sizes and roots, in order

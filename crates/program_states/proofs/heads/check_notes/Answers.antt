@@ -1,7 +1,7 @@
 use Rattle.std.proofs.Common.{◌∙◌, ap}
 use Rattle.std.proofs.lemmas.Result.{err_from_is_err_and}
-use Rattle.program_heads.proofs.HeadNotes.{opened_more, refused_here}
-use Rattle.program_heads.proofs.heads.check_notes.Goals as goal
+use Rattle.program_states.proofs.HeadNotes.{opened_more, refused_here}
+use Rattle.program_states.proofs.heads.check_notes.Goals as goal
 
 pub returns-in_err-checkpoint : goal.returns-in_err-checkpoint
 returns-in_err-checkpoint g c =

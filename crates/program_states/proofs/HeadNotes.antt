@@ -8,7 +8,7 @@ use Rattle.tlog_checkpoint.specs.Grammar.{IsCheckpoint}
 use Rattle.mirror_model.specs.Heads.{IsOpenHead}
 use Rattle.mirror_model.specs.Refusals.{IsOpenCheckpoint, ReadsHead}
 use Rattle.mirror_model.specs.declared.fault.TakeFault.{TakeFault}
-use Rattle.program_heads.specs.HeadFiles.{AreOpen, RefusesNote}
+use Rattle.program_states.specs.HeadFiles.{AreOpen, RefusesNote}
 
 zip_push : {A B : Type 0} (R : A → B → Type 0) (xs : List A) (ys : List B) (x : A) (y : B) → AllZip R xs ys → R x y →
     AllZip R (xs ++ x ∷ []) (ys ++ y ∷ [])
