@@ -12,8 +12,8 @@ ghost use Rattle.program_env.specs.Ports.{PrintsPort};
 use crate::asking::of_file;
 use crate::fault::{CopyRunFault, Error};
 use byte_streams::TimedStream;
-use copy_server::{CopyAnswerFault, answer_from_copy};
 use mirror_server::HttpFault;
+use program_copies::{CopyAnswerFault, answer_from_copy};
 use program_env::why::{FailedStreams, of_folder, of_origin, print_why};
 use program_env::{
     Env, ListenFault, RunFiles, RunFolders, port_fault, print_fault, print_port, write_front,

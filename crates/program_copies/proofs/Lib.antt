@@ -2,3 +2,16 @@ pub mod Given
 pub mod AsMirror
 pub mod MirrorProofs
 pub mod Reading
+pub mod Kept
+pub mod Widths
+pub mod FirstEntries
+pub mod ShelfFiles
+pub mod OneViews
+pub mod TrueFiles
+pub mod WholeFiles
+pub mod CopyBodies
+pub mod LawfulViews
+pub mod MirrorAnswers
+pub mod Blaming
+pub mod TrueProofs
+pub mod Answering

@@ -3,3 +3,10 @@ pub mod Comparisons
 pub mod Proofs
 pub mod Statuses
 pub mod Laws
+pub mod Faults
+pub mod CopyHeads
+pub mod GivenFiles
+pub mod GivenProofs
+pub mod Bodies
+pub mod CopyAnswers
+pub mod CopyLaws

@@ -1,4 +1,0 @@
-use Rattle.copy_server.proofs.body.held_body.Goals as goal
-
-pub returns-in-Proof-clause-none : goal.returns-in-Proof-clause-none
-returns-in-Proof-clause-none g c = rw c.in-Proof.is c.asked_proof.ensures.none
