@@ -1,3 +1,5 @@
+pub mod EdgeRows
+pub mod EdgeSteps
 pub mod RowSteps
 pub mod LeafRows
 pub mod FileSteps

@@ -1,3 +1,5 @@
+pub mod Edges
+pub mod HeldEdge
 pub mod Leaves
 pub mod HeldLeaves
 pub mod Tops

@@ -1,2 +1,0 @@
-pub mod EdgeRows
-pub mod EdgeSteps
