@@ -89,16 +89,3 @@ module _ (digest : List ℕ → List ℕ) (keys : List Key) (old new : Moment) (
   writes_entries (Err fault) h is same =
       rw same (performs DoesCopyEntries IsLate KeepsFiles digest keys old new c files
       (Err (CopyEntries fault)) tt (quiet_entries fault h) h)
-
--- -- serve
-
--- a copy was served
-pub serves_copy : (digest : List ℕ → List ℕ) (keys : List Key) (old new : Moment) (c : CopyServeWords) →
-    new.files ≡ old.files → (answer : Result (Unit {0}) ListenFault) → ServesCopy old new c answer →
-    (is : Result ℕ CopyRunFault) → is ≡ result_map_both (λ _. 0) (λ fault. Listen fault) answer →
-    Performs DoesCopyServe IsLate KeepsFiles digest keys old new c is
-serves_copy digest keys old new c files (Ok x) h is same =
-    rw same (performs_done DoesCopyServe IsLate KeepsFiles digest keys old new c files 0 (inl refl) (h, refl))
-serves_copy digest keys old new c files (Err fault) h is same =
-    rw same (performs DoesCopyServe IsLate KeepsFiles digest keys old new c files (Err (Listen fault)) tt
-    (quiet_port c.port old.output new.output fault h.0) h)

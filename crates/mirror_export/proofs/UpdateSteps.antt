@@ -122,10 +122,3 @@ module _ (digest : List ℕ → List ℕ) (top : Top) (origin : List ℕ) (entri
         inr (first_put old new read (files_front file (is_new m) old put new parts (Checkpoint ∷ [])
         (adds_then old middle put [] front (adds_kept old middle kept) p)
         (file_refused file put new Checkpoint q)))
-
-    -- the served note is on the shelf
-    pub nothing_new : {T : Type 0} (old new : Option (List Put)) (x : T) → KeepsRecord old new →
-        RecordsRead old Checkpoint found → found ≡ Some top.note →
-        UpdatesTop digest top origin entries old new (Ok x)
-    nothing_new old new x kept read same =
-        record { found = found; read = read; m = m; goes_on = on; recorded = inr (same, kept) }

@@ -20,18 +20,6 @@ use Rattle.mirror_plays.specs.Plays.{HappensWithin, HasWidth, RunsOut, RunsWithi
 
 -- ---- which events fit
 
-pub fitting_parts : (count target : ℕ) (item : Item) → IsFitting count (Take target item) →
-    (target < count) × HasWidth item
-fitting_parts count target (Head note edge) h = (h, tt)
-fitting_parts count target (Tile width bytes) h = (h.0, h.1)
-fitting_parts count target (Bundle width bytes) h = (h.0, h.1)
-
-pub fitting_take : (count target : ℕ) (item : Item) → target < count → HasWidth item →
-    IsFitting count (Take target item)
-fitting_take count target (Head note edge) lt wide = lt
-fitting_take count target (Tile width bytes) lt wide = (lt, wide)
-fitting_take count target (Bundle width bytes) lt wide = (lt, wide)
-
 -- ---- on a list of mirrors
 
 module _ (world : List State) (target : ℕ) (d : State) (lt : target < length world) where
@@ -159,12 +147,6 @@ module _ (digest : List ℕ → List ℕ) (keys : List Key) where
       (r.0, again r.1.before old r.1.between r.0 e a r.1.ran_out r.1.last, runs_once tries r.0 new es answers r.2)
   runs_once tries old new [] (a ∷ answers) r = absurd r
   runs_once tries old new (e ∷ es) [] r = absurd r
-
-  -- one more time
-  pub ran_out_more : (times : ℕ) (old between new : List View) (e : Event) → RunsOut digest keys times old e between →
-      Happens digest keys between e Exhausted new → RunsOut digest keys (times + 1) old e new
-  ran_out_more times old between new e r h =
-      subst (λ n. RunsOut digest keys n old e new) (sym (add-one times)) (between, r, h)
 
   -- the next event of a list
   module _ {R : Type 0} (kind : R → Answer) (es : List Event) (i : ℕ) (e : Event) (lt : i < length es)

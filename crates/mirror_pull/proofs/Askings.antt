@@ -78,12 +78,6 @@ adds_some_then before middle a b c p q =
 pub some_of : (before after : List Path) (a b : Option (List Path)) → AddsTo before after a b → AddsSome before a b
 some_of before after a b p = record { more = p.more; adds = p.adds }
 
--- the answer of the second of two parts of a pull is the answer of both
-pub asks_then : {T : Type 0} (before middle after : List Path) (a b c : Option (List Path)) (r : Result T PullFault) →
-    AddsTo before middle a b → AsksPaths middle after b c r → AsksPaths before after a c r
-asks_then before middle after a b c (Ok x) p q = adds_to_then before middle after a b c p q
-asks_then before middle after a b c (Err e) p q = adds_some_then before middle a b c p q
-
 -- a get failed
 pub some_get : (before : List Path) (path : Path) (a b : Option (List Path)) (f : SourceFault) →
     (Contains before path → ⊥) → RecordsGet {T = Option (Vec ℕ Global)} a b path (Err f) →

@@ -17,51 +17,7 @@ use Rattle.mirror_server.proofs.OneResource.{one_resource}
 
 -- ---- the request
 
--- a GET request is for what its target names
-pub for_get : (method target : List ℕ) (request : Request) → method ≡ codes "GET" → IsForTarget target request →
-    IsForHead method target request
-for_get method target Nothing get is = absurd is
-for_get method target Unreadable get is = absurd is
-for_get method target OtherMethod get is = absurd is
-for_get method target Unknown get is = (get, is)
-for_get method target (Get resource) get is = (get, is)
-
 module _ (buf : List ℕ) (seen : Received) where
-  pub asks_nothing : (known : Option (List ℕ)) → seen ≡ seeing.Nothing → IfSome known (λ all. SeesIn all buf seen) →
-      IfSome known (λ all. IsRequestOf all Nothing)
-  asks_nothing None s h = tt
-  asks_nothing (Some all) s h = subst (λ (x : Received). SeesIn all buf x) s h
-
-  pub asks_badly : (known : Option (List ℕ)) → seen ≡ seeing.NoHead → IfSome known (λ all. SeesIn all buf seen) →
-      IfSome known (λ all. IsRequestOf all Unreadable)
-  asks_badly None s h = tt
-  asks_badly (Some all) s h = subst (λ (x : Received). SeesIn all buf x) s h
-
-  of_head : (all : List ℕ) (method target : Span) (m t : List ℕ) (request : Request) →
-      SeesIn all buf (seeing.Head method target) → m ≡ span_bytes buf method → t ≡ span_bytes buf target →
-      IsForHead m t request → IsRequestOf all request
-  of_head all method target m t Nothing b mm same is = absurd is
-  of_head all method target m t Unreadable b mm same is = absurd is
-  of_head all method target m t OtherMethod b mm same is =
-      (b.0, b.1, λ get. is (mm ∙ (b.2 ∙ get)))
-  of_head all method target m t Unknown b mm same is =
-      let there = same ∙ b.3 in (
-        b.0,
-        b.1,
-        sym b.2 ∙ (sym mm ∙ is.0),
-        λ resource names. is.1 (subst IsUtf8 (sym there) b.1.reads.0.target_text) resource
-            (subst (λ (x : List ℕ). Names x resource) (sym there) names),
-      )
-  of_head all method target m t (Get resource) b mm same is =
-      (b.0, b.1, sym b.2 ∙ (sym mm ∙ is.0), subst (λ (x : List ℕ). Names x resource) (same ∙ b.3) is.1)
-
-  pub asks_for : (known : Option (List ℕ)) (method target : Span) (m t : List ℕ) (request : Request) →
-      seen ≡ seeing.Head method target → IfSome known (λ all. SeesIn all buf seen) → m ≡ span_bytes buf method →
-      t ≡ span_bytes buf target → IsForHead m t request → IfSome known (λ all. IsRequestOf all request)
-  asks_for None method target m t request s h mm same is = tt
-  asks_for (Some all) method target m t request s h mm same is =
-      of_head all method target m t request (subst (λ (x : Received). SeesIn all buf x) s h) mm same is
-
 -- ---- the reply
 
 module _ (IsBodyOf : Resource → List ℕ → Type 0) where

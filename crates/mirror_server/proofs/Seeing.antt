@@ -37,12 +37,6 @@ bad_head xs ys le over h has =
 
 -- ---- the received head
 
-pub sees_nothing : (known cur : Option (List ℕ)) (buf : List ℕ) → Consumes known cur [] → IsAtEnd cur →
-    IfSome known (λ all. SeesIn all buf Nothing)
-sees_nothing None cur buf c e = tt
-sees_nothing (Some all) None buf c e = absurd c
-sees_nothing (Some all) (Some ys) buf c e = c ∙ e
-
 pub sees_bad : (known cur : Option (List ℕ)) (xs buf : List ℕ) → 0 < length xs → length xs ≤ MAX_HEAD_LEN →
     Consumes known cur xs → RequestOverflows MAX_FIELDS xs → IfSome known (λ all. SeesIn all buf NoHead)
 sees_bad None cur xs buf lt le c over = tt
@@ -116,9 +110,6 @@ fails_before known cur xs c lt none =
 module _ (a b c : Option (List ℕ)) (old new : List ℕ) where
   pub taken_more : Consumes a b old → ReadsMore b c old new → Consumes a c new
   taken_more p r = subst (λ (x : List ℕ). Consumes a c x) (sym r.adds) (Consumes-trans a b c old r.bytes p r.consumes)
-
-  pub taken_same : Consumes a b old → ReadsNone b c old new → Consumes a c new
-  taken_same p r = subst (λ (x : List ℕ). Consumes a c x) (sym r.same) (Consumes-kept a b c old p r.keeps)
 
   pub taken_end : Consumes a b old → ReadsEnd b c old new → Consumes a c new
   taken_end p r =

@@ -50,22 +50,3 @@ pub may_follow : {S : Type 0} (may : S → Path → Option (List ℕ) → Type 0
     MayFollow recorded name note
 may_follow may recorded None places note h = tt
 may_follow may recorded (Some name) places note h = h
-
--- -- audit
-
-module _ (digest : List ℕ → List ℕ) (keys : List Key) (old new : Moment) (c : AuditWords)
-    (files : new.files ≡ old.files) (folders : new.puts ≡ old.puts) where
-  quiet_audit : (fault : AuditRunFault) → AuditsSource digest keys old new c (Err fault) →
-      (¬ IsLate (Audit fault)) → Keeps old.output new.output
-  quiet_audit (audit.Audit fault) h other = h.2
-  quiet_audit audit.WriteFault h other = absurd (other tt)
-
-  -- a source was audited
-  pub audits : (answer : Result ℕ AuditRunFault) → AuditsSource digest keys old new c answer →
-      (is : Result ℕ PlaceRunFault) → is ≡ result_map_both (λ status. status) (λ fault. Audit fault) answer →
-      Performs DoesAudit IsLate Stays digest keys old new c is
-  audits (Ok status) h is same =
-      rw same (performs_done DoesAudit IsLate Stays digest keys old new c (files, folders) status (inl h.0) h)
-  audits (Err fault) h is same =
-      rw same (performs DoesAudit IsLate Stays digest keys old new c (files, folders) (Err (Audit fault)) tt
-      (quiet_audit fault h) h)

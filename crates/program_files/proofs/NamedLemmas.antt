@@ -50,10 +50,6 @@ standing_more seen xs i x name lt at =
     map-append seen (take i xs) (x ∷ []) in
     ap (λ puts. contents_of puts name) all ∙ standing_push (map seen (take i xs)) (seen x) name
 
-pub standing_all : {X : Type 0} (seen : X → NamedFile) (xs : List X) (i : ℕ) (name : List ℕ) → length xs ≤ i →
-    contents_of (map seen (take i xs)) name ≡ contents_of (map seen xs) name
-standing_all seen xs i name le = ap (λ ys. contents_of (map seen ys) name) (take_all i xs le)
-
 -- ---- several files
 
 zip_push : {A B : Type 0} (R : A → B → Type 0) (xs : List A) (ys : List B) (x : A) (y : B) → AllZip R xs ys → R x y →

@@ -13,10 +13,6 @@ use Rattle.program_follow.specs.Evidence.{PutsEach, PutsFiles, PutsFront, Record
 
 -- ---- no files, and files in order
 
-pub recorded_nothing : (recorded : Option (List NamedFile)) → RecordsEach [] recorded recorded
-recorded_nothing None = tt
-recorded_nothing (Some puts) = refl
-
 kept_nothing : (old new : Option (List NamedFile)) → KeepsRecord old new → RecordsEach [] old new
 kept_nothing None new kept = tt
 kept_nothing (Some old) None kept = absurd kept
@@ -46,44 +42,6 @@ stops_before xs (Some old) (Some between) new [] named.FileFault first stops = s
 stops_before xs (Some old) (Some between) new (file ∷ rest) named.FileFault first stops = stops
 
 -- ---- the first files
-
-pub front_kept : (files : List NamedFile) (old new : Option (List NamedFile)) (fault : NamedFault) → KeepsRecord old new →
-    RecordsFault old fault → PutsFront files old new fault
-front_kept files old new fault kept refused = record {
-  front = [];
-  rest = files;
-  files_are = refl;
-  recorded = kept_nothing old new kept;
-  stops = refused_stops old new files fault refused;
-}
-
-pub front_none : (files : List NamedFile) (recorded : Option (List NamedFile)) (fault : NamedFault) → RecordsFault recorded fault →
-    PutsFront files recorded recorded fault
-front_none files recorded fault refused = record {
-  front = [];
-  rest = files;
-  files_are = refl;
-  recorded = recorded_nothing recorded;
-  stops = refused_stops recorded recorded files fault refused;
-}
-
-pub front_unfound : (file : NamedFile) (recorded : Option (List NamedFile)) (fault : NamedFault) →
-    FindsFile recorded file.0 (Err fault) → PutsFront (file ∷ []) recorded recorded fault
-front_unfound file None fault unfound =
-    record { front = []; rest = file ∷ []; files_are = refl; recorded = tt; stops = tt }
-front_unfound file (Some puts) named.OutOfMemory unfound = front_none (file ∷ []) (Some puts) named.OutOfMemory tt
-front_unfound file (Some puts) named.FileFault unfound =
-    record { front = []; rest = file ∷ []; files_are = refl; recorded = refl; stops = unfound }
-
-pub front_all : (files : List NamedFile) (old new : Option (List NamedFile)) (fault : NamedFault) → RecordsEach files old new →
-    RecordsFault new fault → PutsFront files old new fault
-front_all files old new fault each refused = record {
-  front = files;
-  rest = [];
-  files_are = sym (append-nil files);
-  recorded = each;
-  stops = stops_before files old new new [] fault each (refused_stops new new [] fault refused);
-}
 
 each_both : (xs ys : List NamedFile) (old between new : List NamedFile) → PutsEach xs old between →
     PutsEach ys between new → PutsEach (xs ++ ys) old new
@@ -126,18 +84,6 @@ files_then xs ys old between new (Ok x) first second = recorded_both xs ys old b
 files_then xs ys old between new (Err fault) first second = front_both xs ys old between new fault first second
 
 -- ---- one file
-
-pub put_new : {T : Type 0} (old new : Option (List NamedFile)) (file : NamedFile) (r : Result T NamedFault) →
-    LacksFile old file.0 → RecordsReplace old new file r → PutsFiles (file ∷ []) old new r
-put_new None new file (Ok x) absent recorded = tt
-put_new (Some old) None file (Ok x) absent recorded = absurd recorded
-put_new (Some old) (Some new) file (Ok x) absent recorded = (new, inr (absent, recorded), refl)
-put_new old new file (Err fault) absent recorded = front_kept (file ∷ []) old new fault recorded.0 recorded.1
-
-pub put_kept : (recorded : Option (List NamedFile)) (file : NamedFile) (there : List ℕ) → HasContents recorded file.0 there →
-    RecordsEach (file ∷ []) recorded recorded
-put_kept None file there stands = tt
-put_kept (Some puts) file there stands = (puts, inl (ap is_some stands, refl), refl)
 
 -- ---- the files of each fork in order
 

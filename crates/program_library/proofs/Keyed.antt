@@ -40,25 +40,6 @@ pub keys_missed : (printed : Option (List NamedFile)) (words : List (List ℕ)) 
 keys_missed printed words (Some name) (KeyFile fault) has reads = record { name = name; has = has; reads = reads }
 keys_missed printed words name fault has finds = absurd finds
 
--- the answer of a reader of key files from those of its bytes and its lines
-pub bytes_missed : (printed : Option (List NamedFile)) (name : Option (List ℕ)) (fault : RunFault) →
-    FindsKeys printed name (Err fault) → ReadsKeyLines printed name (Err fault)
-bytes_missed printed (Some name) (KeyFile fault) finds = finds
-bytes_missed printed name fault finds = absurd finds
-
-pub lines_found : (printed : Option (List NamedFile)) (name : Option (List ℕ)) (bytes lent : List ℕ)
-    (joined : List KeyLine) → lent ≡ bytes → FindsKeys printed name (Ok bytes) → JoinsLines lent joined →
-    ReadsKeyLines printed name (Ok (bytes, joined))
-lines_found printed name bytes lent joined same finds joins =
-    (finds, subst (λ (b : List ℕ). JoinsLines b joined) same joins)
-
-pub lines_missed : (printed : Option (List NamedFile)) (name : Option (List ℕ)) (bytes lent : List ℕ)
-    (fault : KeyFileFault) (error : RunFault) → error ≡ KeyLines fault → lent ≡ bytes →
-    FindsKeys printed name (Ok bytes) → ReadsKeys lent (no_lines fault) → ReadsKeyLines printed name (Err error)
-lines_missed printed name bytes lent fault error is same finds reads =
-    subst (λ (e : RunFault). ReadsKeyLines printed name (Err e)) (sym is)
-    record { bytes = bytes; finds = finds; reads = subst (λ (b : List ℕ). ReadsKeys b (no_lines fault)) same reads }
-
 -- nothing was written, and the run failed
 pub nothing_done : (now : Option (List ℕ)) (fault : RunFault) → Ends IsWriteFault now now (Err fault)
 nothing_done now fault = record { status = tt; quiet = λ other. keeps_itself now }

@@ -22,14 +22,6 @@ part_count size at next entries count within rises same =
     omega (arith, len, count, within, rises, same)
 
 module _ (digest : List ℕ → List ℕ) (edge : Edge) (base64 : Bool) where
-  pub shown_none : (from : ℕ) (a : Option (List ℕ)) → WritesShown digest edge base64 from from a a
-  shown_none from a = record {
-    entries = [];
-    count = omega arith;
-    shown = λ k lt. absurd (omega (arith, lt));
-    written = subst (λ (w : List ℕ). Appends a a w) (sym (text_none base64)) (Appends-nil a);
-  }
-
   -- one more bundle
   pub shown_then : (hashes : HasEdgeHashes edge) (from at to next : ℕ) (bytes : List ℕ) (a b c : Option (List ℕ)) → to ≤ edge.size →
       WritesShown digest edge base64 from at a b → IsShownBundle digest edge (at / 256) bytes → IsNext at to next →

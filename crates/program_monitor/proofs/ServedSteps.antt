@@ -99,9 +99,3 @@ module _ (entries : List (List ℕ)) (short : All (λ e. length e < 2 ^ 16) entr
   pub served_stop : (from at to : ℕ) (a b : Option (List ℕ)) → at ≤ to → WritesAll entries base64 from at a b →
       WritesFirst entries base64 from to a b
   served_stop from at to a b upto w = record { upto = at; within = upto; written = prefix_whole a b _ w }
-
-  pub served_none : (from : ℕ) (a : Option (List ℕ)) → WritesAll entries base64 from from a a
-  served_none from a =
-      let e : from - from ≡ 0 = omega arith in
-      subst (λ n. Appends a a (entries_text base64 (part from n entries))) (sym e)
-      (subst (λ (w : List ℕ). Appends a a w) (sym (text_none base64)) (Appends-nil a))

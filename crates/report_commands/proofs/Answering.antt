@@ -8,10 +8,6 @@ use Rattle.mirror_server.specs.declared.fault.HttpFault.{HttpFault}
 use Rattle.report_commands.specs.Clients.{AnswersMore, AnswersNext, Exchange, IsAnswered}
 
 module _ (digest : List ℕ → List ℕ) (v : View) where
-  pub none_answered : (old : Option (List Exchange)) → AnswersMore digest v 0 old old
-  none_answered None = tt
-  none_answered (Some before) = ([], refl, All-nil (IsAnswered digest v), ap Some (sym (append-nil before)))
-
   pub one_answered : {E : Type 0} (count : ℕ) (old mid new : Option (List Exchange))
       (answer : Result (Unit {0}) HttpFault) (is : Result (Result (Unit {0}) HttpFault) E) → is ≡ Ok answer →
       AnswersMore digest v count old mid → AnswersNext digest v mid new is → AnswersMore digest v (count + 1) old new

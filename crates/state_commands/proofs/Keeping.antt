@@ -28,27 +28,6 @@ pub pulled_on : (digest : List ℕ → List ℕ) (keys : List Key) (old new : Vi
     PullsTo digest keys old new (Ok pulled) → IsSubview old new
 pulled_on digest keys old new pulled h = h.0.grows
 
-module _ (keep : Bool) (out : List ℕ) (recorded : Option (List NamedFile)) (start v : View) (fault : PullFault)
-    (written : Result (Unit {0}) NamedFault) where
-  -- the files are unchanged, because there was nothing to keep or nothing was gained
-  pub leaves_all : (IsKept keep fault → v ≢ start → ⊥) → LeavesEarly keep out recorded recorded start v fault written
-  leaves_all never =
-      record {
-        gained = λ kept more. absurd (never kept more);
-        nothing = λ kept same. refl;
-        other = λ not. refl;
-      }
-
-  -- something was gained, and its state was written or could not be written
-  pub leaves_state : (left : Option (List NamedFile)) → IsKept keep fault → v ≢ start →
-      SavesFile v out recorded left written → LeavesEarly keep out recorded left start v fault written
-  leaves_state left kept more saves =
-      record {
-        gained = λ _ _. saves;
-        nothing = λ _ same. absurd (more same);
-        other = λ not. absurd (not kept);
-      }
-
 -- after the pull, the state of the mirror was written or could not be written
 pub saves_pulled : {T : Type 0} (state : Option (List ℕ)) (start v : View) (out : List ℕ)
     (recorded left : Option (List NamedFile)) (answer : Result T NamedFault) → SavesFile v out recorded left answer →

@@ -41,14 +41,6 @@ module _ (digest : List ℕ → List ℕ) (bytes origin : List ℕ) (keys : List
 -- the right edge of a tree head is held exactly if that of its size and root is
 module _ (digest : List ℕ → List ℕ) (v : View) (head : HeadNote) (said : SaysHead v.origin head) (b : Bool)
     (tells : IsTrue b ↔ HoldsEdge digest v.strings head.checkpoint.size head.checkpoint.root) where
-  pub edge_is_held : b ≡ true → HasEdge digest v head.note.bytes
-  edge_is_held is = record {
-    size = head.checkpoint.size;
-    root = head.checkpoint.root;
-    is_head = said;
-    edge = tells.0 is;
-  }
-
   pub edge_is_lacking : b ≡ false → HasEdge digest v head.note.bytes → ⊥
   edge_is_lacking is e =
       let same =

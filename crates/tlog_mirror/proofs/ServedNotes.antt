@@ -225,11 +225,6 @@ module _ (digest : List ℕ → List ℕ) (origin : List ℕ) (kept : List HeldN
       subst (λ (o : State). IsServedAs digest o.view one.now.note.bytes one.now.size one.now.root) old_is
       (is_served digest origin kept strings remembered ok (point_of p) one.now best f)
 
-  pub first_found : (p : ℕ × List ℕ) (r : Option (Bor HeldNote)) → IsBestOf digest strings kept (Some p) →
-      IfNone r (HasKept kept (point_of p) → ⊥) → IfNone r (SaysServed digest old.view None)
-  first_found p None best none = absurd (none best.has)
-  first_found p (Some one) best none = none
-
   pub none_served : IsBestOf digest strings kept None → SaysServed digest old.view None
   none_served none =
       subst (λ (o : State). SaysServed digest o.view None) old_is
