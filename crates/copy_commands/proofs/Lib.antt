@@ -1,1 +1,2 @@
 mod Performing
+mod Serving

@@ -1,4 +1,5 @@
 pub mod Faults
+pub mod Clients
 pub mod Asks
 pub mod Entries
 pub mod Serve

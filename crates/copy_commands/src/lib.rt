@@ -13,6 +13,7 @@ ghost use Rattle.copy_commands.specs.Commands.{ExecutesCopy};
 ghost use Rattle.copy_commands.specs.Faults.{IsLate};
 
 mod asking;
+mod clients;
 mod compare;
 mod entries;
 mod fault;

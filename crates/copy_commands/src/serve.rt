@@ -1,19 +1,20 @@
 //! The command `serve --dir`: it answers over HTTP from a copy.
-ghost use Rattle.std.specs.Prelude.{◌≡◌, map};
+ghost use Rattle.std.specs.Prelude.{◌≡◌, IfSome, map};
 ghost use Rattle.std.specs.Result.{result_map_both};
 ghost use Rattle.sha2.specs.Sha256.{sha256};
 ghost use Rattle.mirror_sources.specs.Recorded.{KeepsRecord};
 ghost use Rattle.program_env.specs.Envs.{IsSameEnv, moment};
+ghost use Rattle.program_env.specs.Exchanges.{AnswersClients};
 ghost use Rattle.program_env.specs.Performing.{KeepsFiles, Performs};
+ghost use Rattle.copy_commands.specs.Clients.{IsAnswer};
 ghost use Rattle.copy_commands.specs.Faults.{IsLate};
 ghost use Rattle.copy_commands.specs.Serve.{DoesCopyServe};
 ghost use Rattle.program_env.specs.Ports.{PrintsPort};
 
 use crate::asking::of_file;
+use crate::clients::Clients;
 use crate::fault::{CopyRunFault, Error};
-use byte_streams::TimedStream;
-use mirror_server::HttpFault;
-use program_copies::{CopyAnswerFault, answer_from_copy};
+use program_copies::CopyAnswerFault;
 use program_env::why::{FailedStreams, of_folder, of_origin, print_why};
 use program_env::{
     Env, ListenFault, RunFiles, RunFolders, port_fault, print_fault, print_port, write_front,
@@ -25,14 +26,6 @@ use std::alloc::Global;
 use std::io::{self, Read, Write};
 use std::net::{Ipv4Addr, Net, TcpListener, TcpStream};
 use std::rt::Clock;
-use std::time::Duration;
-use tlog_hash::Sha256Tree;
-
-// The number of seconds in which a client has to send the head of its request.
-const HEAD_SECONDS: u64 = 10;
-
-// The number of seconds for a whole exchange, so at least 60 remain for the reply.
-const ALL_SECONDS: u64 = 70;
 
 /// Answers the requested number of connections, one after another, from the copy in the folder. It reads the checkpoint for
 /// each, so the copy may grow meanwhile. A fault of one connection is written to standard error, and then the next is answered.
@@ -119,19 +112,21 @@ where
 }
 
 // Answers the requested number of clients, one after another, while connections are accepted.
-fn answer_all<D: RunFolders, C: Clock, E: Write>(
+fn answer_all<D: RunFolders, C: Clock, S: Clients, E: Write>(
     clock: &C,
     alloc: Global,
     folders: &mut D,
     serve: &CopyServe<'_>,
-    listener: &mut TcpListener,
+    clients: &mut S,
     errors: &mut E,
 ) -> io::Result<()>
-    ensures { KeepsRecord (D.puts folders.old) (D.puts folders.new) }
+    ensures answers { IfSome (D.puts folders.old) (λ puts.
+        AnswersClients (IsAnswer sha256 serve.now.copy.log.origin.now puts) serve.now.requests
+        (S.exchanges clients.old) (S.exchanges clients.new) result) }
+    ensures same { KeepsRecord (D.puts folders.old) (D.puts folders.new) }
 {
     for _ in 0..serve.requests {
-        let (stream, _) = listener.accept()?;
-        match answer_one(clock, alloc, folders, serve.copy.log.origin, &stream) {
+        match clients.answer_next(clock, alloc, folders, serve.copy.log.origin)? {
             Ok(()) => {}
             Err(fault) => {
                 print_file(alloc, folders, serve, fault, errors);
@@ -140,26 +135,6 @@ fn answer_all<D: RunFolders, C: Clock, E: Write>(
         }
     }
     Ok(())
-}
-
-// Answers one connection, and ends it in time, whatever its client does. If the clock cannot be read, that is a
-// `ReadFault`.
-fn answer_one<D: RunFolders, C: Clock>(
-    clock: &C,
-    alloc: Global,
-    folders: &mut D,
-    origin: &str,
-    stream: &TcpStream,
-) -> Result<(), CopyAnswerFault>
-    ensures { KeepsRecord (D.puts folders.old) (D.puts folders.new) }
-{
-    let Ok(mut reader) = TimedStream::new(stream, clock, Duration::from_secs(HEAD_SECONDS)) else {
-        return Err(CopyAnswerFault::Http(HttpFault::ReadFault));
-    };
-    let Ok(mut writer) = TimedStream::new(stream, clock, Duration::from_secs(ALL_SECONDS)) else {
-        return Err(CopyAnswerFault::Http(HttpFault::ReadFault));
-    };
-    answer_from_copy::<Sha256Tree, D, _, _>(alloc, folders, origin, &mut reader, &mut writer)
 }
 
 // Writes the line of `--why` if the words ask for it and a file of the folder is known, or a prefix of it if the stream fails.

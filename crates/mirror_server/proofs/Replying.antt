@@ -15,9 +15,6 @@ use Rattle.mirror_server.specs.declared.request.Request.TheVariants.{Nothing, Un
 use Rattle.mirror_server.specs.declared.resource.Resource.{Resource}
 use Rattle.mirror_server.proofs.OneResource.{one_resource}
 
--- ---- the request
-
-module _ (buf : List ℕ) (seen : Received) where
 -- ---- the reply
 
 module _ (IsBodyOf : Resource → List ℕ → Type 0) where

@@ -1,3 +1,4 @@
 pub mod Performing
+pub mod Exchanges
 pub mod Written
 mod Whys

@@ -1,5 +1,4 @@
 mod Asking
 mod Compares
 mod Writing
-mod Answering
 mod Serving

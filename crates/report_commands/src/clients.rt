@@ -19,7 +19,8 @@ const ALL_SECONDS: u64 = 70;
 /// The clients of a port record nothing.
 pub(crate) trait Clients {
     ghost use Rattle.std.specs.Prelude.{List, Option, None};
-    ghost use Rattle.report_commands.specs.Clients.{AnswersNext, Exchange};
+    ghost use Rattle.program_env.specs.Exchanges.{AnswersNext, Exchange};
+    ghost use Rattle.report_commands.specs.Clients.{IsAnswer};
 
     /// The bytes that each client gave and the bytes that were written to it, the oldest client first, if they are recorded.
     ghost exchanges: { Self → Option (List Exchange) } = { λ _. None };
@@ -35,8 +36,8 @@ pub(crate) trait Clients {
         alloc: Global,
         mirror: &Mirror<H>,
     ) -> io::Result<Result<(), HttpFault>>
-        ensures { AnswersNext H.digest mirror.now.view (exchanges self.old) (exchanges self.new)
-            result };
+        ensures { AnswersNext (IsAnswer H.digest mirror.now.view) (exchanges self.old)
+            (exchanges self.new) result };
 }
 
 impl Clients for TcpListener {

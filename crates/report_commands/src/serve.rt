@@ -2,7 +2,8 @@
 ghost use Rattle.std.specs.Prelude.{◌≡◌, map};
 ghost use Rattle.std.specs.Result.{result_map_both};
 ghost use Rattle.sha2.specs.Sha256.{sha256};
-ghost use Rattle.report_commands.specs.Clients.{AnswersClients};
+ghost use Rattle.program_env.specs.Exchanges.{AnswersClients};
+ghost use Rattle.report_commands.specs.Clients.{IsAnswer};
 ghost use Rattle.program_env.specs.Envs.{IsSameEnv, moment};
 ghost use Rattle.program_env.specs.Performing.{Performs, Stays};
 ghost use Rattle.report_commands.specs.Serve.{DoesServe};
@@ -147,8 +148,8 @@ fn serve_all<H: TreeHash, C: Clock, S: Clients, E: Write>(
     requests: u64,
     errors: &mut E,
 ) -> io::Result<()>
-    ensures { AnswersClients H.digest mirror.now.view requests (S.exchanges clients.old)
-        (S.exchanges clients.new) result }
+    ensures { AnswersClients (IsAnswer H.digest mirror.now.view) requests
+        (S.exchanges clients.old) (S.exchanges clients.new) result }
 {
     for _ in 0..requests {
         match clients.answer_next(clock, alloc, mirror)? {

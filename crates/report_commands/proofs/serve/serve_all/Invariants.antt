@@ -1,8 +1,9 @@
-use Rattle.report_commands.specs.Clients.{AnswersMore}
+use Rattle.program_env.specs.Exchanges.{AnswersMore}
+use Rattle.report_commands.specs.Clients.{IsAnswer}
 use Rattle.report_commands.proofs.serve.serve_all.Given as goal
 
 -- each iteration so far answered one client
 abbrev pub invariant-loop : goal.invariant-loop
 invariant-loop g l =
-    AnswersMore g.H.TreeHash.digest l.mirror.view l.counter (g.S.Clients.exchanges l.fn.clients)
+    AnswersMore (IsAnswer g.H.TreeHash.digest l.mirror.view) l.counter (g.S.Clients.exchanges l.fn.clients)
     (g.S.Clients.exchanges l.clients)
