@@ -1,5 +1,5 @@
 -- All that the words of a command line say.
-use Rattle.std.specs.Prelude.{◌≡◌, List, Ok, Err, IsTrue, ◌↔◌, is_some, option_map, true}
+use Rattle.std.specs.Prelude.{◌≡◌, List, Ok, Err, IsSome, IsTrue, ◌↔◌, option_map}
 use Rattle.clap.specs.Words.{Text}
 use Rattle.program_words.specs.declared.fault.CommandFault.TheVariants.{BadArgument}
 use Rattle.program_parser.specs.declared.words.Line.{Line}
@@ -14,4 +14,4 @@ pub record IsLine (words : List Text) (line : Line) : Type 0 where
 
 -- if the command is refused for the spelling, the range or the fit of its words, the line names a bad one
 abbrev pub NamesBad : Line → Type 0
-NamesBad line = line.command ≡ Err BadArgument → is_some line.bad ≡ true
+NamesBad line = line.command ≡ Err BadArgument → IsSome line.bad
