@@ -3,3 +3,5 @@ mod Putting
 mod NoteWalks
 mod Reordering
 mod Sizes
+mod Standing
+mod Found

@@ -2,16 +2,17 @@
 use Rattle.std.proofs.Common.{◌≡◌, ℕ, ◌+◌, ◌<◌, ◌≤◌, zero, suc, List, [], ◌∷◌, ◌++◌, length, map, take, drop, get_or}
 use Rattle.std.proofs.Common.{Option, Some, None, Result, Ok, Err, Bool, true, false, refl, sym, ap, subst, ◌∙◌, inl}
 use Rattle.std.proofs.Common.{inr, arith}
-use Rattle.std.specs.Prelude.{if◌then◌else◌, is_some}
+use Rattle.std.specs.Prelude.{All, if◌then◌else◌, is_some}
 use Rattle.std.specs.Str.{bytes_eq}
-use Rattle.std.proofs.lemmas.List.{append_assoc, map-append, take_more, take_all, take-append-drop}
+use Rattle.std.proofs.lemmas.List.{append-nil, append_assoc, map-append, take_more, take_all, take-append-drop}
+use Rattle.std.proofs.lemmas.List.Elements.{All-cons, All-nil, All-weaker}
 use Rattle.std.proofs.lemmas.Option.{none-some, same_Some}
 use Rattle.std.proofs.lemmas.Slice.Eq.{bytes_eq-Decides}
 use Rattle.program_files.specs.Named.{NamedFile}
 use Rattle.program_files.specs.Named.{FindsFile, HasContents, LacksFile, RecordsReplace, contents_of}
 use Rattle.program_files.specs.declared.named.TheConstants.{MAX_FILE_LEN}
 use Rattle.program_commands.specs.Notes.{IsRecorded, PutsEach, PutsFront, PutsOnce, PutsOne, RecordsOther}
-use Rattle.program_commands.specs.NoteLaws.{KeepsFiles, NotesStand}
+use Rattle.program_commands.specs.NoteLaws.{KeepsFiles, NotesStand, PutsMissing}
 use Rattle.program_files.specs.declared.fault.NamedFault.{NamedFault}
 use Rattle.program_files.specs.declared.fault.NamedFault.TheVariants as named
 use Rattle.program_files.proofs.NamedLemmas.{kept_itself, newer_named, standing_push}
@@ -55,6 +56,29 @@ notes_stand_at (first ∷ files) old new file (suc k) puts lt at =
 
 pub notes_stand : NotesStand
 notes_stand files old new file puts listed = notes_stand_at files old new file listed.0 puts listed.1 listed.2
+
+missing_before : (file : NamedFile) (old new : List NamedFile) (name : List ℕ) → PutsOnce file old new →
+    contents_of new name ≡ None → contents_of old name ≡ None
+missing_before file old new name once none = elim (contents_of old name) as (λ o. contents_of old name ≡ o → o ≡ None) [
+  | None ↦ λ is. refl
+  | Some bytes ↦ λ is. absurd (none-some bytes (sym none ∙ kept_once file old new name bytes once is))
+] refl
+
+pub puts_missing : PutsMissing
+puts_missing [] old new puts = ([], puts ∙ sym (append-nil old), All-nil (λ (f : NamedFile). contents_of old f.0 ≡ None))
+puts_missing (file ∷ files) old new puts =
+    let rest = puts_missing files puts.0 new puts.2 in
+    let still : All (λ (f : NamedFile). contents_of old f.0 ≡ None) rest.0 =
+    All-weaker (λ (f : NamedFile). contents_of puts.0 f.0 ≡ None) (λ (f : NamedFile). contents_of old f.0 ≡ None)
+    (λ f none. missing_before file old puts.0 f.0 puts.1 none) rest.0 rest.2 in
+    elim puts.1 [
+      | inl left ↦ (rest.0, rest.1 ∙ ap (λ (list : List NamedFile). list ++ rest.0) left.1, still)
+      | inr put ↦ (
+        file ∷ rest.0,
+        rest.1 ∙ (ap (λ (list : List NamedFile). list ++ rest.0) put.1 ∙ append_assoc old (file ∷ []) rest.0),
+        All-cons (λ (f : NamedFile). contents_of old f.0 ≡ None) file rest.0 put.0 still,
+      )
+    ]
 
 -- ---- puts that may be recorded
 

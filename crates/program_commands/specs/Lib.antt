@@ -7,3 +7,4 @@ pub mod Updated
 pub mod NoteFiles
 pub mod Notes
 pub mod NoteLaws
+pub mod Ordered

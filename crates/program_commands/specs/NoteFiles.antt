@@ -5,6 +5,7 @@ use Rattle.std.specs.Prelude.{Some, codes, slice_get, string_bytes, take}
 use Rattle.std.specs.Fmt.{decimal}
 use Rattle.std.specs.Str.{bytes_eq}
 use Rattle.hex.specs.Hex.{encode_lower}
+use Rattle.mirror_model.specs.Forks.{Point}
 use Rattle.mirror_model.specs.Heads.{IsHead}
 use Rattle.mirror_model.specs.Listed.{ListsNotes}
 use Rattle.mirror_model.specs.View.{View}
@@ -29,6 +30,10 @@ note_file file = (string_bytes file.name, file.bytes.now)
 -- the note is a checkpoint with this size and root
 abbrev pub IsHeadNote : HeadNote → Type 0
 IsHeadNote head = (origin : List ℕ) × IsHead head.note origin head.size head.root
+
+-- the size and root of a note
+abbrev pub point_of : HeadNote → Point
+point_of head = record { size = head.size; root = head.root }
 
 -- two notes have the same size and root
 abbrev pub is_alike : HeadNote → HeadNote → Bool

@@ -1,5 +1,5 @@
 -- Consequences of putting notes.
-use Rattle.std.specs.Prelude.{◌≡◌, ℕ, List, Contains, Some}
+use Rattle.std.specs.Prelude.{◌≡◌, ℕ, List, ◌++◌, All, Contains, Some, None}
 use Rattle.program_files.specs.Named.{NamedFile}
 use Rattle.program_files.specs.Named.{contents_of}
 use Rattle.program_commands.specs.Notes.{PutsEach}
@@ -19,3 +19,12 @@ NotesStand =
     PutsEach files old new →
     Contains files file →
     contents_of new file.0 ≡ Some file.1
+
+-- only files that were missing are put, so no note is written again
+abbrev pub PutsMissing : Type 0
+PutsMissing =
+    (files old new : List NamedFile) →
+    PutsEach files old new →
+    (added : List NamedFile)
+    × (new ≡ old ++ added)
+    × All (λ (file : NamedFile). contents_of old file.0 ≡ None) added

@@ -1,12 +1,14 @@
 -- The files that the command `notes` puts into its folder. Only the contract of a private function cites `PutsHeads`.
-use Rattle.std.specs.Prelude.{◌≡◌, ◌⊎◌, ℕ, ◌<◌, List, [], ◌∷◌, ◌++◌, length, map, codes, true}
-use Rattle.std.specs.Prelude.{is_some, Contains, Option, Some, None, Result, Ok, Err, ⊤}
+use Rattle.std.specs.Prelude.{◌≡◌, ◌⊎◌, ℕ, ◌<◌, List, [], ◌∷◌, ◌++◌, length, map, take, codes}
+use Rattle.std.specs.Prelude.{slice_get, IsSome, IsTrue, Contains, Option, Some, None, Result}
+use Rattle.std.specs.Prelude.{Ok, Err, ⊤}
 use Rattle.std.specs.List.Sorted.{IsPermutation}
 use Rattle.mirror_sources.specs.Recorded.{KeepsRecord}
 use Rattle.signed_note.specs.Keys.{Key}
 use Rattle.mirror_model.specs.View.{View}
 use Rattle.program_files.specs.Named.{NamedFile}
-use Rattle.program_commands.specs.NoteFiles.{HeadNote, HasHeads, files_of}
+use Rattle.program_commands.specs.NoteFiles.{HeadNote, HasHeads, alike_count, files_of, is_alike}
+use Rattle.program_commands.specs.NoteFiles.{note_file_name, point_of}
 use Rattle.program_files.specs.Named.{RecordsFault, contents_of}
 use Rattle.program_files.specs.declared.named.TheConstants.{MAX_FILE_LEN}
 use Rattle.program_states.specs.States.{OpensFile}
@@ -44,8 +46,48 @@ PutsEach (file ∷ files) old new =
 
 -- a file of that name is there, and has other bytes or is too long to be read
 pub record HasOther (puts : List NamedFile) (file : NamedFile) : Type 0 where
-  pub present : is_some (contents_of puts file.0) ≡ true
+  pub present : IsSome (contents_of puts file.0)
   pub differs : contents_of puts file.0 ≡ Some file.1 → MAX_FILE_LEN < length file.1
+
+-- ---- notes that are in the folder
+
+-- the note is there under that number of its size and root
+abbrev pub IsUnder : List NamedFile → List ℕ → HeadNote → ℕ → Type 0
+IsUnder puts folder head number =
+    contents_of puts (note_place folder (note_file_name head.size head.root number))
+    ≡ Some head.note
+
+-- the note is there under any number that these notes give to its size and root
+abbrev pub Stands : List NamedFile → List ℕ → List HeadNote → HeadNote → Type 0
+Stands puts folder heads head =
+    (number : ℕ) × (number < alike_count heads head) × IsUnder puts folder head number
+
+-- one of these notes is there under that number of the size and root of `head`
+pub record IsTaken (puts : List NamedFile) (folder : List ℕ) (heads : List HeadNote)
+    (head : HeadNote) (number : ℕ) : Type 0 where
+  pub other : HeadNote
+  pub is_listed : Contains heads other
+  pub alike : IsTrue (is_alike other head)
+  pub under : IsUnder puts folder other number
+
+-- each note keeps its index, and so its number, unless it is there, or one of the notes is there under its number
+abbrev pub KeepsOthers : List NamedFile → List ℕ → List HeadNote → List HeadNote → Type 0
+KeepsOthers puts folder old new =
+    (index : ℕ) (head : HeadNote) →
+    slice_get old index ≡ Some head →
+    (slice_get new index ≡ Some head)
+    ⊎ (Stands puts folder old head
+    ⊎ IsTaken puts folder old head (alike_count (take index old) head))
+
+-- the numbers in a new order. A note that is there under any number that the old order gives to its size and root gets such a
+-- number, so its file is left. Each other note keeps its number, unless one of the notes is there under it
+pub record KeepsStanding (puts : List NamedFile) (folder : List ℕ) (old new : List HeadNote)
+    : Type 0 where
+  pub standing :
+      (index : ℕ) (head : HeadNote) →
+      slice_get new index ≡ Some head →
+      Stands puts folder old head → IsUnder puts folder head (alike_count (take index new) head)
+  pub others : KeepsOthers puts folder old new
 
 -- ---- if the puts are recorded
 
@@ -62,12 +104,24 @@ RecordsOther None file = ⊤
 RecordsOther (Some puts) file = HasOther puts file
 
 -- the order of the notes is the same, or it changed because a file with the name of a note, in the old order, has other bytes
+abbrev pub HasReason : Option (List NamedFile) → List ℕ → List HeadNote → List HeadNote → Type 0
+HasReason recorded folder old new =
+    (new ≡ old)
+    ⊎ ((file : NamedFile) × Contains (files_in folder old) file × RecordsOther recorded file)
+
+-- a note that is in the folder keeps its file
+abbrev pub RecordsStanding : Option (List NamedFile) → List ℕ → List HeadNote → List HeadNote → Type 0
+RecordsStanding None folder old new = ⊤
+RecordsStanding (Some puts) folder old new = KeepsStanding puts folder old new
+
+-- the notes in the order in which they are put, if the old order is that of `note_files`: each index keeps its size and root,
+-- and so its number
 pub record Reorders (recorded : Option (List NamedFile)) (folder : List ℕ) (old new : List HeadNote)
     : Type 0 where
   pub same_notes : IsPermutation old new
-  pub reason :
-      (new ≡ old)
-      ⊎ ((file : NamedFile) × Contains (files_in folder old) file × RecordsOther recorded file)
+  pub same_points : map point_of new ≡ map point_of old
+  pub reason : HasReason recorded folder old new
+  pub standing : RecordsStanding recorded folder old new
 
 -- the reason why a note is not put
 abbrev pub StopsAt : Option (List NamedFile) → NamedFile → NamedFault → Type 0
@@ -125,7 +179,7 @@ module _ (digest : List ℕ → List ℕ) (origin : List ℕ) (keys : List Key)
   OpensState = (view : View) × OpensFile digest origin keys recorded state (Ok view)
 
   -- the state file gave a mirror, and its notes were put with this answer; their order is that of `note_files`, unless a file
-  -- with the name of a note has other bytes
+  -- with the name of a note has other bytes. A note that is in the folder keeps its file
   pub record WritesThese (answer : Result (Unit {0}) NamedFault) : Type 0 where
     pub view : View
     pub listed : List HeadNote

@@ -23,7 +23,7 @@ pub use export::run_export;
 pub use fault::{ExportFileFault, MergeFilesFault, NotesFault, TakeFilesFault, UpdateFileFault};
 pub use gained::{HeldCounts, has_gained, holding_of};
 pub use item::ItemFiles;
-pub use laws::{kept_files_law, standing_notes_law};
+pub use laws::{kept_files_law, missing_files_law, standing_notes_law};
 pub use merge::run_merge;
 pub use note_list::{NoteFile, note_files};
 pub use notes::run_notes;

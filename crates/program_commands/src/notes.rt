@@ -1,7 +1,8 @@
 //! The command `notes`: it writes each note of a state file's mirror to a file of its own.
-ghost use Rattle.std.specs.Prelude.{◌≡◌, ◌<◌, ℕ, IfOk, IfSome, List, length, map, string_bytes};
+ghost use Rattle.std.specs.Prelude.{◌≡◌, ◌≢◌, ◌↔◌, ◌<◌, ◌≤◌, ◌+◌, ℕ, IfNone, IfOk, IfSome, IsTrue, List, OnOk, length, map, string_bytes};
 ghost use Rattle.signed_note.specs.Keys.{Key};
-ghost use Rattle.program_commands.specs.NoteFiles.{head_note, note_file};
+ghost use Rattle.program_commands.specs.NoteFiles.{HeadNote as HeadValue, head_note, is_alike, note_file};
+ghost use Rattle.program_commands.specs.Ordered.{AreHeads, IsNoteWith, IsOrdered};
 ghost use Rattle.program_commands.specs.Notes.{PutsHeads, PutsNotes, PutsOne, Reorders, WritesNotes, in_folder, note_place};
 ghost use Rattle.program_states.specs.States.{OpensFile};
 
@@ -17,9 +18,9 @@ use tlog_mirror::Mirror;
 /// Writes each note of the mirror in the state file to the folder, under the name that `note_files` gives it. It makes the
 /// folder if it is missing.
 ///
-/// A note that is already there, under any number of its size and root, is left. If `note_files` gives that number to another
-/// note, this one gets another number of the same size and root. The folder has no note of the mirror under that number. In
-/// the end all files are flushed to the device.
+/// A note that is already there, under any number that `note_files` gives to its size and root, is left. If `note_files` gives
+/// that number to another note, this one gets another number of the same size and root. The folder has no note of the mirror
+/// under that number, unless it has one twice. In the end all files are flushed to the device.
 ///
 /// ```text
 /// run_notes::<Sha256Tree, _>(&mut files, alloc, "example.com/log", &keys, "log.state", "notes")?;
@@ -85,8 +86,9 @@ fn order_as_found<F: NamedFiles>(
     folder: &str,
     heads: &mut [HeadNote],
 ) -> Result<(), AllocError>
-    ensures { Reorders (F.puts files.now) folder.now (map head_note heads.old)
-        (map head_note heads.new) }
+    ensures { OnOk result (AreHeads (map head_note heads.old)
+        → Reorders (F.puts files.now) folder.now (map head_note heads.old)
+        (map head_note heads.new)) }
 {
     for i in 0..heads.len() {
         exchange_found(files, alloc, folder, heads, i)?;
@@ -103,8 +105,9 @@ fn exchange_found<F: NamedFiles>(
     i: usize,
 ) -> Result<(), AllocError>
     requires { i < length heads.old }
-    ensures { Reorders (F.puts files.now) folder.now (map head_note heads.old)
-        (map head_note heads.new) }
+    ensures { OnOk result ((first : List HeadValue)
+        → IsOrdered (F.puts files.now) folder.now first (map head_note heads.old) i
+        → IsOrdered (F.puts files.now) folder.now first (map head_note heads.new) (i + 1)) }
 {
     let file = file_at(alloc, heads, i)?;
     let place = note_path(alloc, folder, &file.name)?;
@@ -117,27 +120,46 @@ fn exchange_found<F: NamedFiles>(
                 }
             }
         }
+        Ok(None) => {}
+        // Putting the note will fail later.
+        Err(NamedFault::FileFault) => {}
         Err(NamedFault::OutOfMemory) => return Err(AllocError),
-        // If a file cannot be read, putting its note will fail later.
-        _ => {}
     }
     Ok(())
 }
 
-// The index of a note with these bytes, and with the size and root of the note at index `i`. It looks after `i` first:
+// The index of another note with these bytes, and with the size and root of the note at index `i`. It looks after `i` first:
 // if only one note was added before all others, the wanted note is there.
 fn index_of(heads: &[HeadNote], i: usize, bytes: &[u8]) -> Option<usize>
     requires { i < length heads.now }
-    ensures { IfSome result (λ j. j < length heads.now) }
+    ensures within { IfSome result (λ j. j < length heads.now) }
+    ensures found { IfSome result (IsNoteWith (map head_note heads.now) i bytes.now) }
+    ensures none { IfNone result ((j : ℕ) → j ≢ i → ¬ IsNoteWith (map head_note heads.now) i
+        bytes.now j) }
 {
-    let head = &heads[i];
-    for j in i + 1..heads.len() {
-        if is_head(&heads[j], head, bytes) {
-            return Some(j);
-        }
+    match index_within(heads, i, bytes, i + 1, heads.len()) {
+        Some(j) => Some(j),
+        None => index_within(heads, i, bytes, 0, i),
     }
-    for j in 0..i {
-        if is_head(&heads[j], head, bytes) {
+}
+
+// The first such index from `start` on and below `end`.
+fn index_within(
+    heads: &[HeadNote],
+    i: usize,
+    bytes: &[u8],
+    start: usize,
+    end: usize,
+) -> Option<usize>
+    requires within { i < length heads.now }
+    requires end { end ≤ length heads.now }
+    ensures within { IfSome result (λ j. j < length heads.now) }
+    ensures found { IfSome result (IsNoteWith (map head_note heads.now) i bytes.now) }
+    ensures none { IfNone result ((j : ℕ) → start ≤ j → j < end
+        → ¬ IsNoteWith (map head_note heads.now) i bytes.now j) }
+{
+    for j in start..end {
+        if is_head(&heads[j], &heads[i], bytes) {
             return Some(j);
         }
     }
@@ -145,7 +167,10 @@ fn index_of(heads: &[HeadNote], i: usize, bytes: &[u8]) -> Option<usize>
 }
 
 // Whether a note has these bytes, and the size and root of the other note.
-fn is_head(other: &HeadNote, head: &HeadNote, bytes: &[u8]) -> bool {
+fn is_head(other: &HeadNote, head: &HeadNote, bytes: &[u8]) -> bool
+    ensures { IsTrue result ↔ (IsTrue (is_alike (head_note other.now) (head_note head.now))
+        × (other.now.bytes.now ≡ bytes.now)) }
+{
     other.size == head.size && other.root == head.root && other.bytes == bytes
 }
 

@@ -4,6 +4,7 @@ use Rattle.program_commands.specs.NoteFiles.{head_note}
 use Rattle.program_commands.specs.Notes.{PutsHeads, Reorders}
 use Rattle.program_files.proofs.NamedLemmas.{kept_itself}
 use Rattle.program_commands.proofs.Leaving.{written_heads}
+use Rattle.program_commands.proofs.Standing.{listed_heads}
 use Rattle.program_commands.proofs.notes.write_notes.Goals as goal
 
 pub returns-in_default : goal.returns-in_default
@@ -30,7 +31,8 @@ returns-in-Ok-order_as_found g c = λ origin keys state opened.
     let back : c.deref.result.now ≡ moved =
     c.deref.ensures.value ∙ (ap (λ n. take n (moved ++ rest)) size ∙ take-append_seam moved rest) in
     let order : Reorders (puts c.args.files.now) c.args.folder.now listed heads =
-    rw (← same, ← taken, back) c.order_as_found.ensures in
+    rw (← same, ← taken, back)
+    (c.in-Ok-order_as_found.ensures (rw taken (listed_heads c.args.mirror.now.view listed c.in-Ok.ensures))) in
     let put : PutsHeads c.args.folder.now heads (puts c.args.files.now) (puts c.put_heads.new.files) c.put_heads.result =
     rw (← same) c.put_heads.ensures in
     written_heads g.H.TreeHash.digest origin keys (puts c.args.files.now) (puts c.put_heads.new.files) state
