@@ -82,10 +82,6 @@ puts_missing (file ∷ files) old new puts =
 
 -- ---- puts that may be recorded
 
-pub recorded_none : (old : Option (List NamedFile)) → IsRecorded (PutsEach []) old old
-recorded_none None = tt
-recorded_none (Some puts) = refl
-
 each_push : (files : List NamedFile) (file : NamedFile) (old between new : List NamedFile) →
     PutsEach files old between → PutsOnce file between new → PutsEach (files ++ file ∷ []) old new
 each_push [] file old between new is once = (new, subst (λ puts. PutsOnce file puts new) is once, refl)
@@ -111,11 +107,6 @@ put_new None new file (Err named.FileFault) absent recorded = (recorded.0, tt)
 put_new (Some old) new file (Err named.FileFault) absent recorded = absurd (none-some old (sym recorded.1))
 put_new old new file (Err named.OutOfMemory) absent recorded = (recorded.0, tt)
 
-pub put_same : {T : Type 0} (recorded : Option (List NamedFile)) (file : NamedFile) (there : List ℕ) (x : T) →
-    HasContents recorded file.0 there → there ≡ file.1 → PutsOne recorded recorded file (Ok x)
-put_same None file there x stands same = tt
-put_same (Some puts) file there x stands same = inl (stands ∙ ap Some same, refl)
-
 -- a file with this name has other bytes
 pub other_recorded : (recorded : Option (List NamedFile)) (file : NamedFile) (there : List ℕ) → HasContents recorded file.0 there →
     (there ≡ file.1 → ⊥) → RecordsOther recorded file
@@ -125,23 +116,6 @@ other_recorded (Some puts) file there stands other =
       present = ap is_some stands;
       differs = λ is. absurd (other (same_Some there file.1 (sym stands ∙ is)));
     }
-
-pub put_other : (recorded : Option (List NamedFile)) (file : NamedFile) (there : List ℕ) →
-    HasContents recorded file.0 there → (there ≡ file.1 → ⊥) → PutsOne {T = Unit {0}} recorded recorded file (Err named.FileFault)
-put_other recorded file there stands other = (kept_itself recorded, other_recorded recorded file there stands other)
-
--- a file could not be read
-pub put_unread : (recorded : Option (List NamedFile)) (file : NamedFile) (fault : NamedFault) →
-    FindsFile recorded file.0 (Err fault) → PutsOne {T = Unit {0}} recorded recorded file (Err fault)
-put_unread None file named.FileFault long = (tt, tt)
-put_unread (Some puts) file named.FileFault long = (
-  refl,
-  record {
-    present = ap is_some long.1;
-    differs = λ is. subst (λ bytes. MAX_FILE_LEN < length bytes) (same_Some long.0 file.1 (sym long.1 ∙ is)) long.2;
-  },
-)
-put_unread recorded file named.OutOfMemory long = (kept_itself recorded, tt)
 
 -- ---- several notes
 

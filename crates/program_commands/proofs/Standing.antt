@@ -139,9 +139,6 @@ alike_trans a b c first second =
     let q = alike_parts b c second in
     alike_from a c (p.0 ∙ q.0, p.1 ∙ q.1)
 
-pub alike_self : (a : HeadNote) → IsTrue (is_alike a a)
-alike_self a = alike_from a a (refl, refl)
-
 alike_point : (a b : HeadNote) → IsTrue (is_alike a b) → point_of a ≡ point_of b
 alike_point a b alike = let p = alike_parts a b alike in λ i. record { size = p.0 i; root = p.1 i }
 
