@@ -1,3 +1,4 @@
+pub mod Damage
 pub mod Exits
 pub mod GivenProofs
 pub mod HeadNotes

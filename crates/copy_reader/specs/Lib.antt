@@ -5,3 +5,4 @@ pub mod Copies
 pub mod Shown
 pub mod Proofs
 pub mod Statuses
+pub mod Damage

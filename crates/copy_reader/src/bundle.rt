@@ -1,9 +1,10 @@
 //! A bundle of a copy.
-ghost use Rattle.std.specs.Prelude.{◌≡◌, ◌*◌, ◌<◌, IfOk, length};
+ghost use Rattle.std.specs.Prelude.{◌≡◌, ◌*◌, ◌<◌, IfErr, IfOk, length};
 ghost use Rattle.tlog_tiles.specs.Tiles.{bundle_bytes};
 ghost use Rattle.mirror_sources.specs.Recorded.{KeepsRecord};
 ghost use Rattle.log_reader.specs.Holding.{row_width};
 ghost use Rattle.log_reader.specs.Ways.{IsShownBundle};
+ghost use Rattle.copy_reader.specs.Damage.{NamesDamage};
 ghost use Rattle.copy_reader.specs.Faults.{CountsRead};
 ghost use Rattle.copy_reader.specs.WholeCopies.{IsShelfFailure, ReadsCopyOf};
 
@@ -38,6 +39,8 @@ pub fn read_bundle<H: TreeHash, D: ReadableShelf>(
         (λ bytes. IsShownBundle H.digest reader.old.edge index bytes.items) }
     ensures same { KeepsRecord (D.puts shelf.old) (D.puts shelf.new) }
     ensures counted { CountsRead (D.failed shelf.old) (D.failed shelf.new) result }
+    ensures damage { IfErr result
+        (NamesDamage H.digest (D.puts shelf.old) reader.old.edge) }
     ensures honest { ReadsCopyOf IsShelfFailure H.digest reader.old reader.new
         (D.puts shelf.old) result
         (λ entries bytes. bytes.items

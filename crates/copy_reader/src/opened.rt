@@ -3,6 +3,7 @@ ghost use Rattle.std.specs.Prelude.{◌≡◌, IfErr, IfOk, map};
 ghost use Rattle.mirror_sources.specs.Recorded.{KeepsRecord};
 ghost use Rattle.mirror_model.specs.Heads.{IsOpenHead};
 ghost use Rattle.copy_reader.specs.Copies.{OpensCopy, RefusesNote};
+ghost use Rattle.copy_reader.specs.Damage.{NamesEdgeDamage, NamesOpenDamage};
 ghost use Rattle.copy_reader.specs.Faults.{CountsCopy, CountsRead};
 ghost use Rattle.copy_reader.specs.WholeCopies.{IsOfShelf, OpensWhole, ReadsCopyLog};
 ghost use Rattle.log_reader.specs.Holding.{IsReaderOf};
@@ -38,6 +39,8 @@ pub fn open_reader<H: TreeHash, D: ReadableShelf>(
     ensures root { IfOk result (λ reader. reader.root ≡ root.now) }
     ensures same { KeepsRecord (D.puts shelf.old) (D.puts shelf.new) }
     ensures counted { CountsRead (D.failed shelf.old) (D.failed shelf.new) result }
+    ensures damage { IfErr result
+        (NamesEdgeDamage H.digest (D.puts shelf.old) size root.now) }
     ensures honest { ReadsCopyLog H.digest size root.now (D.puts shelf.old) result
         (λ entries reader. IsReaderOf H.digest entries reader) }
 {
@@ -80,7 +83,7 @@ fn head_in(
 ///
 /// The first that applies. `ShelfFault`: a file cannot be read. `Head`, with the fault of `check_head`: the checkpoint does not open. Then
 /// the faults of `open_reader`. `BadOrigin` never comes.
-#[tactic(auto, using(log_reader::proofs::Kept::kept_twice, crate::proofs::HeadNotes::note_refused, crate::proofs::HeadNotes::note_counts, crate::proofs::HeadNotes::note_of_shelf))]
+#[tactic(auto, using(log_reader::proofs::Kept::kept_twice, crate::proofs::HeadNotes::note_refused, crate::proofs::HeadNotes::note_counts, crate::proofs::HeadNotes::note_of_shelf, crate::proofs::Damage::note_damage))]
 pub fn open_shelf<H: TreeHash, D: ReadableShelf>(
     alloc: Global,
     shelf: &mut D,
@@ -92,6 +95,8 @@ pub fn open_shelf<H: TreeHash, D: ReadableShelf>(
     ensures same { KeepsRecord (D.puts shelf.old) (D.puts shelf.new) }
     ensures counted { CountsCopy (D.failed shelf.old) (D.failed shelf.new) result }
     ensures fault { IfErr result IsOfShelf }
+    ensures damage { IfErr result (NamesOpenDamage H.digest (D.puts shelf.old) origin.now
+        (map (λ k. key k) keys.now)) }
     ensures honest { IfOk result (OpensWhole H.digest origin.now (D.puts shelf.old)) }
 {
     let Some(note) = shelf.read(&Path::Checkpoint)? else {

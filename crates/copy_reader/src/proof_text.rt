@@ -1,8 +1,9 @@
 //! The texts of proofs.
-ghost use Rattle.std.specs.Prelude.{◌≡◌, ◌≤◌, ◌↔◌, IfNone, IfOk, IfSome, IsTrue, string_bytes};
+ghost use Rattle.std.specs.Prelude.{◌≡◌, ◌≤◌, ◌↔◌, IfErr, IfNone, IfOk, IfSome, IsTrue, string_bytes};
 ghost use Rattle.tlog_shape.specs.declared.TheConstants.{MAX_SIZE};
 ghost use Rattle.tlog_proof.specs.Text.{IsProofText, IsWritableProof};
 ghost use Rattle.mirror_sources.specs.Recorded.{KeepsRecord};
+ghost use Rattle.copy_reader.specs.Damage.{NamesProofDamage};
 ghost use Rattle.copy_reader.specs.Faults.{CountsRead};
 ghost use Rattle.copy_reader.specs.Proofs.{IsProofOf, IsTrueText, IsWithin};
 ghost use Rattle.copy_reader.specs.WholeCopies.{IsShelfFailure, ReadsCopyOf};
@@ -73,6 +74,8 @@ pub fn read_proof_text<H: TreeHash, D: ReadableShelf>(
         ask (string_bytes text)) }
     ensures same { KeepsRecord (D.puts shelf.old) (D.puts shelf.new) }
     ensures counted { CountsRead (D.failed shelf.old) (D.failed shelf.new) result }
+    ensures damage { IfErr result
+        (NamesProofDamage H.digest (D.puts shelf.old) reader.old.edge) }
     ensures honest { reader.old.edge.size ≤ MAX_SIZE
         → ReadsCopyOf IsShelfFailure H.digest reader.old reader.new (D.puts shelf.old) result
         (λ entries text. IsTrueText H.digest ask entries (string_bytes text)) }

@@ -1,9 +1,11 @@
 //! Proofs of a copy's entries.
-ghost use Rattle.std.specs.Prelude.{◌≡◌, IfOk};
+ghost use Rattle.std.specs.Prelude.{◌≡◌, IfErr, IfOk};
 ghost use Rattle.tlog_proof.specs.Made.{Holds};
 ghost use Rattle.mirror_sources.specs.Source.{StaysWithin};
 ghost use Rattle.mirror_sources.specs.Recorded.{KeepsRecord};
+ghost use Rattle.log_reader.specs.FalseFiles.{NamesFalseIfFile};
 ghost use Rattle.log_reader.specs.Faults.{CountsFailure};
+ghost use Rattle.copy_reader.specs.Damage.{NamesProofDamage, NamesWithin};
 ghost use Rattle.copy_reader.specs.Faults.{CountsRead};
 ghost use Rattle.log_reader.specs.Holding.{ReadsTilesOf};
 ghost use Rattle.copy_reader.specs.Proofs.{IsAsked, IsInTree, IsMadeOf, IsWithin, size_asked};
@@ -42,6 +44,8 @@ fn whole_proof<H: TreeHash, S: Source>(
     ensures later { StaysWithin (S.may_answer files.old) (S.may_answer files.new) }
     ensures kept { KeepsRecord (S.files files.old) (S.files files.new) }
     ensures counted { CountsFailure (S.failed files.old) (S.failed files.new) result }
+    ensures names { IfErr result
+        (NamesFalseIfFile H.digest (S.may_answer files.old) reader.old.edge) }
     ensures honest { ReadsTilesOf H.digest reader.old reader.new (S.may_answer files.old) result
         (IsMadeOf H.digest ask) }
 {
@@ -65,6 +69,8 @@ fn proof_of<H: TreeHash, S: Source>(
     ensures later { StaysWithin (S.may_answer files.old) (S.may_answer files.new) }
     ensures kept { KeepsRecord (S.files files.old) (S.files files.new) }
     ensures counted { CountsFailure (S.failed files.old) (S.failed files.new) result }
+    ensures names { IfErr result
+        (NamesWithin H.digest (S.may_answer files.old) reader.old.edge) }
     ensures honest { ReadsTilesOf H.digest reader.old reader.new (S.may_answer files.old) result
         (IsMadeOf H.digest ask) }
 {
@@ -91,6 +97,8 @@ pub(crate) fn read_proof<H: TreeHash, D: ReadableShelf>(
     ensures holds { IfOk result (Holds H.digest) }
     ensures same { KeepsRecord (D.puts shelf.old) (D.puts shelf.new) }
     ensures counted { CountsRead (D.failed shelf.old) (D.failed shelf.new) result }
+    ensures damage { IfErr result
+        (NamesProofDamage H.digest (D.puts shelf.old) reader.old.edge) }
     ensures honest { ReadsCopyOf IsShelfFailure H.digest reader.old reader.new
         (D.puts shelf.old) result (IsMadeOf H.digest ask) }
 {

@@ -56,7 +56,7 @@ get_exit (Ok x) read fault is was old new h = absurd (false≢true is.0)
 get_exit {T} {U} (Err f) read fault is was old new h =
     subst (λ e. CountsFailure {T = T} old new (Err e)) (sym is.1) (counted_get T U old new fault (subst (CountsGet old new) was h))
 
-get_fails : (fault : SourceFault) → IsFailure (by_source fault)
+pub get_fails : (fault : SourceFault) → IsFailure (by_source fault)
 get_fails source.Failed = tt
 get_fails source.OutOfMemory = tt
 
@@ -66,10 +66,11 @@ get_failed result claim fault is = failed_exit result claim (by_source fault) is
 
 -- ---- a file that was got, and what was found in it
 
-pub lacks_exit : {T : Type 0} (result : Result T ReadFault) (claim : T → Type 0) (fault : ReadFault) (Gone : Type 0) →
-    IsErr result × IsErrAnd result (λ f. f ≡ fault) → IsFailure fault ⊎ Gone → (Gone → ⊥) → ReadsTrue result claim
+pub lacks_exit : {T : Type 0} {lacking : Path} (result : Result T ReadFault) (claim : T → Type 0) (fault : ReadFault)
+    (Gone : Type 0) → IsErr result × IsErrAnd result (λ f. f ≡ fault) →
+    IsFailure fault ⊎ ((fault ≡ NoFile lacking) × Gone) → (Gone → ⊥) → ReadsTrue result claim
 lacks_exit result claim fault Gone is (inl h) there = failed_exit result claim fault is h
-lacks_exit result claim fault Gone is (inr h) there = absurd (there h)
+lacks_exit result claim fault Gone is (inr h) there = absurd (there h.1)
 
 module _ {T E : Type 0} where
   pub found_ok : (found : Result (Option T) E) (path : Path) (result : Result T ReadFault) → result ≡ found_in found path →

@@ -18,3 +18,5 @@ pub mod Asked
 pub mod ShownBundles
 pub mod FirstHashes
 pub mod FullNodes
+pub mod FalseFiles
+pub mod FalseEdges

@@ -7,3 +7,5 @@ pub mod Truth
 pub mod Holding
 pub mod Nodes
 pub mod FullRows
+pub mod FalseFiles
+pub mod FalseEdges

@@ -1,5 +1,5 @@
 //! Verified bundles of a log.
-ghost use Rattle.std.specs.Prelude.{◌≡◌, ◌↔◌, ◌+◌, ◌*◌, ◌<◌, ◌≤◌, ◌++◌, ℕ, IfOk, IsSomeAnd, IsTrue, List, length};
+ghost use Rattle.std.specs.Prelude.{◌≡◌, ◌↔◌, ◌+◌, ◌*◌, ◌<◌, ◌≤◌, ◌++◌, ℕ, IfErr, IfOk, IsSomeAnd, IsTrue, List, length};
 ghost use Rattle.tlog_tiles.specs.Bundle.{bundle_text};
 ghost use Rattle.tlog_tiles.specs.Tiles.{bundle_bytes};
 ghost use Rattle.tlog_tiles.specs.declared.paths.Path.TheVariants.{Entries};
@@ -7,9 +7,11 @@ ghost use Rattle.mirror_model.specs.TrueLaws.{AreShort};
 ghost use Rattle.mirror_sources.specs.Source.{StaysWithin};
 ghost use Rattle.mirror_sources.specs.Recorded.{KeepsRecord};
 ghost use Rattle.log_reader.specs.Faults.{CountsFailure};
+ghost use Rattle.log_reader.specs.FalseFiles.{IsEndGiven, IsStartGiven, NamesEnd, NamesFalse, NamesFull, NamesGone};
 ghost use Rattle.log_reader.specs.Holding.{GivesWay, IsEnd, IsEndRow, IsSourceOf, IsTileHash, ReadsOf, ReadsTrue, row_width};
 ghost use Rattle.log_reader.specs.Verified.{HasLeaves, IsVerifiedBundle};
 ghost use Rattle.log_reader.specs.Ways.{IsShownBundle};
+ghost use Rattle.log_reader.specs.declared.verify.FullFile.TheVariants.{Bundle};
 
 use crate::fault::ReadFault;
 use crate::found::{get_file, or_false};
@@ -33,6 +35,8 @@ fn read_full<H: TreeHash, S: Source>(
     ensures later { StaysWithin (S.may_answer source.old) (S.may_answer source.new) }
     ensures kept { KeepsRecord (S.files source.old) (S.files source.new) }
     ensures counted { CountsFailure (S.failed source.old) (S.failed source.new) result }
+    ensures names { IfErr result (NamesFull H.digest (S.may_answer source.old) Bundle hash.now
+        (Entries index 256)) }
     ensures honest { (entries : List (List ℕ)) → IsTileHash H.digest entries 0 index hash.now
         → IsSourceOf H.digest entries (S.may_answer source.old) → ReadsTrue result
         (λ bytes. bytes.items ≡ bundle_bytes entries index 256) }
@@ -95,6 +99,10 @@ fn read_part<H: TreeHash, S: Source>(
     index: u64,
     count: usize,
 ) -> Result<Vec<u8>, ReadFault>
+    ensures got { IfOk result (λ bytes. IsStartGiven (S.may_answer source.old) index count
+        bytes.items) }
+    ensures names { IfErr result
+        (NamesGone (S.may_answer source.old) index count path) }
     ensures later { StaysWithin (S.may_answer source.old) (S.may_answer source.new) }
     ensures kept { KeepsRecord (S.files source.old) (S.files source.new) }
     ensures counted { CountsFailure (S.failed source.old) (S.failed source.new) result }
@@ -117,6 +125,10 @@ fn get_end<H: TreeHash, S: Source>(
     count: usize,
 ) -> Result<Vec<u8>, ReadFault>
     requires { count ≤ 256 }
+    ensures got { IfOk result (λ bytes. IsEndGiven (S.may_answer source.old) index count
+        bytes.items) }
+    ensures names { (row : List (List ℕ)) → length row ≡ count
+        → IfErr result (NamesEnd H.digest (S.may_answer source.old) row index) }
     ensures later { StaysWithin (S.may_answer source.old) (S.may_answer source.new) }
     ensures kept { KeepsRecord (S.files source.old) (S.files source.new) }
     ensures counted { CountsFailure (S.failed source.old) (S.failed source.new) result }
@@ -146,6 +158,7 @@ fn read_end<H: TreeHash, S: Source>(
     ensures later { StaysWithin (S.may_answer source.old) (S.may_answer source.new) }
     ensures kept { KeepsRecord (S.files source.old) (S.files source.new) }
     ensures counted { CountsFailure (S.failed source.old) (S.failed source.new) result }
+    ensures names { IfErr result (NamesEnd H.digest (S.may_answer source.old) row.now index) }
     ensures honest { (entries : List (List ℕ)) → IsEndRow H.digest entries index row.now
         → IsSourceOf H.digest entries (S.may_answer source.old) → ReadsTrue result
         (λ bytes. bytes.items ≡ bundle_bytes entries index (length row.now)) }
@@ -187,6 +200,7 @@ impl<H: TreeHash> LogReader<H> {
         ensures later { StaysWithin (S.may_answer source.old) (S.may_answer source.new) }
         ensures kept { KeepsRecord (S.files source.old) (S.files source.new) }
         ensures counted { CountsFailure (S.failed source.old) (S.failed source.new) result }
+        ensures names { IfErr result (NamesFalse H.digest (S.may_answer source.old) self.old.edge) }
         ensures honest { ReadsOf H.digest self.old self.new (S.may_answer source.old) result
             (λ entries bytes. bytes.items
             ≡ bundle_bytes entries index (row_width (length entries) 0 index)) }

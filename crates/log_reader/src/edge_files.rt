@@ -1,12 +1,13 @@
 //! The edge rows from the files of a source.
-ghost use Rattle.std.specs.Prelude.{◌≡◌, ◌≤◌, ◌*◌, ℕ, List, IfNone, IfOk, IfSome, length, slice_range};
+ghost use Rattle.std.specs.Prelude.{◌≡◌, ◌<◌, ◌≤◌, ◌*◌, ℕ, List, IfErr, IfNone, IfOk, IfSome, length, slice_range};
 ghost use Rattle.tlog_shape.specs.Edge.{edge_index_of, width_of};
 ghost use Rattle.tlog_tiles.specs.Row.{IsRow};
 ghost use Rattle.tlog_tiles.specs.declared.paths.Path.TheVariants.{Tile};
 ghost use Rattle.mirror_sources.specs.Source.{StaysWithin};
 ghost use Rattle.mirror_sources.specs.Recorded.{KeepsRecord};
 ghost use Rattle.log_reader.specs.Faults.{CountsFailure};
-ghost use Rattle.log_reader.specs.EdgeRows.{RowIsTrue, hash_of_edge};
+ghost use Rattle.log_reader.specs.FalseEdges.{IsLowest, IsPartGiven, IsRowGiven, NamesFalseEdge, NamesFalsePart, NamesNoPart};
+ghost use Rattle.log_reader.specs.EdgeRows.{RowIsTrue, hash_of_edge, row_at};
 ghost use Rattle.log_reader.specs.Holding.{GivesWay, IsEdgeRowOf, IsSourceOf, ReadsLog, ReadsTrue};
 ghost use Rattle.log_reader.specs.Ways.{AreHashesOf, HasEdgeHashes};
 
@@ -62,6 +63,9 @@ fn read_part<H: TreeHash, S: Source>(
 ) -> Result<Vec<Hash>, ReadFault>
     requires { level ≤ 7 }
     ensures row { IfOk result (λ row. AreHashesOf (width_of size level) row.items) }
+    ensures got { IfOk result
+        (λ row. IsPartGiven (S.may_answer source.old) size level row.items) }
+    ensures names { IfErr result (NamesNoPart (S.may_answer source.old) size level) }
     ensures later { StaysWithin (S.may_answer source.old) (S.may_answer source.new) }
     ensures kept { KeepsRecord (S.files source.old) (S.files source.new) }
     ensures counted { CountsFailure (S.failed source.old) (S.failed source.new) result }
@@ -88,6 +92,9 @@ fn read_edge_row<H: TreeHash, S: Source>(
 ) -> Result<Vec<Hash>, ReadFault>
     requires { level ≤ 7 }
     ensures row { IfOk result (λ row. AreHashesOf (width_of size level) row.items) }
+    ensures got { IfOk result (λ row. 0 < width_of size level
+        → IsRowGiven (S.may_answer source.old) size level row.items) }
+    ensures names { IfErr result (NamesFalsePart (S.may_answer source.old) size) }
     ensures later { StaysWithin (S.may_answer source.old) (S.may_answer source.new) }
     ensures kept { KeepsRecord (S.files source.old) (S.files source.new) }
     ensures counted { CountsFailure (S.failed source.old) (S.failed source.new) result }
@@ -107,7 +114,9 @@ fn read_edge_row<H: TreeHash, S: Source>(
 }
 
 // The path of the lowest partial tile. If there is none, the checkpoint's path.
-fn lowest_path(size: u64) -> Path {
+fn lowest_path(size: u64) -> Path
+    ensures { IsLowest size result }
+{
     for level in 0..8u32 {
         if edge_width(size, level) > 0 {
             return edge_path(size, level);
@@ -125,6 +134,9 @@ fn read_rows<H: TreeHash, S: Source>(
 ) -> Result<EdgeRows, ReadFault>
     ensures size { IfOk result (λ edge. edge.size ≡ size) }
     ensures rows { IfOk result (λ edge. HasEdgeHashes edge) }
+    ensures got { IfOk result (λ edge. (level : ℕ) → level ≤ 7 → 0 < width_of size level
+        → IsRowGiven (S.may_answer source.old) size level (row_at edge level)) }
+    ensures names { IfErr result (NamesFalsePart (S.may_answer source.old) size) }
     ensures later { StaysWithin (S.may_answer source.old) (S.may_answer source.new) }
     ensures kept { KeepsRecord (S.files source.old) (S.files source.new) }
     ensures counted { CountsFailure (S.failed source.old) (S.failed source.new) result }
@@ -149,6 +161,8 @@ pub(crate) fn read_edge<H: TreeHash, S: Source>(
     ensures size { IfOk result (λ edge. edge.size ≡ size) }
     ensures rows { IfOk result (λ edge. HasEdgeHashes edge) }
     ensures root { IfOk result (λ edge. hash_of_edge H.digest edge ≡ root.now) }
+    ensures names { IfErr result
+        (NamesFalseEdge H.digest (S.may_answer source.old) size root.now) }
     ensures later { StaysWithin (S.may_answer source.old) (S.may_answer source.new) }
     ensures kept { KeepsRecord (S.files source.old) (S.files source.new) }
     ensures counted { CountsFailure (S.failed source.old) (S.failed source.new) result }

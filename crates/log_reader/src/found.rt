@@ -3,6 +3,7 @@ ghost use Rattle.std.specs.Prelude.{◌≡◌, ◌⊎◌, IfErr, IfOk, None, Som
 ghost use Rattle.mirror_sources.specs.Source.{StaysWithin};
 ghost use Rattle.mirror_sources.specs.Recorded.{KeepsRecord};
 ghost use Rattle.log_reader.specs.Faults.{CountsFailure, IsFailure, found_in};
+ghost use Rattle.log_reader.specs.declared.fault.ReadFault.TheVariants.{NoFile};
 
 use crate::fault::ReadFault;
 use mirror_sources::Source;
@@ -17,7 +18,7 @@ pub(crate) fn get_file<S: Source>(
 ) -> Result<Vec<u8>, ReadFault>
     ensures answer { IfOk result (λ bytes. S.may_answer source.old path.now (Some bytes.items)) }
     ensures lacks { IfErr result (λ fault. IsFailure fault
-        ⊎ S.may_answer source.old path.now None) }
+        ⊎ ((fault ≡ NoFile lacking) × S.may_answer source.old path.now None)) }
     ensures later { StaysWithin (S.may_answer source.old) (S.may_answer source.new) }
     ensures kept { KeepsRecord (S.files source.old) (S.files source.new) }
     ensures counted { CountsFailure (S.failed source.old) (S.failed source.new) result }

@@ -1,5 +1,5 @@
 //! Inclusion proofs of a log, made from verified rows.
-ghost use Rattle.std.specs.Prelude.{◌≡◌, ◌+◌, ◌++◌, ◌^◌, ◌<◌, ◌≤◌, [], IfOk, Ok, get_or, length};
+ghost use Rattle.std.specs.Prelude.{◌≡◌, ◌+◌, ◌++◌, ◌^◌, ◌<◌, ◌≤◌, [], IfErr, IfOk, Ok, get_or, length};
 ghost use Rattle.tlog_hash.specs.Rows.{part};
 ghost use Rattle.tlog_hash.specs.Tree.{leaf_hash};
 ghost use Rattle.tlog_proof.specs.Inclusion.{path_of};
@@ -8,6 +8,7 @@ ghost use Rattle.tlog_proof.specs.declared.proof.Ask.TheVariants.{Inclusion};
 ghost use Rattle.mirror_sources.specs.Source.{StaysWithin};
 ghost use Rattle.mirror_sources.specs.Recorded.{KeepsRecord};
 ghost use Rattle.log_reader.specs.Faults.{CountsFailure};
+ghost use Rattle.log_reader.specs.FalseFiles.{NamesFalse, NamesFalseIfFile};
 ghost use Rattle.log_reader.specs.Holding.{ReadsTilesOf};
 ghost use Rattle.log_reader.specs.Nodes.{IsNodeRange};
 ghost use Rattle.log_reader.specs.Proving.{IsInclusionIn};
@@ -43,6 +44,8 @@ fn add_path<H: TreeHash, S: Source>(
     ensures later { StaysWithin (S.may_answer source.old) (S.may_answer source.new) }
     ensures kept { KeepsRecord (S.files source.old) (S.files source.new) }
     ensures counted { CountsFailure (S.failed source.old) (S.failed source.new) result }
+    ensures names { IfErr result
+        (NamesFalseIfFile H.digest (S.may_answer source.old) reader.old.edge) }
     ensures honest { ReadsTilesOf H.digest reader.old reader.new (S.may_answer source.old) result
         (λ entries _. path.new.items
         ≡ path.old.items ++ path_of H.digest index (part node.0 node.1 entries)) }
@@ -86,6 +89,7 @@ impl<H: TreeHash> LogReader<H> {
         ensures later { StaysWithin (S.may_answer source.old) (S.may_answer source.new) }
         ensures kept { KeepsRecord (S.files source.old) (S.files source.new) }
         ensures counted { CountsFailure (S.failed source.old) (S.failed source.new) result }
+        ensures names { IfErr result (NamesFalse H.digest (S.may_answer source.old) self.old.edge) }
         ensures honest { ReadsTilesOf H.digest self.old self.new (S.may_answer source.old) result
             (λ entries hash. hash ≡ leaf_hash H.digest (get_or entries index [])) }
     {
@@ -127,6 +131,8 @@ impl<H: TreeHash> LogReader<H> {
         ensures later { StaysWithin (S.may_answer source.old) (S.may_answer source.new) }
         ensures kept { KeepsRecord (S.files source.old) (S.files source.new) }
         ensures counted { CountsFailure (S.failed source.old) (S.failed source.new) result }
+        ensures names { IfErr result
+            (NamesFalseIfFile H.digest (S.may_answer source.old) self.old.edge) }
         ensures honest { ReadsTilesOf H.digest self.old self.new (S.may_answer source.old) result
             (λ entries proof. asked_proof H.digest entries (Inclusion (length entries) index)
             ≡ Ok proof) }

@@ -1,5 +1,5 @@
 //! The hashes of the nodes of a tree.
-ghost use Rattle.std.specs.Prelude.{◌≡◌, ◌+◌, ◌*◌, ◌%◌, ◌^◌, ◌<◌, ◌≤◌, ◌++◌, ◌∷◌, [], ℕ, IfOk, IsSomeAnd, List, drop, length, take};
+ghost use Rattle.std.specs.Prelude.{◌≡◌, ◌+◌, ◌*◌, ◌%◌, ◌^◌, ◌<◌, ◌≤◌, ◌++◌, ◌∷◌, [], ℕ, IfErr, IfOk, IsSomeAnd, List, drop, length, take};
 ghost use Rattle.tlog_shape.specs.Edge.{edge_index_of, width_of};
 ghost use Rattle.tlog_shape.specs.Split.{IsPowerOfTwo};
 ghost use Rattle.tlog_hash.specs.Rows.{part};
@@ -8,6 +8,7 @@ ghost use Rattle.mirror_sources.specs.Source.{StaysWithin};
 ghost use Rattle.mirror_sources.specs.Recorded.{KeepsRecord};
 ghost use Rattle.log_reader.specs.EdgeRows.{RowIsTrue};
 ghost use Rattle.log_reader.specs.Faults.{CountsFailure};
+ghost use Rattle.log_reader.specs.FalseFiles.{NamesFalseIfFile};
 ghost use Rattle.log_reader.specs.Holding.{ReadsTilesOf};
 ghost use Rattle.log_reader.specs.Nodes.{IsHashFrom, IsNodeRange};
 
@@ -51,6 +52,8 @@ fn perfect_hash<H: TreeHash, S: Source>(
     ensures later { StaysWithin (S.may_answer source.old) (S.may_answer source.new) }
     ensures kept { KeepsRecord (S.files source.old) (S.files source.new) }
     ensures counted { CountsFailure (S.failed source.old) (S.failed source.new) result }
+    ensures names { IfErr result
+        (NamesFalseIfFile H.digest (S.may_answer source.old) reader.old.edge) }
     ensures honest { ReadsTilesOf H.digest reader.old reader.new (S.may_answer source.old) result
         (λ entries hash. hash ≡ mth H.digest (part start len entries)) }
 {
@@ -96,6 +99,8 @@ pub(crate) fn node_hash<H: TreeHash, S: Source>(
     ensures later { StaysWithin (S.may_answer source.old) (S.may_answer source.new) }
     ensures kept { KeepsRecord (S.files source.old) (S.files source.new) }
     ensures counted { CountsFailure (S.failed source.old) (S.failed source.new) result }
+    ensures names { IfErr result
+        (NamesFalseIfFile H.digest (S.may_answer source.old) reader.old.edge) }
     ensures honest { ReadsTilesOf H.digest reader.old reader.new (S.may_answer source.old) result
         (λ entries hash. hash ≡ mth H.digest (part start len entries)) }
 {
@@ -122,6 +127,8 @@ pub(crate) fn add_node<H: TreeHash, S: Source>(
     ensures later { StaysWithin (S.may_answer source.old) (S.may_answer source.new) }
     ensures kept { KeepsRecord (S.files source.old) (S.files source.new) }
     ensures counted { CountsFailure (S.failed source.old) (S.failed source.new) result }
+    ensures names { IfErr result
+        (NamesFalseIfFile H.digest (S.may_answer source.old) reader.old.edge) }
     ensures honest { ReadsTilesOf H.digest reader.old reader.new (S.may_answer source.old) result
         (λ entries _. path.new.items
         ≡ path.old.items ++ mth H.digest (part node.0 node.1 entries) ∷ []) }

@@ -1,9 +1,10 @@
 //! A log at a smaller size.
-ghost use Rattle.std.specs.Prelude.{◌≡◌, ◌≤◌, ℕ, All, IfOk, length, take};
+ghost use Rattle.std.specs.Prelude.{◌≡◌, ◌≤◌, ℕ, All, IfErr, IfOk, length, take};
 ghost use Rattle.tlog_shape.specs.Edge.{edge_index_of, width_of};
 ghost use Rattle.mirror_sources.specs.Source.{StaysWithin};
 ghost use Rattle.mirror_sources.specs.Recorded.{KeepsRecord};
 ghost use Rattle.log_reader.specs.Faults.{CountsFailure};
+ghost use Rattle.log_reader.specs.FalseFiles.{NamesFalse};
 ghost use Rattle.log_reader.specs.EdgeRows.{RowIsTrue};
 ghost use Rattle.log_reader.specs.Holding.{IsEdgeRowOf, IsReaderOf, ReadsTilesOf};
 ghost use Rattle.log_reader.specs.Ways.{HasEdgeHashes, IsShownEdge, IsShownPart, IsShownStart};
@@ -48,6 +49,7 @@ fn first_row<H: TreeHash, S: Source>(
     ensures later { StaysWithin (S.may_answer source.old) (S.may_answer source.new) }
     ensures kept { KeepsRecord (S.files source.old) (S.files source.new) }
     ensures counted { CountsFailure (S.failed source.old) (S.failed source.new) result }
+    ensures names { IfErr result (NamesFalse H.digest (S.may_answer source.old) reader.old.edge) }
     ensures honest { ReadsTilesOf H.digest reader.old reader.new (S.may_answer source.old) result
         (λ entries row. IsEdgeRowOf H.digest size level (take size entries) row.items) }
 {
@@ -77,6 +79,7 @@ fn first_row_if_any<H: TreeHash, S: Source>(
     ensures later { StaysWithin (S.may_answer source.old) (S.may_answer source.new) }
     ensures kept { KeepsRecord (S.files source.old) (S.files source.new) }
     ensures counted { CountsFailure (S.failed source.old) (S.failed source.new) result }
+    ensures names { IfErr result (NamesFalse H.digest (S.may_answer source.old) reader.old.edge) }
     ensures honest { ReadsTilesOf H.digest reader.old reader.new (S.may_answer source.old) result
         (λ entries row. IsEdgeRowOf H.digest size level (take size entries) row.items) }
 {
@@ -103,6 +106,7 @@ fn first_edge<H: TreeHash, S: Source>(
     ensures later { StaysWithin (S.may_answer source.old) (S.may_answer source.new) }
     ensures kept { KeepsRecord (S.files source.old) (S.files source.new) }
     ensures counted { CountsFailure (S.failed source.old) (S.failed source.new) result }
+    ensures names { IfErr result (NamesFalse H.digest (S.may_answer source.old) reader.old.edge) }
     ensures honest { ReadsTilesOf H.digest reader.old reader.new (S.may_answer source.old) result
         (λ entries first. (level : ℕ) → level ≤ 7
         → RowIsTrue H.digest first (take size entries) level) }
@@ -139,6 +143,7 @@ impl<H: TreeHash> LogReader<H> {
         ensures later { StaysWithin (S.may_answer source.old) (S.may_answer source.new) }
         ensures kept { KeepsRecord (S.files source.old) (S.files source.new) }
         ensures counted { CountsFailure (S.failed source.old) (S.failed source.new) result }
+        ensures names { IfErr result (NamesFalse H.digest (S.may_answer source.old) self.old.edge) }
         ensures honest { ReadsTilesOf H.digest self.old self.new (S.may_answer source.old) result
             (λ entries reader. IsReaderOf H.digest (take size entries) reader) }
     {

@@ -6,6 +6,7 @@ ghost use Rattle.tlog_hash.specs.Tree.{fold_of};
 ghost use Rattle.mirror_sources.specs.Source.{StaysWithin};
 ghost use Rattle.mirror_sources.specs.Recorded.{KeepsRecord};
 ghost use Rattle.log_reader.specs.Faults.{CountsFailure};
+ghost use Rattle.log_reader.specs.FalseEdges.{NamesFalseEdge};
 ghost use Rattle.log_reader.specs.Holding.{IsReaderOf, ReadsLog};
 ghost use Rattle.log_reader.specs.EdgeRows.{hash_of_edge};
 ghost use Rattle.log_reader.specs.Ways.{HasEdgeHashes, IsRowUnder, IsShownRow, row_of_way};
@@ -89,6 +90,8 @@ impl<H: TreeHash> LogReader<H> {
     ) -> Result<LogReader<H>, ReadFault>
         ensures size { IfOk result (λ reader. reader.edge.size ≡ size) }
         ensures root { IfOk result (λ reader. reader.root ≡ root.now) }
+        ensures names { IfErr result
+            (NamesFalseEdge H.digest (S.may_answer source.old) size root.now) }
         ensures later { StaysWithin (S.may_answer source.old) (S.may_answer source.new) }
         ensures kept { KeepsRecord (S.files source.old) (S.files source.new) }
         ensures counted { CountsFailure (S.failed source.old) (S.failed source.new) result }
@@ -159,6 +162,7 @@ impl<H: TreeHash> LogReader<H> {
     /// The row of the reader's tile.
     pub(crate) fn here(&self) -> &[Hash]
         ensures row { result.now ≡ row_of_way self.now.edge self.now.level self.now.way }
+        ensures hashes { HasEdgeHashes self.now.edge }
         ensures shown { IsShownRow H.digest self.now.edge self.now.level self.now.index result.now }
     {
         match self.rows.first() {

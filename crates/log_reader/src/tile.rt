@@ -1,9 +1,10 @@
 //! The row of a full tile, from a source.
-ghost use Rattle.std.specs.Prelude.{◌≡◌, ◌*◌, ℕ, IfNone, IfOk, IfSome, List};
+ghost use Rattle.std.specs.Prelude.{◌≡◌, ◌*◌, ℕ, IfErr, IfNone, IfOk, IfSome, List};
 ghost use Rattle.tlog_hash.specs.Rows.{level_row};
 ghost use Rattle.mirror_sources.specs.Source.{StaysWithin};
 ghost use Rattle.mirror_sources.specs.Recorded.{KeepsRecord};
 ghost use Rattle.log_reader.specs.Faults.{CountsFailure};
+ghost use Rattle.log_reader.specs.FalseFiles.{NamesFull};
 ghost use Rattle.log_reader.specs.Holding.{HasFullTiles, IsTileHash, ReadsTrue};
 ghost use Rattle.log_reader.specs.Verified.{IsVerifiedRow, Verifies};
 ghost use Rattle.log_reader.specs.declared.verify.FullFile.TheVariants.{Tile};
@@ -52,6 +53,8 @@ pub(crate) fn read_tile<H: TreeHash, S: Source>(
     ensures later { StaysWithin (S.may_answer source.old) (S.may_answer source.new) }
     ensures kept { KeepsRecord (S.files source.old) (S.files source.new) }
     ensures counted { CountsFailure (S.failed source.old) (S.failed source.new) result }
+    ensures names { IfErr result (NamesFull H.digest (S.may_answer source.old) Tile hash.now
+        (Path.Tile level index 256)) }
     ensures honest { (entries : List (List ℕ)) → IsTileHash H.digest entries level index hash.now
         → HasFullTiles H.digest entries (S.may_answer source.old) → ReadsTrue result
         (λ row. row ≡ level_row H.digest entries level (256 * index) 256) }

@@ -1,11 +1,12 @@
 //! Rows that are read one below the other.
-ghost use Rattle.std.specs.Prelude.{◌≡◌, ◌*◌, ◌%◌, ◌≤◌, ⊤, ℕ, All, IfOk, List, OnOk, length};
+ghost use Rattle.std.specs.Prelude.{◌≡◌, ◌*◌, ◌%◌, ◌≤◌, ⊤, ℕ, All, IfErr, IfOk, List, OnOk, length};
 ghost use Rattle.tlog_shape.specs.Edge.{edge_index_of};
 ghost use Rattle.tlog_hash.specs.Rows.{level_row};
 ghost use Rattle.mirror_sources.specs.Source.{StaysWithin};
 ghost use Rattle.mirror_sources.specs.Recorded.{KeepsRecord};
 ghost use Rattle.log_reader.specs.Faults.{CountsFailure};
-ghost use Rattle.log_reader.specs.Holding.{IsBelow, IsReaderOf, HasFullTiles, ReadsTilesOf, ReadsTrue, true_row};
+ghost use Rattle.log_reader.specs.FalseFiles.{NamesFalse};
+ghost use Rattle.log_reader.specs.Holding.{IsBelow, IsReaderOf, HasFullTiles, ReadsTilesOf, ReadsTrue, row_width, true_row};
 ghost use Rattle.log_reader.specs.Ways.{IsRowUnder, IsShownRow, row_of_way};
 
 use crate::fault::ReadFault;
@@ -44,6 +45,8 @@ fn read_below<H: TreeHash, S: Source>(
     ensures later { StaysWithin (S.may_answer source.old) (S.may_answer source.new) }
     ensures kept { KeepsRecord (S.files source.old) (S.files source.new) }
     ensures counted { CountsFailure (S.failed source.old) (S.failed source.new) result }
+    ensures names { IsBelow reader.now level index
+        → IfErr result (NamesFalse H.digest (S.may_answer source.old) reader.now.edge) }
     ensures honest { (entries : List (List ℕ)) → IsReaderOf H.digest entries reader.now
         → HasFullTiles H.digest entries (S.may_answer source.old) → IsBelow reader.now level index
         → ReadsTrue result
@@ -77,6 +80,7 @@ pub(crate) fn go_to<H: TreeHash, S: Source>(
     ensures later { StaysWithin (S.may_answer source.old) (S.may_answer source.new) }
     ensures kept { KeepsRecord (S.files source.old) (S.files source.new) }
     ensures counted { CountsFailure (S.failed source.old) (S.failed source.new) result }
+    ensures names { IfErr result (NamesFalse H.digest (S.may_answer source.old) reader.old.edge) }
     ensures honest { ReadsTilesOf H.digest reader.old reader.new (S.may_answer source.old) result
         (λ entries _. ⊤) }
 {
@@ -128,9 +132,12 @@ impl<H: TreeHash> LogReader<H> {
         ensures root { self.new.root ≡ self.old.root }
         ensures shown { IfOk result
             (λ row. IsShownRow H.digest self.old.edge level index row.items) }
+        ensures enough { IfOk result
+            (λ row. row_width self.old.edge.size level index ≤ length row.items) }
         ensures later { StaysWithin (S.may_answer source.old) (S.may_answer source.new) }
         ensures kept { KeepsRecord (S.files source.old) (S.files source.new) }
         ensures counted { CountsFailure (S.failed source.old) (S.failed source.new) result }
+        ensures names { IfErr result (NamesFalse H.digest (S.may_answer source.old) self.old.edge) }
         ensures honest { ReadsTilesOf H.digest self.old self.new (S.may_answer source.old) result
             (λ entries row. row.items ≡ true_row H.digest entries level index) }
     {

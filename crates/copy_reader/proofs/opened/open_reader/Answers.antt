@@ -8,6 +8,8 @@ use Rattle.log_reader.specs.Faults.{CountsFailure}
 use Rattle.copy_reader.specs.Faults.{CountsRead}
 use Rattle.copy_reader.proofs.Exits.{read_exit}
 use Rattle.copy_reader.proofs.ShelfSources.{same_shelf}
+use Rattle.copy_reader.proofs.Damage.{damage_exit, edge_damage}
+use Rattle.copy_reader.specs.Damage.{NamesEdgeDamage}
 use Rattle.copy_reader.proofs.opened.open_reader.Goals as goal
 
 pub returns-in_err-open : goal.returns-in_err-open
@@ -31,6 +33,11 @@ returns-in_err-open g c =
       root = IfOk-from_err c.from_residual.result _ c.from_residual.ensures.0;
       same = search (rules, one, kept);
       counted = search (rules, one, counted);
+      damage = damage_exit (NamesEdgeDamage g.H.TreeHash.digest (g.D.Shelf.puts c.args.shelf.now) c.args.size c.args.root.now)
+          c.from_residual.result _ c.from_residual.ensures
+          (edge_damage g.H.TreeHash.digest c.new-files.result.shelf.ghost_name (g.D.Shelf.puts c.new-files.result.shelf.now)
+          (g.D.Shelf.puts c.args.shelf.now) (ap g.D.Shelf.puts c.new-files.ensures.now) c.args.size c.args.root.now
+          c.in_err-open.field-0.0 c.in_err-open.ensures.names);
       honest = log_err {T = Reader} g.H.TreeHash.digest c.new-files.result.shelf.ghost_name (g.D.Shelf.puts c.new-files.result.shelf.now)
           (g.D.Shelf.puts c.args.shelf.now) (ap g.D.Shelf.puts c.new-files.ensures.now)
           (λ entries reader. IsReaderOf g.H.TreeHash.digest entries reader) c.args.size c.args.root.now c.in_err-open.field-0.0

@@ -4,6 +4,8 @@ use Rattle.mirror_model.proofs.HeadNotes.{head_of}
 use Rattle.log_reader.specs.Holding.{IsReaderOf}
 use Rattle.log_reader.specs.Ways.{Reader}
 use Rattle.copy_reader.proofs.WholeCopies.{opens_refused, whole_read, whole_refused}
+use Rattle.copy_reader.specs.Damage.{NamesOpenDamage}
+use Rattle.copy_reader.proofs.Damage.{damage_exit, open_damage}
 use Rattle.copy_reader.proofs.opened.open_shelf.Goals as goal
 
 pub returns-in_err-reader-clause-answer : goal.returns-in_err-reader-clause-answer
@@ -34,3 +36,18 @@ returns-clause-honest g c = λ note entries whole.
     whole_read digest origin (g.D.Shelf.puts c.args.shelf.now) (g.D.Shelf.puts c.read.new.self) c.in_ok-note.ensures.same
     c.in-Some.note.items size root stands of_note {T = Reader} (Ok c.in_ok-reader.reader)
     (λ entries reader. IsReaderOf digest entries reader) c.in_ok-reader.ensures.honest note entries whole
+
+pub returns-in_err-reader-clause-damage : goal.returns-in_err-reader-clause-damage
+returns-in_err-reader-clause-damage g c =
+    let digest = g.H.TreeHash.digest in
+    let origin = c.args.origin.now in
+    let held = g.D.Shelf.puts c.args.shelf.now in
+    let after = g.D.Shelf.puts c.read.new.self in
+    let size = c.in_ok-head.head.0 in
+    let root = c.in_ok-head.head.1 in
+    let stands = rw c.in-Some.is at c.in_ok-note.ensures.answer in
+    damage_exit (NamesOpenDamage digest held origin _) c.from_residual-in_err-reader.result _
+    c.from_residual-in_err-reader.ensures
+    (open_damage digest origin _ held after c.in_ok-note.ensures.same size root
+    c.in-Some.note.items c.deref.result.now c.deref.ensures.value stands c.in_ok-head.ensures.opens
+    c.in_err-reader.field-0.0 c.in_err-reader.ensures.damage)

@@ -8,6 +8,10 @@ use Rattle.std.proofs.lemmas.Result.{IfOk-from_err}
 use Rattle.log_reader.specs.Faults.{CountsFailure}
 use Rattle.log_reader.proofs.Exits.{counted_exit, failed_exit}
 use Rattle.log_reader.proofs.Kept.{kept_twice, stays_twice}
+use Rattle.copy_reader.specs.Damage.{NamesWithin}
+use Rattle.copy_reader.proofs.Damage.{first_within, read_within, whole_within}
+use Rattle.log_reader.proofs.FalseFiles.{names_exit}
+use Rattle.std.proofs.lemmas.Result.{IfErr-weaker}
 use Rattle.copy_reader.proofs.proving.proof_of.Goals as goal
 
 pub returns-in_err-first : goal.returns-in_err-first
@@ -22,6 +26,12 @@ returns-in_err-first g c =
       kept = step.kept;
       counted = counted_exit exit.result c.prefix.result c.in_err-first.field-0.0 exit.ensures c.in_err-first.was
           (failed c.args.files.now) (failed c.args.files.now) (failed c.prefix.new.source) refl c.prefix.ensures.counted;
+      names =
+          let digest = g.H.TreeHash.digest in
+          let may = g.S.Source.may_answer c.args.files.now in
+          let edge = c.args.reader.now.edge in
+          names_exit (NamesWithin digest may edge) exit.result c.in_err-first.field-0.0 exit.ensures
+          (read_within digest may edge c.in_err-first.field-0.0 step.names);
       honest = λ entries r s.
           let went = step.honest entries r s in
           record {
@@ -85,3 +95,16 @@ returns-clause-honest g c = λ entries r s.
           (λ proof is. first_made digest entries n ask proof r.size_is c.requires
           (subst (λ m. IsMadeOf digest ask (take m entries) proof) size_is is)) made.answer;
     }
+
+pub returns-then-size-clause-names : goal.returns-then-size-clause-names
+returns-then-size-clause-names g c =
+    IfErr-weaker c.whole_proof.result _ _
+    (whole_within g.H.TreeHash.digest (g.S.Source.may_answer c.args.files.now) c.args.reader.now.edge)
+    c.whole_proof.ensures.names
+
+pub returns-clause-names : goal.returns-clause-names
+returns-clause-names g c =
+    let may = g.S.Source.may_answer in
+    IfErr-weaker c.whole_proof-2.result _ _
+    (first_within g.H.TreeHash.digest (may c.args.files.now) c.args.reader.now.edge c.in_ok-first.first.edge
+    c.in_ok-first.ensures.shown (may c.prefix.new.source) c.in_ok-first.ensures.later) c.whole_proof-2.ensures.names

@@ -8,6 +8,8 @@ use Rattle.log_reader.specs.Faults.{CountsFailure}
 use Rattle.copy_reader.specs.Faults.{CountsRead}
 use Rattle.copy_reader.proofs.Exits.{read_exit}
 use Rattle.copy_reader.proofs.ShelfSources.{same_shelf}
+use Rattle.copy_reader.proofs.Damage.{damage_exit, read_damage}
+use Rattle.copy_reader.specs.Damage.{NamesDamage}
 use Rattle.copy_reader.proofs.root.read_root.Goals as goal
 
 pub returns-in_err-root_of : goal.returns-in_err-root_of
@@ -32,6 +34,11 @@ returns-in_err-root_of g c =
       root = c.in_err-root_of.ensures.root;
       same = search (rules, one, kept);
       counted = search (rules, one, counted);
+      damage = damage_exit (NamesDamage g.H.TreeHash.digest (g.D.Shelf.puts c.args.shelf.now) c.args.reader.now.edge)
+          c.from_residual.result _ c.from_residual.ensures
+          (read_damage g.H.TreeHash.digest c.new-files.result.shelf.ghost_name (g.D.Shelf.puts c.new-files.result.shelf.now)
+          (g.D.Shelf.puts c.args.shelf.now) (ap g.D.Shelf.puts c.new-files.ensures.now) c.args.reader.now.edge
+          c.in_err-root_of.field-0.0 c.in_err-root_of.ensures.names);
       honest = read_err g.H.TreeHash.digest c.new-files.result.shelf.ghost_name (g.D.Shelf.puts c.new-files.result.shelf.now)
           (g.D.Shelf.puts c.args.shelf.now) (ap g.D.Shelf.puts c.new-files.ensures.now) _ c.args.reader.now _
           c.in_err-root_of.field-0.0 c.from_residual.result c.from_residual.ensures

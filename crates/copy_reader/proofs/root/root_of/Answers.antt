@@ -2,6 +2,8 @@ use Rattle.std.proofs.Common.{refl}
 use Rattle.std.proofs.lemmas.Result.{IfOk-from_err}
 use Rattle.log_reader.proofs.Exits.{counted_exit, failed_exit}
 use Rattle.log_reader.proofs.Kept.{kept_once}
+use Rattle.log_reader.specs.FalseFiles.{NamesFalse}
+use Rattle.log_reader.proofs.FalseFiles.{names_exit}
 use Rattle.copy_reader.proofs.root.root_of.Goals as goal
 
 pub returns-then-size-clause-kept : goal.returns-then-size-clause-kept
@@ -20,6 +22,8 @@ returns-in_err-first g c =
       kept = step.kept;
       counted = counted_exit exit.result c.prefix.result c.in_err-first.field-0.0 exit.ensures c.in_err-first.was
           (failed c.args.files.now) (failed c.args.files.now) (failed c.prefix.new.source) refl c.prefix.ensures.counted;
+      names = names_exit (NamesFalse g.H.TreeHash.digest (g.S.Source.may_answer c.args.files.now) c.args.reader.now.edge)
+          exit.result c.in_err-first.field-0.0 exit.ensures step.names;
       honest = λ entries r s.
           let went = step.honest entries r s in
           record {

@@ -5,6 +5,8 @@ use Rattle.log_reader.proofs.NodeNumbers.{left_node, right_node}
 use Rattle.log_reader.proofs.TrueReads.{reads_more, tiles_later}
 use Rattle.log_reader.proofs.Exits.{counted_exit, failed_exit}
 use Rattle.log_reader.proofs.Kept.{kept_twice, stays_twice}
+use Rattle.log_reader.proofs.FalseFiles.{files_before, names_exit}
+use Rattle.log_reader.specs.FalseFiles.{NamesFalseIfFile}
 use Rattle.log_reader.proofs.consistency.+add_subproof.Goals as goal
 
 pub returns-then-first-len : goal.returns-then-first-len
@@ -14,6 +16,7 @@ returns-then-first-len g t c = record {
   later = c.add_whole.ensures.later;
   kept = c.add_whole.ensures.kept;
   counted = c.add_whole.ensures.counted;
+  names = c.add_whole.ensures.names;
   honest = λ entries r s.
       let start = c.args.node.0 in
       let n = c.args.node.1 in
@@ -55,6 +58,8 @@ returns-in_err-hash g t c =
       counted = counted_exit exit.result c.add_subproof.result c.in_err-hash.field-0.0 exit.ensures c.in_err-hash.was
           (failed c.args.source.now) (failed c.args.source.now) (failed c.add_subproof.new.source) refl
           c.add_subproof.ensures.counted;
+      names = names_exit (NamesFalseIfFile g.H.TreeHash.digest (g.S.Source.may_answer c.args.source.now) c.args.reader.now.edge) exit.result c.in_err-hash.field-0.0 exit.ensures
+          step.names;
       honest = λ entries r s.
           let went = step.honest entries r s in
           record {
@@ -79,6 +84,9 @@ returns-in_err-add_node g t c =
       counted = counted_exit exit.result c.add_node.result c.in_err-add_node.field-0.0 exit.ensures c.in_err-add_node.was
           (failed c.args.source.now) (failed c.add_subproof.new.source) (failed c.add_node.new.source) below.counted
           c.add_node.ensures.counted;
+      names = names_exit (NamesFalseIfFile g.H.TreeHash.digest (g.S.Source.may_answer c.args.source.now) c.args.reader.now.edge) exit.result c.in_err-add_node.field-0.0 exit.ensures
+          (files_before g.H.TreeHash.digest (g.S.Source.may_answer c.args.source.now) (g.S.Source.may_answer c.add_subproof.new.source) below.later
+          c.args.reader.now.edge c.add_subproof.new.reader.edge below.edge c.in_err-add_node.field-0.0 step.names);
       honest = λ entries r s.
           let low = below.honest entries r s in
           let went = step.honest entries low.reader_is (tiles_later g.H.TreeHash.digest entries _ _ below.later s) in
@@ -99,6 +107,7 @@ returns-then-first-k g t c =
       later = stays_twice low.later went.later;
       kept = kept_twice (files c.args.source.now) (files c.add_subproof.new.source) (files c.add_node.new.source) low.kept went.kept;
       counted = went.counted ∙ low.counted;
+      names = tt;
       honest = λ entries r s.
           let may = g.S.Source.may_answer in
           let start = c.args.node.0 in
@@ -142,6 +151,8 @@ returns-in_err-end g t c =
       counted = counted_exit exit.result c.add_subproof-2.result c.in_err-end.field-0.0 exit.ensures c.in_err-end.was
           (failed c.args.source.now) (failed c.args.source.now) (failed c.add_subproof-2.new.source) refl
           c.add_subproof-2.ensures.counted;
+      names = names_exit (NamesFalseIfFile g.H.TreeHash.digest (g.S.Source.may_answer c.args.source.now) c.args.reader.now.edge) exit.result c.in_err-end.field-0.0 exit.ensures
+          step.names;
       honest = λ entries r s.
           let went = step.honest entries r s in
           record {
@@ -166,6 +177,9 @@ returns-in_err-left g t c =
       counted = counted_exit exit.result c.add_whole-2.result c.in_err-left.field-0.0 exit.ensures c.in_err-left.was
           (failed c.args.source.now) (failed c.add_subproof-2.new.source) (failed c.add_whole-2.new.source) below.counted
           c.add_whole-2.ensures.counted;
+      names = names_exit (NamesFalseIfFile g.H.TreeHash.digest (g.S.Source.may_answer c.args.source.now) c.args.reader.now.edge) exit.result c.in_err-left.field-0.0 exit.ensures
+          (files_before g.H.TreeHash.digest (g.S.Source.may_answer c.args.source.now) (g.S.Source.may_answer c.add_subproof-2.new.source) below.later
+          c.args.reader.now.edge c.add_subproof-2.new.reader.edge below.edge c.in_err-left.field-0.0 step.names);
       honest = λ entries r s.
           let low = below.honest entries r s in
           let went = step.honest entries low.reader_is (tiles_later g.H.TreeHash.digest entries _ _ below.later s) in
@@ -186,6 +200,7 @@ returns g t c =
       later = stays_twice low.later went.later;
       kept = kept_twice (files c.args.source.now) (files c.add_subproof-2.new.source) (files c.add_whole-2.new.source) low.kept went.kept;
       counted = went.counted ∙ low.counted;
+      names = tt;
       honest = λ entries r s.
           let may = g.S.Source.may_answer in
           let start = c.args.node.0 in

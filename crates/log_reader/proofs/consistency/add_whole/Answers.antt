@@ -2,6 +2,8 @@ use Rattle.std.proofs.Common.{refl, [], ◌∷◌, ◌++◌, ◌∙◌, ap, if�
 use Rattle.log_reader.specs.declared.fault.ReadFault.TheVariants.{OutOfMemory}
 use Rattle.log_reader.proofs.Exits.{counted_exit, failed_exit, memory_exit}
 use Rattle.std.proofs.lemmas.List.{append-nil}
+use Rattle.log_reader.proofs.FalseFiles.{names_exit}
+use Rattle.log_reader.specs.FalseFiles.{NamesFalseIfFile}
 use Rattle.log_reader.proofs.consistency.add_whole.Goals as goal
 
 pub returns-in_err-hash : goal.returns-in_err-hash
@@ -17,6 +19,8 @@ returns-in_err-hash g c =
       counted = counted_exit exit.result c.node_hash.result c.in_err-hash.field-0.0 exit.ensures c.in_err-hash.was
           (failed c.args.source.now) (failed c.args.source.now) (failed c.node_hash.new.source) refl
           c.node_hash.ensures.counted;
+      names = names_exit (NamesFalseIfFile g.H.TreeHash.digest (g.S.Source.may_answer c.args.source.now) c.args.reader.now.edge) exit.result c.in_err-hash.field-0.0 exit.ensures
+          step.names;
       honest = λ entries r s.
           let went = step.honest entries r s in
           record {
@@ -36,6 +40,7 @@ returns-in_err-push g c =
       later = step.later;
       kept = step.kept;
       counted = memory_exit exit.result exit.ensures (failed c.args.source.now) (failed c.node_hash.new.source) step.counted;
+      names = names_exit (NamesFalseIfFile g.H.TreeHash.digest (g.S.Source.may_answer c.args.source.now) c.args.reader.now.edge) exit.result OutOfMemory exit.ensures tt;
       honest = λ entries r s. record {
         reader_is = (step.honest entries r s).reader_is;
         answer = failed_exit exit.result _ OutOfMemory exit.ensures tt;
@@ -49,6 +54,7 @@ returns-in_ok-push g c = record {
   later = c.in_ok-hash.ensures.later;
   kept = c.in_ok-hash.ensures.kept;
   counted = c.in_ok-hash.ensures.counted;
+  names = tt;
   honest = λ entries r s.
       let went = c.in_ok-hash.ensures.honest entries r s in
       let old = c.args.path.now.items in
@@ -69,6 +75,7 @@ returns-else-not-held g c = record {
   later = c.in_ok-hash.ensures.later;
   kept = c.in_ok-hash.ensures.kept;
   counted = c.in_ok-hash.ensures.counted;
+  names = tt;
   honest = λ entries r s.
       let went = c.in_ok-hash.ensures.honest entries r s in
       let old = c.args.path.now.items in

@@ -1,4 +1,4 @@
-use Rattle.std.proofs.Common.{ℕ, ◌<◌, ◌≤◌, ◌^◌, length, subst, sym, ap, ◌∙◌, arith, refl}
+use Rattle.std.proofs.Common.{inr, ℕ, ◌<◌, ◌≤◌, ◌^◌, length, subst, sym, ap, ◌∙◌, arith, refl}
 use Rattle.std.proofs.lemmas.Bool.{false≢true}
 use Rattle.log_reader.specs.EdgeRows.{RowIsTrue, hash_of_edge}
 use Rattle.log_reader.specs.Ways.{HasEdgeHashes}
@@ -6,6 +6,9 @@ use Rattle.log_reader.proofs.Prefixes.{true_rows_lead}
 use Rattle.std.proofs.lemmas.Result.{IfOk-from_err}
 use Rattle.log_reader.specs.declared.fault.ReadFault.TheVariants.{OutOfMemory}
 use Rattle.log_reader.proofs.Exits.{counted_exit, failed_exit, memory_exit}
+use Rattle.log_reader.proofs.FalseEdges.{edge_named}
+use Rattle.log_reader.proofs.FalseFiles.{names_exit}
+use Rattle.log_reader.specs.FalseEdges.{NamesFalseEdge}
 use Rattle.log_reader.proofs.edge_files.read_edge.Goals as goal
 
 pub returns-in_err-rows : goal.returns-in_err-rows
@@ -21,6 +24,9 @@ returns-in_err-rows g c =
       kept = step.kept;
       counted = counted_exit exit.result c.read_rows.result c.in_err-rows.field-0.0 exit.ensures c.in_err-rows.was
           (failed c.args.source.now) (failed c.args.source.now) (failed c.read_rows.new.source) refl c.read_rows.ensures.counted;
+      names = names_exit (NamesFalseEdge g.H.TreeHash.digest (g.S.Source.may_answer c.args.source.now) c.args.size c.args.root.now)
+          exit.result c.in_err-rows.field-0.0 exit.ensures (edge_named g.H.TreeHash.digest (g.S.Source.may_answer c.args.source.now)
+          c.args.size c.args.root.now c.in_err-rows.field-0.0 step.names);
       honest = λ entries same root s.
           failed_exit exit.result _ c.in_err-rows.field-0.0 exit.ensures (step.honest entries same s);
     }
@@ -37,6 +43,8 @@ returns-in_err-edge g c =
       later = step.later;
       kept = step.kept;
       counted = memory_exit exit.result exit.ensures (failed c.args.source.now) (failed c.read_rows.new.source) step.counted;
+      names = names_exit (NamesFalseEdge g.H.TreeHash.digest (g.S.Source.may_answer c.args.source.now) c.args.size c.args.root.now)
+          exit.result OutOfMemory exit.ensures tt;
       honest = λ entries same root s. failed_exit exit.result _ OutOfMemory exit.ensures tt;
     }
 
@@ -51,6 +59,7 @@ returns-then-is_same g c =
       later = step.later;
       kept = step.kept;
       counted = step.counted;
+      names = tt;
       honest = λ entries same root s.
           subst (λ e. (level : ℕ) → level ≤ 7 → RowIsTrue g.H.TreeHash.digest e entries level) (sym is)
           (step.honest entries same s);
@@ -64,6 +73,15 @@ returns-else-is_same g c = record {
   later = c.in_ok-rows.ensures.later;
   kept = c.in_ok-rows.ensures.kept;
   counted = c.in_ok-rows.ensures.counted;
+  names = inr (record {
+    edge = c.in_ok-rows.rows;
+    size_is = c.in_ok-rows.ensures.size;
+    widths = λ level low. (c.in_ok-rows.ensures.rows level low).count;
+    rows = c.in_ok-rows.ensures.got;
+    lowest = c.lowest_path.ensures;
+    wrong = λ leads. false≢true (sym c.if-is_same.false ∙ c.is_same.ensures.1
+        (c.root.ensures ∙ (ap (hash_of_edge g.H.TreeHash.digest) c.in_ok-edge.ensures ∙ leads)));
+  });
   honest = λ entries same root s.
       let digest = g.H.TreeHash.digest in
       let small : length entries < 256 ^ 8 = omega (arith, same, c.ranges.size.fits) in

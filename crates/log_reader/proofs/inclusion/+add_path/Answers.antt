@@ -12,6 +12,9 @@ use Rattle.mirror_sources.specs.Recorded.{KeepsRecord}
 use Rattle.log_reader.specs.Faults.{CountsFailure}
 use Rattle.log_reader.proofs.Exits.{counted_exit, failed_exit}
 use Rattle.log_reader.proofs.Kept.{kept_once, kept_twice, stays_twice}
+use Rattle.log_reader.proofs.FalseFiles.{files_before, names_exit}
+use Rattle.log_reader.specs.FalseFiles.{NamesFalseIfFile}
+use Rattle.std.proofs.lemmas.Result.{IfErr-weaker}
 use Rattle.log_reader.proofs.inclusion.+add_path.Goals as goal
 use Rattle.log_reader.proofs.inclusion.+add_path.Goals.{then-index-k+in_ok-add_path, else-index-k+in_ok-add_path-2}
 
@@ -22,6 +25,7 @@ returns-then-len-eq1 g t c = record {
   later = record { stays = λ path answer may. may };
   kept = kept_once (g.S.Source.files c.args.source.now);
   counted = refl;
+  names = tt;
   honest = λ entries r s.
       let node = c.requires.node in
       let within : c.args.node.0 + c.args.node.1 ≤ length entries =
@@ -58,6 +62,8 @@ returns-in_err-add_path g t c =
       counted = counted_exit exit.result c.add_path.result c.in_err-add_path.field-0.0 exit.ensures c.in_err-add_path.was
           (failed c.args.source.now) (failed c.args.source.now) (failed c.add_path.new.source) refl
           c.add_path.ensures.counted;
+      names = names_exit (NamesFalseIfFile g.H.TreeHash.digest (g.S.Source.may_answer c.args.source.now) c.args.reader.now.edge) exit.result c.in_err-add_path.field-0.0 exit.ensures
+          step.names;
       honest = λ entries r s.
           let went = step.honest entries r s in
           record {
@@ -79,6 +85,8 @@ returns-in_err-add_path-2 g t c =
       counted = counted_exit exit.result c.add_path-else-index-k.result c.in_err-add_path-2.field-0.0 exit.ensures c.in_err-add_path-2.was
           (failed c.args.source.now) (failed c.args.source.now) (failed c.add_path-else-index-k.new.source) refl
           c.add_path-else-index-k.ensures.counted;
+      names = names_exit (NamesFalseIfFile g.H.TreeHash.digest (g.S.Source.may_answer c.args.source.now) c.args.reader.now.edge) exit.result c.in_err-add_path-2.field-0.0 exit.ensures
+          step.names;
       honest = λ entries r s.
           let went = step.honest entries r s in
           record {
@@ -189,4 +197,22 @@ returns-clause-honest g t c = λ entries r s.
                 (is ∙ (λ j. (w.path-is j).items ++ mth d (part (w.beside-is j).0 (w.beside-is j).1 entries) ∷ []))
                 (path_of-right d entries start n k two c.split-k.ensures.value within i w.if-index-k.false)) went.answer;
           }
+    ]
+
+pub returns-clause-names : goal.returns-clause-names
+returns-clause-names g t c =
+    let digest = g.H.TreeHash.digest in
+    let may = g.S.Source.may_answer in
+    let edge = c.args.reader.now.edge in
+    elim c.if-index-k.branch [
+      | then-index-k+in_ok-add_path w ↦
+          IfErr-weaker c.add_node.result _ _
+          (files_before digest (may c.args.source.now) (may c.if-index-k.source)
+          (subst (λ x. StaysWithin (may c.args.source.now) (may x)) (sym w.source-is) w.in_ok-add_path.ensures.later) edge
+          c.if-index-k.reader.edge (ap (λ rd. rd.edge) w.reader-is ∙ w.in_ok-add_path.ensures.edge)) c.add_node.ensures.names
+      | else-index-k+in_ok-add_path-2 w ↦
+          IfErr-weaker c.add_node.result _ _
+          (files_before digest (may c.args.source.now) (may c.if-index-k.source)
+          (subst (λ x. StaysWithin (may c.args.source.now) (may x)) (sym w.source-is) w.in_ok-add_path-2.ensures.later) edge
+          c.if-index-k.reader.edge (ap (λ rd. rd.edge) w.reader-is ∙ w.in_ok-add_path-2.ensures.edge)) c.add_node.ensures.names
     ]

@@ -12,6 +12,8 @@ use Rattle.log_reader.proofs.NodeNumbers.{end_first, end_start, ends, perfect_al
 use Rattle.log_reader.specs.declared.fault.ReadFault.TheVariants.{OutOfMemory}
 use Rattle.log_reader.proofs.Exits.{failed_exit, memory_exit, or_counted, or_true}
 use Rattle.log_reader.proofs.Kept.{kept_once}
+use Rattle.log_reader.proofs.FalseFiles.{names_exit, names_or}
+use Rattle.log_reader.specs.FalseFiles.{NamesFalseIfFile}
 use Rattle.log_reader.proofs.node_hash.node_hash.Goals as goal
 
 pub perfect_hash-requires-clause-aligned : goal.perfect_hash-requires-clause-aligned
@@ -29,6 +31,7 @@ returns-in_err-hash g c =
       later = record { stays = λ path answer may. may };
       kept = kept_once (g.S.Source.files c.args.source.now);
       counted = memory_exit exit.result exit.ensures (failed c.args.source.now) (failed c.args.source.now) refl;
+      names = names_exit (NamesFalseIfFile g.H.TreeHash.digest (g.S.Source.may_answer c.args.source.now) c.args.reader.now.edge) exit.result OutOfMemory exit.ensures tt;
       honest = λ entries r s. record { reader_is = r; answer = failed_exit exit.result _ OutOfMemory exit.ensures tt };
     }
 
@@ -40,6 +43,8 @@ returns g c = record {
   kept = kept_once (g.S.Source.files c.args.source.now);
   counted = or_counted c.in_ok-hash.hash _ c.ok_or.result c.ok_or.ensures.value (g.S.Source.failed c.args.source.now)
       (g.S.Source.failed c.args.source.now) refl refl;
+  names = names_or (NamesFalseIfFile g.H.TreeHash.digest (g.S.Source.may_answer c.args.source.now) c.args.reader.now.edge) c.in_ok-hash.hash _ c.ok_or.result
+      c.ok_or.ensures.value tt;
   honest = λ entries r s.
       let digest = g.H.TreeHash.digest in
       let n = length entries in

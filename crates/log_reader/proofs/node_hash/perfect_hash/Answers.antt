@@ -11,6 +11,8 @@ use Rattle.log_reader.proofs.Exits.{counted_exit, failed_exit, or_counted, or_tr
 use Rattle.std.proofs.Math.Nat.{div-mul-le_self}
 use Rattle.std.proofs.lemmas.Nat.{le-div}
 use Rattle.tlog_shape.proofs.Levels.{level_positive}
+use Rattle.log_reader.proofs.FalseFiles.{names_exit, names_if, names_or}
+use Rattle.log_reader.specs.FalseFiles.{NamesFalseIfFile}
 use Rattle.log_reader.proofs.node_hash.perfect_hash.Goals as goal
 
 pub go_to-requires-clause-level : goal.go_to-requires-clause-level
@@ -59,6 +61,8 @@ returns-in_err-go_to g c =
       kept = step.kept;
       counted = counted_exit exit.result c.go_to.result c.in_err-go_to.field-0.0 exit.ensures c.in_err-go_to.was
           (failed c.args.source.now) (failed c.args.source.now) (failed c.go_to.new.source) refl c.go_to.ensures.counted;
+      names = names_exit (NamesFalseIfFile g.H.TreeHash.digest (g.S.Source.may_answer c.args.source.now) c.args.reader.now.edge) exit.result c.in_err-go_to.field-0.0 exit.ensures
+          (names_if g.H.TreeHash.digest (g.S.Source.may_answer c.args.source.now) c.args.reader.now.edge c.in_err-go_to.field-0.0 step.names);
       honest = λ entries r s.
           let went = step.honest entries r s in
           record {
@@ -78,6 +82,8 @@ returns g c =
       kept = step.kept;
       counted = or_counted c.node.result _ c.ok_or.result c.ok_or.ensures.value (failed c.args.source.now)
           (failed c.go_to.new.source) step.counted step.counted;
+      names = names_or (NamesFalseIfFile g.H.TreeHash.digest (g.S.Source.may_answer c.args.source.now) c.args.reader.now.edge) c.node.result _ c.ok_or.result
+          c.ok_or.ensures.value tt;
       honest = λ entries r s.
           let digest = g.H.TreeHash.digest in
           let n = length entries in

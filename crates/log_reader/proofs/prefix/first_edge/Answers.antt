@@ -7,6 +7,8 @@ use Rattle.log_reader.proofs.TrueReads.{rows_true, tiles_later}
 use Rattle.std.proofs.lemmas.Result.{IfOk-from_err}
 use Rattle.log_reader.specs.declared.fault.ReadFault.TheVariants.{OutOfMemory}
 use Rattle.log_reader.proofs.Exits.{counted_exit, failed_exit, memory_exit}
+use Rattle.log_reader.proofs.FalseFiles.{names_before, names_exit}
+use Rattle.log_reader.specs.FalseFiles.{NamesFalse}
 use Rattle.log_reader.proofs.prefix.first_edge.Goals as goal
 
 pub loop-level-init : goal.loop-level-init
@@ -40,6 +42,9 @@ returns-in_err-first_row_if_any g c =
       counted = counted_exit exit.result c.first_row_if_any.result c.in_err-first_row_if_any.field-0.0 exit.ensures
           c.in_err-first_row_if_any.was (failed c.args.source.now) (failed c.loop-level.source)
           (failed c.first_row_if_any.new.source) i.counted c.first_row_if_any.ensures.counted;
+      names = names_exit (NamesFalse g.H.TreeHash.digest (g.S.Source.may_answer c.args.source.now) c.args.reader.now.edge) exit.result c.in_err-first_row_if_any.field-0.0
+          exit.ensures (names_before g.H.TreeHash.digest (g.S.Source.may_answer c.args.source.now) (g.S.Source.may_answer c.loop-level.source) i.later c.args.reader.now.edge
+          c.loop-level.reader.edge i.edge c.in_err-first_row_if_any.field-0.0 step.names);
       honest = λ entries r s.
           let went = step.honest entries (i.honest entries r s).0 (tiles_later g.H.TreeHash.digest entries _ _ i.later s) in
           record {
@@ -66,6 +71,7 @@ returns-in_err-push g c =
           step.kept;
       counted = memory_exit exit.result exit.ensures (failed c.args.source.now) (failed c.first_row_if_any.new.source)
           (step.counted ∙ i.counted);
+      names = names_exit (NamesFalse g.H.TreeHash.digest (g.S.Source.may_answer c.args.source.now) c.args.reader.now.edge) exit.result OutOfMemory exit.ensures tt;
       honest = λ entries r s. record {
         reader_is = (step.honest entries (i.honest entries r s).0 (tiles_later g.H.TreeHash.digest entries _ _ i.later s)).reader_is;
         answer = failed_exit exit.result _ OutOfMemory exit.ensures tt;

@@ -5,6 +5,10 @@ use Rattle.log_reader.proofs.TruePrefixes.{start_is_true, start_within}
 use Rattle.std.proofs.lemmas.Result.{IfOk-from_err}
 use Rattle.log_reader.specs.declared.fault.ReadFault.TheVariants.{OutOfMemory}
 use Rattle.log_reader.proofs.Exits.{counted_exit, failed_exit, memory_exit}
+use Rattle.tlog_shape.specs.Edge.{edge_index_of}
+use Rattle.log_reader.specs.Holding.{row_width}
+use Rattle.log_reader.proofs.FalseFiles.{names_exit, wide_in}
+use Rattle.log_reader.specs.FalseFiles.{NamesFalse}
 use Rattle.log_reader.proofs.prefix.first_row.Goals as goal
 
 pub returns-in_err-row : goal.returns-in_err-row
@@ -22,6 +26,8 @@ returns-in_err-row g c =
       kept = step.kept;
       counted = counted_exit exit.result c.row.result c.in_err-row.field-0.0 exit.ensures c.in_err-row.was
           (failed c.args.source.now) (failed c.args.source.now) (failed c.row.new.source) refl c.row.ensures.counted;
+      names = names_exit (NamesFalse g.H.TreeHash.digest (g.S.Source.may_answer c.args.source.now) c.args.reader.now.edge) exit.result c.in_err-row.field-0.0 exit.ensures
+          step.names;
       honest = λ entries r s.
           let went = step.honest entries r s in
           record {
@@ -40,6 +46,14 @@ returns-then-len-width g c = record {
   later = c.in_ok-row.ensures.later;
   kept = c.in_ok-row.ensures.kept;
   counted = c.in_ok-row.ensures.counted;
+  names =
+      let size = c.args.size in
+      let level = c.args.level in
+      let n = c.args.reader.now.edge.size in
+      let enough : row_width n level (edge_index_of size level) ≤ length c.in_ok-row.row.items =
+      subst (λ i. row_width n level i ≤ length c.in_ok-row.row.items) c.edge_index-index.ensures c.in_ok-row.ensures.enough in
+      let wide = wide_in n size level c.requires.within in
+      absurd (omega (arith, enough, wide, c.len.ensures, c.if-len-width.true, c.edge_width-width.ensures));
   honest = λ entries r s.
       let digest = g.H.TreeHash.digest in
       let done = c.in_ok-row.ensures.honest entries r s in
@@ -66,6 +80,7 @@ returns-in_err-copy_start g c =
       later = step.later;
       kept = step.kept;
       counted = memory_exit exit.result exit.ensures (failed c.args.source.now) (failed c.row.new.source) step.counted;
+      names = names_exit (NamesFalse g.H.TreeHash.digest (g.S.Source.may_answer c.args.source.now) c.args.reader.now.edge) exit.result OutOfMemory exit.ensures tt;
       honest = λ entries r s. record {
         reader_is = (step.honest entries r s).reader_is;
         answer = failed_exit exit.result _ OutOfMemory exit.ensures tt;
@@ -93,6 +108,7 @@ returns g c =
       later = step.later;
       kept = step.kept;
       counted = step.counted;
+      names = tt;
       honest = λ entries r s.
           let done = step.honest entries r s in
           let within : c.args.size ≤ length entries = subst (λ n. c.args.size ≤ n) r.size_is c.requires.within in

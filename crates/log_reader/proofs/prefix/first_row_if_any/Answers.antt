@@ -20,6 +20,7 @@ returns-then-edge_width-eq0 g c =
       later = record { stays = λ path answer may. may };
       kept = kept_once (g.S.Source.files c.args.source.now);
       counted = refl;
+      names = tt;
       honest = λ entries r s. record {
         reader_is = r;
         answer = no_row_is_true g.H.TreeHash.digest entries c.args.size c.args.level (take c.args.size entries) c.new.result.items

@@ -1,7 +1,12 @@
-use Rattle.std.proofs.Common.{refl, ◌∙◌}
+use Rattle.std.proofs.Common.{ℕ, List, None, Some, refl, subst, ◌∙◌}
 use Rattle.std.proofs.lemmas.Result.{IfOk-from_err}
 use Rattle.log_reader.proofs.TrueReads.{row_is_true, tile_given, tile_there, tile_verifies}
 use Rattle.log_reader.proofs.Exits.{counted_exit, found_counted, found_ok, found_true, lacks_exit}
+use Rattle.log_reader.proofs.FalseFiles.{full_fails, names_found, names_lacking}
+use Rattle.log_reader.specs.FalseFiles.{NamesFull}
+use Rattle.log_reader.specs.declared.verify.FullFile.TheVariants as full
+use Rattle.tlog_tiles.specs.declared.paths.Path.TheVariants.{Tile}
+use Rattle.log_reader.specs.Verified.{Verifies}
 use Rattle.log_reader.proofs.tile.read_tile.Goals as goal
 
 pub returns-in_err-bytes : goal.returns-in_err-bytes
@@ -18,6 +23,13 @@ returns-in_err-bytes g c =
       honest = λ entries t s. lacks_exit exit.result _ c.in_err-bytes.field-0.0 _ exit.ensures step.lacks
           (tile_there g.H.TreeHash.digest g.met.H.TreeHash.digest_length entries (g.S.Source.may_answer c.args.source.now) s
           c.args.level c.args.index c.args.hash.now t);
+      names =
+          let digest = g.H.TreeHash.digest in
+          let may = g.S.Source.may_answer c.args.source.now in
+          let path = Tile c.args.level c.args.index 256 in
+          names_lacking (NamesFull digest may full.Tile c.args.hash.now path) exit.result c.in_err-bytes.field-0.0 _ exit.ensures
+          step.lacks (full_fails digest may full.Tile c.args.hash.now path)
+          (λ none. (refl, record { answer = None; given = none; wrong = tt }));
     }
 
 pub returns : goal.returns
@@ -31,6 +43,21 @@ returns g c =
       kept = step.kept;
       counted = found_counted c.verified_row.result _ c.or_false.result c.or_false.ensures (failed c.args.source.now)
           (failed c.get_file.new.source) step.counted;
+      names =
+          let digest = g.H.TreeHash.digest in
+          let may = g.S.Source.may_answer c.args.source.now in
+          let path = Tile c.args.level c.args.index 256 in
+          names_found (NamesFull digest may full.Tile c.args.hash.now path) c.verified_row.result _ c.or_false.result
+          c.or_false.ensures _ c.verified_row.ensures.none
+          (λ none. (
+            refl,
+            record {
+              answer = Some c.in_ok-bytes.bytes.items;
+              given = step.answer;
+              wrong = subst (λ b. (row : List (List ℕ)) → Verifies digest full.Tile c.args.hash.now b row → ⊥)
+                  c.deref.ensures.value none;
+            },
+          )) tt;
       honest = λ entries t s.
           let digest = g.H.TreeHash.digest in
           let length_is = g.met.H.TreeHash.digest_length in

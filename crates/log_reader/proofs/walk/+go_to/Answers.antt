@@ -7,6 +7,8 @@ use Rattle.log_reader.proofs.Climbing.{above_full}
 use Rattle.log_reader.proofs.Exits.{counted_exit, failed_exit, memory_exit}
 use Rattle.log_reader.proofs.Kept.{kept_once, kept_twice, stays_twice}
 use Rattle.log_reader.proofs.TrueReads.{is_below, row_below, tiles_later, went_down, went_to_edge}
+use Rattle.log_reader.proofs.FalseFiles.{names_before, names_exit}
+use Rattle.log_reader.specs.FalseFiles.{NamesFalse}
 use Rattle.log_reader.proofs.walk.+go_to.Goals as goal
 
 pub go_to-requires : goal.go_to-requires
@@ -32,6 +34,7 @@ returns-then-is_at g t c = record {
   later = record { stays = λ path answer may. may };
   kept = kept_once (g.S.Source.files c.args.source.now);
   counted = refl;
+  names = tt;
   honest = λ entries r s. record { reader_is = c.climb.ensures.honest entries r; answer = tt };
 }
 
@@ -58,6 +61,12 @@ returns-in_err-go_to g t c =
       kept = step.kept;
       counted = counted_exit exit.result c.go_to.result c.in_err-go_to.field-0.0 exit.ensures c.in_err-go_to.was
           (failed c.args.source.now) (failed c.args.source.now) (failed c.go_to.new.source) refl c.go_to.ensures.counted;
+      names =
+          let digest = g.H.TreeHash.digest in
+          let may = g.S.Source.may_answer c.args.source.now in
+          let fault = c.in_err-go_to.field-0.0 in
+          names_exit (NamesFalse digest may c.args.reader.now.edge) exit.result fault exit.ensures
+          (subst (λ e. NamesFalse digest may e fault) c.climb.ensures.edge step.names);
       honest = λ entries r s.
           let went = step.honest entries (c.climb.ensures.honest entries r) s in
           record {
@@ -82,6 +91,15 @@ returns-in_err-row g t c =
       counted = counted_exit exit.result c.read_below.result c.in_err-row.field-0.0 exit.ensures c.in_err-row.was
           (failed c.args.source.now) (failed c.go_to.new.source) (failed c.read_below.new.source) up.counted
           c.read_below.ensures.counted;
+      names =
+          let digest = g.H.TreeHash.digest in
+          let may = g.S.Source.may_answer in
+          let fault = c.in_err-row.field-0.0 in
+          let b = is_below c.go_to.new.reader c.args.level c.args.index c.edge_index-end.result c.size.result c.requires.level
+          up.there.0 up.there.1 c.edge_index-end.ensures (ap (λ e. e.size) up.edge ∙ sym c.size.ensures) c.if-index-end.false in
+          names_exit (NamesFalse digest (may c.args.source.now) c.args.reader.now.edge) exit.result fault exit.ensures
+          (names_before digest (may c.args.source.now) (may c.go_to.new.source) up.later c.args.reader.now.edge
+          c.go_to.new.reader.edge (up.edge ∙ c.climb.ensures.edge) fault (step.names b));
       honest = λ entries r s.
           let at = up.honest entries (c.climb.ensures.honest entries r) s in
           let b = is_below c.go_to.new.reader c.args.level c.args.index c.edge_index-end.result c.size.result c.requires.level
@@ -109,6 +127,8 @@ returns-in_err-down g t c =
       kept = kept_twice (files c.args.source.now) (files c.go_to.new.source) (files c.read_below.new.source) up.kept step.kept;
       counted = memory_exit exit.result exit.ensures (failed c.args.source.now) (failed c.read_below.new.source)
           (step.counted ∙ up.counted);
+      names = names_exit (NamesFalse g.H.TreeHash.digest (g.S.Source.may_answer c.args.source.now) c.args.reader.now.edge)
+          exit.result OutOfMemory exit.ensures tt;
       honest = λ entries r s. record {
         reader_is = subst (IsReaderOf g.H.TreeHash.digest entries) (sym same)
             (up.honest entries (c.climb.ensures.honest entries r) s).reader_is;
@@ -131,6 +151,7 @@ returns g t c =
       later = stays_twice went.later step.later;
       kept = kept_twice (files c.args.source.now) (files c.go_to.new.source) (files c.read_below.new.source) went.kept step.kept;
       counted = step.counted ∙ went.counted;
+      names = tt;
       honest = λ entries r s.
           let up = went.honest entries (c.climb.ensures.honest entries r) s in
           let b = is_below c.go_to.new.reader c.args.level c.args.index c.edge_index-end.result c.size.result c.requires.level

@@ -12,6 +12,12 @@ use Rattle.std.proofs.lemmas.Result.{IfOk-from_err}
 use Rattle.log_reader.specs.Faults.{CountsFailure}
 use Rattle.log_reader.proofs.Exits.{counted_exit, failed_exit}
 use Rattle.log_reader.proofs.Kept.{kept_twice, stays_twice}
+use Rattle.std.proofs.lemmas.Bool.{ltb-true}
+use Rattle.log_reader.specs.Ways.{HasEdgeHashes}
+use Rattle.log_reader.proofs.Climbing.{shown_there}
+use Rattle.log_reader.proofs.FalseFiles.{bundle_named, end_named, names_before, names_exit, shown_below}
+use Rattle.log_reader.specs.FalseFiles.{NamesFalse}
+use Rattle.std.proofs.lemmas.Result.{IfErr-weaker}
 use Rattle.log_reader.proofs.reader.LogReader.bundle.Goals as goal
 
 pub returns-then-index-edge_index-clause-honest : goal.returns-then-index-edge_index-clause-honest
@@ -49,6 +55,8 @@ returns-in_err-go_to g c =
       kept = step.kept;
       counted = counted_exit exit.result c.go_to.result c.in_err-go_to.field-0.0 exit.ensures c.in_err-go_to.was
           (failed c.args.source.now) (failed c.args.source.now) (failed c.go_to.new.source) refl c.go_to.ensures.counted;
+      names = names_exit (NamesFalse g.H.TreeHash.digest (g.S.Source.may_answer c.args.source.now) c.args.self.now.edge) exit.result c.in_err-go_to.field-0.0 exit.ensures
+          step.names;
       honest = λ entries r s.
           let went = step.honest entries r
           (source_tiles g.H.TreeHash.digest entries (g.S.Source.may_answer c.args.source.now) s) in
@@ -117,6 +125,19 @@ returns-in-None g c = record {
   later = c.in_ok-go_to.ensures.later;
   kept = c.in_ok-go_to.ensures.kept;
   counted = c.in_ok-go_to.ensures.counted;
+  names =
+      let digest = g.H.TreeHash.digest in
+      let edge = c.args.self.now.edge in
+      let index = c.args.index in
+      let row = c.here.result.now in
+      let went = c.in_ok-go_to.ensures in
+      let end : c.edge_index.result ≡ edge_index_of edge.size 0 =
+      c.edge_index.ensures ∙ ap (λ m. edge_index_of m 0) c.size.ensures in
+      let before : index < edge_index_of edge.size 0 = omega (arith, end, c.requires, c.if-index-edge_index.false) in
+      let shown = shown_there digest edge c.go_to.new.reader 1 (index / 256) row went.edge went.there c.here.ensures.shown in
+      let within = shown_below digest edge (subst HasEdgeHashes went.edge c.here.ensures.hashes) 0 index row shown before in
+      let none : length row ≤ index % 256 = c.in-None.ensures.lookup.3 in
+      absurd (omega (arith, within, none));
   honest = λ entries r s.
       let digest = g.H.TreeHash.digest in
       let n = length entries in
@@ -135,3 +156,31 @@ returns-in-None g c = record {
       let none : length row ≤ index % 256 = c.in-None.ensures.lookup.3 in
       absurd (omega (arith, within, none));
 }
+
+pub returns-then-index-edge_index-clause-names : goal.returns-then-index-edge_index-clause-names
+returns-then-index-edge_index-clause-names g c =
+    let edge = c.args.self.now.edge in
+    let at : c.args.index ≡ edge_index_of edge.size 0 =
+    c.if-index-edge_index.true ∙ (c.edge_index.ensures ∙ ap (λ m. edge_index_of m 0) c.size.ensures) in
+    let is : c.row.result.now ≡ row_at edge 0 =
+    c.row.ensures ∙ ap (λ e. row_at e 0) (c.rows.ensures ∙ c.edge.ensures.edge) in
+    IfErr-weaker c.read_end.result _ _
+    (end_named g.H.TreeHash.digest (g.S.Source.may_answer c.args.source.now) edge c.row.result.now c.args.index at is)
+    c.read_end.ensures.names
+
+pub returns-in-Some-clause-names : goal.returns-in-Some-clause-names
+returns-in-Some-clause-names g c =
+    let digest = g.H.TreeHash.digest in
+    let may = g.S.Source.may_answer in
+    let edge = c.args.self.now.edge in
+    let index = c.args.index in
+    let row = c.here.result.now in
+    let went = c.in_ok-go_to.ensures in
+    let shown = shown_there digest edge c.go_to.new.reader 1 (index / 256) row went.edge went.there c.here.ensures.shown in
+    let within : index % 256 < length row = ltb-true _ _ (sym c.in-Some.ensures.lookup.0) in
+    let at : c.in-Some.hash.now ≡ get_or row (index % 256) [] =
+    get_or_read_under row (index % 256) (length row) c.in-Some.hash.now [] c.in-Some.ensures.lookup.1 within refl in
+    IfErr-weaker c.read_full.result _ _
+    (λ fault h. names_before digest (may c.args.source.now) (may c.go_to.new.source) went.later edge edge refl fault
+    (bundle_named digest (may c.go_to.new.source) edge index row shown within c.in-Some.hash.now at fault h))
+    c.read_full.ensures.names

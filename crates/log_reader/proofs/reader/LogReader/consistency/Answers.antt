@@ -9,6 +9,8 @@ use Rattle.std.proofs.lemmas.Result.{IfOk-from_err}
 use Rattle.log_reader.proofs.Exits.{checked_counted, checked_holds, checked_ok, checked_true, counted_exit, failed_exit}
 use Rattle.log_reader.proofs.Asked.{consistency_holds, consistency_is}
 use Rattle.log_reader.proofs.NodeNumbers.{whole_node}
+use Rattle.log_reader.proofs.FalseFiles.{names_checked, names_exit}
+use Rattle.log_reader.specs.FalseFiles.{NamesFalseIfFile}
 use Rattle.log_reader.proofs.reader.LogReader.consistency.Goals as goal
 
 pub add_subproof-requires-clause-node : goal.add_subproof-requires-clause-node
@@ -32,6 +34,8 @@ returns-in_err-first_root g c =
       counted = counted_exit exit.result c.add_subproof.result c.in_err-first_root.field-0.0 exit.ensures
           c.in_err-first_root.was (failed c.args.source.now) (failed c.args.source.now)
           (failed c.add_subproof.new.source) refl c.add_subproof.ensures.counted;
+      names = names_exit (NamesFalseIfFile g.H.TreeHash.digest (g.S.Source.may_answer c.args.source.now) c.args.self.now.edge) exit.result c.in_err-first_root.field-0.0 exit.ensures
+          step.names;
       honest = λ entries r s.
           let went = step.honest entries r s in
           record {
@@ -59,6 +63,7 @@ returns g c =
       kept = step.kept;
       counted = checked_counted _ c.checked.result kept.err (failed c.args.source.now) (failed c.add_subproof.new.source)
           step.counted;
+      names = names_checked (NamesFalseIfFile g.H.TreeHash.digest (g.S.Source.may_answer c.args.source.now) c.args.self.now.edge) _ c.checked.result kept.err tt;
       honest = λ entries r s.
           let went = step.honest entries r s in
           let second_is : n ≡ length entries = c.size-second.ensures ∙ r.size_is in

@@ -10,6 +10,8 @@ use Rattle.log_reader.proofs.TrueReads.{tiles_later}
 use Rattle.std.proofs.lemmas.Result.{IfOk-from_err}
 use Rattle.log_reader.proofs.Exits.{checked_counted, checked_holds, checked_ok, checked_true, counted_exit, failed_exit}
 use Rattle.log_reader.proofs.Kept.{kept_twice, stays_twice}
+use Rattle.log_reader.proofs.FalseFiles.{files_before, names_checked, names_exit, names_if}
+use Rattle.log_reader.specs.FalseFiles.{NamesFalseIfFile}
 use Rattle.log_reader.proofs.reader.LogReader.inclusion.Goals as goal
 
 pub add_path-requires-clause-node : goal.add_path-requires-clause-node
@@ -32,6 +34,8 @@ returns-in_err-leaf g c =
       kept = step.kept;
       counted = counted_exit exit.result c.leaf.result c.in_err-leaf.field-0.0 exit.ensures c.in_err-leaf.was
           (failed c.args.source.now) (failed c.args.source.now) (failed c.leaf.new.source) refl c.leaf.ensures.counted;
+      names = names_exit (NamesFalseIfFile g.H.TreeHash.digest (g.S.Source.may_answer c.args.source.now) c.args.self.now.edge) exit.result c.in_err-leaf.field-0.0 exit.ensures
+          (names_if g.H.TreeHash.digest (g.S.Source.may_answer c.args.source.now) c.args.self.now.edge c.in_err-leaf.field-0.0 step.names);
       honest = λ entries r s.
           let went = step.honest entries r s in
           record {
@@ -57,6 +61,9 @@ returns-in_err-add_path g c =
       counted = counted_exit exit.result c.add_path.result c.in_err-add_path.field-0.0 exit.ensures c.in_err-add_path.was
           (failed c.args.source.now) (failed c.leaf.new.source) (failed c.add_path.new.source) leaf.counted
           c.add_path.ensures.counted;
+      names = names_exit (NamesFalseIfFile g.H.TreeHash.digest (g.S.Source.may_answer c.args.source.now) c.args.self.now.edge) exit.result c.in_err-add_path.field-0.0 exit.ensures
+          (files_before g.H.TreeHash.digest (g.S.Source.may_answer c.args.source.now) (g.S.Source.may_answer c.leaf.new.source) leaf.later
+          c.args.self.now.edge c.leaf.new.self.edge leaf.edge c.in_err-add_path.field-0.0 step.names);
       honest = λ entries r s.
           let at = leaf.honest entries r s in
           let went = step.honest entries at.reader_is (tiles_later g.H.TreeHash.digest entries _ _ leaf.later s) in
@@ -87,6 +94,7 @@ returns g c =
       kept = kept_twice (files c.args.source.now) (files c.leaf.new.source) (files c.add_path.new.source) leaf.kept step.kept;
       counted = checked_counted _ c.checked.result kept.err (failed c.args.source.now) (failed c.add_path.new.source)
           (step.counted ∙ leaf.counted);
+      names = names_checked (NamesFalseIfFile g.H.TreeHash.digest (g.S.Source.may_answer c.args.source.now) c.args.self.now.edge) _ c.checked.result kept.err tt;
       honest = λ entries r s.
           let at = leaf.honest entries r s in
           let went = step.honest entries at.reader_is (tiles_later digest entries _ _ leaf.later s) in

@@ -7,6 +7,9 @@ use Rattle.log_reader.proofs.TruePrefixes.{leaf_is, leaf_within}
 use Rattle.log_reader.proofs.TrueReads.{there_true}
 use Rattle.std.proofs.lemmas.Result.{IfOk-from_err}
 use Rattle.log_reader.proofs.Exits.{counted_exit, failed_exit}
+use Rattle.log_reader.proofs.FalseFiles.{names_exit, shown_leaf}
+use Rattle.log_reader.specs.FalseFiles.{NamesFalse}
+use Rattle.log_reader.specs.Ways.{HasEdgeHashes}
 use Rattle.log_reader.proofs.reader.LogReader.leaf.Goals as goal
 
 pub returns-in_err-go_to : goal.returns-in_err-go_to
@@ -22,6 +25,8 @@ returns-in_err-go_to g c =
       kept = step.kept;
       counted = counted_exit exit.result c.go_to.result c.in_err-go_to.field-0.0 exit.ensures c.in_err-go_to.was
           (failed c.args.source.now) (failed c.args.source.now) (failed c.go_to.new.source) refl c.go_to.ensures.counted;
+      names = names_exit (NamesFalse g.H.TreeHash.digest (g.S.Source.may_answer c.args.source.now) c.args.self.now.edge) exit.result c.in_err-go_to.field-0.0 exit.ensures
+          step.names;
       honest = λ entries r s.
           let went = step.honest entries r s in
           record {
@@ -49,6 +54,7 @@ returns-in-Some g c =
       later = step.later;
       kept = step.kept;
       counted = step.counted;
+      names = tt;
       honest = λ entries r s.
           let done = c.in_ok-go_to.ensures.honest entries r s in
           let index = c.args.index in
@@ -73,6 +79,17 @@ returns-in-None g c = record {
   later = c.in_ok-go_to.ensures.later;
   kept = c.in_ok-go_to.ensures.kept;
   counted = c.in_ok-go_to.ensures.counted;
+  names =
+      let edge = c.args.self.now.edge in
+      let index = c.args.index in
+      let row = c.here.result.now in
+      let went = c.in_ok-go_to.ensures in
+      let shown = shown_there g.H.TreeHash.digest edge c.go_to.new.reader 0 (index / 256) row went.edge went.there
+      c.here.ensures.shown in
+      let within = shown_leaf g.H.TreeHash.digest edge (subst HasEdgeHashes went.edge c.here.ensures.hashes) index row shown
+      c.requires in
+      let none : length row ≤ index % 256 = c.in-None.ensures.lookup.3 in
+      absurd (omega (arith, within, none));
   honest = λ entries r s.
       let done = c.in_ok-go_to.ensures.honest entries r s in
       let index = c.args.index in

@@ -2,6 +2,8 @@ use Rattle.std.proofs.Common.{◌<◌, ◌^◌, length, refl, sym, ◌∙◌, ar
 use Rattle.std.proofs.lemmas.Result.{IfOk-from_err}
 use Rattle.log_reader.proofs.Exits.{counted_exit, failed_exit}
 use Rattle.log_reader.proofs.TruePrefixes.{reader_made}
+use Rattle.log_reader.proofs.FalseFiles.{names_exit}
+use Rattle.log_reader.specs.FalseEdges.{NamesFalseEdge}
 use Rattle.log_reader.proofs.reader.LogReader.open.Goals as goal
 
 pub returns-in_err-edge : goal.returns-in_err-edge
@@ -17,6 +19,8 @@ returns-in_err-edge g c =
       kept = step.kept;
       counted = counted_exit exit.result c.read_edge.result fault exit.ensures c.in_err-edge.was (failed c.args.source.now)
           (failed c.args.source.now) (failed c.read_edge.new.source) refl c.read_edge.ensures.counted;
+      names = names_exit (NamesFalseEdge g.H.TreeHash.digest (g.S.Source.may_answer c.args.source.now) c.args.size c.args.root.now)
+          exit.result fault exit.ensures step.names;
       honest = λ entries same root s. failed_exit exit.result _ fault exit.ensures (step.honest entries same root s);
     }
 

@@ -6,6 +6,8 @@ use Rattle.log_reader.proofs.TruePrefixes.{reader_made, size_first}
 use Rattle.std.proofs.lemmas.Result.{IfOk-from_err}
 use Rattle.log_reader.specs.declared.fault.ReadFault.TheVariants.{OutOfMemory}
 use Rattle.log_reader.proofs.Exits.{counted_exit, failed_exit, memory_exit}
+use Rattle.log_reader.proofs.FalseFiles.{names_exit}
+use Rattle.log_reader.specs.FalseFiles.{NamesFalse}
 use Rattle.log_reader.proofs.reader.LogReader.prefix.Goals as goal
 
 pub returns-in_err-rows : goal.returns-in_err-rows
@@ -22,6 +24,8 @@ returns-in_err-rows g c =
       kept = step.kept;
       counted = counted_exit exit.result c.first_edge.result c.in_err-rows.field-0.0 exit.ensures c.in_err-rows.was
           (failed c.args.source.now) (failed c.args.source.now) (failed c.first_edge.new.source) refl c.first_edge.ensures.counted;
+      names = names_exit (NamesFalse g.H.TreeHash.digest (g.S.Source.may_answer c.args.source.now) c.args.self.now.edge) exit.result c.in_err-rows.field-0.0 exit.ensures
+          step.names;
       honest = λ entries r s.
           let went = step.honest entries r s in
           record {
@@ -43,6 +47,7 @@ returns-in_err-edge g c =
       later = step.later;
       kept = step.kept;
       counted = memory_exit exit.result exit.ensures (failed c.args.source.now) (failed c.first_edge.new.source) step.counted;
+      names = names_exit (NamesFalse g.H.TreeHash.digest (g.S.Source.may_answer c.args.source.now) c.args.self.now.edge) exit.result OutOfMemory exit.ensures tt;
       honest = λ entries r s. record {
         reader_is = (step.honest entries r s).reader_is;
         answer = failed_exit exit.result _ OutOfMemory exit.ensures tt;
@@ -71,6 +76,7 @@ returns g c =
       later = step.later;
       kept = step.kept;
       counted = step.counted;
+      names = tt;
       honest = λ entries r s.
           let done = step.honest entries r s in
           let within : size ≤ length entries = subst (λ n. size ≤ n) r.size_is c.requires in

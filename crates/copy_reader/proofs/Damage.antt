@@ -1,0 +1,139 @@
+-- The file that CopyDamaged names is damaged.
+use Rattle.std.proofs.Common.{◌≡◌, ◌≢◌, ℕ, List, Option, Some, Result, Ok, Err, IfErr, IsErr, IsErrAnd, inl, inr, refl, sym, subst}
+use Rattle.signed_note.specs.Keys.{Key}
+use Rattle.tlog_tiles.specs.declared.paths.Path.{Path}
+use Rattle.tlog_tiles.specs.declared.paths.Path.TheVariants.{Checkpoint, Tile}
+use Rattle.mirror_folders.specs.Shelf.{Put, RecordsRead}
+use Rattle.mirror_model.specs.Heads.{IsOpenHead}
+use Rattle.mirror_sources.specs.Recorded.{KeepsRecord}
+use Rattle.mirror_sources.specs.Source.{StaysWithin}
+use Rattle.log_reader.specs.EdgeRows.{Edge}
+use Rattle.log_reader.specs.FalseEdges.{NamesFalseEdge}
+use Rattle.log_reader.specs.FalseFiles.{IsFalseFile, NamesFalse, NamesFalseIfFile}
+use Rattle.log_reader.specs.Ways.{IsShownEdge}
+use Rattle.log_reader.specs.declared.fault.ReadFault.{ReadFault}
+use Rattle.log_reader.specs.declared.fault.ReadFault.TheVariants as reading
+use Rattle.log_reader.proofs.FalseEdges.{edge_given}
+use Rattle.log_reader.proofs.FalseFiles.{false_given, files_before}
+use Rattle.copy_reader.specs.Copies.{HasCheckpoint, RefusesNote}
+use Rattle.copy_reader.specs.Damage.{IsFalseWithin, NamesDamage, NamesEdgeDamage, NamesOpenDamage, NamesProofDamage, NamesWithin}
+use Rattle.copy_reader.specs.Faults.{by_read}
+use Rattle.copy_reader.specs.ShelfSources.{MayGive}
+use Rattle.copy_reader.specs.declared.fault.CopyFault.{CopyFault}
+use Rattle.copy_reader.specs.declared.fault.CopyFault.TheVariants as copy
+use Rattle.copy_reader.proofs.ShelfSources.{recorded_before}
+
+pub damage_exit : {T E : Type 0} (P : E → Type 0) (result : Result T E) (fault : E) →
+    IsErr result × IsErrAnd result (λ f. f ≡ fault) → P fault → IfErr result P
+damage_exit P (Ok x) fault is h = tt
+damage_exit P (Err f) fault is h = subst P (sym is.1) h
+
+-- ---- a source over a shelf
+
+module _ (digest : List ℕ → List ℕ) (name : ℕ) (before held : Option (List Put)) (same : before ≡ held) where
+  recorded : (path : Path) → path ≢ Tile 0 0 0 → (answer : Option (List ℕ)) → MayGive name before path answer →
+      RecordsRead held path answer
+  recorded path some answer (inl h) = subst (λ s. RecordsRead s path answer) same h.1
+  recorded path some answer (inr h) = absurd (some h.0)
+
+  file_recorded : (edge : Edge) (path : Path) → IsFalseFile digest (MayGive name before) edge path →
+      IsFalseFile digest (RecordsRead held) edge path
+  file_recorded edge path f = false_given digest (RecordsRead held) (MayGive name before) recorded edge path f
+
+  pub read_damage : (edge : Edge) (fault : ReadFault) → NamesFalse digest (MayGive name before) edge fault →
+      NamesDamage digest held edge (by_read fault)
+  read_damage edge (reading.NoFile path) h = file_recorded edge path h
+  read_damage edge (reading.FalseFile path) h = file_recorded edge path h
+  read_damage edge reading.Collision h = absurd h
+  read_damage edge reading.Source h = tt
+  read_damage edge reading.OutOfMemory h = tt
+
+  within_recorded : (edge : Edge) (path : Path) → IsFalseWithin digest (MayGive name before) edge path →
+      IsFalseWithin digest (RecordsRead held) edge path
+  within_recorded edge path (inl h) = inl (file_recorded edge path h)
+  within_recorded edge path (inr h) = inr (h.0, h.1, file_recorded h.0 path h.2)
+
+  pub proof_damage : (edge : Edge) (fault : ReadFault) → NamesWithin digest (MayGive name before) edge fault →
+      NamesProofDamage digest held edge (by_read fault)
+  proof_damage edge (reading.NoFile path) h = inr (within_recorded edge path h)
+  proof_damage edge (reading.FalseFile path) h = inr (within_recorded edge path h)
+  proof_damage edge reading.Collision h = inl refl
+  proof_damage edge reading.Source h = tt
+  proof_damage edge reading.OutOfMemory h = tt
+
+  pub edge_damage : (size : ℕ) (root : List ℕ) (fault : ReadFault) →
+      NamesFalseEdge digest (MayGive name before) size root fault → NamesEdgeDamage digest held size root (by_read fault)
+  edge_damage size root (reading.NoFile path) h =
+      edge_given (RecordsRead held) (MayGive name before) size recorded digest root path h
+  edge_damage size root (reading.FalseFile path) h =
+      edge_given (RecordsRead held) (MayGive name before) size recorded digest root path h
+  edge_damage size root reading.Collision h = absurd h
+  edge_damage size root reading.Source h = tt
+  edge_damage size root reading.OutOfMemory h = tt
+
+-- ---- in the tree of the first entries
+
+module _ (digest : List ℕ → List ℕ) (may : Path → Option (List ℕ) → Type 0) (edge : Edge) where
+  pub whole_within : (fault : ReadFault) → NamesFalseIfFile digest may edge fault → NamesWithin digest may edge fault
+  whole_within (reading.NoFile path) h = inl h
+  whole_within (reading.FalseFile path) h = inl h
+  whole_within reading.Collision h = tt
+  whole_within reading.Source h = tt
+  whole_within reading.OutOfMemory h = tt
+
+  pub read_within : (fault : ReadFault) → NamesFalse digest may edge fault → NamesWithin digest may edge fault
+  read_within (reading.NoFile path) h = inl h
+  read_within (reading.FalseFile path) h = inl h
+  read_within reading.Collision h = absurd h
+  read_within reading.Source h = tt
+  read_within reading.OutOfMemory h = tt
+
+  module _ (first : Edge) (shown : IsShownEdge digest edge first) (later : Path → Option (List ℕ) → Type 0)
+      (stays : StaysWithin may later) where
+    of_first : (fault : ReadFault) → NamesFalseIfFile digest may first fault → NamesWithin digest may edge fault
+    of_first (reading.NoFile path) h = inr (first, shown, h)
+    of_first (reading.FalseFile path) h = inr (first, shown, h)
+    of_first reading.Collision h = tt
+    of_first reading.Source h = tt
+    of_first reading.OutOfMemory h = tt
+
+    pub first_within : (fault : ReadFault) → NamesFalseIfFile digest later first fault → NamesWithin digest may edge fault
+    first_within fault h = of_first fault (files_before digest may later stays first first refl fault h)
+
+-- ---- the opened checkpoint
+
+module _ (digest : List ℕ → List ℕ) (origin : List ℕ) (keys : List Key) (held after : Option (List Put))
+    (kept : KeepsRecord held after) (size : ℕ) (root note text : List ℕ) (same : text ≡ note)
+    (stands : RecordsRead held Checkpoint (Some note)) (opens : IsOpenHead text origin keys size root) where
+  checkpoint : HasCheckpoint origin keys held size root
+  checkpoint = record {
+    note = note;
+    stands = stands;
+    opens = subst (λ b. IsOpenHead b origin keys size root) same opens;
+  }
+
+  earlier : (path : Path) → path ≢ Tile 0 0 0 → (answer : Option (List ℕ)) → RecordsRead after path answer →
+      RecordsRead held path answer
+  earlier path some answer h = recorded_before held after path answer kept h
+
+  pub open_damage : (fault : CopyFault) → NamesEdgeDamage digest after size root fault →
+      NamesOpenDamage digest held origin keys fault
+  open_damage copy.BadOrigin h = tt
+  open_damage (copy.Head fault) h = tt
+  open_damage (copy.CopyDamaged path) h = (
+    size,
+    root,
+    checkpoint,
+    edge_given (RecordsRead held) (RecordsRead after) size earlier digest root path h,
+  )
+  open_damage copy.ShelfFault h = tt
+  open_damage copy.OutOfMemory h = tt
+
+-- the fault of a note that is the copy's checkpoint
+pub note_damage : (digest : List ℕ → List ℕ) (held : Option (List Put)) (note origin : List ℕ) (keys : List Key)
+    (fault : CopyFault) → RefusesNote note origin keys fault → NamesOpenDamage digest held origin keys fault
+note_damage digest held note origin keys copy.BadOrigin h = tt
+note_damage digest held note origin keys (copy.Head fault) h = tt
+note_damage digest held note origin keys (copy.CopyDamaged path) h = absurd h
+note_damage digest held note origin keys copy.ShelfFault h = tt
+note_damage digest held note origin keys copy.OutOfMemory h = tt
