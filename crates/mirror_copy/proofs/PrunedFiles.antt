@@ -6,19 +6,14 @@ use Rattle.std.proofs.Math.Nat.{le-div_iff_mul-le}
 use Rattle.std.proofs.Math.Seq.{drop-cons}
 use Rattle.std.proofs.lemmas.Bool.{cases_eq, cases_lt}
 use Rattle.std.proofs.lemmas.List.{take-append-drop}
-use Rattle.std.proofs.lemmas.List.Concat.{flat_map-append}
 use Rattle.std.proofs.lemmas.List.Elements.{All-cons, All-contains, All-contains_itself, All-map, All-nil, All-weaker}
 use Rattle.std.proofs.lemmas.List.Elements.{Contains-append_cases, Contains-append_right}
 use Rattle.tlog_shape.specs.Edge.{edge_index_of, IsTile, width_of}
 use Rattle.tlog_shape.proofs.Levels.{level_positive}
-use Rattle.tlog_hash.specs.Rows.{level_row, part}
 use Rattle.tlog_tiles.specs.declared.paths.Path.{Path}
 use Rattle.tlog_tiles.specs.declared.paths.Path.TheVariants.{Checkpoint, Tile, Entries}
-use Rattle.tlog_tiles.specs.Bundle.{bundle_text, entry_text}
-use Rattle.tlog_tiles.specs.Tiles.{IsWithin, tile_bytes}
+use Rattle.tlog_tiles.specs.Tiles.{IsWithin}
 use Rattle.tlog_tiles.proofs.EdgeLemmas.{contains_none, contains_one}
-use Rattle.tlog_tiles.proofs.RowLemmas.{length-row_text}
-use Rattle.tlog_tiles.proofs.TileLemmas.{served_is_read}
 use Rattle.mirror_model.specs.Strings.{IsDigest}
 use Rattle.mirror_model.specs.TrueLaws.{AreShort}
 use Rattle.mirror_sources.specs.Files.{full_of}
@@ -34,7 +29,7 @@ use Rattle.log_reader.specs.Holding.{GoesOn, IsTreeFile}
 use Rattle.mirror_copy.specs.Copies.{IsCopy}
 use Rattle.mirror_copy.specs.Growing.{IsNewFile}
 use Rattle.mirror_copy.specs.Pruned.{CopiesArePruned, EachFileStands, HasGivenWay, IsPrunedCopy}
-use Rattle.mirror_places.proofs.Cutting.{bundle_cut, tile_cut}
+use Rattle.mirror_places.proofs.Cutting.{full_begins}
 use Rattle.mirror_places.proofs.Prefixes.{bytes_front}
 
 -- ---- the files of a tree are those of a log
@@ -368,31 +363,6 @@ stands_put held so_far path bytes has same =
       kept = λ other later. same other (subst (λ (l : List Put). Contains l (path, other)) (take-append-drop (suc k) so_far)
           (Contains-append_right (take (suc k) so_far) rest (path, other) later));
     }
-
-module _ (digest : List ℕ → List ℕ) (hash : IsDigest digest) (entries : List (List ℕ)) (short : AreShort entries) where
-  -- a full file begins with the partial file
-  full_begins : (n : ℕ) (path : Path) → IsWithin n path →
-      GoesOn path (true_bytes digest entries path) (true_bytes digest entries (full_of path))
-  full_begins n Checkpoint within = absurd within
-  full_begins n (Tile level index width) within =
-      let full = tile_bytes digest entries level index 256 in
-      let row = (served_is_read digest hash entries short).tile level index 256 in
-      record {
-        rest = drop (32 * width) full;
-        bytes_are = sym (take-append-drop (32 * width) full)
-            ∙ ap (λ (l : List ℕ). l ++ drop (32 * width) full)
-            (tile_cut digest hash entries level index width full within.upto refl);
-        long = length-row_text (level_row digest entries level (256 * index) 256) row.sizes ∙ ap (λ k. 32 * k) row.count;
-      }
-  full_begins n (Entries index width) within =
-      let es = part (256 * index) 256 entries in
-      record {
-        rest = bundle_text (drop width es);
-        bytes_are = ap bundle_text (sym (take-append-drop width es))
-            ∙ (flat_map-append entry_text (take width es) (drop width es)
-            ∙ ap (λ (l : List ℕ). l ++ bundle_text (drop width es)) (bundle_cut entries index width within.upto));
-        long = tt;
-      }
 
 module _ (digest : List ℕ → List ℕ) (hash : IsDigest digest) (m : ℕ) (known more next : List (List ℕ)) (long : length known ≡ m)
     (next_is : next ≡ known ++ more) (short : AreShort next) (held so_far now : List Put) (is : now ≡ held ++ so_far)

@@ -10,12 +10,17 @@ use Rattle.tlog_hash.specs.Tree.{mth}
 use Rattle.tlog_hash.proofs.Folds.{length-ranges}
 use Rattle.tlog_tiles.specs.Bundle.{bundle_text, entry_text}
 use Rattle.tlog_tiles.specs.Row.{row_text}
-use Rattle.tlog_tiles.specs.Tiles.{bundle_bytes, tile_bytes}
+use Rattle.tlog_tiles.specs.declared.paths.Path.{Path}
+use Rattle.tlog_tiles.specs.declared.paths.Path.TheVariants.{Checkpoint, Tile, Entries}
+use Rattle.tlog_tiles.specs.Tiles.{IsWithin, bundle_bytes, tile_bytes}
 use Rattle.tlog_tiles.proofs.BundleLemmas.{bundle_one, joined_push}
 use Rattle.tlog_tiles.proofs.RowLemmas.{length-row_text}
-use Rattle.tlog_tiles.proofs.TileLemmas.{mth_size}
+use Rattle.tlog_tiles.proofs.TileLemmas.{mth_size, served_is_read}
 use Rattle.mirror_model.specs.Strings.{IsDigest}
 use Rattle.mirror_model.specs.TrueLaws.{AreShort}
+use Rattle.mirror_sources.specs.Files.{full_of}
+use Rattle.mirror_sources.specs.Honest.{true_bytes}
+use Rattle.log_reader.specs.Holding.{GoesOn}
 use Rattle.mirror_places.specs.Giving.{IsFirstOf}
 
 -- the first w of some ranges
@@ -147,3 +152,28 @@ module _ (digest : List ℕ → List ℕ) (hash : IsDigest digest) (entries : Li
 pub bundle_cut : (entries : List (List ℕ)) (index width : ℕ) → width ≤ 256 →
     bundle_text (take width (part (256 * index) 256 entries)) ≡ bundle_bytes entries index width
 bundle_cut entries index width le = ap bundle_text (take-take width 256 (drop (256 * index) entries) le)
+
+module _ (digest : List ℕ → List ℕ) (hash : IsDigest digest) (entries : List (List ℕ)) (short : AreShort entries) where
+  -- a full file begins with the partial file
+  pub full_begins : (n : ℕ) (path : Path) → IsWithin n path →
+      GoesOn path (true_bytes digest entries path) (true_bytes digest entries (full_of path))
+  full_begins n Checkpoint within = absurd within
+  full_begins n (Tile level index width) within =
+      let full = tile_bytes digest entries level index 256 in
+      let row = (served_is_read digest hash entries short).tile level index 256 in
+      record {
+        rest = drop (32 * width) full;
+        bytes_are = sym (take-append-drop (32 * width) full)
+            ∙ ap (λ (l : List ℕ). l ++ drop (32 * width) full)
+            (tile_cut digest hash entries level index width full within.upto refl);
+        long = length-row_text (level_row digest entries level (256 * index) 256) row.sizes ∙ ap (λ k. 32 * k) row.count;
+      }
+  full_begins n (Entries index width) within =
+      let es = part (256 * index) 256 entries in
+      record {
+        rest = bundle_text (drop width es);
+        bytes_are = ap bundle_text (sym (take-append-drop width es))
+            ∙ (flat_map-append entry_text (take width es) (drop width es)
+            ∙ ap (λ (l : List ℕ). l ++ bundle_text (drop width es)) (bundle_cut entries index width within.upto));
+        long = tt;
+      }

@@ -1,13 +1,14 @@
--- An answer is put where none was kept.
-use Rattle.std.proofs.Common.{◌≡◌, ◌≢◌, inl, inr, ℕ, ◌<◌, List, length, get_or, None, sym, subst, ap, ◌∙◌, arith}
+-- An answer is put where none was kept. The others stay.
+use Rattle.std.proofs.Common.{◌≡◌, ◌≢◌, inl, inr, ℕ, ◌<◌, List, [], ◌∷◌, ◌++◌, length, get_or, Option, None, Some, refl, sym, subst, ap, ◌∙◌, arith, length-append}
+use Rattle.std.specs.Prelude.{IfSome}
 use Rattle.std.proofs.Math.ListN.{set}
 use Rattle.std.proofs.lemmas.Bool.{cases_order}
-use Rattle.std.proofs.lemmas.List.{get_or_default, length-set, get_or-set_same, get_or-set_other}
+use Rattle.std.proofs.lemmas.List.{get_or_append_left, get_or_default, length-set, get_or-set_same, get_or-set_other}
 use Rattle.tlog_tiles.specs.declared.paths.Path.{Path}
 use Rattle.mirror_places.specs.declared.end_tiles.EndTile.{EndTile}
 use Rattle.mirror_places.specs.declared.end_tiles.EndTiles.{EndTiles}
 use Rattle.mirror_places.specs.declared.place.PlaceAnswer.{PlaceAnswer}
-use Rattle.mirror_places.specs.EndTiles.{IsEmpty, IsHeard, IsKeptAnswer, KeepsAnswers, said}
+use Rattle.mirror_places.specs.EndTiles.{AnswersStay, IsEmpty, IsHeard, IsKeptAnswer, KeepsAnswers, OthersStay, said}
 
 module _ (tiles : List EndTile) (i : ℕ) (old new : EndTile) (lt : i < length tiles) (is : old ≡ get_or tiles i old)
     (place : new.place ≡ old.place) (path_is : new.path ≡ old.path) where
@@ -56,3 +57,52 @@ set_keeps x y i old new lt sizes tiles place path is empty = record {
   answers = λ k p answer some h. subst (λ (ts : List EndTile). IsKeptAnswer ts k p answer) (sym tiles)
       (still_kept x.tiles.items i old new lt is place path empty k p answer some h);
 }
+
+-- ---- the others stay
+
+pub answers_same : (tiles : List EndTile) → AnswersStay tiles tiles
+answers_same tiles = record { more = omega arith; same = λ at lt d. refl }
+
+pub answers_then : (x y z : List EndTile) → AnswersStay x y → AnswersStay y z → AnswersStay x z
+answers_then x y z p q =
+    let first = p.more in
+    let second = q.more in
+    record {
+      more = omega (arith, first, second);
+      same = λ at lt d. q.same at (omega (arith, lt, first)) d ∙ p.same at lt d;
+    }
+
+-- one more answer is noted
+pub answers_more : (tiles : List EndTile) (tile : EndTile) → AnswersStay tiles (tiles ++ tile ∷ [])
+answers_more tiles tile =
+    let long = length-append tiles (tile ∷ []) in
+    record {
+      more = omega (arith, long);
+      same = λ at lt d. get_or_append_left tiles (tile ∷ []) d at lt;
+    }
+
+pub others_same : (but : Option ℕ) (tiles : List EndTile) → OthersStay but tiles tiles
+others_same but tiles = record { more = omega arith; same = λ at ne lt d. refl }
+
+pub others_set : (tiles : List EndTile) (i : ℕ) (tile : EndTile) → OthersStay (Some i) tiles (set tiles i tile)
+others_set tiles i tile =
+    let long = length-set tiles i tile in
+    record {
+      more = omega (arith, long);
+      same = λ at ne lt d. get_or-set_other tiles i at tile d (λ e. ne (ap Some (sym e)));
+    }
+
+-- an answer was noted after the others, and was put there
+pub answers_put : (but : Option ℕ) (x y z : List EndTile) → AnswersStay x y → IfSome but (λ i. i ≡ length x) →
+    OthersStay but y z → AnswersStay x z
+answers_put but x y z p last q =
+    let first = p.more in
+    let second = q.more in
+    record {
+      more = omega (arith, first, second);
+      same = λ at lt d. q.same at (other but last at lt) (omega (arith, lt, first)) d ∙ p.same at lt d;
+    }
+  where
+    other : (but : Option ℕ) → IfSome but (λ i. i ≡ length x) → (at : ℕ) → at < length x → but ≢ Some at
+    other None last at lt e = absurd (cc e)
+    other (Some i) last at lt e = let same : i ≡ at = cc e in omega (arith, lt, last, same)

@@ -43,6 +43,16 @@ pub record IsKeptAnswer (tiles : List EndTile) (k : ℕ) (path : Path) (answer :
   pub tile : IsTileOf tiles k path at
   pub says : (d : EndTile) → said (get_or tiles at d).answer ≡ said answer
 
+-- the answers that were there are there as they were, also those that say that the place failed
+pub record AnswersStay (old new : List EndTile) : Type 0 where
+  pub more : length old ≤ length new
+  pub same : (at : ℕ) → at < length old → (d : EndTile) → get_or new at d ≡ get_or old at d
+
+-- all of them but the one at that index
+pub record OthersStay (but : Option ℕ) (old new : List EndTile) : Type 0 where
+  pub more : length old ≤ length new
+  pub same : (at : ℕ) → but ≢ Some at → at < length old → (d : EndTile) → get_or new at d ≡ get_or old at d
+
 -- if the path is that of such a tile, the answer of the place is kept
 abbrev pub IsKept : {S : Type 0} → Places S → ℕ → Path → Type 0
 IsKept places k path = IsEndTile places.ends.sizes path → IsHeard places.ends.tiles.items k path

@@ -1,6 +1,6 @@
 //! The tiles in which two trees end, as places answered for them.
-ghost use Rattle.std.specs.Prelude.{◌≡◌, ◌↔◌, [], ℕ, IfNone, IfOk, IfSome, IsSomeAnd, IsTrue, OnOk};
-ghost use Rattle.mirror_places.specs.EndTiles.{IsEmpty, IsEndTile, IsHeard, IsKeptAnswer, IsTileOf, KeepsAnswers, said};
+ghost use Rattle.std.specs.Prelude.{◌≡◌, ◌↔◌, [], ℕ, IfNone, IfOk, IfSome, IsSomeAnd, IsTrue, OnOk, length};
+ghost use Rattle.mirror_places.specs.EndTiles.{AnswersStay, IsEmpty, IsEndTile, IsHeard, IsKeptAnswer, IsTileOf, KeepsAnswers, OthersStay, said};
 
 use crate::place::PlaceAnswer;
 use std::alloc::{AllocError, Global};
@@ -84,6 +84,8 @@ impl EndTiles {
         ensures place { IfOk result (λ at. IsEndTile self.old.sizes path.now
             → IsSomeAnd at (IsTileOf self.new.tiles.items place path.now)) }
         ensures empty { IfOk result (λ at. IfSome at (IsEmpty self.new.tiles.items)) }
+        ensures stay { AnswersStay self.old.tiles.items self.new.tiles.items }
+        ensures last { IfOk result (λ at. IfSome at (λ i. i ≡ length self.old.tiles.items)) }
     {
         if !is_end_tile(self.sizes, path) {
             return Ok(None);
@@ -104,6 +106,7 @@ impl EndTiles {
         ensures answer { OnOk result (IfSome at (λ i. (k : ℕ) (path : Path)
             → IsTileOf self.old.tiles.items k path i
             → IsKeptAnswer self.new.tiles.items k path answer.now)) }
+        ensures stay { OthersStay at self.old.tiles.items self.new.tiles.items }
     {
         if let Some(i) = at {
             let copy = copy_of(self.alloc, answer)?;

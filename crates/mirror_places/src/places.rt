@@ -2,7 +2,7 @@
 ghost use Rattle.std.specs.Prelude.{◌≡◌, ◌∷◌, ◌++◌, [], ◌<◌, ℕ, IfOk, IsFalse, IsSome, MatchResult, None, Some, get_or, length};
 ghost use Rattle.mirror_places.specs.Asked.{IsAskedInTurn};
 ghost use Rattle.mirror_places.specs.AskedOnce.{AsksEachOnce, AsksMore, AsksOnce, IsAtPlace};
-ghost use Rattle.mirror_places.specs.EndTiles.{IsEndTile, IsKeptAnswer};
+ghost use Rattle.mirror_places.specs.EndTiles.{AnswersStay, IsEndTile, IsKeptAnswer};
 ghost use Rattle.mirror_places.specs.PlaceGets.{AnswersEnd, AnswersGet, AsksPlaces, NotesFailure};
 ghost use Rattle.mirror_places.specs.declared.place.Place.{Place};
 
@@ -131,6 +131,7 @@ impl<S: Source + Drop> Places<S> {
             (get_or self.old.list.items index d) (get_or self.new.list.items index d) }
         ensures kept { IfOk result (λ answer. IsEndTile self.old.ends.sizes path.now
             → IsKeptAnswer self.new.ends.tiles.items index path.now answer) }
+        ensures stay { AnswersStay self.old.ends.tiles.items self.new.ends.tiles.items }
     {
         let at = self.ends.note(index, path)?;
         let answer = self.ask(index, path)?;
@@ -152,6 +153,9 @@ impl<S: Source + Drop> Places<S> {
         ensures more { AsksMore S.asked self.old self.new }
         ensures answer { IfOk result
             (AnswersEnd S.may_answer index path.now self.old self.new) }
+        ensures kept { IfOk result
+            (IsKeptAnswer self.new.ends.tiles.items index path.now) }
+        ensures stay { AnswersStay self.old.ends.tiles.items self.new.ends.tiles.items }
     {
         match self.ends.find(index, path)? {
             Some(answer) => Ok(answer),

@@ -1,5 +1,5 @@
 use Rattle.std.proofs.Common.{◌<◌, arith, length, refl}
-use Rattle.mirror_places.proofs.KeptAnswers.{set_keeps}
+use Rattle.mirror_places.proofs.KeptAnswers.{others_set, set_keeps}
 use Rattle.mirror_places.proofs.end_tiles.EndTiles.keep.Goals as goal
 
 pub returns-then-i-len-clause-kept : goal.returns-then-i-len-clause-kept
@@ -8,3 +8,7 @@ returns-then-i-len-clause-kept c =
     let long = c.len.ensures in let less = c.if-i-len.true in omega (arith, long, less) in
     set_keeps c.args.self.now _ c.in-Some.i c.index_mut.result.now _ within refl refl refl refl
     c.index_mut.ensures.value (rw c.in-Some.is at c.requires)
+
+pub returns-then-i-len-clause-stay : goal.returns-then-i-len-clause-stay
+returns-then-i-len-clause-stay c =
+    rw c.in-Some.is (others_set c.args.self.now.tiles.items c.in-Some.i _)

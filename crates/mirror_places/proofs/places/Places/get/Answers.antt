@@ -1,5 +1,8 @@
-use Rattle.std.proofs.Common.{◌≡◌}
+use Rattle.std.proofs.Common.{◌≡◌, subst, sym}
 use Rattle.mirror_places.specs.AskedOnce.{IsAtPlace}
+use Rattle.mirror_places.specs.EndTiles.{AnswersStay}
+use Rattle.mirror_places.specs.declared.end_tiles.EndTiles.{EndTiles}
+use Rattle.mirror_places.proofs.KeptAnswers.{answers_put}
 use Rattle.mirror_places.proofs.Getting.{got_asks, got_once, kept_asks, kept_once, noted_asks, noted_once}
 use Rattle.mirror_places.proofs.places.Places.get.Goals as goal
 
@@ -44,3 +47,13 @@ returns-clause-once g c =
     kept_once g.S.Source.may_answer g.S.Source.failed g.S.Source.asked c.args.index c.args.path.now c.args.self.now c.note.new.self
     c.ask.new.self c.keep.new.self c.note.ensures.kept c.in_ok-at.ensures.heard c.ask.ensures.ends c.ask.ensures.once
     c.keep.ensures.kept
+
+pub returns-in_err-keep-clause-stay : goal.returns-in_err-keep-clause-stay
+returns-in_err-keep-clause-stay g c =
+    answers_put c.in_ok-at.at c.args.self.now.ends.tiles.items c.ask.new.self.ends.tiles.items c.keep.new.self.tiles.items
+    (subst (λ (e : EndTiles). AnswersStay c.args.self.now.ends.tiles.items e.tiles.items) (sym c.ask.ensures.ends) c.note.ensures.stay) c.in_ok-at.ensures.last c.keep.ensures.stay
+
+pub returns-clause-stay : goal.returns-clause-stay
+returns-clause-stay g c =
+    answers_put c.in_ok-at.at c.args.self.now.ends.tiles.items c.ask.new.self.ends.tiles.items c.keep.new.self.tiles.items
+    (subst (λ (e : EndTiles). AnswersStay c.args.self.now.ends.tiles.items e.tiles.items) (sym c.ask.ensures.ends) c.note.ensures.stay) c.in_ok-at.ensures.last c.keep.ensures.stay
