@@ -1,13 +1,19 @@
 -- A proof that a reader gave shows a fork if its first root differs.
-use Rattle.std.proofs.Common.{◌≡◌, ℕ, ◌<◌, List, Option, Some, None, sym, subst, arith}
+use Rattle.std.proofs.Common.{◌≡◌, ℕ, ◌<◌, List, length, take, Option, Some, None, Result, Ok, Err, sym, subst, arith}
+use Rattle.std.proofs.lemmas.List.{length-take-le}
 use Rattle.std.specs.Prelude.{IfNone, IfSome}
+use Rattle.tlog_text.specs.Answers.{seen}
+use Rattle.tlog_hash.specs.Tree.{mth}
 use Rattle.tlog_proof.specs.Text.{HasHashes}
-use Rattle.tlog_proof.specs.Made.{Holds}
+use Rattle.tlog_proof.specs.Made.{Holds, asked_proof, consistency_in}
+use Rattle.tlog_proof.specs.declared.make.ProofFault.{ProofFault}
+use Rattle.tlog_proof.specs.declared.proof.Ask.TheVariants.{Consistency as AskConsistency}
 use Rattle.tlog_proof.specs.declared.proof.Proof.{Proof}
 use Rattle.tlog_proof.specs.declared.proof.Proof.TheVariants.{Inclusion, Consistency}
 use Rattle.log_reader.specs.Proving.{IsConsistencyTo}
 use Rattle.mirror_candidates.specs.Agreeing.{Agrees}
 use Rattle.mirror_candidates.specs.Checked.{HasFirstRoot}
+use Rattle.mirror_candidates.specs.Forks.{HasPoint}
 use Rattle.mirror_candidates.specs.Shown.{ShowsLarger}
 use Rattle.mirror_candidates.specs.Candidates.{point_of}
 use Rattle.mirror_candidates.specs.declared.candidate.Candidate.{Candidate}
@@ -59,3 +65,28 @@ module _ (digest : List ℕ → List ℕ) (small large : Candidate) (lt : small.
         Agrees digest (point_of small) (point_of large)
     checked_agree None none is = agrees proof asked held hashes none
     checked_agree (Some p) none is = absurd (cc is)
+
+-- ---- a proof that was made from a log
+
+module _ (digest : List ℕ → List ℕ) (entries : List (List ℕ)) where
+  -- its first root is the tree hash of the first entries
+  first_root_is : (first second : ℕ) (proof : Proof) (root : List ℕ) (r : Result (List (List ℕ)) ProofFault) →
+      seen (λ path. Consistency first (mth digest (take first entries)) second (mth digest (take second entries)) path) r
+      ≡ Ok proof → HasFirstRoot root proof → mth digest (take first entries) ≡ root
+  first_root_is first second proof root (Ok path) is has =
+      let same : proof ≡ Consistency first (mth digest (take first entries)) second (mth digest (take second entries)) path =
+      sym (cc is) in
+      subst (HasFirstRoot root) same has
+  first_root_is first second proof root (Err fault) is has = absurd (cc is)
+
+  -- so if it is the smaller root, the first entries have the smaller point
+  pub first_agrees : (small : Candidate) (second : ℕ) → small.size.0 < second → length entries ≡ second → (proof : Proof) →
+      asked_proof digest entries (AskConsistency small.size.0 (length entries)) ≡ Ok proof → (found : Option Proof) →
+      IfNone found (HasFirstRoot small.root proof) → found ≡ None →
+      HasPoint digest (point_of small) (take small.size.0 entries)
+  first_agrees small second less long proof asked None none is = record {
+    size_is = length-take-le small.size.0 entries (omega (arith, less, long));
+    root_is = first_root_is small.size.0 (length entries) proof small.root
+        (consistency_in digest entries small.size.0 (length entries)) asked none;
+  }
+  first_agrees small second less long proof asked (Some p) none is = absurd (cc is)

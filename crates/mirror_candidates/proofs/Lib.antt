@@ -10,4 +10,5 @@ pub mod Checked
 pub mod Shown
 pub mod Points
 pub mod LineLists
+pub mod TrueFiles
 pub mod Lines

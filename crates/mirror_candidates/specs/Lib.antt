@@ -8,3 +8,4 @@ pub mod Checked
 pub mod Shown
 pub mod Lines
 pub mod Adding
+pub mod TrueFiles

@@ -1,9 +1,10 @@
 //! The files of a log for a proof, read into memory.
-ghost use Rattle.std.specs.Prelude.{◌<◌, ◌≤◌, ℕ, All, IfOk, OnOk, length};
+ghost use Rattle.std.specs.Prelude.{◌≡◌, ◌<◌, ◌≤◌, ◌∷◌, ◌++◌, [], ℕ, All, IfOk, IfSome, OnOk, length, option_map};
 ghost use Rattle.tlog_tiles.specs.declared.paths.Path.TheVariants.{Tile};
 ghost use Rattle.mirror_places.specs.AskedOnce.{AsksMore};
-ghost use Rattle.mirror_places.specs.EndTiles.{IsEndTile};
+ghost use Rattle.mirror_places.specs.EndTiles.{AnswersStay, IsEndTile, IsKeptAnswer};
 ghost use Rattle.mirror_candidates.specs.Requests.{AsksAny};
+ghost use Rattle.mirror_candidates.specs.TrueFiles.{AddsAsKept, AreAsKept, IsReadAt};
 
 use mirror_places::{PlaceAnswer, Places, full_of};
 use mirror_sources::{Source, SourceFault};
@@ -11,52 +12,82 @@ use std::alloc::{AllocError, Global};
 use tlog_shape::{edge_index, edge_width};
 use tlog_tiles::Path;
 
-/// The files that were read, each with its path.
+/// What was found at a path. None: there is no file.
+#[derive(Drop)]
+pub(crate) struct ReadFile {
+    path: Path,
+    found: Option<Vec<u8>>,
+}
+
+/// The files that were read. A get of another path fails.
 #[derive(Drop)]
 pub(crate) struct ReadFiles {
     alloc: Global,
-    files: Vec<(Path, Vec<u8>)>,
+    files: Vec<ReadFile>,
+    failures: u64,
 }
 
-// The bytes of the file at a path.
-fn bytes_at<'a>(files: &'a [(Path, Vec<u8>)], path: &Path) -> Option<&'a [u8]> {
-    let mut found: Option<&'a [u8]> = None;
-    for file in files {
-        if file.0 == *path {
-            found = Some(file.1.as_slice());
+// A copy of what was found.
+fn copy_of(alloc: Global, found: &Option<Vec<u8>>) -> Result<Option<Vec<u8>>, AllocError>
+    ensures { IfOk result (λ copy. option_map (λ b. b.items) copy
+        ≡ option_map (λ b. b.items) found.now) }
+{
+    match found {
+        Some(bytes) => Ok(Some(Vec::from_slice(alloc, bytes)?)),
+        None => Ok(None),
+    }
+}
+
+// The index of the file at a path. None: it was not read.
+fn index_of(files: &[ReadFile], path: &Path) -> Option<usize>
+    ensures { IfSome result (IsReadAt files.now path.now) }
+{
+    for i in 0..files.len() {
+        if files[i].path == *path {
+            return Some(i);
         }
     }
-    found
+    None
 }
 
 impl Source for ReadFiles {
-    ghost failed = { λ _. 0 };
+    ghost use Rattle.mirror_candidates.specs.TrueFiles.{IsRead};
+
+    ghost may_answer = { λ s. IsRead s.files.items };
+
+    ghost failed = { λ s. s.failures };
 
     fn get(&mut self, path: &Path) -> Result<Option<Vec<u8>>, SourceFault> {
-        match bytes_at(&self.files, path) {
-            Some(bytes) => match Vec::from_slice(self.alloc, bytes) {
-                Ok(copy) => Ok(Some(copy)),
-                Err(_) => Err(SourceFault::OutOfMemory),
-            },
-            None => Ok(None),
+        match index_of(&self.files, path) {
+            Some(i) => Ok(copy_of(self.alloc, &self.files[i].found)?),
+            None => {
+                self.failures = self.failures.saturating_add(1);
+                Err(SourceFault::Failed)
+            }
         }
     }
 
     fn failures(&self) -> u64 {
-        0
+        self.failures
     }
 }
 
 impl ReadFiles {
-    fn new(alloc: Global) -> ReadFiles {
+    fn new(alloc: Global) -> ReadFiles
+        ensures { result.files.items ≡ [] }
+    {
         ReadFiles {
             alloc,
             files: Vec::new(alloc),
+            failures: 0,
         }
     }
 
-    fn add(&mut self, path: Path, bytes: Vec<u8>) -> Result<(), AllocError> {
-        self.files.push((path, bytes))?;
+    fn add(&mut self, path: Path, found: Option<Vec<u8>>) -> Result<(), AllocError>
+        ensures { OnOk result (self.new.files.items ≡ self.old.files.items
+            ++ record { path = path; found = found } ∷ []) }
+    {
+        self.files.push(ReadFile { path, found })?;
         Ok(())
     }
 }
@@ -115,11 +146,40 @@ fn get_file<S: Source + Drop>(
     requires end { IsEndTile places.old.ends.sizes path.now }
     ensures asks { AsksAny S.may_answer S.failed S.asked places.old places.new }
     ensures more { AsksMore S.asked places.old places.new }
+    ensures kept { IfOk result (IsKeptAnswer places.new.ends.tiles.items index path.now) }
+    ensures stay { AnswersStay places.old.ends.tiles.items places.new.ends.tiles.items }
 {
     places.end_tile(index, path)
 }
 
-// Gets the file at a path from a place. If the place lacks a partial file, gets its full file.
+// Gets the full file of a path that a place lacks, if the path is partial.
+fn ask_full<S: Source + Drop>(
+    places: &mut Places<S>,
+    index: usize,
+    path: &Path,
+    read: &mut ReadFiles,
+) -> Result<(), AllocError>
+    requires place { index < length places.old.list.items }
+    requires end { IsEndTile places.old.ends.sizes path.now }
+    ensures asks { AsksAny S.may_answer S.failed S.asked places.old places.new }
+    ensures more { AsksMore S.asked places.old places.new }
+    ensures stay { AnswersStay places.old.ends.tiles.items places.new.ends.tiles.items }
+    ensures as_kept { OnOk result (AddsAsKept places.new.ends.tiles.items index
+        read.old.files.items read.new.files.items) }
+{
+    let full = full_of(path);
+    if full == *path {
+        return Ok(());
+    }
+    match get_file(places, index, &full)? {
+        PlaceAnswer::File(bytes) => read.add(full, Some(bytes)),
+        PlaceAnswer::NotFound => read.add(full, None),
+        PlaceAnswer::Failed => read.add(full, None),
+    }
+}
+
+// Gets the file at a path from a place. If the place lacks a partial file, gets its full file. A place that failed counts as one that
+// lacks both.
 fn ask_file<S: Source + Drop>(
     places: &mut Places<S>,
     index: usize,
@@ -130,20 +190,20 @@ fn ask_file<S: Source + Drop>(
     requires end { IsEndTile places.old.ends.sizes path.now }
     ensures asks { AsksAny S.may_answer S.failed S.asked places.old places.new }
     ensures more { AsksMore S.asked places.old places.new }
+    ensures stay { AnswersStay places.old.ends.tiles.items places.new.ends.tiles.items }
+    ensures as_kept { OnOk result (AddsAsKept places.new.ends.tiles.items index
+        read.old.files.items read.new.files.items) }
 {
     match get_file(places, index, path)? {
-        PlaceAnswer::File(bytes) => return read.add(*path, bytes),
-        PlaceAnswer::NotFound => {}
-        PlaceAnswer::Failed => return Ok(()),
-    }
-    let full = full_of(path);
-    if full == *path {
-        return Ok(());
-    }
-    match get_file(places, index, &full)? {
-        PlaceAnswer::File(bytes) => read.add(full, bytes),
-        PlaceAnswer::NotFound => Ok(()),
-        PlaceAnswer::Failed => Ok(()),
+        PlaceAnswer::File(bytes) => read.add(*path, Some(bytes)),
+        PlaceAnswer::NotFound => {
+            read.add(*path, None)?;
+            ask_full(places, index, path, read)
+        }
+        PlaceAnswer::Failed => {
+            read.add(*path, None)?;
+            read.add(full_of(path), None)
+        }
     }
 }
 
@@ -159,6 +219,9 @@ pub(crate) fn ask_files<S: Source + Drop>(
     requires ends { All (IsEndTile places.old.ends.sizes) paths.now }
     ensures asks { AsksAny S.may_answer S.failed S.asked places.old places.new }
     ensures more { AsksMore S.asked places.old places.new }
+    ensures stay { AnswersStay places.old.ends.tiles.items places.new.ends.tiles.items }
+    ensures as_kept { IfOk result
+        (λ read. AreAsKept places.new.ends.tiles.items index read.files.items) }
 {
     let mut read = ReadFiles::new(alloc);
     for path in paths {

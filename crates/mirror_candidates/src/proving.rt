@@ -1,8 +1,9 @@
 //! Proofs of forks.
-ghost use Rattle.std.specs.Prelude.{◌≡◌, ◌↔◌, ◌<◌, All, IfNone, IfOk, IfSome, IsTrue, None, Some, length, ⊤};
+ghost use Rattle.std.specs.Prelude.{◌≡◌, ◌↔◌, ◌<◌, ℕ, All, IfNone, IfOk, IfSome, IsTrue, None, Ok, Some, length, take, ⊤};
 ghost use Rattle.std.specs.List.{AllByRecursion};
 ghost use Rattle.tlog_text.specs.Hash.{Is32Bytes};
-ghost use Rattle.tlog_proof.specs.Made.{Holds};
+ghost use Rattle.tlog_proof.specs.Made.{Holds, asked_proof};
+ghost use Rattle.tlog_proof.specs.declared.proof.Ask.TheVariants.{Consistency};
 ghost use Rattle.tlog_proof.specs.Text.{HasHashes};
 ghost use Rattle.mirror_sources.specs.Source.{StaysWithin};
 ghost use Rattle.mirror_sources.specs.Recorded.{KeepsRecord};
@@ -10,12 +11,14 @@ ghost use Rattle.log_reader.specs.Faults.{CountsFailure};
 ghost use Rattle.log_reader.specs.Holding.{ReadsLog};
 ghost use Rattle.log_reader.specs.Proving.{IsConsistencyTo};
 ghost use Rattle.mirror_places.specs.AskedOnce.{AsksMore};
-ghost use Rattle.mirror_places.specs.EndTiles.{IsEndTile};
+ghost use Rattle.mirror_places.specs.EndTiles.{AnswersStay, IsEndTile};
 ghost use Rattle.mirror_candidates.specs.Agreeing.{Agrees};
 ghost use Rattle.mirror_candidates.specs.Candidates.{point_of};
 ghost use Rattle.mirror_candidates.specs.Checked.{HasFirstRoot};
+ghost use Rattle.mirror_candidates.specs.Forks.{HasPoint};
 ghost use Rattle.mirror_candidates.specs.Requests.{AsksAny};
 ghost use Rattle.mirror_candidates.specs.Shown.{ShowsLarger};
+ghost use Rattle.mirror_candidates.specs.TrueFiles.{ShowsAgreement};
 
 use crate::candidate::Candidate;
 use crate::files::{ReadFiles, ask_files, proof_paths};
@@ -95,7 +98,8 @@ fn log_proof<H: TreeHash, S: Source>(
     ensures kept { KeepsRecord (S.files files.old) (S.files files.new) }
     ensures counted { CountsFailure (S.failed files.old) (S.failed files.new) result }
     ensures honest { ReadsLog H.digest large.now.size.0 large.now.root (S.may_answer files.old)
-        result (λ _ _. ⊤) }
+        result (λ entries proof. asked_proof H.digest entries (Consistency first (length entries))
+        ≡ Ok proof) }
     ensures asked { IfOk result (IsConsistencyTo first large.now.size.0 large.now.root) }
     ensures holds { IfOk result (Holds H.digest) }
 {
@@ -134,6 +138,9 @@ fn checked_proof<H: TreeHash, S: Source>(
         (λ proof. ShowsLarger H.digest small.now large.now (Some proof))) }
     ensures agrees { IfOk result (λ found. found ≡ None
         → Agrees H.digest (point_of small.now) (point_of large.now)) }
+    ensures first { ReadsLog H.digest large.now.size.0 large.now.root (S.may_answer files.old)
+        result (λ entries found. found ≡ None
+        → HasPoint H.digest (point_of small.now) (take small.now.size.0 entries)) }
 {
     match log_proof::<H, S>(alloc, files, small.size.0, large) {
         Ok(proof) => Ok(differing(proof, &small.root)),
@@ -168,6 +175,10 @@ pub fn fork_proof<H: TreeHash, S: Source>(
     ensures agrees { IfOk result (λ found. found ≡ None → 0 < small.now.size.0
         → small.now.size.0 < large.now.size.0
         → Agrees H.digest (point_of small.now) (point_of large.now)) }
+    ensures first { ReadsLog H.digest large.now.size.0 large.now.root (S.may_answer files.old)
+        result (λ entries found. found ≡ None → 0 < small.now.size.0
+        → small.now.size.0 < large.now.size.0
+        → HasPoint H.digest (point_of small.now) (take small.now.size.0 entries)) }
 {
     if small.size.0 == 0 || small.size.0 >= large.size.0 {
         return Ok(None);
@@ -176,7 +187,7 @@ pub fn fork_proof<H: TreeHash, S: Source>(
 }
 
 // The proof that the larger candidate contradicts the smaller one, made from those files of a place. None: the place lacks them, or
-// there is no such proof.
+// there is no such proof. The fault `Source`: other files are needed.
 fn place_proof<H: TreeHash, S: Source + Drop>(
     alloc: Global,
     places: &mut Places<S>,
@@ -184,24 +195,34 @@ fn place_proof<H: TreeHash, S: Source + Drop>(
     paths: &[Path],
     smaller: &Candidate,
     larger: &Candidate,
-) -> Result<Option<Proof>, AllocError>
+) -> Result<Option<Proof>, ReadFault>
     requires place { index < length places.old.list.items }
     requires ends { All (IsEndTile places.old.ends.sizes) paths.now }
     ensures asks { AsksAny S.may_answer S.failed S.asked places.old places.new }
     ensures more { AsksMore S.asked places.old places.new }
     ensures proof { IfOk result (λ found. IfSome found
         (λ proof. ShowsLarger H.digest smaller.now larger.now (Some proof))) }
+    ensures stay { AnswersStay places.old.ends.tiles.items places.new.ends.tiles.items }
+    ensures agrees { IfOk result (λ found. found ≡ None → 0 < smaller.now.size.0
+        → smaller.now.size.0 < larger.now.size.0
+        → ShowsAgreement H.digest places.new.ends.tiles.items index (point_of smaller.now)
+        (point_of larger.now)) }
 {
     let mut files = ask_files(alloc, places, index, paths)?;
     match fork_proof::<H, ReadFiles>(alloc, &mut files, smaller, larger) {
         Ok(found) => Ok(found),
-        Err(ReadFault::OutOfMemory) => Err(AllocError),
-        Err(_) => Ok(None),
+        Err(ReadFault::NoFile(_)) => Ok(None),
+        Err(ReadFault::FalseFile(_)) => Ok(None),
+        Err(ReadFault::Collision) => Ok(None),
+        Err(fault) => Err(fault),
     }
 }
 
-/// The proof that a larger candidate contradicts a smaller one, made from files of one of the places. None: no place has these files. For
-/// what a place was asked when a copy was brought from the one to the other, its answer is used.
+/// The proof that a larger candidate contradicts a smaller one, made from files of one of the places. For what a place was asked when a
+/// copy was brought from the one to the other, its answer is used.
+///
+/// None: no place has these files, or they show no fork. If the kept answers of a place are true of a log that has the larger candidate,
+/// that log has the smaller one too.
 ///
 /// ```text
 /// ask_proof::<Sha256Tree, ListSource<Sha256Tree>>(alloc, &mut places, &copy, &larger)? // Some(proof): no log has both
@@ -209,17 +230,22 @@ fn place_proof<H: TreeHash, S: Source + Drop>(
 ///
 /// # Errors
 ///
-/// `AllocError`: memory was refused.
+/// - `OutOfMemory`: memory was refused.
+/// - `Source`: the proof needs other files than those of the sizes `ends`.
 pub fn ask_proof<H: TreeHash, S: Source + Drop>(
     alloc: Global,
     places: &mut Places<S>,
     smaller: &Candidate,
     larger: &Candidate,
-) -> Result<Option<Proof>, AllocError>
+) -> Result<Option<Proof>, ReadFault>
     ensures asks { AsksAny S.may_answer S.failed S.asked places.old places.new }
     ensures more { AsksMore S.asked places.old places.new }
     ensures proof { IfOk result (λ found. IfSome found
         (λ proof. ShowsLarger H.digest smaller.now larger.now (Some proof))) }
+    ensures agrees { IfOk result (λ found. found ≡ None → 0 < smaller.now.size.0
+        → smaller.now.size.0 < larger.now.size.0 → (k : ℕ) → k < length places.old.list.items
+        → ShowsAgreement H.digest places.new.ends.tiles.items k (point_of smaller.now)
+        (point_of larger.now)) }
 {
     let (first, size) = places.ends();
     let paths = proof_paths(alloc, first, size)?;

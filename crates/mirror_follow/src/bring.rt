@@ -20,6 +20,7 @@ ghost use Rattle.mirror_follow.specs.Taken.{IsLargerThan, SaysTurn};
 
 use crate::fault::FollowFault;
 use crate::run::Outcome;
+use log_reader::ReadFault;
 use mirror_candidates::{Candidate, ask_proof};
 use mirror_copy::{BringFault, bring_copy};
 use mirror_folders::ReadableShelf;
@@ -119,9 +120,11 @@ fn contradict<H: TreeHash, S: Source + Drop>(
     ensures shows { IfOk result (ShowsTurn H.digest (Some copy.now) candidate.now) }
     ensures says { IfOk result (SaysTurn H.digest (Some copy.now) candidate.now) }
 {
-    match ask_proof::<H, S>(alloc, places, copy, candidate)? {
-        Some(proof) => Ok(Outcome::Forks(Some(proof))),
-        None => Ok(Outcome::Contradicts),
+    match ask_proof::<H, S>(alloc, places, copy, candidate) {
+        Ok(Some(proof)) => Ok(Outcome::Forks(Some(proof))),
+        Ok(None) => Ok(Outcome::Contradicts),
+        Err(ReadFault::OutOfMemory) => Err(AllocError),
+        Err(_) => Ok(Outcome::Contradicts),
     }
 }
 
