@@ -27,7 +27,7 @@ refused() {
     local name=$1 status=0
     shift
     "$program" "$@" 2>fault || status=$?
-    if [ "$status" != 1 ] || ! printf 'tlogmirror: %s\n' "$name" | cmp - fault; then
+    if [ "$status" != 1 ] || [ "$(tail -n 1 fault)" != "tlogmirror: $name" ]; then
         echo "tlogmirror $1 ended with status $status, where it is to be refused by $name" >&2
         exit 1
     fi

@@ -7,6 +7,7 @@
 package main
 
 import (
+	"crypto/sha256"
 	"fmt"
 	"log"
 	"os"
@@ -63,6 +64,10 @@ func main() {
 	other, largerSize, largerRoot := open(os.Args[3], key)
 	if origin != other {
 		log.Fatal("the notes are of two logs")
+	}
+	if root != tlog.Hash(sha256.Sum256(nil)) && size == 0 {
+		fmt.Printf("fork: the log signed %v for no entries\n", root)
+		return
 	}
 	if len(os.Args) == 4 {
 		if size != largerSize || root == largerRoot {

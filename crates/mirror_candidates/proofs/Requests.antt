@@ -54,6 +54,7 @@ module _ {S : Type 0} (may : S → Path → Option (List ℕ) → Type 0) (faile
       let n = (q.each f.index f.none).more in
       record {
         index = f.index;
+        listed = subst (λ n. f.index < n) p.count f.listed;
         none = f.none;
         failed = elim f.failed [
           | inl rose ↦ inl (omega (arith, m, rose))
@@ -69,6 +70,7 @@ module _ {S : Type 0} (may : S → Path → Option (List ℕ) → Type 0) (faile
       let n = (q.each f.index f.none).more in
       record {
         index = f.index;
+        listed = f.listed;
         none = f.none;
         failed = elim f.failed [
           | inl rose ↦ inl (omega (arith, rose, n))
@@ -100,6 +102,7 @@ module _ {S : Type 0} (may : S → Path → Option (List ℕ) → Type 0) (faile
       let d = some_place x.list.items i lt in
       record {
         index = i;
+        listed = lt;
         none = d;
         failed = subst (λ b. AnswersGet (may (get_or x.list.items i d).source) Checkpoint
             (get_or x.list.items i d).failures (get_or y.list.items i d).failures b) is (h d);

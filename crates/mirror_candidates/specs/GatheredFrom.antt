@@ -57,8 +57,8 @@ module _ {S : Type 0} (may : S → Path → Option (List ℕ) → Type 0) where
       pub gave : (note : List ℕ) → Gave answers note → MayGive may old note
       pub failed : Contains answers Failed → PlaceFails old new
 
-    -- each place got a request, no answer is a note that opens, and the fault is the reason of the first place. For an empty
-    -- list of places it is NoCheckpoint
+    -- each place answered, failed or had been given up. No answer is a note that opens, and the fault is the reason of the first
+    -- place. For an empty list of places it is NoCheckpoint
     pub record GiveNone (fault : CandidateFault) : Type 0 where
       pub answers : List PlaceAnswer
       pub answer_each : AnswerEach old new answers (length old.list.items)
@@ -66,7 +66,7 @@ module _ {S : Type 0} (may : S → Path → Option (List ℕ) → Type 0) where
       pub reason : (first : Option CandidateFault) × IsFirstReason origin keys answers first
           × (fault ≡ option_or first candidate.NoCheckpoint)
 
-    -- each place got a request, and the candidates are exactly the notes of the answers that open
+    -- each place answered, failed or had been given up, and the candidates are exactly the notes of the answers that open
     pub record GiveCandidates (candidates : List Candidate) : Type 0 where
       pub answers : List PlaceAnswer
       pub answer_each : AnswerEach old new answers (length old.list.items)

@@ -9,6 +9,7 @@ use Rattle.mirror_places.specs.declared.places.Places.{Places}
 -- a place failed, or had been given up after 8 failures
 pub record PlaceFails {S : Type 0} (old new : Places S) : Type 0 where
   pub index : ℕ
+  pub listed : index < length old.list.items
   pub none : Place S
   pub failed : ((get_or old.list.items index none).failures < (get_or new.list.items index none).failures)
       ⊎ (8 ≤ (get_or old.list.items index none).failures)

@@ -30,7 +30,7 @@ use Rattle.mirror_candidates.specs.declared.fault.CandidateFault.{CandidateFault
 use Rattle.mirror_candidates.specs.declared.fault.CandidateFault.TheVariants as none
 use Rattle.mirror_candidates.proofs.Requests.{fails_later, fails_then}
 use Rattle.mirror_follow.specs.Blame.{CountsFollow, CountsFollowFault, by_shelf, of_candidates}
-use Rattle.mirror_follow.specs.Ending.{BlamesPlace, EndsAt, EndsFor, EndsRun, HadNone, HasFalseRoot, IsFaultOf, IsFirstFault, IsOfConflict, IsOfEmpty, IsOfOtherRun, KeepsFault, fault_after, or_fault}
+use Rattle.mirror_follow.specs.Ending.{BlamesPlace, EndsAt, EndsFor, EndsRun, HadNone, HasFalseRoot, IsFaultOf, IsFirstFault, IsOfConflict, IsOfEmpty, IsOfOtherRun, KeepsFault, NoPlaceFails, fault_after, or_fault}
 use Rattle.mirror_follow.specs.Turning.{ShowsTurn}
 use Rattle.mirror_follow.specs.Standing.{HasStanding, HoldsNoCopy, HoldsNoSmaller, IsCopyNow, IsCopyOfRun, IsFoundCopy, IsHeadOf, KnowsAfter, RecordsNone}
 use Rattle.mirror_follow.specs.Taken.{HasTakenRun, IsGrown, SaysTurn}
@@ -39,7 +39,7 @@ use Rattle.mirror_follow.specs.declared.fault.FollowFault.TheVariants as fault
 use Rattle.mirror_follow.specs.declared.run.Run.{Run}
 use Rattle.mirror_follow.specs.declared.run.Outcome.{Outcome}
 use Rattle.mirror_follow.specs.declared.run.Outcome.TheVariants as turn
-use Rattle.mirror_follow.proofs.Blame.{fails_brought}
+use Rattle.mirror_follow.proofs.Blame.{fails_brought, spares_brought}
 use Rattle.mirror_follow.proofs.Standing.{standing_as, standing_none}
 use Rattle.mirror_follow.proofs.TurnOrder.{element}
 
@@ -85,10 +85,18 @@ none_fails x y (Err e) h = tt
 -- a turn after a call of bring_copy that ended by a fault
 pub turned_fails : {S E : Type 0} (may : S → Path → Option (List ℕ) → Type 0) (failed : S → ℕ)
     (asked : S → Option (List Path)) (x y : Places S) (e : BringFault) (r : Result Outcome E) →
-    BlamesFailed may failed asked x y e → IfOk r (λ t. t ≡ turn.NotHad fault.Source → e ≡ bring.Source) →
+    AsksAny may failed asked x y → BlamesFailed may failed asked x y e →
+    IfOk r (λ t. t ≡ turn.NotHad fault.Source → e ≡ bring.Source) →
     IfOk r (λ t. t ≡ turn.NotHad fault.Source → PlaceFails x y)
-turned_fails may failed asked x y e (Ok t) blames h = λ is. fails_brought may failed asked x y e (h is) blames
-turned_fails may failed asked x y e (Err f) blames h = tt
+turned_fails may failed asked x y e (Ok t) asks blames h = λ is. fails_brought may failed asked x y e asks (h is) blames
+turned_fails may failed asked x y e (Err f) asks blames h = tt
+
+pub turned_spares : {S E : Type 0} (may : S → Path → Option (List ℕ) → Type 0) (failed : S → ℕ)
+    (asked : S → Option (List Path)) (x y : Places S) (e : BringFault) (r : Result Outcome E) →
+    BlamesFailed may failed asked x y e → IfOk r (λ t. t ≡ turn.NotHad fault.NoFile → e ≡ bring.NoFile) →
+    IfOk r (λ t. t ≡ turn.NotHad fault.NoFile → NoPlaceFails x y)
+turned_spares may failed asked x y e (Ok t) blames h = λ is. spares_brought may failed asked x y e (h is) blames
+turned_spares may failed asked x y e (Err f) blames h = tt
 
 -- turn after turn
 pub fails_now : {S : Type 0} (may : S → Path → Option (List ℕ) → Type 0) (failed : S → ℕ) (asked : S → Option (List Path))

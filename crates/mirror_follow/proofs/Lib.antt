@@ -14,5 +14,4 @@ pub mod Noted
 pub mod Split
 pub mod OneHonest
 pub mod HonestRuns
-pub mod Sparing
 pub mod Adding

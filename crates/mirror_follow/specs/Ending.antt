@@ -1,11 +1,12 @@
 -- The reasons why a call of `follow` ends with a fault.
-use Rattle.std.specs.Prelude.{◌≡◌, ◌≢◌, ◌⊎◌, ℕ, List, [], ◌∷◌, Option, Some, None, ⊤}
+use Rattle.std.specs.Prelude.{◌≡◌, ◌≢◌, ◌⊎◌, ℕ, List, [], ◌∷◌, Option, Some, None, get_or, ⊤}
 use Rattle.std.specs.List.Sorted.{IsSorted}
 use Rattle.tlog_tiles.specs.declared.paths.Path.{Path}
 use Rattle.tlog_tiles.specs.declared.paths.Path.TheVariants.{Checkpoint}
 use Rattle.signed_note.specs.Keys.{Key}
 use Rattle.mirror_model.specs.declared.fault.TakeFault.TheVariants as take
 use Rattle.mirror_folders.specs.Shelf.{Put, RecordsRead}
+use Rattle.mirror_places.specs.declared.place.Place.{Place}
 use Rattle.mirror_places.specs.declared.places.Places.{Places}
 use Rattle.mirror_copy.specs.declared.fault.BringFault.{BringFault}
 use Rattle.mirror_copy.specs.declared.fault.BringFault.TheVariants as bring
@@ -111,6 +112,11 @@ fault_after first turn.Brought = first
 fault_after first (turn.Forks proof) = first
 fault_after first turn.Contradicts = or_fault first Contradiction
 fault_after first (turn.NotHad fault) = or_fault first fault
+
+-- no place failed
+abbrev pub NoPlaceFails : {S : Type 0} → Places S → Places S → Type 0
+NoPlaceFails {S} old new = (k : ℕ) (d : Place S) →
+    (get_or new.list.items k d).failures ≡ (get_or old.list.items k d).failures
 
 -- if the first fault of a run became Source, a place failed
 abbrev pub BlamesPlace : {S : Type 0} → Places S → Places S → Option FollowFault → Option FollowFault → Type 0

@@ -8,4 +8,3 @@ pub mod Says
 pub mod Adding
 pub mod Taken
 pub mod OneHonest
-pub mod Sparing

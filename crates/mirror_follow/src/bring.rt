@@ -10,11 +10,10 @@ ghost use Rattle.mirror_candidates.specs.Requests.{AsksAny, PlaceFails};
 ghost use Rattle.mirror_candidates.specs.Candidates.{note_of};
 ghost use Rattle.mirror_candidates.specs.declared.candidate.Candidate.{Candidate};
 ghost use Rattle.mirror_follow.specs.Blame.{CountsFollow};
-ghost use Rattle.mirror_follow.specs.Ending.{EndsAt, EndsRun, IsOfConflict, IsOfOtherRun};
+ghost use Rattle.mirror_follow.specs.Ending.{EndsAt, EndsRun, IsOfConflict, IsOfOtherRun, NoPlaceFails};
 ghost use Rattle.mirror_follow.specs.OneHonest.{IsBroughtOr, IsHonestTurn};
 ghost use Rattle.mirror_follow.specs.Runs.{KeepsUnder};
 ghost use Rattle.mirror_follow.specs.Turning.{ShowsTurn};
-ghost use Rattle.mirror_follow.specs.Sparing.{SparesBringing};
 ghost use Rattle.mirror_follow.specs.Standing.{EachStays, HasStanding, HoldsNoCopy, HoldsNoSmaller, IsHeadOf, StandsAfter};
 ghost use Rattle.mirror_follow.specs.Taken.{IsLargerThan, SaysTurn};
 
@@ -92,8 +91,7 @@ pub(crate) fn bring<H: TreeHash, D: ReadableShelf, S: Source + Drop>(
     ensures suffices { IsHonestTurn H.digest S.may_answer (D.puts shelf.old) places.old places.new
         origin.now candidate.now → IsBroughtOr result }
     ensures spares { IfOk result (λ turn. turn ≡ Outcome.NotHad FollowFault.NoFile
-        → SparesBringing H.digest S.may_answer S.failed S.asked origin.now (D.puts shelf.old)
-        places.old places.new (note_of candidate.now)) }
+        → NoPlaceFails places.old places.new) }
     ensures conflicts { IfOk result (λ turn. IsOfConflict turn
         → HasConflict H.digest origin.now (note_of candidate.now) (D.puts shelf.old)) }
 {

@@ -7,7 +7,6 @@ ghost use Rattle.mirror_follow.specs.Blame.{CountsFollow};
 ghost use Rattle.mirror_follow.specs.Ending.{EndsAt, HasFalseRoot, IsOfConflict, IsOfEmpty};
 ghost use Rattle.mirror_follow.specs.OneHonest.{IsBroughtOr, IsHonestTurn};
 ghost use Rattle.mirror_follow.specs.Runs.{KeepsUnder};
-ghost use Rattle.mirror_follow.specs.Sparing.{SparesBringing};
 ghost use Rattle.mirror_follow.specs.Standing.{HasStanding, IsHeadOf, StandsAfter};
 
 use crate::bring::bring;
@@ -66,9 +65,6 @@ pub(crate) fn take_first<H: TreeHash, D: ReadableShelf, S: Source + Drop>(
     ensures empty { IfOk result (IsOfEmpty H.digest candidate.now) }
     ensures suffices { IsHonestTurn H.digest S.may_answer (D.puts shelf.old) places.old places.new
         origin.now candidate.now → IsBroughtOr result }
-    ensures spares { IfOk result (λ turn. turn ≡ Outcome.NotHad FollowFault.NoFile
-        → SparesBringing H.digest S.may_answer S.failed S.asked origin.now (D.puts shelf.old)
-        places.old places.new (note_of candidate.now)) }
 {
     if has_false_root::<H>(candidate) {
         return Ok(Outcome::Contradicts);

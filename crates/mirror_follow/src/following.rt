@@ -8,7 +8,6 @@ ghost use Rattle.mirror_follow.specs.Ending.{EndsFor};
 ghost use Rattle.mirror_follow.specs.OneHonest.{IsHonestAmong, IsHonestRun, ReachesLog, ReachesSize};
 ghost use Rattle.mirror_follow.specs.Runs.{FollowsCandidates};
 ghost use Rattle.mirror_follow.specs.Says.{Says};
-ghost use Rattle.mirror_follow.specs.Sparing.{SparesGreatest};
 ghost use Rattle.mirror_follow.specs.Standing.{IsFollowed};
 
 use crate::copy::judge_copy;
@@ -81,10 +80,6 @@ pub fn follow<H: TreeHash, D: ReadableShelf, S: Source + Drop>(
         places.new origin.now (D.puts shelf.old) (AreCandidates S.may_answer origin.now
         (map (λ k. key k) keys.now) places.old places.new (option_map (λ v. v.items) given)))
         → ReachesSize h.size result }
-    ensures spares { IfErr result (λ e. e ≡ FollowFault.NoFile
-        → SparesGreatest H.digest S.may_answer S.failed S.asked origin.now (D.puts shelf.old)
-        places.old places.new (AreCandidates S.may_answer origin.now (map (λ k. key k) keys.now)
-        places.old places.new (option_map (λ v. v.items) given))) }
 {
     let copy = judge_copy::<H, D>(alloc, origin, shelf)?;
     let candidates = candidates_of::<S>(alloc, origin, keys, places, given)?;

@@ -8,7 +8,6 @@ ghost use Rattle.mirror_follow.specs.Ending.{BlamesPlace, EndsAt, IsOfEmpty, Kee
 ghost use Rattle.mirror_follow.specs.OneHonest.{BringsTo, IsBroughtOr, IsHonestTurn, StepsUp};
 ghost use Rattle.mirror_follow.specs.Runs.{KeepsUnder};
 ghost use Rattle.mirror_follow.specs.Turning.{ContinuesRun, ShowsTurn};
-ghost use Rattle.mirror_follow.specs.Sparing.{SparesAt, SparesBringing};
 ghost use Rattle.mirror_follow.specs.Standing.{HasStanding, IsHeadOf, StandsAfter};
 ghost use Rattle.mirror_follow.specs.Taken.{HasTakenRun, IsLargerThan, IsNextOf, SaysTurn};
 
@@ -52,10 +51,6 @@ fn turn_for<H: TreeHash, D: ReadableShelf, S: Source + Drop>(
     ensures suffices { IsLargerThan run.now.copy candidate.now
         → IsHonestTurn H.digest S.may_answer (D.puts shelf.old) places.old places.new
         origin.now candidate.now → IsBroughtOr result }
-    ensures spares { run.now.copy ≡ None → IfOk result
-        (λ turn. turn ≡ Outcome.NotHad FollowFault.NoFile
-        → SparesBringing H.digest S.may_answer S.failed S.asked origin.now (D.puts shelf.old)
-        places.old places.new (note_of candidate.now)) }
 {
     let Some(copy) = &run.copy else {
         return take_first::<H, D, S>(alloc, origin, shelf, places, candidate);
@@ -99,9 +94,6 @@ pub(crate) fn take_turn<H: TreeHash, D: ReadableShelf, S: Source + Drop>(
         → IsHonestTurn H.digest S.may_answer (D.puts shelf.old) places.old places.new
         origin.now candidate.now → BringsTo candidate.now run.new.copy result }
     ensures steps { OnOk result (StepsUp candidate.now run.old.copy run.new.copy) }
-    ensures spares { OnOk result (run.new.copy ≡ None
-        → SparesAt H.digest S.may_answer S.failed S.asked origin.now (D.puts shelf.old) places.old
-        places.new candidate.now run.old.first_fault run.new.first_fault) }
 {
     let turn = match turn_for::<H, D, S>(alloc, origin, shelf, places, run, candidate) {
         Ok(turn) => turn,

@@ -10,7 +10,6 @@ ghost use Rattle.mirror_follow.specs.Ending.{BlamesPlace, EndsAt, KeepsFault};
 ghost use Rattle.mirror_follow.specs.OneHonest.{BringsTo, HasSize, IsHonestFirst, IsHonestListed, IsHonestTurn, StepsUp, TurnsReach};
 ghost use Rattle.mirror_follow.specs.Runs.{KeepsEach};
 ghost use Rattle.mirror_follow.specs.Turning.{ContinuesRun, IsRunFrom};
-ghost use Rattle.mirror_follow.specs.Sparing.{SparesAt, SparesBringing};
 ghost use Rattle.mirror_follow.specs.Standing.{HasStanding, HoldsNoCopy, IsCopyOfRun, IsHeadOf};
 ghost use Rattle.mirror_follow.specs.Taken.{HasTakenRun, IsLargerThan, IsRepeat};
 
@@ -72,10 +71,6 @@ fn take_turn_at<H: TreeHash, D: ReadableShelf, S: Source + Drop>(
     ensures steps { OnOk result ((candidate : Candidate)
         → candidate ≡ get_or candidates.now i candidate
         → StepsUp candidate run.old.copy run.new.copy) }
-    ensures spares { OnOk result ((candidate : Candidate)
-        → candidate ≡ get_or candidates.now i candidate → run.new.copy ≡ None
-        → SparesAt H.digest S.may_answer S.failed S.asked origin.now (D.puts shelf.old) places.old
-        places.new candidate run.old.first_fault run.new.first_fault) }
 {
     if is_repeated(candidates, i) {
         return Ok(());
@@ -114,11 +109,6 @@ pub(crate) fn take_turns<H: TreeHash, D: ReadableShelf, S: Source + Drop>(
     ensures passes { IfOk result (λ run. IsSorted turn_cmp candidates.now
         → (h : IsHonestListed H.digest S.may_answer (D.puts shelf.new) places.old places.new
         origin.now (D.puts shelf.old) copy candidates.now) → HasSize h.candidate.size.0 run.copy) }
-    ensures spares { IfOk result (λ run. (first : Candidate) (others : List Candidate)
-        → candidates.now ≡ first ∷ others → run.copy ≡ None
-        → run.first_fault ≡ Some FollowFault.NoFile
-        → SparesBringing H.digest S.may_answer S.failed S.asked origin.now (D.puts shelf.old)
-        places.old places.new (note_of first)) }
 {
     let mut run = Run::new(alloc, copy);
     for i in 0..candidates.len() {

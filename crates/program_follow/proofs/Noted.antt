@@ -16,7 +16,6 @@ use Rattle.mirror_follow.specs.Ending.{EndsFor}
 use Rattle.mirror_follow.specs.OneHonest.{IsHonestAmong, IsHonestRun, ReachesLog, ReachesSize}
 use Rattle.mirror_follow.specs.Runs.{FollowsCandidates}
 use Rattle.mirror_follow.specs.Says.{Says}
-use Rattle.mirror_follow.specs.Sparing.{SparesGreatest}
 use Rattle.mirror_follow.specs.Standing.{IsFollowed}
 use Rattle.mirror_follow.specs.declared.fault.FollowFault.{FollowFault}
 use Rattle.mirror_follow.specs.declared.fault.FollowFault.TheVariants as following
@@ -237,24 +236,6 @@ module _ (digest : List ℕ → List ℕ) {S : Type 0} (may : S → Path → Opt
   among_same a b last put same kept f =
       subst (λ o. (h : IsHonestAmong digest may o x y origin a so) → ReachesSize h.size r) (sym kept)
       (subst (λ o. (h : IsHonestAmong digest may put x y origin o so) → ReachesSize h.size r) same f)
-
-  pub spares_same : (failed : S → ℕ) (asked : S → Option (List Path)) (a b : Option (List Put)) → b ≡ a →
-      IfErr r (λ e. e ≡ following.NoFile → SparesGreatest digest may failed asked origin b x y so) →
-      IfErr r (λ e. e ≡ following.NoFile → SparesGreatest digest may failed asked origin a x y so)
-  spares_same failed asked a b same h =
-      subst (λ o. IfErr r (λ e. e ≡ following.NoFile → SparesGreatest digest may failed asked origin o x y so)) same h
-
--- the output after the copy was followed does not end by this fault
-pub spares_told : (Q : Type 0) (forks : Option (List ℕ)) (done : Followed) (from left : Option (List NamedFile))
-    (old new : Option (List ℕ)) (r : Result ℕ FollowRunFault) → PrintsDone forks done from left old new r →
-    IfErr r (λ e. e ≡ Follow following.NoFile → Q)
-spares_told Q forks done from left old new (Ok status) tells = tt
-spares_told Q forks done from left old new (Err (File f)) tells = λ e. absurd tells
-spares_told Q forks done from left old new (Err OutOfMemory) tells = λ e. absurd tells
-spares_told Q forks done from left old new (Err (Follow f)) tells = λ e.
-    let same : f ≡ following.NoFile = cc in absurd (cc (same, tells.fault_is))
-spares_told Q forks done from left old new (Err WriteFault) tells = λ e. absurd cc
-spares_told Q forks done from left old new (Err (Evidence f)) tells = λ e. absurd cc
 
 -- the copy at each moment, between two calls that put nothing
 pub whole_same : (digest : List ℕ → List ℕ) (origin : List ℕ) (keys : List Key) (so : List ℕ → Type 0)

@@ -15,7 +15,6 @@ use Rattle.mirror_follow.specs.Ending.{EndsFor}
 use Rattle.mirror_follow.specs.OneHonest.{IsHonestAmong, IsHonestRun, IsOfShelfOrMemory, ReachesLog, ReachesSize}
 use Rattle.mirror_follow.specs.Runs.{FollowsCandidates}
 use Rattle.mirror_follow.specs.Says.{Says}
-use Rattle.mirror_follow.specs.Sparing.{SparesGreatest}
 use Rattle.mirror_follow.specs.Standing.{IsFollowed}
 use Rattle.mirror_follow.specs.declared.fault.FollowFault.{FollowFault}
 use Rattle.mirror_follow.specs.declared.fault.FollowFault.TheVariants as following
@@ -69,15 +68,6 @@ pub record EndsFollowing (digest : List ℕ → List ℕ) {S : Type 0} (may : S 
   pub given : Option (List ℕ)
   pub reads : ReadsNote recorded name (Ok given)
   pub ends : EndsFor digest may origin keys held old new given fault
-
--- if `follow` ended by NoFile, no place failed while the copy was brought to the greatest candidate. The candidates are the note
--- of the named file or, if none is named, those of the places
-pub record SparesFollowing (digest : List ℕ → List ℕ) {S : Type 0} (may : S → Path → Option (List ℕ) → Type 0)
-    (failed : S → ℕ) (asked : S → Option (List Path)) (origin : List ℕ) (keys : List Key) (held : Option (List Put))
-    (old new : Places S) (recorded : Option (List NamedFile)) (name : Option (List ℕ)) : Type 0 where
-  pub given : Option (List ℕ)
-  pub reads : ReadsNote recorded name (Ok given)
-  pub spares : SparesGreatest digest may failed asked origin held old new (AreCandidates may origin keys old new given)
 
 -- the output states for each candidate how it was settled
 pub record PrintsSettled (digest : List ℕ → List ℕ) (origin : List ℕ) (so : List Candidate → Type 0)

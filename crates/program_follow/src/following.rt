@@ -10,9 +10,8 @@ ghost use Rattle.mirror_follow.specs.declared.fault.FollowFault.{FollowFault};
 ghost use Rattle.mirror_follow.specs.OneHonest.{IsHonestAmong, IsHonestRun, ReachesLog, ReachesSize};
 ghost use Rattle.mirror_follow.specs.Runs.{FollowsCandidates};
 ghost use Rattle.mirror_follow.specs.Says.{Says};
-ghost use Rattle.mirror_follow.specs.Sparing.{SparesGreatest};
 ghost use Rattle.mirror_follow.specs.Standing.{IsFollowed};
-ghost use Rattle.program_follow.specs.Following.{AreRunCandidates, CountsRun, EndsFollowing, Follows, FollowsIn, IsNoteOf, PrintsSettled, ReachesIn, SparesFollowing, SufficesForRun, ReadsGiven, ReadsNote, PrintsDone};
+ghost use Rattle.program_follow.specs.Following.{AreRunCandidates, CountsRun, EndsFollowing, Follows, FollowsIn, IsNoteOf, PrintsSettled, ReachesIn, SufficesForRun, ReadsGiven, ReadsNote, PrintsDone};
 
 use crate::evidence::write_evidence;
 use crate::fault::FollowRunFault;
@@ -115,10 +114,6 @@ fn follow_reporting<H: TreeHash, D: CountedFolders, S: Source + Drop>(
         places.new following.now.origin.now (D.puts folders.old)
         (AreCandidates S.may_answer following.now.origin.now (map (λ k. key k) keys.now)
         places.old places.new (option_map (λ v. v.items) given))) → ReachesSize h.size result }
-    ensures spares { IfErr result (λ e. e ≡ FollowFault.NoFile → SparesGreatest H.digest
-        S.may_answer S.failed S.asked following.now.origin.now (D.puts folders.old) places.old
-        places.new (AreCandidates S.may_answer following.now.origin.now (map (λ k. key k) keys.now)
-        places.old places.new (option_map (λ v. v.items) given))) }
 {
     begin_lines::<D>(folders, following.progress);
     let done = follow::<H, D, S>(alloc, following.origin, keys, folders, places, given);
@@ -159,11 +154,6 @@ fn follow_into<H: TreeHash, D: CountedFolders, S: Source + Drop>(
         (AreCandidates S.may_answer following.now.origin.now (map (λ k. key k) keys.now)
         places.old places.new (option_map (λ v. v.items) given)))
         → ReachesIn (λ done. ReachesSize h.size (Ok done)) result }
-    ensures spares { IfErr result (λ e. e ≡ FollowRunFault.Follow FollowFault.NoFile
-        → SparesGreatest H.digest S.may_answer S.failed S.asked following.now.origin.now
-        (D.held folders.old following.now.folder.now) places.old places.new
-        (AreCandidates S.may_answer following.now.origin.now (map (λ k. key k) keys.now)
-        places.old places.new (option_map (λ v. v.items) given))) }
 {
     match folders.open(following.folder) {
         Ok(()) => {}
@@ -254,10 +244,6 @@ pub fn run_follow<H: TreeHash, F: NamedFiles, D: CountedFolders, S: Source + Dro
         (D.puts folders.new) places.old places.new (F.puts files.old)
         (option_map (λ name. name.now) following.now.checkpoint) (W.contents output.old)
         (W.contents output.new) result }
-    ensures spares { IfErr result (λ e. e ≡ FollowRunFault.Follow FollowFault.NoFile
-        → SparesFollowing H.digest S.may_answer S.failed S.asked following.now.origin.now
-        (map (λ k. key k) keys.now) (D.held folders.old following.now.folder.now) places.old
-        places.new (F.puts files.old) (option_map (λ name. name.now) following.now.checkpoint)) }
 {
     let given = match read_given(files, following.checkpoint) {
         Ok(given) => given,

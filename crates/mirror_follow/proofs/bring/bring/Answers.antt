@@ -9,10 +9,9 @@ use Rattle.mirror_copy.specs.Pruned.{LeavesPruned}
 use Rattle.mirror_follow.specs.Ending.{IsOfOtherRun}
 use Rattle.mirror_follow.specs.Standing.{HoldsNoCopy, HoldsNoSmaller}
 use Rattle.mirror_follow.proofs.Blame.{any_copied}
-use Rattle.mirror_follow.proofs.Ending.{brought_damaged, ends_if, no_smaller, turned_conflict, turned_fails}
+use Rattle.mirror_follow.proofs.Ending.{brought_damaged, ends_if, no_smaller, turned_conflict, turned_fails, turned_spares}
 use Rattle.mirror_follow.proofs.Taken.{larger_above}
 use Rattle.mirror_follow.proofs.OneHonest.{honest_note}
-use Rattle.mirror_follow.proofs.Sparing.{turned_spares}
 use Rattle.mirror_follow.proofs.Runs.{each_one}
 use Rattle.mirror_follow.proofs.Standing.{brought_after, stayed_after, turned_after}
 use Rattle.mirror_follow.proofs.bring.bring.Goals as goal
@@ -56,8 +55,18 @@ returns-in-Err-clause-asks g c =
 
 pub returns-in-Err-clause-source : goal.returns-in-Err-clause-source
 returns-in-Err-clause-source g c =
-    turned_fails g.S.Source.may_answer g.S.Source.failed g.S.Source.asked c.args.places.now c.bring_copy.new.places
-    c.in-Err.fault c.turn_of.result c.in-Err.ensures.blames c.turn_of.ensures.source
+    let may = g.S.Source.may_answer in
+    let failed = g.S.Source.failed in
+    let asked = g.S.Source.asked in
+    let asks = any_copied may failed asked g.H.TreeHash.digest c.args.origin.now _ _
+        c.args.places.now c.bring_copy.new.places c.bring_copy.ensures.asks in
+    turned_fails may failed asked c.args.places.now c.bring_copy.new.places
+    c.in-Err.fault c.turn_of.result asks c.in-Err.ensures.blames c.turn_of.ensures.source
+
+pub returns-in-Err-clause-spares : goal.returns-in-Err-clause-spares
+returns-in-Err-clause-spares g c =
+    turned_spares g.S.Source.may_answer g.S.Source.failed g.S.Source.asked c.args.places.now c.bring_copy.new.places
+    c.in-Err.fault c.turn_of.result c.in-Err.ensures.blames c.turn_of.ensures.no_file
 
 pub returns-in-Ok-clause-says : goal.returns-in-Ok-clause-says
 returns-in-Ok-clause-says g c = λ digest copy candidate lt. larger_above copy candidate lt
@@ -85,20 +94,6 @@ returns-in-Err-clause-suffices g c = λ h.
     (subst (λ note. IsHonestNote digest may x c.args.places.now c.bring_copy.new.places origin note)
     (sym c.deref.ensures.value)
     (honest_note digest may x c.args.places.now c.bring_copy.new.places origin c.args.candidate.now c.requires h)))
-
-pub returns-in-Err-clause-spares : goal.returns-in-Err-clause-spares
-returns-in-Err-clause-spares g c =
-    let digest = g.H.TreeHash.digest in
-    let may = g.S.Source.may_answer in
-    let failed = g.S.Source.failed in
-    let asked = g.S.Source.asked in
-    let origin = c.args.origin.now in
-    let x = g.D.Shelf.puts c.args.shelf.now in
-    turned_spares digest may failed asked origin x c.args.places.now c.bring_copy.new.places c.args.candidate.now.note.items
-    c.in-Err.fault c.turn_of.result
-    (subst (λ note. AsksForCopy digest may failed asked origin note x c.args.places.now c.bring_copy.new.places)
-    c.deref.ensures.value c.bring_copy.ensures.asks)
-    c.in-Err.ensures.blames c.turn_of.ensures.no_file
 
 pub returns-in-Err-clause-conflicts : goal.returns-in-Err-clause-conflicts
 returns-in-Err-clause-conflicts g c =

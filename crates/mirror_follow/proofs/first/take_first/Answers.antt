@@ -6,7 +6,6 @@ use Rattle.mirror_follow.proofs.OneHonest.{no_false_root}
 use Rattle.mirror_follow.specs.Standing.{HasStanding, HoldsNoCopy, HoldsNoSmaller}
 use Rattle.mirror_follow.proofs.Ending.{ends_so, first_ends}
 use Rattle.mirror_follow.proofs.Standing.{each_same}
-use Rattle.mirror_follow.proofs.Sparing.{same_spares}
 use Rattle.mirror_follow.proofs.first.take_first.Goals as goal
 
 pub returns-then-has_false_root-clause-keeps : goal.returns-then-has_false_root-clause-keeps
@@ -51,7 +50,3 @@ returns-in-Err-clause-suffices g c = λ h.
 
 pub returns-in-Ok-clause-suffices : goal.returns-in-Ok-clause-suffices
 returns-in-Ok-clause-suffices g c = λ h. c.over_none.ensures.suffices (c.in-Ok.ensures.suffices h)
-
-pub returns-in-Ok-clause-spares : goal.returns-in-Ok-clause-spares
-returns-in-Ok-clause-spares g c =
-    same_spares c.over_none.result c.in-Ok.turn _ c.over_none.ensures.same c.in-Ok.ensures.spares

@@ -19,7 +19,6 @@ use Rattle.mirror_follow.proofs.Shown.{reported_forks}
 use Rattle.mirror_follow.proofs.Standing.{followed_by, had_found, known_found, read_found}
 use Rattle.mirror_follow.proofs.HonestRuns.{honest_first, honest_listed, one_given, part_stands, report_passes, report_reaches, some_given}
 use Rattle.mirror_follow.proofs.OneHonest.{never_damaged}
-use Rattle.mirror_follow.proofs.Sparing.{ends_spares, lacks_spares, report_spares}
 use Rattle.mirror_follow.proofs.following.follow.Goals as goal
 
 pub returns-in_err-copy-clause-whole : goal.returns-in_err-copy-clause-whole
@@ -275,36 +274,3 @@ returns-clause-reaches g c = λ h.
     c.report.result k.1
     (c.in_ok-run.ensures.passes (subst (IsSorted turn_cmp) (sym c.deref.ensures.value) rising) k.0)
     c.report.ensures.copy c.report.ensures.fault
-
-pub returns-in_err-copy-clause-spares : goal.returns-in_err-copy-clause-spares
-returns-in_err-copy-clause-spares g c =
-    let p = err_from_is_err_and c.from_residual.result c.from_residual.ensures.1 in
-    rw (p.1, p.2) (ends_spares _ _ _ c.in_err-copy.field-0.0 c.in_err-copy.ensures.ends)
-
-pub returns-in_err-candidates-clause-spares : goal.returns-in_err-candidates-clause-spares
-returns-in_err-candidates-clause-spares g c =
-    let p = err_from_is_err_and c.from_residual-in_err-candidates.result c.from_residual-in_err-candidates.ensures.1 in
-    rw (p.1, p.2) (lacks_spares _ c.in_err-candidates.field-0.0)
-
-pub returns-in_err-run-clause-spares : goal.returns-in_err-run-clause-spares
-returns-in_err-run-clause-spares g c =
-    let p = err_from_is_err_and c.from_residual-in_err-run.result c.from_residual-in_err-run.ensures.1 in
-    rw (p.1, p.2) (ends_spares _ _ _ c.in_err-run.field-0.0 c.in_err-run.ensures.ends)
-
-pub returns-clause-spares : goal.returns-clause-spares
-returns-clause-spares g c =
-    let may = g.S.Source.may_answer in
-    let failed = g.S.Source.failed in
-    let asked = g.S.Source.asked in
-    let start = c.args.places.now in
-    let mid = c.candidates_of.new.places in
-    let new = c.take_turns.new.places in
-    let given = option_map (λ v. v.items) c.args.given in
-    let candidates = c.in_ok-candidates.candidates.items in
-    report_spares g.H.TreeHash.digest may failed asked c.args.origin.now _ (g.D.Shelf.puts c.args.shelf.now)
-    (g.D.Shelf.puts c.judge_copy.new.shelf) start mid new candidates _ c.in_ok-run.run' c.report.result
-    c.deref.ensures.value c.in_ok-candidates.ensures.some
-    (candidates_later c.args.origin.now _ may failed asked start mid new given candidates c.take_turns.ensures.asks
-    c.in_ok-candidates.ensures.gathered)
-    c.in_ok-candidates.ensures.rising c.judge_copy.ensures.same c.candidates_of.ensures.asks
-    c.in_ok-run.ensures.spares c.report.ensures.fault

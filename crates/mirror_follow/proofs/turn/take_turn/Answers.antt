@@ -4,7 +4,6 @@ use Rattle.mirror_follow.proofs.Taken.{taken_turn}
 use Rattle.mirror_follow.proofs.Turning.{run_turned}
 use Rattle.mirror_follow.specs.Standing.{KnowsAfter}
 use Rattle.mirror_follow.proofs.OneHonest.{steps_up}
-use Rattle.mirror_follow.proofs.Sparing.{spares_turn}
 use Rattle.mirror_follow.proofs.turn.take_turn.Goals as goal
 
 pub returns-in-Ok-add-clause-run : goal.returns-in-Ok-add-clause-run
@@ -43,9 +42,3 @@ pub returns-in-Ok-add-clause-steps : goal.returns-in-Ok-add-clause-steps
 returns-in-Ok-add-clause-steps g c =
     steps_up g.H.TreeHash.digest c.args.candidate.now c.in-Ok.turn c.args.run.now.copy c.add.new.self.copy
     c.in-Ok.ensures.says c.in-Ok-add.ensures.copy
-
-pub returns-in-Ok-add-clause-spares : goal.returns-in-Ok-add-clause-spares
-returns-in-Ok-add-clause-spares g c =
-    spares_turn g.H.TreeHash.digest g.S.Source.may_answer g.S.Source.failed g.S.Source.asked c.args.origin.now
-    (g.D.Shelf.puts c.args.shelf.now) c.args.places.now c.turn_for.new.places c.args.candidate.now c.args.run.now
-    c.add.new.self c.in-Ok.turn c.in-Ok-add.ensures.copy c.in-Ok-add.ensures.fault c.in-Ok.ensures.spares

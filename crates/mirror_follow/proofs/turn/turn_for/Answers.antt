@@ -54,22 +54,10 @@ returns-then-candidate-copy-clause-empty g c = λ none. absurd (cc (none, c.in-S
 pub returns-clause-empty : goal.returns-clause-empty
 returns-clause-empty g c = λ none. absurd (cc (none, c.in-Some.is))
 
-pub returns-then-has_lesser_note-clause-spares : goal.returns-then-has_lesser_note-clause-spares
-returns-then-has_lesser_note-clause-spares g c = λ none. absurd (cc (none, c.in-Some.is))
-
-pub returns-then-candidate-copy-clause-spares : goal.returns-then-candidate-copy-clause-spares
-returns-then-candidate-copy-clause-spares g c = λ none. absurd (cc (none, c.in-Some.is))
-
-pub returns-clause-spares : goal.returns-clause-spares
-returns-clause-spares g c = λ none. absurd (cc (none, c.in-Some.is))
-
 -- ---- there is none
 
 pub returns-in_default-clause-empty : goal.returns-in_default-clause-empty
 returns-in_default-clause-empty g c = λ none. c.take_first.ensures.empty
-
-pub returns-in_default-clause-spares : goal.returns-in_default-clause-spares
-returns-in_default-clause-spares g c = λ none. c.take_first.ensures.spares
 
 pub returns-in_default-clause-suffices : goal.returns-in_default-clause-suffices
 returns-in_default-clause-suffices g c = λ larger. c.take_first.ensures.suffices

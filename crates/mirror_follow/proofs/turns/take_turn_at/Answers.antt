@@ -9,7 +9,6 @@ use Rattle.mirror_follow.proofs.Turning.{run_same}
 use Rattle.mirror_follow.specs.OneHonest.{BringsTo, IsHonestTurn}
 use Rattle.mirror_follow.specs.Taken.{IsLargerThan}
 use Rattle.mirror_follow.proofs.OneHonest.{same_at, steps_at}
-use Rattle.mirror_follow.proofs.Sparing.{spares_at}
 use Rattle.mirror_follow.proofs.turns.take_turn_at.Goals as goal
 
 pub returns-then-is_repeated-clause-keeps : goal.returns-then-is_repeated-clause-keeps
@@ -68,13 +67,3 @@ pub returns-clause-steps : goal.returns-clause-steps
 returns-clause-steps g c =
     steps_at c.take_turn.result c.args.candidates.now c.args.i c.requires.within c.index-candidates-i.result
     c.index-candidates-i.is c.args.run.now.copy c.take_turn.new.run.copy c.take_turn.ensures.steps
-
-pub returns-then-is_repeated-clause-spares : goal.returns-then-is_repeated-clause-spares
-returns-then-is_repeated-clause-spares g c = λ candidate is none e. inl e
-
-pub returns-clause-spares : goal.returns-clause-spares
-returns-clause-spares g c =
-    spares_at g.H.TreeHash.digest g.S.Source.may_answer g.S.Source.failed g.S.Source.asked c.args.origin.now
-    (g.D.Shelf.puts c.args.shelf.now) c.args.places.now c.take_turn.new.places c.take_turn.result
-    c.args.candidates.now c.args.i c.requires.within c.index-candidates-i.result c.index-candidates-i.is c.args.run.now
-    c.take_turn.new.run c.take_turn.ensures.spares

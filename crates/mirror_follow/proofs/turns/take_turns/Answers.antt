@@ -11,7 +11,6 @@ use Rattle.mirror_follow.proofs.Taken.{taken_all, taken_begin}
 use Rattle.mirror_follow.proofs.Turning.{run_first, run_then}
 use Rattle.mirror_follow.proofs.OneHonest.{pass_all, reach_all, reach_begin, reach_fails, reach_turn}
 use Rattle.mirror_follow.proofs.TurnOrder.{element}
-use Rattle.mirror_follow.proofs.Sparing.{spares_then}
 use Rattle.mirror_follow.proofs.turns.take_turns.Goals as goal
 
 pub loop-i-init : goal.loop-i-init
@@ -24,7 +23,6 @@ loop-i-init g c =
       fault = λ none. c.new-run.ensures.fault;
       asks = any_same g.S.Source.may_answer g.S.Source.failed g.S.Source.asked c.args.places.now;
       source = λ e. absurd (cc (c.new-run.ensures.fault, e));
-      spares = λ first others are none e. absurd (cc (c.new-run.ensures.fault, e));
       reaching = reach_begin g.H.TreeHash.digest g.S.Source.may_answer g.S.Source.failed g.S.Source.asked c.args.origin.now x
           c.args.places.now c.args.copy c.args.candidates.now c.new-run.result.copy c.new-run.ensures.copy;
       taken = λ rises. taken_begin g.H.TreeHash.digest c.args.copy c.new-run.result c.new-run.ensures.copy
@@ -59,15 +57,6 @@ loop-i-preserved g c = record {
       c.loop-i.invariant.reaching c.loop-i.invariant.asks c.take_turn_at.ensures.asks lt x.0 x.1
       (g.D.Shelf.puts c.take_turn_at.new.shelf) c.take_turn_at.new.run.copy c.in_ok-take_turn_at.ensures.suffices
       (c.in_ok-take_turn_at.ensures.steps x.0 x.1) c.loop-i.invariant.run.known c.take_turn_at.ensures.keeps;
-  spares =
-      let lt : c.loop-i.i < length c.args.candidates.now = omega (arith, c.loop-i-test.true) in
-      let x = element c.args.candidates.now c.loop-i.i lt in
-      spares_then g.H.TreeHash.digest g.S.Source.may_answer g.S.Source.failed g.S.Source.asked c.args.origin.now
-      c.args.candidates.now c.loop-i.i lt x.0 x.1 (g.D.Shelf.puts c.args.shelf.now) (g.D.Shelf.puts c.loop-i.shelf)
-      c.args.places.now c.loop-i.places c.take_turn_at.new.places c.loop-i.run c.take_turn_at.new.run
-      (λ e. (c.loop-i.invariant.reaching.begun e).0) c.loop-i.invariant.fault c.loop-i.invariant.asks
-      c.take_turn_at.ensures.asks (c.in_ok-take_turn_at.ensures.steps x.0 x.1)
-      (c.in_ok-take_turn_at.ensures.spares x.0 x.1) c.loop-i.invariant.spares;
   source = fails_now g.S.Source.may_answer g.S.Source.failed g.S.Source.asked c.args.places.now c.loop-i.places
       c.take_turn_at.new.places c.loop-i.run.first_fault c.take_turn_at.new.run.first_fault c.loop-i.invariant.asks
       c.take_turn_at.ensures.asks c.loop-i.invariant.source c.in_ok-take_turn_at.ensures.source;
@@ -126,6 +115,3 @@ returns-clause-passes g c = λ rises h.
     (g.D.Shelf.puts c.args.shelf.now) c.args.places.now c.args.copy c.args.candidates.now c.loop-i.i
     (g.D.Shelf.puts c.loop-i.shelf) c.loop-i.places c.loop-i.run.copy (omega (arith, c.loop-i-test.false))
     c.loop-i.invariant.reaching rises h
-
-pub returns-clause-spares : goal.returns-clause-spares
-returns-clause-spares g c = c.loop-i.invariant.spares

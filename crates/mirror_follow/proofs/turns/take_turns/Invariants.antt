@@ -8,7 +8,6 @@ use Rattle.mirror_follow.specs.Taken.{HasTakenRun}
 use Rattle.mirror_follow.specs.Turning.{IsRunFrom}
 use Rattle.mirror_follow.specs.declared.fault.FollowFault.TheVariants.{Source}
 use Rattle.mirror_follow.proofs.OneHonest.{Reaching}
-use Rattle.mirror_follow.proofs.Sparing.{SparesSoFar}
 use Rattle.mirror_follow.proofs.turns.take_turns.Given as goal
 
 abbrev pub invariant-loop-i : goal.invariant-loop-i
@@ -23,7 +22,5 @@ invariant-loop-i g l = record {
   reaching : Reaching g.H.TreeHash.digest g.S.Source.may_answer g.S.Source.failed g.S.Source.asked l.origin
       (g.D.Shelf.puts l.initial.shelf) l.initial.places l.fn.copy l.candidates l.i (g.D.Shelf.puts l.shelf) l.places
       l.run.copy;
-  spares : SparesSoFar g.H.TreeHash.digest g.S.Source.may_answer g.S.Source.failed g.S.Source.asked l.origin
-      (g.D.Shelf.puts l.initial.shelf) l.initial.places l.places l.candidates l.run;
   source : l.run.first_fault ≡ Some Source → PlaceFails l.initial.places l.places;
 }

@@ -32,11 +32,3 @@ returns-in-Ok-follow_reporting-clause-reaches g c = rw (← c.in-Ok.ensures.open
 
 pub returns-in-Err-follow_reporting-clause-reaches : goal.returns-in-Err-follow_reporting-clause-reaches
 returns-in-Err-follow_reporting-clause-reaches g c = rw (← c.in-Ok.ensures.opened) c.in-Err-follow_reporting.ensures.reaches
-
-pub returns-in-Err-clause-spares : goal.returns-in-Err-clause-spares
-returns-in-Err-clause-spares g c = λ e. absurd cc
-
-pub returns-in-Err-follow_reporting-clause-spares : goal.returns-in-Err-follow_reporting-clause-spares
-returns-in-Err-follow_reporting-clause-spares g c = λ e.
-    let same : c.in-Err-follow_reporting.fault ≡ NoFile = cc in
-    rw (← c.in-Ok.ensures.opened) (c.in-Err-follow_reporting.ensures.spares same)

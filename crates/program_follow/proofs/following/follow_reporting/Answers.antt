@@ -1,4 +1,4 @@
-use Rattle.program_follow.proofs.Noted.{among_same, greatest_same, spares_same, whole_same}
+use Rattle.program_follow.proofs.Noted.{among_same, greatest_same, whole_same}
 use Rattle.program_follow.proofs.following.follow_reporting.Goals as goal
 
 pub returns-clause-suffices : goal.returns-clause-suffices
@@ -13,12 +13,6 @@ returns-clause-reaches g c =
     c.follow-done.result (g.D.Shelf.puts c.args.folders.now) (g.D.Shelf.puts c.begin_lines.new.folders)
     (g.D.Shelf.puts c.end_lines.new.folders) (g.D.Shelf.puts c.follow-done.new.shelf)
     c.begin_lines.ensures.puts c.end_lines.ensures.puts c.follow-done.ensures.reaches
-
-pub returns-clause-spares : goal.returns-clause-spares
-returns-clause-spares g c =
-    spares_same g.H.TreeHash.digest g.S.Source.may_answer _ c.args.places.now c.follow-done.new.places _
-    c.follow-done.result g.S.Source.failed g.S.Source.asked (g.D.Shelf.puts c.args.folders.now)
-    (g.D.Shelf.puts c.begin_lines.new.folders) c.begin_lines.ensures.puts c.follow-done.ensures.spares
 
 pub returns-clause-whole : goal.returns-clause-whole
 returns-clause-whole g c =

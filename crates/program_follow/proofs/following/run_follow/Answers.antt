@@ -1,7 +1,7 @@
 use Rattle.std.proofs.Common.{option_map, refl}
 use Rattle.std.proofs.KnownBytes.{Keeps-refl}
 use Rattle.program_follow.specs.Following.{IsNoteOf}
-use Rattle.program_follow.proofs.Noted.{ends_so, ends_recorded, follows_ended, follows_recorded, note_had, says_printed, recorded_counts, spares_told, suffices_ended, suffices_recorded}
+use Rattle.program_follow.proofs.Noted.{ends_so, ends_recorded, follows_ended, follows_recorded, note_had, says_printed, recorded_counts, suffices_ended, suffices_recorded}
 use Rattle.program_follow.proofs.following.run_follow.Goals as goal
 
 pub returns-in-Ok-follow_into-clause-follows : goal.returns-in-Ok-follow_into-clause-follows
@@ -57,14 +57,3 @@ returns-in-Err-follow_into-clause-suffices g c =
     suffices_ended g.H.TreeHash.digest g.S.Source.may_answer _ _ _ _ c.args.places.now c.follow_into.new.places _ _ _ _
     (option_map (λ v. v.items) c.in-Ok.given) c.in-Ok.ensures c.in-Err-follow_into.fault
     c.in-Err-follow_into.ensures.suffices c.in-Err-follow_into.ensures.reaches
-
-pub returns-in-Ok-follow_into-clause-spares : goal.returns-in-Ok-follow_into-clause-spares
-returns-in-Ok-follow_into-clause-spares g c =
-    spares_told _ _ c.in-Ok-follow_into.done _ _ _ _ c.report_done.result c.report_done.ensures.tells
-
-pub returns-in-Err-follow_into-clause-spares : goal.returns-in-Err-follow_into-clause-spares
-returns-in-Err-follow_into-clause-spares g c = λ e. record {
-  given = option_map (λ v. v.items) c.in-Ok.given;
-  reads = c.in-Ok.ensures;
-  spares = c.in-Err-follow_into.ensures.spares e;
-}
