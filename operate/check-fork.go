@@ -2,8 +2,9 @@
 //
 //	check-fork LOG.VKEY SMALLER.note LARGER.note [PROOF.txt]
 //
-// Without a proof both notes have to be of one size. It prints what it found and ends with 0 where a fork is shown, else with 1. Needs Go,
-// and golang.org/x/mod. In a new folder with this file: go mod init check-fork && go mod tidy && go build
+// Without a proof both notes have to be of one size, or the smaller one of no entries, with another root than the hash of the empty list.
+// It prints what it found and ends with 0 where a fork is shown, else with 1. Needs Go, and golang.org/x/mod. In a new folder with this
+// file: go mod init check-fork && go mod tidy && go build
 package main
 
 import (
@@ -65,7 +66,7 @@ func main() {
 	if origin != other {
 		log.Fatal("the notes are of two logs")
 	}
-	if root != tlog.Hash(sha256.Sum256(nil)) && size == 0 {
+	if size == 0 && root != sha256.Sum256(nil) {
 		fmt.Printf("fork: the log signed %v for no entries\n", root)
 		return
 	}
