@@ -64,7 +64,8 @@ pub(crate) fn take_first<H: TreeHash, D: ReadableShelf, S: Source + Drop>(
     ensures ends { IfErr result
         (EndsAt (¬ HasStanding H.digest origin.now None (D.puts shelf.old))) }
     ensures empty { IfOk result (IsOfEmpty H.digest candidate.now) }
-    ensures suffices { IsHonestTurn H.digest S.may_answer (D.puts shelf.old) places.old places.new
+    ensures suffices { HasStanding H.digest origin.now None (D.puts shelf.old)
+        → IsHonestTurn H.digest S.may_answer (D.puts shelf.old) places.old places.new
         origin.now candidate.now → IsBroughtOr result }
     ensures spares { IfOk result (λ turn. turn ≡ Outcome.NotHad FollowFault.NoFile
         → SparesBringing H.digest S.may_answer S.failed S.asked origin.now (D.puts shelf.old)
@@ -73,7 +74,7 @@ pub(crate) fn take_first<H: TreeHash, D: ReadableShelf, S: Source + Drop>(
     if has_false_root::<H>(candidate) {
         return Ok(Outcome::Contradicts);
     }
-    match bring::<H, D, S>(alloc, origin, shelf, places, candidate) {
+    match bring::<H, D, S>(alloc, origin, shelf, places, None, candidate) {
         Ok(turn) => over_none(turn),
         Err(fault) => Err(fault),
     }
