@@ -5,7 +5,6 @@ use Rattle.mirror_model.specs.Heads.{IsHead}
 use Rattle.tlog_tiles.specs.declared.paths.Path.TheVariants.{Checkpoint}
 use Rattle.mirror_folders.specs.Shelf.{Put, RecordsRead}
 use Rattle.mirror_copy.specs.AskedForCopy.{BlamesFailed, RefusesNote}
-use Rattle.mirror_copy.specs.Compared.{BlamesTip}
 use Rattle.mirror_copy.specs.Faults.{BlamesFrom, BlamesPlaces, IsOfNoPlace}
 use Rattle.mirror_copy.specs.Found.{IsTipRead}
 use Rattle.mirror_copy.specs.Growing.{Tip}
@@ -73,13 +72,11 @@ module _ {S : Type 0} (may : S → Path → Option (List ℕ) → Type 0) (faile
   blames_none x z OutOfMemory h = tt
 
   -- a fault of reading the tip
-  pub blames_tip : (x z : Places S) (digest : List ℕ → List ℕ) (origin : List ℕ) (found : Option (List ℕ))
-      (puts : Option (List Put)) (e : BringFault) → BlamesTip digest origin found puts e → BlamesFailed may failed asked x z e
-  blames_tip x z digest origin found puts e (inl h) =
-      subst (λ (f : BringFault). BlamesFailed may failed asked x z f) (sym h.0) tt
-  blames_tip x z digest origin found puts e (inr (inl h)) =
-      subst (λ (f : BringFault). BlamesFailed may failed asked x z f) (sym h.0) tt
-  blames_tip x z digest origin found puts e (inr (inr h)) = blames_none x z e h
+  pub blames_tip : {Q P : Type 0} (x z : Places S) (e : BringFault) →
+      ((e ≡ CopyInUse) × Q) ⊎ (((e ≡ CopyDamaged) × P) ⊎ IsOfNoPlace e) → BlamesFailed may failed asked x z e
+  blames_tip x z e (inl h) = subst (λ (f : BringFault). BlamesFailed may failed asked x z f) (sym h.0) tt
+  blames_tip x z e (inr (inl h)) = subst (λ (f : BringFault). BlamesFailed may failed asked x z f) (sym h.0) tt
+  blames_tip x z e (inr (inr h)) = blames_none x z e h
 
   pub blames_from : (so : Path → Type 0) (x y z : Places S) (digest : List ℕ → List ℕ) (n : ℕ) (tip : Tip)
       (puts : Option (List Put)) (e : BringFault) → y.list.items ≡ x.list.items → IsFalse y.has_failed →
@@ -105,11 +102,11 @@ module _ (digest : List ℕ → List ℕ) (origin note : List ℕ) (puts : Optio
   refuses_none OutOfMemory h = tt
 
   -- a fault of reading the tip
-  pub refuses_tip : (found : Option (List ℕ)) (e : BringFault) → BlamesTip digest origin found puts e →
-      RefusesNote digest origin note puts e
-  refuses_tip found e (inl h) = subst (λ (f : BringFault). RefusesNote digest origin note puts f) (sym h.0) tt
-  refuses_tip found e (inr (inl h)) = subst (λ (f : BringFault). RefusesNote digest origin note puts f) (sym h.0) tt
-  refuses_tip found e (inr (inr h)) = refuses_none e h
+  pub refuses_tip : {Q P : Type 0} (e : BringFault) →
+      ((e ≡ CopyInUse) × Q) ⊎ (((e ≡ CopyDamaged) × P) ⊎ IsOfNoPlace e) → RefusesNote digest origin note puts e
+  refuses_tip e (inl h) = subst (λ (f : BringFault). RefusesNote digest origin note puts f) (sym h.0) tt
+  refuses_tip e (inr (inl h)) = subst (λ (f : BringFault). RefusesNote digest origin note puts f) (sym h.0) tt
+  refuses_tip e (inr (inr h)) = refuses_none e h
 
   refuses_places : {S : Type 0} (places : Places S) (e : BringFault) → BlamesPlaces places e → RefusesNote digest origin note puts e
   refuses_places places BadCheckpoint h = absurd h

@@ -1,5 +1,5 @@
 -- One honest place suffices to bring a copy, from the beginning of the call.
-use Rattle.std.proofs.Common.{◌≡◌, ◌≢◌, ◌⊎◌, inl, inr, ℕ, ◌^◌, ◌<◌, ◌≤◌, List, [], length, take, get_or, Option, Some, None, refl, sym, ap, subst, arith, length-append, length-take}
+use Rattle.std.proofs.Common.{◌≡◌, ◌≢◌, inl, inr, ℕ, ◌^◌, ◌<◌, ◌≤◌, List, [], length, take, get_or, Option, Some, None, refl, sym, ap, subst, arith, length-append, length-take}
 use Rattle.tlog_tiles.specs.declared.paths.Path.{Path}
 use Rattle.tlog_tiles.specs.declared.paths.Path.TheVariants.{Checkpoint, Entries, Tile}
 use Rattle.tlog_tiles.specs.Tiles.{IsWithin}

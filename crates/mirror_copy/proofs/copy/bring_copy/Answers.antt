@@ -109,7 +109,7 @@ returns-in_default-clause-refuses g c = rw c.in_default.is at c.in_ok-head.ensur
 pub returns-in-Err-clause-refuses : goal.returns-in-Err-clause-refuses
 returns-in-Err-clause-refuses g c =
     (refuses_tip g.H.TreeHash.digest c.args.origin.now c.args.note.now (g.D.Shelf.puts c.args.shelf.now)
-    (option_map (λ b. b.now) c.args.found) c.in-Err.fault c.in-Err.ensures.blames)
+    c.in-Err.fault c.in-Err.ensures.blames)
 
 pub returns-in-Err-done-clause-refuses : goal.returns-in-Err-done-clause-refuses
 returns-in-Err-done-clause-refuses g c =
@@ -156,8 +156,7 @@ returns-in-Err-done-clause-suffices g c = λ read h.
 
 pub returns-in-Err-clause-damaged : goal.returns-in-Err-clause-damaged
 returns-in-Err-clause-damaged g c =
-    (tip_damaged g.H.TreeHash.digest c.args.origin.now (option_map (λ b. b.now) c.args.found) (g.D.Shelf.puts c.args.shelf.now)
-    c.in-Err.fault c.in-Err.ensures.blames)
+    (tip_damaged c.in-Err.fault c.in-Err.ensures.blames)
 
 pub returns-in-Err-done-clause-damaged : goal.returns-in-Err-done-clause-damaged
 returns-in-Err-done-clause-damaged g c =
@@ -167,7 +166,6 @@ returns-in-Err-done-clause-damaged g c =
 pub returns-in-Err-clause-blames : goal.returns-in-Err-clause-blames
 returns-in-Err-clause-blames g c =
     (blames_tip g.S.Source.may_answer g.S.Source.failed g.S.Source.asked c.args.places.now c.begin.new.self
-    g.H.TreeHash.digest c.args.origin.now (option_map (λ b. b.now) c.args.found) (g.D.Shelf.puts c.args.shelf.now)
     c.in-Err.fault c.in-Err.ensures.blames)
 
 pub returns-in_err-head-clause-pruned : goal.returns-in_err-head-clause-pruned
