@@ -72,10 +72,11 @@ module _ {S : Type 0} (may : S → Path → Option (List ℕ) → Type 0) (faile
   blames_none x z OutOfMemory h = tt
 
   -- a fault of reading the tip
-  pub blames_tip : {P : Type 0} (x z : Places S) (e : BringFault) → ((e ≡ CopyDamaged) × P) ⊎ IsOfNoPlace e →
-      BlamesFailed may failed asked x z e
+  pub blames_tip : {Q P : Type 0} (x z : Places S) (e : BringFault) →
+      ((e ≡ CopyInUse) × Q) ⊎ (((e ≡ CopyDamaged) × P) ⊎ IsOfNoPlace e) → BlamesFailed may failed asked x z e
   blames_tip x z e (inl h) = subst (λ (f : BringFault). BlamesFailed may failed asked x z f) (sym h.0) tt
-  blames_tip x z e (inr h) = blames_none x z e h
+  blames_tip x z e (inr (inl h)) = subst (λ (f : BringFault). BlamesFailed may failed asked x z f) (sym h.0) tt
+  blames_tip x z e (inr (inr h)) = blames_none x z e h
 
   pub blames_from : (so : Path → Type 0) (x y z : Places S) (digest : List ℕ → List ℕ) (n : ℕ) (tip : Tip)
       (puts : Option (List Put)) (e : BringFault) → y.list.items ≡ x.list.items → IsFalse y.has_failed →
@@ -101,9 +102,11 @@ module _ (digest : List ℕ → List ℕ) (origin note : List ℕ) (puts : Optio
   refuses_none OutOfMemory h = tt
 
   -- a fault of reading the tip
-  pub refuses_tip : {P : Type 0} (e : BringFault) → ((e ≡ CopyDamaged) × P) ⊎ IsOfNoPlace e → RefusesNote digest origin note puts e
+  pub refuses_tip : {Q P : Type 0} (e : BringFault) →
+      ((e ≡ CopyInUse) × Q) ⊎ (((e ≡ CopyDamaged) × P) ⊎ IsOfNoPlace e) → RefusesNote digest origin note puts e
   refuses_tip e (inl h) = subst (λ (f : BringFault). RefusesNote digest origin note puts f) (sym h.0) tt
-  refuses_tip e (inr h) = refuses_none e h
+  refuses_tip e (inr (inl h)) = subst (λ (f : BringFault). RefusesNote digest origin note puts f) (sym h.0) tt
+  refuses_tip e (inr (inr h)) = refuses_none e h
 
   refuses_places : {S : Type 0} (places : Places S) (e : BringFault) → BlamesPlaces places e → RefusesNote digest origin note puts e
   refuses_places places BadCheckpoint h = absurd h

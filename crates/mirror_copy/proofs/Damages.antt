@@ -24,7 +24,7 @@ use Rattle.mirror_copy.specs.Faults.{BlamesFrom, BlamesPlaces, IsOfNoPlace}
 use Rattle.mirror_copy.specs.Found.{IsEdgeRead, RecordsPartial}
 use Rattle.mirror_copy.specs.Growing.{Tip}
 use Rattle.mirror_copy.specs.declared.fault.BringFault.{BringFault}
-use Rattle.mirror_copy.specs.declared.fault.BringFault.TheVariants.{CopyDamaged}
+use Rattle.mirror_copy.specs.declared.fault.BringFault.TheVariants.{CopyDamaged, CopyInUse}
 use Rattle.mirror_places.specs.declared.places.Places.{Places}
 use Rattle.mirror_copy.proofs.Earlier.{kept_then}
 use Rattle.mirror_copy.proofs.ShelfReads.{edge_before, partial_before}
@@ -186,9 +186,11 @@ module _ (digest : List ℕ → List ℕ) (hash : IsDigest digest) (origin : Lis
 -- ---- faults
 
 -- CopyDamaged at the reading of the tip
-pub tip_damaged : {P : Type 0} (e : BringFault) → ((e ≡ CopyDamaged) × P) ⊎ IsOfNoPlace e → e ≡ CopyDamaged → P
-tip_damaged e (inl h) is = h.1
-tip_damaged e (inr h) is = absurd (subst (λ (f : BringFault). IsOfNoPlace f) is h)
+pub tip_damaged : {Q P : Type 0} (e : BringFault) → ((e ≡ CopyInUse) × Q) ⊎ (((e ≡ CopyDamaged) × P) ⊎ IsOfNoPlace e) →
+    e ≡ CopyDamaged → P
+tip_damaged e (inl h) is = absurd (cc (h.0, is))
+tip_damaged e (inr (inl h)) is = h.1
+tip_damaged e (inr (inr h)) is = absurd (subst (λ (f : BringFault). IsOfNoPlace f) is h)
 
 -- CopyDamaged does not come later
 pub not_damaged_later : {P : Type 0} (digest : List ℕ → List ℕ) {S : Type 0} (places : Places S) (n : ℕ) (tip : Tip)

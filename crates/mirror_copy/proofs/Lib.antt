@@ -26,4 +26,5 @@ pub mod OnePlace
 pub mod Spared
 pub mod TrueEdges
 pub mod Damages
+pub mod Compared
 pub mod OneHonest

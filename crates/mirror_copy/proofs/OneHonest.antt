@@ -1,5 +1,5 @@
 -- One honest place suffices to bring a copy, from the beginning of the call.
-use Rattle.std.proofs.Common.{◌≡◌, ◌≢◌, ◌⊎◌, inl, inr, ℕ, ◌^◌, ◌<◌, ◌≤◌, List, [], length, take, get_or, Option, Some, None, refl, sym, ap, subst, arith, length-append, length-take}
+use Rattle.std.proofs.Common.{◌≡◌, ◌≢◌, inl, inr, ℕ, ◌^◌, ◌<◌, ◌≤◌, List, [], length, take, get_or, Option, Some, None, refl, sym, ap, subst, arith, length-append, length-take}
 use Rattle.tlog_tiles.specs.declared.paths.Path.{Path}
 use Rattle.tlog_tiles.specs.declared.paths.Path.TheVariants.{Checkpoint, Entries, Tile}
 use Rattle.tlog_tiles.specs.Tiles.{IsWithin}
@@ -11,9 +11,10 @@ use Rattle.mirror_model.specs.Strings.{IsDigest}
 use Rattle.mirror_model.proofs.HeadNotes.{head_once}
 use Rattle.log_reader.specs.EdgeRows.{Edge, LeadsTo}
 use Rattle.mirror_copy.specs.AskedForCopy.{IsInUse}
+use Rattle.mirror_copy.specs.Compared.{BlamesTip}
 use Rattle.mirror_copy.specs.Conflicts.{IsNoConflict}
 use Rattle.mirror_copy.specs.Damaged.{IsDamaged}
-use Rattle.mirror_copy.specs.Faults.{BlamesFrom, BlamesPlaces, IsOfNoPlace}
+use Rattle.mirror_copy.specs.Faults.{BlamesFrom, BlamesPlaces, IsOfNoPlace, IsOtherFound}
 use Rattle.mirror_copy.specs.Found.{IsTipRead}
 use Rattle.mirror_copy.specs.Growing.{Tip}
 use Rattle.mirror_copy.specs.OneHonest.{HoldsCopy, HoldsFirst, HoldsNone, HoldsPruned, IsHonestFor, IsHonestNote, IsShelfOrMemory}
@@ -26,6 +27,7 @@ use Rattle.mirror_copy.specs.declared.fault.BringFault.TheVariants.{Contradictio
 use Rattle.mirror_copy.specs.declared.fault.BringFault.TheVariants.{ShelfFault, OutOfMemory}
 use Rattle.mirror_places.specs.declared.place.Place.{Place}
 use Rattle.mirror_places.specs.declared.places.Places.{Places}
+use Rattle.mirror_copy.proofs.Compared.{none_other}
 use Rattle.mirror_copy.proofs.OnePlace.{put_before}
 use Rattle.mirror_copy.proofs.Others.{in_use_later}
 use Rattle.mirror_places.proofs.Giving.{part_weaker}
@@ -72,10 +74,17 @@ module _ (digest : List ℕ → List ℕ) (origin : List ℕ) (log : List (List 
   not_used (HoldsPruned held is note entries more copy log_is some) d = d.no_pruned held is note entries copy
   not_used (HoldsNone held is none) d = d.not_none held is none
 
-  pub read_fails : (e : BringFault) → HoldsFirst digest origin log puts →
-      ((e ≡ CopyDamaged) × IsDamaged digest origin puts) ⊎ IsOfNoPlace e → IsNoConflict e → IsShelfOrMemory e
-  read_fails e h (inl d) n = absurd (not_damaged h d.1)
-  read_fails e h (inr o) n = only_read e o n
+  not_other : (found : Option (List ℕ)) → HoldsFirst digest origin log puts → RecordsRead puts Checkpoint found →
+      IsOtherFound found puts → ⊥
+  not_other found (HoldsCopy held is note entries more copy log_is some) read o = none_other held puts found is read o
+  not_other found (HoldsPruned held is note entries more copy log_is some) read o = none_other held puts found is read o
+  not_other found (HoldsNone held is none) read o = none_other held puts found is read o
+
+  pub read_fails : (found : Option (List ℕ)) (e : BringFault) → RecordsRead puts Checkpoint found →
+      HoldsFirst digest origin log puts → BlamesTip digest origin found puts e → IsNoConflict e → IsShelfOrMemory e
+  read_fails found e read h (inl o) n = absurd (not_other found h read o.1)
+  read_fails found e read h (inr (inl d)) n = absurd (not_damaged h d.1)
+  read_fails found e read h (inr (inr o)) n = only_read e o n
 
   module _ (tip : Tip) (t : IsTipRead digest origin puts tip) where
     none_there : (held : List Put) → puts ≡ Some held → (HasPut held Checkpoint → ⊥) → tip.checkpoint ≡ None

@@ -4,6 +4,7 @@ use Rattle.tlog_tiles.specs.declared.paths.Path.TheVariants.{Checkpoint}
 use Rattle.mirror_sources.specs.Recorded.{KeepsRecord}
 use Rattle.mirror_folders.specs.Shelf.{Put, RecordsRead}
 use Rattle.mirror_copy.specs.AskedForCopy.{IsInUse}
+use Rattle.mirror_copy.specs.Compared.{BlamesTip}
 use Rattle.mirror_copy.specs.Faults.{BlamesFrom, BlamesPlaces, BlamesRun, IsOfNoPlace, IsOtherFound, IsOtherThen}
 use Rattle.mirror_copy.specs.Found.{IsTipRead}
 use Rattle.mirror_copy.specs.Growing.{IsCutShort, IsKnown, Tip}
@@ -106,13 +107,9 @@ in_use_later digest origin places tip n x y e kept t (inr (inl h)) is =
 in_use_later digest origin places tip n x y e kept t (inr (inr h)) is =
     absurd (subst (λ (f : BringFault). BlamesPlaces places f) is h)
 
--- a fault that is not about a missing file is not CopyInUse
-not_in_use : (digest : List ℕ → List ℕ) (origin : List ℕ) (x : Option (List Put)) (e : BringFault) → IsOfNoPlace e →
-    e ≡ CopyInUse → IsInUse digest origin x
-not_in_use digest origin x e h is = absurd (subst (λ (f : BringFault). IsOfNoPlace f) is h)
-
--- a fault of reading the tip is not CopyInUse
-pub tip_not_in_use : (digest : List ℕ → List ℕ) (origin : List ℕ) (x : Option (List Put)) {P : Type 0} (e : BringFault) →
-    ((e ≡ CopyDamaged) × P) ⊎ IsOfNoPlace e → e ≡ CopyInUse → IsInUse digest origin x
-tip_not_in_use digest origin x e (inl h) is = absurd (cc (h.0, is))
-tip_not_in_use digest origin x e (inr h) is = not_in_use digest origin x e h is
+-- CopyInUse at the reading of the tip
+pub tip_in_use : (digest : List ℕ → List ℕ) (origin : List ℕ) (found : Option (List ℕ)) (x : Option (List Put))
+    (e : BringFault) → BlamesTip digest origin found x e → e ≡ CopyInUse → IsInUse digest origin x ⊎ IsOtherFound found x
+tip_in_use digest origin found x e (inl h) is = inr h.1
+tip_in_use digest origin found x e (inr (inl h)) is = absurd (cc (h.0, is))
+tip_in_use digest origin found x e (inr (inr h)) is = absurd (subst (λ (f : BringFault). IsOfNoPlace f) is h)

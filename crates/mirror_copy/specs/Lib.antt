@@ -13,3 +13,4 @@ pub mod Suffices
 pub mod Taken
 pub mod OneHonest
 pub mod Damaged
+pub mod Compared

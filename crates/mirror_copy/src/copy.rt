@@ -1,15 +1,18 @@
 //! A copy on a shelf, brought to a checkpoint.
-ghost use Rattle.std.specs.Prelude.{◌≡◌, ◌↔◌, ◌⊎◌, ◌<◌, ◌^◌, ℕ, None, Some, [], IfErr, IfOk, IfSome, IsTrue, List, OnOk, length, take, ⊤};
+ghost use Rattle.std.specs.Prelude.{◌≡◌, ◌↔◌, ◌⊎◌, ◌<◌, ◌^◌, ℕ, None, Some, [], IfErr, IfOk, IfSome, IsTrue, List, OnOk, length, option_map, take, ⊤};
 ghost use Rattle.tlog_hash.specs.Tree.{mth};
+ghost use Rattle.tlog_tiles.specs.declared.paths.Path.TheVariants.{Checkpoint};
 ghost use Rattle.mirror_model.specs.Heads.{IsHead};
 ghost use Rattle.mirror_sources.specs.Recorded.{KeepsRecord};
+ghost use Rattle.mirror_folders.specs.Shelf.{RecordsRead};
 ghost use Rattle.log_paths.specs.Since.{since_paths};
 ghost use Rattle.log_reader.specs.EdgeRows.{LeadsTo};
+ghost use Rattle.mirror_copy.specs.Compared.{IsOverFound};
 ghost use Rattle.mirror_copy.specs.Conflicts.{HasConflict, IsConflict, IsFalseEmpty, IsNoConflict};
 ghost use Rattle.mirror_places.specs.Asked.{IsEdgeTile};
 ghost use Rattle.mirror_copy.specs.Asked.{MayBeAsked};
 ghost use Rattle.mirror_copy.specs.AskedForCopy.{AsksForCopy, BlamesFailed, IsInUse, RefusesNote};
-ghost use Rattle.mirror_copy.specs.Faults.{BlamesFrom, BlamesPlaces, BlamesRun, CountsShelf, IsOfNoPlace, IsOtherThen};
+ghost use Rattle.mirror_copy.specs.Faults.{BlamesFrom, BlamesPlaces, BlamesRun, CountsShelf, IsOfNoPlace, IsOtherFound, IsOtherThen};
 ghost use Rattle.mirror_places.specs.AskedOnce.{AsksEachOnce, AsksOnce};
 ghost use Rattle.mirror_copy.specs.AskedForCopy.{AreEnds};
 ghost use Rattle.mirror_places.specs.EndTiles.{IsKept};
@@ -29,8 +32,8 @@ ghost use Rattle.mirror_copy.specs.Moments.{CopyStays, IsBroughtTo, KeepsCopy};
 
 use crate::fault::BringFault;
 use crate::find_edge::find_edge;
+use crate::found::read_found;
 use crate::last::put_last;
-use crate::read_tip::read_tip;
 use crate::tip::CopyTip;
 use crate::to_edge::bring_to_edge;
 use log_paths::files_to_put;
@@ -214,10 +217,13 @@ fn bring_from<H: TreeHash, D: ReadableShelf, S: Source + Drop>(
 ///
 /// A shelf without a checkpoint is an empty copy. Only an empty copy may be brought to a checkpoint without entries.
 ///
+/// `found` is the shelf's checkpoint as the caller read it before, None if there was none. Another one there now is that of another run:
+/// the call ends before it asks a place or puts a file.
+///
 /// Once the edge rows are found, `expect` passes to the shelf the number of files that the copy lacks. The checkpoint counts as one.
 ///
 /// ```text
-/// bring_copy::<Sha256Tree, MemShelf, ListSource<Sha256Tree>>(alloc, "ex", &mut shelf, &mut places, note)? // 257
+/// bring_copy::<Sha256Tree, MemShelf, ListSource<Sha256Tree>>(alloc, "ex", &mut shelf, &mut places, Some(old), note)? // 257
 /// ```
 ///
 /// # Errors
@@ -229,13 +235,14 @@ fn bring_from<H: TreeHash, D: ReadableShelf, S: Source + Drop>(
 ///   `Contradiction` also comes if the copy is empty, and the note has no entries and a root that is not the empty list's hash.
 /// - `NoFile`: neither the shelf nor a place has a file that verifies. `Source`: the same, and a place failed in this call. The file's
 ///   path is then `places.lacked()`.
-/// - `CopyInUse`: another run changed the shelf's checkpoint. The call saw it after it had put all other files.
+/// - `CopyInUse`: another run changed the shelf's checkpoint. The call saw it at its start, or after it had put all other files.
 /// - `ShelfFault`: the shelf failed. `OutOfMemory`: memory was refused.
 pub fn bring_copy<H: TreeHash, D: ReadableShelf, S: Source + Drop>(
     alloc: Global,
     origin: &str,
     shelf: &mut D,
     places: &mut Places<S>,
+    found: Option<&[u8]>,
     note: &[u8],
 ) -> Result<u64, BringFault>
     ensures counted { CountsShelf (D.failed shelf.old) (D.failed shelf.new) result }
@@ -246,10 +253,13 @@ pub fn bring_copy<H: TreeHash, D: ReadableShelf, S: Source + Drop>(
         places.old places.new) }
     ensures refuses { IfErr result (RefusesNote H.digest origin.now note.now (D.puts shelf.old)) }
     ensures in_use { IfErr result (λ e. e ≡ CopyInUse
-        → IsInUse H.digest origin.now (D.puts shelf.old)) }
+        → IsInUse H.digest origin.now (D.puts shelf.old)
+        ⊎ IsOtherFound (option_map (λ b. b.now) found.entry) (D.puts shelf.old)) }
+    ensures compared { IsOverFound (D.puts shelf.old) (option_map (λ b. b.now) found.entry) result }
     ensures damaged { IfErr result (λ e. e ≡ CopyDamaged
         → IsDamaged H.digest origin.now (D.puts shelf.old)) }
-    ensures suffices { IsHonestNote H.digest S.may_answer (D.puts shelf.old) places.old places.new
+    ensures suffices { RecordsRead (D.puts shelf.old) Checkpoint (option_map (λ b. b.now) found.entry)
+        → IsHonestNote H.digest S.may_answer (D.puts shelf.old) places.old places.new
         origin.now note.now → IfErr result IsShelfOrMemory }
     ensures had { IfOk result (λ size. HadSize H.digest origin.now (D.puts shelf.old) size) }
     ensures conflict { IfErr result (λ e. IsConflict e → KeepsRecord (D.puts shelf.old)
@@ -277,7 +287,7 @@ pub fn bring_copy<H: TreeHash, D: ReadableShelf, S: Source + Drop>(
         size: head.0,
         root,
     };
-    let tip = match read_tip::<H, D>(alloc, origin, shelf) {
+    let tip = match read_found::<H, D>(alloc, origin, shelf, found) {
         Ok(tip) => tip,
         Err(fault) => return Err(fault),
     };

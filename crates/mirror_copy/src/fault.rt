@@ -27,7 +27,7 @@ pub enum BringFault {
     NoFile,
     /// Neither the shelf nor a place has a file that verifies. A place failed in this call.
     Source,
-    /// The shelf's checkpoint changed since it was read first.
+    /// The shelf's checkpoint changed since the caller or this call read it.
     CopyInUse,
     /// The shelf failed.
     ShelfFault,

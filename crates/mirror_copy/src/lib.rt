@@ -2,7 +2,7 @@
 //! checkpoint, from places that are not trusted. Each file is verified before it is put, so the memory does not grow with the log.
 //!
 //! ```text
-//! bring_copy::<Sha256Tree, MemShelf, ListSource<Sha256Tree>>(alloc, "ex", &mut shelf, &mut places, note)? // 257: its old entries
+//! bring_copy::<Sha256Tree, MemShelf, ListSource<Sha256Tree>>(alloc, "ex", &mut shelf, &mut places, Some(old), note)? // 257: its old entries
 //! ```
 #![tactic(auto)]
 
@@ -13,6 +13,7 @@ mod edge_bundle;
 mod fault;
 mod find;
 mod find_edge;
+mod found;
 mod keep;
 mod last;
 mod laws;

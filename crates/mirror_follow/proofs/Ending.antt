@@ -12,6 +12,7 @@ use Rattle.mirror_folders.specs.Shelf.{Put, RecordsRead}
 use Rattle.mirror_folders.specs.declared.shelf.ShelfError.{ShelfError}
 use Rattle.mirror_folders.specs.declared.shelf.ShelfError.TheVariants as shelf
 use Rattle.mirror_places.specs.declared.places.Places.{Places}
+use Rattle.mirror_copy.proofs.Compared.{none_other}
 use Rattle.mirror_copy.proofs.PrunedFiles.{copies_are_pruned}
 use Rattle.mirror_copy.proofs.TipReads.{stands_has, stands_one}
 use Rattle.mirror_copy.specs.Conflicts.{HasConflict, IsConflict, WithCopy, WithEmpty}
@@ -217,29 +218,34 @@ ends_if (Ok t) A B C D f g is = tt
 ends_if (Err e) A B C D f g is = ends_so A B C D e f g is
 
 module _ (digest : List ℕ → List ℕ) (origin : List ℕ) where
-  -- a call for a candidate ended since the copy is not the one that was read: then the shelf had no smaller copy
-  pub no_smaller : (note : List ℕ) (n : ℕ) (root : List ℕ) (x : Option (List Put)) (e : BringFault) →
-      IsHead note origin n root → RefusesNote digest origin note x e →
-      (e ≡ bring.CopyInUse → IsInUse digest origin x) → IsOfOtherRun e → HoldsNoSmaller digest origin n x
-  no_smaller note n root x bring.BadCheckpoint head refuses in_use other = absurd (refuses n root head)
-  no_smaller note n root x bring.NotLarger head r in_use other = record {
+  -- a call for a candidate ended since the copy is not the one that was read: then the shelf had no smaller copy, or another
+  -- checkpoint was read there
+  pub no_smaller : (note : List ℕ) (n : ℕ) (root : List ℕ) (found : Option (List ℕ)) (x : Option (List Put))
+      (e : BringFault) → IsHead note origin n root → RefusesNote digest origin note x e →
+      (e ≡ bring.CopyInUse → IsInUse digest origin x ⊎ IsOtherFound found x) → IsOfOtherRun e →
+      HoldsNoSmaller digest origin n x ⊎ IsOtherFound found x
+  no_smaller note n root found x bring.BadCheckpoint head refuses in_use other = absurd (refuses n root head)
+  no_smaller note n root found x bring.NotLarger head r in_use other = inl (record {
     no_smaller = λ held is old_note entries copy.
         let size : n ≡ r.size = (head_once note origin origin n r.size root r.root head r.is_head).size_is in
         let had : r.had ≡ length entries = r.had_is.pruned held is old_note entries copy in
         let upto : r.size ≤ r.had = r.upto in omega (arith, size, had, upto);
     not_none = λ o. r.not_none o.held o.is o.none;
-  }
-  no_smaller note n root x bring.CopyInUse head refuses in_use other = record {
-    no_smaller = λ held is old_note entries copy. absurd ((in_use refl).no_pruned held is old_note entries copy);
-    not_none = λ o. (in_use refl).not_none o.held o.is o.none;
-  }
-  no_smaller note n root x bring.CopyDamaged head refuses in_use other = absurd other
-  no_smaller note n root x bring.Contradiction head refuses in_use other = absurd other
-  no_smaller note n root x bring.Collision head refuses in_use other = absurd other
-  no_smaller note n root x bring.NoFile head refuses in_use other = absurd other
-  no_smaller note n root x bring.Source head refuses in_use other = absurd other
-  no_smaller note n root x bring.ShelfFault head refuses in_use other = absurd other
-  no_smaller note n root x bring.OutOfMemory head refuses in_use other = absurd other
+  })
+  no_smaller note n root found x bring.CopyInUse head refuses in_use other = elim (in_use refl) [
+    | inl used ↦ inl (record {
+      no_smaller = λ held is old_note entries copy. absurd (used.no_pruned held is old_note entries copy);
+      not_none = λ o. used.not_none o.held o.is o.none;
+    })
+    | inr o ↦ inr o
+  ]
+  no_smaller note n root found x bring.CopyDamaged head refuses in_use other = absurd other
+  no_smaller note n root found x bring.Contradiction head refuses in_use other = absurd other
+  no_smaller note n root found x bring.Collision head refuses in_use other = absurd other
+  no_smaller note n root found x bring.NoFile head refuses in_use other = absurd other
+  no_smaller note n root found x bring.Source head refuses in_use other = absurd other
+  no_smaller note n root found x bring.ShelfFault head refuses in_use other = absurd other
+  no_smaller note n root found x bring.OutOfMemory head refuses in_use other = absurd other
 
   -- so the shelf does not have the copy of the run, if that is smaller
   pub none_stands : (copy : Candidate) (n : ℕ) (x : Option (List Put)) → copy.size.0 < n →
@@ -264,6 +270,27 @@ module _ (digest : List ℕ → List ℕ) (origin : List ℕ) where
       found None none other = none (stands_has s.held Checkpoint (note_of copy) s.under.copy.note_stands)
       found (Some bytes) there other =
           other (ap Some (stands_one s.held Checkpoint bytes (note_of copy) there s.under.copy.note_stands))
+
+  -- the checkpoint of the copy of the run, or of an empty one, is read on the shelf
+  pub standing_read : (copy : Candidate) (x : Option (List Put)) → HasStanding digest origin (Some copy) x →
+      RecordsRead x Checkpoint (Some (note_of copy))
+  standing_read copy x s =
+      subst (λ p. RecordsRead p Checkpoint (Some (note_of copy))) (sym s.puts_are) s.under.copy.note_stands
+
+  pub empty_read : (x : Option (List Put)) → HasStanding digest origin None x → RecordsRead x Checkpoint None
+  empty_read x r = subst (λ p. RecordsRead p Checkpoint None) (sym r.is) r.none
+
+  -- so a call over it does not end since another checkpoint was read
+  pub none_larger : (copy : Candidate) (n : ℕ) (found : Option (List ℕ)) (x : Option (List Put)) → copy.size.0 < n →
+      found ≡ Some (note_of copy) → HoldsNoSmaller digest origin n x ⊎ IsOtherFound found x →
+      HasStanding digest origin (Some copy) x → ⊥
+  none_larger copy n found x lt is (inl h) s = none_stands copy n x lt h s
+  none_larger copy n found x lt is (inr o) s = none_found copy x (subst (λ f. IsOtherFound f x) is o) s
+
+  pub none_empty : (n : ℕ) (x : Option (List Put)) → HoldsNoSmaller digest origin n x ⊎ IsOtherFound None x →
+      HasStanding digest origin None x → ⊥
+  none_empty n x (inl h) r = h.not_none r
+  none_empty n x (inr o) r = none_other r.held x None r.is (empty_read x r) o
 
   -- if the shelf does not have the copy of a run, it had no copy at first
   pub none_first : (first x : Option (List Put)) (copy : Option Candidate) → (HasStanding digest origin copy x → ⊥) →

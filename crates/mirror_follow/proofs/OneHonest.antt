@@ -422,16 +422,17 @@ module _ (digest : List ℕ → List ℕ) {S : Type 0} (may : S → Path → Opt
   module _ (i : ℕ) (y : Option (List Put)) (a b : Places S) (copy : Option Candidate) (before : Reaching i y a copy)
       (p : Any start a) (q : Any a b) where
     abbrev Suffices : (Candidate → Type 0) → Type 0
-    Suffices so = IsRepeat cs i ⊎ ((c : Candidate) → c ≡ get_or cs i c → IsLargerThan copy c →
-        IsHonestTurn digest may y a b origin c → so c)
+    Suffices so = IsRepeat cs i ⊎ ((c : Candidate) → c ≡ get_or cs i c → HasStanding digest origin copy y →
+        IsLargerThan copy c → IsHonestTurn digest may y a b origin c → so c)
 
     -- the turn of the first candidate, if it is larger
-    turn_suffices : (so : Candidate → Type 0) → Suffices so → (new : Places S) → Any b new → (h : First new) → i ≡ 0 →
-        IsLargerThan read h.first → so h.first
-    turn_suffices so (inl repeats) new r h e larger = let some = repeats.0 in absurd (omega (arith, some, e))
-    turn_suffices so (inr suffices) new r h e larger =
+    turn_suffices : (so : Candidate → Type 0) → Suffices so → Known y copy → (new : Places S) → Any b new → (h : First new) →
+        i ≡ 0 → IsLargerThan read h.first → so h.first
+    turn_suffices so (inl repeats) known new r h e larger = let some = repeats.0 in absurd (omega (arith, some, e))
+    turn_suffices so (inr suffices) known new r h e larger =
         let begun = before.begun e in
-        suffices h.first (first_at new h i e) (subst (λ o. IsLargerThan o h.first) (sym begun.1) larger)
+        suffices h.first (first_at new h i e) (stands_now digest origin h.entries copy x y h.holds (known x h.known))
+        (subst (λ o. IsLargerThan o h.first) (sym begun.1) larger)
         (first_turn a b new p q r h larger y begun.0)
 
     -- a turn that ends the run
@@ -444,7 +445,7 @@ module _ (digest : List ℕ → List ℕ) {S : Type 0} (may : S → Path → Opt
           let start : i ≡ 0 = omega (arith, none) in
           elim (larger_or read h.first) [
             | inl larger ↦
-                turn_suffices (λ c. IsOfShelfOrMemory e) suffices b (any_same may failed asked b) h start larger
+                turn_suffices (λ c. IsOfShelfOrMemory e) suffices known b (any_same may failed asked b) h start larger
             | inr o ↦ stood (subst (HasReached read h.first) (sym (before.begun start).1)
                 (reached_read read h.first o.0 o.1 o.2))
           ]
@@ -457,8 +458,9 @@ module _ (digest : List ℕ → List ℕ) {S : Type 0} (may : S → Path → Opt
 
     module _ (lt : i < length cs) (c : Candidate) (is : c ≡ get_or cs i c) (z : Option (List Put)) (next : Option Candidate)
         (suffices : Suffices (λ c. IsCopyNow c next)) (steps : StepsUp c copy next) where
-      reach_first : IsSorted turn_cmp cs → (new : Places S) → Any b new → (h : First new) → HasReached read h.first next
-      reach_first rises new r h =
+      reach_first : Known y copy → IsSorted turn_cmp cs → (new : Places S) → Any b new → (h : First new) →
+          HasReached read h.first next
+      reach_first known rises new r h =
           let up = none_above cs rises h.first h.others h.candidates_are c (i, lt, sym is) in
           elim (cases_lt 0 i) [
             | inl more ↦
@@ -469,7 +471,7 @@ module _ (digest : List ℕ → List ℕ) {S : Type 0} (may : S → Path → Opt
                 elim (larger_or read h.first) [
                   | inl larger ↦
                       reached_now read h.first next larger
-                      (turn_suffices (λ c. IsCopyNow c next) suffices new r h e larger)
+                      (turn_suffices (λ c. IsCopyNow c next) suffices known new r h e larger)
                   | inr o ↦
                       reached_up read h.first c copy next up
                       (subst (HasReached read h.first) (sym (before.begun e).1) (reached_read read h.first o.0 o.1 o.2)) steps
@@ -487,15 +489,15 @@ module _ (digest : List ℕ → List ℕ) {S : Type 0} (may : S → Path → Opt
 
         -- the turn of a candidate of that size and root
         turn_now : IsOnePoint c h.candidate → IsLargerThan copy c → (copy ≡ read) ⊎ Sized copy →
-            ((d : Candidate) → d ≡ get_or cs i d → IsLargerThan copy d → IsHonestTurn digest may y a b origin d →
-            IsCopyNow d next) → Sized next
+            ((d : Candidate) → d ≡ get_or cs i d → HasStanding digest origin copy y → IsLargerThan copy d →
+            IsHonestTurn digest may y a b origin d → IsCopyNow d next) → Sized next
         turn_now one larger (inr s) turns = grown s
         turn_now one larger (inl same) turns =
             let size : c.size.0 ≡ h.candidate.size.0 = one.0 in
             let root : c.root ≡ h.candidate.root = one.1 in
             let upto = h.honest.one.upto in
             sized_now read h.candidate h.candidate.size.0 c next (omega (arith, size))
-            (turns c is larger (record {
+            (turns c is (stands_now digest origin h.entries copy x y h.holds (known x h.known)) larger (record {
               entries = h.entries;
               honest = subst (λ n. IsHonestFor digest may y a b h.entries n c.root) (sym size)
                   (subst (λ o. IsHonestFor digest may y a b h.entries h.candidate.size.0 o) (sym root)
@@ -558,7 +560,7 @@ module _ (digest : List ℕ → List ℕ) {S : Type 0} (may : S → Path → Opt
       pub reach_turn : Known y copy → KeepsEach digest origin (map note_of cs) y z → Reaching (i + 1) z b next
       reach_turn known kept = record {
         begun = λ e. absurd (omega (arith, e));
-        reached = λ some rises new r h. reach_first rises new r h;
+        reached = λ some rises new r h. reach_first known rises new r h;
         passed = λ rises new last r keeps h.
             let all = each_then digest origin (map note_of cs) y last z kept keeps in
             passes_next rises new last r all h known

@@ -1,10 +1,11 @@
 //! A copy that is brought to a larger candidate.
-ghost use Rattle.std.specs.Prelude.{◌≡◌, ◌≢◌, ◌<◌, ℕ, IfErr, IfOk, List, Option, Some, ⊤};
-ghost use Rattle.mirror_folders.specs.Shelf.{Put};
+ghost use Rattle.std.specs.Prelude.{◌≡◌, ◌≢◌, ◌⊎◌, ◌<◌, ℕ, IfErr, IfOk, List, Option, Some, option_map, ⊤};
+ghost use Rattle.tlog_tiles.specs.declared.paths.Path.TheVariants.{Checkpoint};
+ghost use Rattle.mirror_folders.specs.Shelf.{Put, RecordsRead};
 ghost use Rattle.mirror_places.specs.AskedOnce.{AsksEachOnce, AsksMore};
 ghost use Rattle.mirror_places.specs.EndTiles.{IsKept};
 ghost use Rattle.mirror_copy.specs.Conflicts.{HasConflict, IsConflict};
-ghost use Rattle.mirror_copy.specs.Faults.{CountsFault};
+ghost use Rattle.mirror_copy.specs.Faults.{CountsFault, IsOtherFound};
 ghost use Rattle.mirror_copy.specs.OneHonest.{IsShelfOrMemory};
 ghost use Rattle.mirror_candidates.specs.Requests.{AsksAny, PlaceFails};
 ghost use Rattle.mirror_candidates.specs.Candidates.{note_of};
@@ -63,12 +64,13 @@ fn turn_of(fault: BringFault) -> Result<Outcome, FollowFault>
     }
 }
 
-/// Brings the copy to a larger candidate.
+/// Brings the copy to a larger candidate. `found` is the checkpoint of the copy, which is empty if there is none.
 pub(crate) fn bring<H: TreeHash, D: ReadableShelf, S: Source + Drop>(
     alloc: Global,
     origin: &str,
     shelf: &mut D,
     places: &mut Places<S>,
+    found: Option<&[u8]>,
     candidate: &Candidate,
 ) -> Result<Outcome, FollowFault>
     requires { IsHeadOf origin.now candidate.now }
@@ -82,20 +84,23 @@ pub(crate) fn bring<H: TreeHash, D: ReadableShelf, S: Source + Drop>(
     ensures source { IfOk result (λ turn. turn ≡ Outcome.NotHad FollowFault.Source
         → PlaceFails places.old places.new) }
     ensures ends { IfErr result (EndsRun (HoldsNoCopy H.digest origin.now (D.puts shelf.old))
-        (HoldsNoSmaller H.digest origin.now candidate.now.size.0 (D.puts shelf.old))) }
+        (HoldsNoSmaller H.digest origin.now candidate.now.size.0 (D.puts shelf.old)
+        ⊎ IsOtherFound (option_map (λ b. b.now) found.entry) (D.puts shelf.old))) }
     ensures shows { IfOk result (λ turn. (digest : List ℕ → List ℕ) (copy : Option Candidate)
         (candidate : Candidate) → ShowsTurn digest copy candidate turn) }
     ensures says { IfOk result (λ turn. (digest : List ℕ → List ℕ) (copy : Option Candidate)
         (candidate : Candidate) → IsLargerThan copy candidate
         → SaysTurn digest copy candidate turn) }
-    ensures suffices { IsHonestTurn H.digest S.may_answer (D.puts shelf.old) places.old places.new
+    ensures suffices { RecordsRead (D.puts shelf.old) Checkpoint
+        (option_map (λ b. b.now) found.entry)
+        → IsHonestTurn H.digest S.may_answer (D.puts shelf.old) places.old places.new
         origin.now candidate.now → IsBroughtOr result }
     ensures spares { IfOk result (λ turn. turn ≡ Outcome.NotHad FollowFault.NoFile
         → NoPlaceFails places.old places.new) }
     ensures conflicts { IfOk result (λ turn. IsOfConflict turn
         → HasConflict H.digest origin.now (note_of candidate.now) (D.puts shelf.old)) }
 {
-    match bring_copy::<H, D, S>(alloc, origin, shelf, places, &candidate.note) {
+    match bring_copy::<H, D, S>(alloc, origin, shelf, places, found, &candidate.note) {
         Ok(_) => Ok(Outcome::Brought),
         Err(fault) => turn_of(fault),
     }
@@ -150,10 +155,12 @@ pub(crate) fn take_larger<H: TreeHash, D: ReadableShelf, S: Source + Drop>(
         (EndsAt (¬ HasStanding H.digest origin.now (Some copy.now) (D.puts shelf.old))) }
     ensures shows { IfOk result (ShowsTurn H.digest (Some copy.now) candidate.now) }
     ensures says { IfOk result (SaysTurn H.digest (Some copy.now) candidate.now) }
-    ensures suffices { IsHonestTurn H.digest S.may_answer (D.puts shelf.old) places.old places.new
+    ensures suffices { HasStanding H.digest origin.now (Some copy.now) (D.puts shelf.old)
+        → IsHonestTurn H.digest S.may_answer (D.puts shelf.old) places.old places.new
         origin.now candidate.now → IsBroughtOr result }
 {
-    let turn = match bring::<H, D, S>(alloc, origin, shelf, places, candidate) {
+    let found = Some(copy.note.as_slice());
+    let turn = match bring::<H, D, S>(alloc, origin, shelf, places, found, candidate) {
         Ok(turn) => turn,
         Err(fault) => return Err(fault),
     };

@@ -63,13 +63,14 @@ pub(crate) fn take_first<H: TreeHash, D: ReadableShelf, S: Source + Drop>(
     ensures ends { IfErr result
         (EndsAt (¬ HasStanding H.digest origin.now None (D.puts shelf.old))) }
     ensures empty { IfOk result (IsOfEmpty H.digest candidate.now) }
-    ensures suffices { IsHonestTurn H.digest S.may_answer (D.puts shelf.old) places.old places.new
+    ensures suffices { HasStanding H.digest origin.now None (D.puts shelf.old)
+        → IsHonestTurn H.digest S.may_answer (D.puts shelf.old) places.old places.new
         origin.now candidate.now → IsBroughtOr result }
 {
     if has_false_root::<H>(candidate) {
         return Ok(Outcome::Contradicts);
     }
-    match bring::<H, D, S>(alloc, origin, shelf, places, candidate) {
+    match bring::<H, D, S>(alloc, origin, shelf, places, None, candidate) {
         Ok(turn) => over_none(turn),
         Err(fault) => Err(fault),
     }

@@ -48,7 +48,8 @@ fn turn_for<H: TreeHash, D: ReadableShelf, S: Source + Drop>(
         (EndsAt (¬ HasStanding H.digest origin.now run.now.copy (D.puts shelf.old))) }
     ensures empty { run.now.copy ≡ None → IfOk result (IsOfEmpty H.digest candidate.now) }
     ensures says { IfOk result (SaysTurn H.digest run.now.copy candidate.now) }
-    ensures suffices { IsLargerThan run.now.copy candidate.now
+    ensures suffices { HasStanding H.digest origin.now run.now.copy (D.puts shelf.old)
+        → IsLargerThan run.now.copy candidate.now
         → IsHonestTurn H.digest S.may_answer (D.puts shelf.old) places.old places.new
         origin.now candidate.now → IsBroughtOr result }
 {
@@ -90,7 +91,8 @@ pub(crate) fn take_turn<H: TreeHash, D: ReadableShelf, S: Source + Drop>(
     ensures taken { OnOk result ((first : Option Candidate) (done : List Candidate)
         → IsNextOf done candidate.now → HasTakenRun H.digest first done run.old
         → HasTakenRun H.digest first (done ++ candidate.now ∷ []) run.new) }
-    ensures suffices { IsLargerThan run.old.copy candidate.now
+    ensures suffices { HasStanding H.digest origin.now run.old.copy (D.puts shelf.old)
+        → IsLargerThan run.old.copy candidate.now
         → IsHonestTurn H.digest S.may_answer (D.puts shelf.old) places.old places.new
         origin.now candidate.now → BringsTo candidate.now run.new.copy result }
     ensures steps { OnOk result (StepsUp candidate.now run.old.copy run.new.copy) }

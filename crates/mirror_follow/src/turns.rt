@@ -65,7 +65,9 @@ fn take_turn_at<H: TreeHash, D: ReadableShelf, S: Source + Drop>(
         → HasTakenRun H.digest first (take i candidates.now) run.old
         → HasTakenRun H.digest first (take (i + 1) candidates.now) run.new) }
     ensures suffices { IsRepeat candidates.now i ⊎ ((candidate : Candidate)
-        → candidate ≡ get_or candidates.now i candidate → IsLargerThan run.old.copy candidate
+        → candidate ≡ get_or candidates.now i candidate
+        → HasStanding H.digest origin.now run.old.copy (D.puts shelf.old)
+        → IsLargerThan run.old.copy candidate
         → IsHonestTurn H.digest S.may_answer (D.puts shelf.old) places.old places.new origin.now
         candidate → BringsTo candidate run.new.copy result) }
     ensures steps { OnOk result ((candidate : Candidate)

@@ -1,4 +1,6 @@
-use Rattle.std.proofs.Common.{◌≡◌, subst, sym, ℕ, Ok, Err}
+use Rattle.std.proofs.Common.{◌≡◌, ◌⊎◌, subst, sym, ℕ, Ok, Err}
+use Rattle.std.specs.Prelude.{option_map}
+use Rattle.mirror_copy.specs.Faults.{IsOtherFound}
 use Rattle.mirror_copy.specs.AskedForCopy.{RefusesNote, AsksForCopy}
 use Rattle.mirror_copy.specs.declared.fault.BringFault.TheVariants.{CopyDamaged}
 use Rattle.mirror_copy.specs.OneHonest.{IsHonestNote}
@@ -78,19 +80,21 @@ returns-in-Err-clause-ends g c =
     let candidate = c.args.candidate.now in
     let x = g.D.Shelf.puts c.args.shelf.now in
     ends_if c.turn_of.result (c.in-Err.fault ≡ CopyDamaged) (IsOfOtherRun c.in-Err.fault) (HoldsNoCopy digest origin x)
-    (HoldsNoSmaller digest origin candidate.size.0 x) (brought_damaged digest origin x c.in-Err.fault c.in-Err.ensures.damaged)
-    (no_smaller digest origin candidate.note.items candidate.size.0 candidate.root x c.in-Err.fault c.requires
+    (HoldsNoSmaller digest origin candidate.size.0 x ⊎ IsOtherFound (option_map (λ b. b.now) c.args.found) x)
+    (brought_damaged digest origin x c.in-Err.fault c.in-Err.ensures.damaged)
+    (no_smaller digest origin candidate.note.items candidate.size.0 candidate.root (option_map (λ b. b.now) c.args.found) x
+    c.in-Err.fault c.requires
     (subst (λ note. RefusesNote digest origin note x c.in-Err.fault) c.deref.ensures.value c.in-Err.ensures.refuses)
     c.in-Err.ensures.in_use)
     c.turn_of.ensures.ends
 
 pub returns-in-Err-clause-suffices : goal.returns-in-Err-clause-suffices
-returns-in-Err-clause-suffices g c = λ h.
+returns-in-Err-clause-suffices g c = λ read h.
     let digest = g.H.TreeHash.digest in
     let origin = c.args.origin.now in
     let may = g.S.Source.may_answer in
     let x = g.D.Shelf.puts c.args.shelf.now in
-    c.turn_of.ensures.suffices (c.in-Err.ensures.suffices
+    c.turn_of.ensures.suffices (c.in-Err.ensures.suffices read
     (subst (λ note. IsHonestNote digest may x c.args.places.now c.bring_copy.new.places origin note)
     (sym c.deref.ensures.value)
     (honest_note digest may x c.args.places.now c.bring_copy.new.places origin c.args.candidate.now c.requires h)))

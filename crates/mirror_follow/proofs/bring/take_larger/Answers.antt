@@ -1,10 +1,13 @@
-use Rattle.std.proofs.Common.{Some}
+use Rattle.std.proofs.Common.{◌⊎◌, Some, ap, subst, sym}
+use Rattle.tlog_tiles.specs.declared.paths.Path.TheVariants.{Checkpoint}
+use Rattle.mirror_folders.specs.Shelf.{RecordsRead}
+use Rattle.mirror_copy.specs.Faults.{IsOtherFound}
 use Rattle.std.specs.Prelude.{⊤}
 use Rattle.mirror_places.specs.EndTiles.{IsKept}
 use Rattle.mirror_places.proofs.AskingOnce.{each_weaker, once_more}
 use Rattle.mirror_candidates.proofs.Requests.{any_then}
 use Rattle.mirror_follow.specs.Standing.{HasStanding, HoldsNoCopy, HoldsNoSmaller}
-use Rattle.mirror_follow.proofs.Ending.{ends_so, none_at_all, none_stands}
+use Rattle.mirror_follow.proofs.Ending.{ends_so, none_at_all, none_larger, standing_read}
 use Rattle.mirror_follow.proofs.OneHonest.{honest_before}
 use Rattle.mirror_follow.proofs.bring.take_larger.Goals as goal
 
@@ -26,8 +29,10 @@ returns-in-Err-clause-ends g c =
     let n = c.args.candidate.now.size.0 in
     let x = g.D.Shelf.puts c.args.shelf.now in
     let Lost = HasStanding digest origin (Some copy) x → ⊥ in
-    (ends_so (HoldsNoCopy digest origin x) (HoldsNoSmaller digest origin n x) Lost Lost
-    c.in-Err.fault (none_at_all digest origin copy x) (none_stands digest origin copy n x c.requires.larger)
+    let found = Some c.as_slice.result.now in
+    (ends_so (HoldsNoCopy digest origin x) (HoldsNoSmaller digest origin n x ⊎ IsOtherFound found x) Lost Lost
+    c.in-Err.fault (none_at_all digest origin copy x)
+    (none_larger digest origin copy n found x c.requires.larger (ap Some c.as_slice.ensures.value))
     c.in-Err.ensures.ends)
 
 pub returns-in_default-clause-shows : goal.returns-in_default-clause-shows
@@ -39,12 +44,16 @@ returns-in_default-clause-says g c =
     c.in-Ok.ensures.says g.H.TreeHash.digest (Some c.args.copy.now) c.args.candidate.now c.requires.larger
 
 pub returns-in-Err-clause-suffices : goal.returns-in-Err-clause-suffices
-returns-in-Err-clause-suffices g c = λ h.
-    (c.in-Err.ensures.suffices h)
+returns-in-Err-clause-suffices g c = λ stands h.
+    let x = g.D.Shelf.puts c.args.shelf.now in
+    c.in-Err.ensures.suffices (subst (λ note. RecordsRead x Checkpoint (Some note)) (sym c.as_slice.ensures.value)
+    (standing_read g.H.TreeHash.digest c.args.origin.now c.args.copy.now x stands)) h
 
 pub returns-in-Ok-contradict-clause-suffices : goal.returns-in-Ok-contradict-clause-suffices
-returns-in-Ok-contradict-clause-suffices g c = λ h.
-    let brought = c.in-Ok.ensures.suffices (honest_before g.H.TreeHash.digest g.S.Source.may_answer g.S.Source.failed
+returns-in-Ok-contradict-clause-suffices g c = λ stands h.
+    let x = g.D.Shelf.puts c.args.shelf.now in
+    let brought = c.in-Ok.ensures.suffices (subst (λ note. RecordsRead x Checkpoint (Some note)) (sym c.as_slice.ensures.value)
+    (standing_read g.H.TreeHash.digest c.args.origin.now c.args.copy.now x stands)) (honest_before g.H.TreeHash.digest g.S.Source.may_answer g.S.Source.failed
     g.S.Source.asked (g.D.Shelf.puts c.args.shelf.now) c.args.places.now c.bring.new.places c.contradict.new.places
     c.args.origin.now c.args.candidate.now c.bring.ensures.asks c.contradict.ensures.asks h) in
     absurd (cc (brought, c.in-Contradicts.is))

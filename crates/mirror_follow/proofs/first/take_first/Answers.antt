@@ -1,10 +1,11 @@
-use Rattle.std.proofs.Common.{None, sym, true≢false, ◌∙◌}
+use Rattle.std.proofs.Common.{◌⊎◌, None, sym, true≢false, ◌∙◌}
+use Rattle.mirror_copy.specs.Faults.{IsOtherFound}
 use Rattle.log_reader.proofs.Kept.{kept_once}
 use Rattle.mirror_candidates.proofs.Requests.{any_same}
 use Rattle.mirror_follow.proofs.Runs.{each_none}
 use Rattle.mirror_follow.proofs.OneHonest.{no_false_root}
 use Rattle.mirror_follow.specs.Standing.{HasStanding, HoldsNoCopy, HoldsNoSmaller}
-use Rattle.mirror_follow.proofs.Ending.{ends_so, first_ends}
+use Rattle.mirror_follow.proofs.Ending.{empty_read, ends_so, first_ends, none_empty}
 use Rattle.mirror_follow.proofs.Standing.{each_same}
 use Rattle.mirror_follow.proofs.first.take_first.Goals as goal
 
@@ -23,8 +24,8 @@ returns-in-Err-clause-ends g c =
     let x = g.D.Shelf.puts c.args.shelf.now in
     let n = c.args.candidate.now.size.0 in
     let Lost = HasStanding digest origin None x → ⊥ in
-    (ends_so (HoldsNoCopy digest origin x) (HoldsNoSmaller digest origin n x) Lost Lost
-    c.in-Err.fault (λ h. h.not_none) (λ h. h.not_none) c.in-Err.ensures.ends)
+    (ends_so (HoldsNoCopy digest origin x) (HoldsNoSmaller digest origin n x ⊎ IsOtherFound None x) Lost Lost
+    c.in-Err.fault (λ h. h.not_none) (none_empty digest origin n x) c.in-Err.ensures.ends)
 
 pub returns-in-Ok-clause-ends : goal.returns-in-Ok-clause-ends
 returns-in-Ok-clause-ends g c =
@@ -40,13 +41,16 @@ pub returns-then-has_false_root-clause-asks : goal.returns-then-has_false_root-c
 returns-then-has_false_root-clause-asks g c = any_same g.S.Source.may_answer g.S.Source.failed g.S.Source.asked c.args.places.now
 
 pub returns-then-has_false_root-clause-suffices : goal.returns-then-has_false_root-clause-suffices
-returns-then-has_false_root-clause-suffices g c = λ h.
+returns-then-has_false_root-clause-suffices g c = λ stands h.
     absurd (no_false_root g.H.TreeHash.digest g.S.Source.may_answer (g.D.Shelf.puts c.args.shelf.now) c.args.places.now
     c.args.places.now c.args.origin.now c.args.candidate.now h (c.has_false_root.ensures.0 c.if-has_false_root.true))
 
 pub returns-in-Err-clause-suffices : goal.returns-in-Err-clause-suffices
-returns-in-Err-clause-suffices g c = λ h.
-    (c.in-Err.ensures.suffices h)
+returns-in-Err-clause-suffices g c = λ stands h.
+    c.in-Err.ensures.suffices
+    (empty_read g.H.TreeHash.digest c.args.origin.now (g.D.Shelf.puts c.args.shelf.now) stands) h
 
 pub returns-in-Ok-clause-suffices : goal.returns-in-Ok-clause-suffices
-returns-in-Ok-clause-suffices g c = λ h. c.over_none.ensures.suffices (c.in-Ok.ensures.suffices h)
+returns-in-Ok-clause-suffices g c = λ stands h.
+    c.over_none.ensures.suffices (c.in-Ok.ensures.suffices
+    (empty_read g.H.TreeHash.digest c.args.origin.now (g.D.Shelf.puts c.args.shelf.now) stands) h)

@@ -30,13 +30,13 @@ returns-in-Ok-add-clause-taken g c =
     c.in-Ok.ensures.shows
 
 pub returns-in-Err-clause-suffices : goal.returns-in-Err-clause-suffices
-returns-in-Err-clause-suffices g c = λ larger h.
-    (c.in-Err.ensures.suffices larger h)
+returns-in-Err-clause-suffices g c = λ stands larger h.
+    (c.in-Err.ensures.suffices stands larger h)
 
 pub returns-in-Ok-add-clause-suffices : goal.returns-in-Ok-add-clause-suffices
-returns-in-Ok-add-clause-suffices g c = λ larger h.
+returns-in-Ok-add-clause-suffices g c = λ stands larger h.
     subst (λ t. KnowsAfter c.args.candidate.now t c.args.run.now.copy c.add.new.self.copy)
-    (c.in-Ok.ensures.suffices larger h) c.in-Ok-add.ensures.copy
+    (c.in-Ok.ensures.suffices stands larger h) c.in-Ok-add.ensures.copy
 
 pub returns-in-Ok-add-clause-steps : goal.returns-in-Ok-add-clause-steps
 returns-in-Ok-add-clause-steps g c =

@@ -60,7 +60,10 @@ pub returns-in_default-clause-empty : goal.returns-in_default-clause-empty
 returns-in_default-clause-empty g c = λ none. c.take_first.ensures.empty
 
 pub returns-in_default-clause-suffices : goal.returns-in_default-clause-suffices
-returns-in_default-clause-suffices g c = λ larger. c.take_first.ensures.suffices
+returns-in_default-clause-suffices g c = λ stands larger.
+    c.take_first.ensures.suffices (subst
+    (λ o. HasStanding g.H.TreeHash.digest c.args.origin.now o (g.D.Shelf.puts c.args.shelf.now))
+    c.in_default.is stands)
 
 pub returns-in_default-clause-ends : goal.returns-in_default-clause-ends
 returns-in_default-clause-ends g c =
@@ -72,17 +75,20 @@ returns-in_default-clause-ends g c =
 -- ---- the candidate is larger, or it is not
 
 pub returns-clause-suffices : goal.returns-clause-suffices
-returns-clause-suffices g c = λ larger. c.take_larger.ensures.suffices
+returns-clause-suffices g c = λ stands larger.
+    c.take_larger.ensures.suffices (subst
+    (λ o. HasStanding g.H.TreeHash.digest c.args.origin.now o (g.D.Shelf.puts c.args.shelf.now))
+    c.in-Some.is stands)
 
 pub returns-then-has_lesser_note-clause-suffices : goal.returns-then-has_lesser_note-clause-suffices
-returns-then-has_lesser_note-clause-suffices g c = λ larger h.
+returns-then-has_lesser_note-clause-suffices g c = λ stands larger h.
     let lt : c.in-Some.copy.size.0 < c.args.candidate.now.size.0 =
     subst (λ o. IsLargerThan o c.args.candidate.now) c.in-Some.is larger in
     let same = c.has_lesser_note.ensures.point c.if-has_lesser_note.true in
     absurd (omega (arith, lt, same.0))
 
 pub returns-then-candidate-copy-clause-suffices : goal.returns-then-candidate-copy-clause-suffices
-returns-then-candidate-copy-clause-suffices g c = λ larger h.
+returns-then-candidate-copy-clause-suffices g c = λ stands larger h.
     let lt : c.in-Some.copy.size.0 < c.args.candidate.now.size.0 =
     subst (λ o. IsLargerThan o c.args.candidate.now) c.in-Some.is larger in
     absurd (omega (arith, lt, c.if-candidate-copy.true))

@@ -7,6 +7,7 @@ use Rattle.mirror_follow.proofs.Runs.{each_none, listed_note}
 use Rattle.mirror_follow.proofs.Taken.{taken_repeat, turn_ok}
 use Rattle.mirror_follow.proofs.Turning.{run_same}
 use Rattle.mirror_follow.specs.OneHonest.{BringsTo, IsHonestTurn}
+use Rattle.mirror_follow.specs.Standing.{HasStanding}
 use Rattle.mirror_follow.specs.Taken.{IsLargerThan}
 use Rattle.mirror_follow.proofs.OneHonest.{same_at, steps_at}
 use Rattle.mirror_follow.proofs.turns.take_turn_at.Goals as goal
@@ -54,7 +55,8 @@ returns-then-is_repeated-clause-suffices g c = inl (c.is_repeated.ensures.is.0 c
 pub returns-clause-suffices : goal.returns-clause-suffices
 returns-clause-suffices g c =
     let x = g.D.Shelf.puts c.args.shelf.now in
-    inr (λ candidate is. subst (λ d. IsLargerThan c.args.run.now.copy d →
+    inr (λ candidate is. subst (λ d. HasStanding g.H.TreeHash.digest c.args.origin.now c.args.run.now.copy x →
+    IsLargerThan c.args.run.now.copy d →
     IsHonestTurn g.H.TreeHash.digest g.S.Source.may_answer x c.args.places.now c.take_turn.new.places c.args.origin.now d →
     BringsTo d c.take_turn.new.run.copy c.take_turn.result)
     (same_at c.args.candidates.now c.args.i c.requires.within c.index-candidates-i.result candidate
