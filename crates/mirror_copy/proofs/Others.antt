@@ -79,10 +79,6 @@ same_found digest m known held (Some new) first last read cut again =
 pub in_use : (digest : List ℕ → List ℕ) (origin : List ℕ) (tip : Tip) (x : Option (List Put)) → IsTipRead digest origin x tip →
     IsOtherThen digest tip x → IsInUse digest origin x
 in_use digest origin tip x t o = record {
-  found = tip.checkpoint;
-  found_is = t.checkpoint;
-  before = o.before;
-  other = o.found;
   no_copy = λ held is note entries copy. same held is entries (t.copy held is note entries copy);
   no_pruned = λ held is note entries copy. same held is entries (t.pruned held is note entries copy);
   not_none = λ held is none.

@@ -2,11 +2,10 @@
 use Rattle.std.specs.Prelude.{◌≡◌, ◌≤◌, ℕ, List, get_or, Option, Some, IsSome}
 use Rattle.tlog_tiles.specs.declared.paths.Path.{Path}
 use Rattle.tlog_tiles.specs.declared.paths.Path.TheVariants.{Checkpoint}
-use Rattle.mirror_folders.specs.Shelf.{HasPut, Put, RecordsRead}
+use Rattle.mirror_folders.specs.Shelf.{HasPut, Put}
 use Rattle.mirror_model.specs.Heads.{IsHead}
 use Rattle.mirror_copy.specs.Asked.{MayBeAsked}
 use Rattle.mirror_copy.specs.Copies.{IsCopy}
-use Rattle.mirror_copy.specs.Faults.{IsOtherFound}
 use Rattle.mirror_copy.specs.Pruned.{HadSize, IsPrunedCopy}
 use Rattle.mirror_places.specs.PlaceGets.{APlaceFailed, AsksEach}
 use Rattle.mirror_places.specs.declared.place.Place.{Place}
@@ -66,13 +65,8 @@ module _ (digest : List ℕ → List ℕ) (origin note : List ℕ) (puts : Optio
   RefusesNote ShelfFault = Unit {0}
   RefusesNote OutOfMemory = Unit {0}
 
--- the checkpoint was read at the start, and again after all other files were put: it was a different one. The record of a shelf
--- changes only by the puts of this call. So such a shelf records neither a copy, nor that it has no checkpoint
+-- a shelf that records its puts has neither a copy, nor no checkpoint
 pub record IsInUse (digest : List ℕ → List ℕ) (origin : List ℕ) (old : Option (List Put)) : Type 0 where
-  pub found : Option (List ℕ)
-  pub found_is : RecordsRead old Checkpoint found
-  pub before : Option (List Put)
-  pub other : IsOtherFound found before
   pub no_copy : (held : List Put) → old ≡ Some held → (note : List ℕ) (entries : List (List ℕ)) →
       ¬ IsCopy digest origin note entries held
   pub no_pruned : (held : List Put) → old ≡ Some held → (note : List ℕ) (entries : List (List ℕ)) →
