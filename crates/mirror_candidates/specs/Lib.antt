@@ -9,3 +9,4 @@ pub mod Shown
 pub mod Lines
 pub mod Adding
 pub mod TrueFiles
+pub mod Noting

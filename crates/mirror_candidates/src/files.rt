@@ -1,12 +1,16 @@
 //! The files of a log for a proof, read into memory.
-ghost use Rattle.std.specs.Prelude.{◌≡◌, ◌<◌, ◌≤◌, ◌∷◌, ◌++◌, [], ℕ, All, IfOk, IfSome, OnOk, length, option_map};
+ghost use Rattle.std.specs.Prelude.{◌≡◌, ◌<◌, ◌≤◌, ◌∷◌, ◌++◌, [], ℕ, All, IfOk, IfSome, OnOk, get_or, length, option_map};
 ghost use Rattle.tlog_tiles.specs.declared.paths.Path.TheVariants.{Tile};
 ghost use Rattle.mirror_places.specs.AskedOnce.{AsksMore};
+ghost use Rattle.mirror_sources.specs.Files.{full_of};
 ghost use Rattle.mirror_places.specs.EndTiles.{AnswersStay, IsEndTile, IsKeptAnswer};
+ghost use Rattle.mirror_places.specs.PlaceGets.{NotesFailure, NotesWrong};
+ghost use Rattle.mirror_places.specs.declared.place.Place.{Place};
+ghost use Rattle.mirror_candidates.specs.Noting.{LacksBoth, SaysNone};
 ghost use Rattle.mirror_candidates.specs.Requests.{AsksAny};
 ghost use Rattle.mirror_candidates.specs.TrueFiles.{AddsAsKept, AreAsKept, IsReadAt};
 
-use mirror_places::{PlaceAnswer, Places, full_of};
+use mirror_places::{PlaceAnswer, Places, Wrong, full_of};
 use mirror_sources::{Source, SourceFault};
 use std::alloc::{AllocError, Global};
 use tlog_shape::{edge_index, edge_width};
@@ -147,12 +151,14 @@ fn get_file<S: Source + Drop>(
     ensures asks { AsksAny S.may_answer S.failed S.asked places.old places.new }
     ensures more { AsksMore S.asked places.old places.new }
     ensures kept { IfOk result (IsKeptAnswer places.new.ends.tiles.items index path.now) }
+    ensures wrong { (d : Place S) → NotesFailure path.now
+        (get_or places.old.list.items index d) (get_or places.new.list.items index d) }
     ensures stay { AnswersStay places.old.ends.tiles.items places.new.ends.tiles.items }
 {
     places.end_tile(index, path)
 }
 
-// Gets the full file of a path that a place lacks, if the path is partial.
+// Gets the full file of a path that a place lacks, if the path is partial. If the place lacks this file too, the path is recorded.
 fn ask_full<S: Source + Drop>(
     places: &mut Places<S>,
     index: usize,
@@ -166,20 +172,26 @@ fn ask_full<S: Source + Drop>(
     ensures stay { AnswersStay places.old.ends.tiles.items places.new.ends.tiles.items }
     ensures as_kept { OnOk result (AddsAsKept places.new.ends.tiles.items index
         read.old.files.items read.new.files.items) }
+    ensures noted { OnOk result (SaysNone places.new.ends.tiles.items index (full_of path.now)
+        → NotesWrong path.now Wrong.NotFound places.old places.new index) }
 {
     let full = full_of(path);
     if full == *path {
+        places.note_wrong(index, path, Wrong::NotFound);
         return Ok(());
     }
     match get_file(places, index, &full)? {
         PlaceAnswer::File(bytes) => read.add(full, Some(bytes)),
-        PlaceAnswer::NotFound => read.add(full, None),
+        PlaceAnswer::NotFound => {
+            places.note_wrong(index, path, Wrong::NotFound);
+            read.add(full, None)
+        }
         PlaceAnswer::Failed => read.add(full, None),
     }
 }
 
-// Gets the file at a path from a place. If the place lacks a partial file, gets its full file. A place that failed counts as one that
-// lacks both.
+// Gets the file at a path from a place. If the place lacks a partial file, gets its full file. If it lacks both, the path is recorded. A
+// place that failed counts as one that lacks both, and its failure is recorded already.
 fn ask_file<S: Source + Drop>(
     places: &mut Places<S>,
     index: usize,
@@ -193,6 +205,8 @@ fn ask_file<S: Source + Drop>(
     ensures stay { AnswersStay places.old.ends.tiles.items places.new.ends.tiles.items }
     ensures as_kept { OnOk result (AddsAsKept places.new.ends.tiles.items index
         read.old.files.items read.new.files.items) }
+    ensures noted { OnOk result (LacksBoth places.new.ends.tiles.items index path.now
+        → NotesWrong path.now Wrong.NotFound places.old places.new index) }
 {
     match get_file(places, index, path)? {
         PlaceAnswer::File(bytes) => read.add(*path, Some(bytes)),

@@ -1,5 +1,5 @@
 //! Proofs of forks.
-ghost use Rattle.std.specs.Prelude.{◌≡◌, ◌↔◌, ◌<◌, ℕ, All, IfNone, IfOk, IfSome, IsTrue, None, Ok, Some, length, take, ⊤};
+ghost use Rattle.std.specs.Prelude.{◌≡◌, ◌↔◌, ◌<◌, ℕ, All, IfNone, IfOk, IfSome, IsTrue, None, Ok, OnOk, Some, length, take, ⊤};
 ghost use Rattle.std.specs.List.{AllByRecursion};
 ghost use Rattle.tlog_text.specs.Hash.{Is32Bytes};
 ghost use Rattle.tlog_proof.specs.Made.{Holds, asked_proof};
@@ -7,11 +7,12 @@ ghost use Rattle.tlog_proof.specs.declared.proof.Ask.TheVariants.{Consistency};
 ghost use Rattle.tlog_proof.specs.Text.{HasHashes};
 ghost use Rattle.mirror_sources.specs.Source.{StaysWithin};
 ghost use Rattle.mirror_sources.specs.Recorded.{KeepsRecord};
-ghost use Rattle.log_reader.specs.Faults.{CountsFailure};
+ghost use Rattle.log_reader.specs.Faults.{CountsFailure, IsFailure};
 ghost use Rattle.log_reader.specs.Holding.{ReadsLog};
 ghost use Rattle.log_reader.specs.Proving.{IsConsistencyTo};
 ghost use Rattle.mirror_places.specs.AskedOnce.{AsksMore};
 ghost use Rattle.mirror_places.specs.EndTiles.{AnswersStay, IsEndTile};
+ghost use Rattle.mirror_places.specs.PlaceGets.{NotesWrong};
 ghost use Rattle.mirror_candidates.specs.Agreeing.{Agrees};
 ghost use Rattle.mirror_candidates.specs.Candidates.{point_of};
 ghost use Rattle.mirror_candidates.specs.Checked.{HasFirstRoot};
@@ -23,7 +24,7 @@ ghost use Rattle.mirror_candidates.specs.TrueFiles.{ShowsAgreement};
 use crate::candidate::Candidate;
 use crate::files::{ReadFiles, ask_files, proof_paths};
 use log_reader::{LogReader, ReadFault};
-use mirror_places::Places;
+use mirror_places::{Places, Wrong};
 use mirror_sources::Source;
 use std::alloc::{AllocError, Global};
 use tlog_hash::{Hash, TreeHash};
@@ -186,6 +187,32 @@ pub fn fork_proof<H: TreeHash, S: Source>(
     checked_proof::<H, S>(alloc, files, small, large)
 }
 
+// Records the file that is false, if that is why a proof was not made from the files of a place. A file that is missing is recorded
+// already. Another fault is returned.
+fn note_fault<S: Source + Drop>(
+    places: &mut Places<S>,
+    index: usize,
+    fault: ReadFault,
+) -> Result<(), ReadFault>
+    requires { index < length places.old.list.items }
+    ensures asks { AsksAny S.may_answer S.failed S.asked places.old places.new }
+    ensures more { AsksMore S.asked places.old places.new }
+    ensures ends { places.new.ends ≡ places.old.ends }
+    ensures files { OnOk result (¬ IsFailure fault) }
+    ensures noted { (path : Path) → fault ≡ ReadFault.FalseFile path
+        → NotesWrong path Wrong.False places.old places.new index }
+{
+    match fault {
+        ReadFault::NoFile(_) => Ok(()),
+        ReadFault::FalseFile(path) => {
+            places.note_wrong(index, &path, Wrong::False);
+            Ok(())
+        }
+        ReadFault::Collision => Ok(()),
+        fault => Err(fault),
+    }
+}
+
 // The proof that the larger candidate contradicts the smaller one, made from those files of a place. None: the place lacks them, or
 // there is no such proof. The fault `Source`: other files are needed.
 fn place_proof<H: TreeHash, S: Source + Drop>(
@@ -211,10 +238,10 @@ fn place_proof<H: TreeHash, S: Source + Drop>(
     let mut files = ask_files(alloc, places, index, paths)?;
     match fork_proof::<H, ReadFiles>(alloc, &mut files, smaller, larger) {
         Ok(found) => Ok(found),
-        Err(ReadFault::NoFile(_)) => Ok(None),
-        Err(ReadFault::FalseFile(_)) => Ok(None),
-        Err(ReadFault::Collision) => Ok(None),
-        Err(fault) => Err(fault),
+        Err(fault) => match note_fault(places, index, fault) {
+            Ok(()) => Ok(None),
+            Err(fault) => Err(fault),
+        },
     }
 }
 

@@ -17,6 +17,7 @@ module _ {S : Type 0} (may : S → Path → Option (List ℕ) → Type 0) (faile
     verified_last = x.verified_last;
     has_failed = x.has_failed;
     lacked = x.lacked;
+    first_lacked = x.first_lacked;
     ends = ends;
   }
 

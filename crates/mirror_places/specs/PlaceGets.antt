@@ -24,6 +24,12 @@ NotesFailure path old new =
     (new.failures ≡ old.failures → new.first_wrong ≡ old.first_wrong)
     × (old.failures < new.failures → new.first_wrong ≡ with_first old.first_wrong path wrong.Failed)
 
+-- the file is noted as the first wrong one of the place of index k, unless one was noted before or the place failed meanwhile
+abbrev pub NotesWrong : {S : Type 0} → Path → Wrong → Places S → Places S → ℕ → Type 0
+NotesWrong {S} path wrong old new k =
+    (d : Place S) → (get_or new.list.items k d).failures ≡ (get_or old.list.items k d).failures →
+    (get_or new.list.items k d).first_wrong ≡ with_first (get_or old.list.items k d).first_wrong path wrong
+
 -- a source's number of failures rose by "times", up to the maximum of a u64
 abbrev pub RoseTimes : ℕ → ℕ → ℕ → Type 0
 RoseTimes times old new = (times ≡ 0 → new ≡ old) × (1 ≤ times → new ≡ min (old + times) (2 ^ 64 - 1))

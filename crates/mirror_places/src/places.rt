@@ -3,7 +3,7 @@ ghost use Rattle.std.specs.Prelude.{◌≡◌, ◌∷◌, ◌++◌, [], ◌<◌,
 ghost use Rattle.mirror_places.specs.Asked.{IsAskedInTurn};
 ghost use Rattle.mirror_places.specs.AskedOnce.{AsksEachOnce, AsksMore, AsksOnce, IsAtPlace};
 ghost use Rattle.mirror_places.specs.EndTiles.{AnswersStay, IsEndTile, IsKeptAnswer};
-ghost use Rattle.mirror_places.specs.PlaceGets.{AnswersEnd, AnswersGet, AsksPlaces, NotesFailure};
+ghost use Rattle.mirror_places.specs.PlaceGets.{AnswersEnd, AnswersGet, AsksPlaces, NotesFailure, NotesWrong};
 ghost use Rattle.mirror_places.specs.declared.place.Place.{Place};
 
 use crate::end_tiles::EndTiles;
@@ -29,19 +29,22 @@ pub struct Places<S: Source + Drop> {
     verified_last: usize,
     has_failed: bool,
     lacked: Option<Path>,
+    first_lacked: Option<Path>,
     ends: EndTiles,
 }
 
 impl<S: Source + Drop> Places<S> {
     /// No places yet.
     pub fn new(alloc: Global) -> Self
-        ensures { result.list.items ≡ [] }
+        ensures list { result.list.items ≡ [] }
+        ensures first { result.first_lacked ≡ None }
     {
         Places {
             list: Vec::new(alloc),
             verified_last: 0,
             has_failed: false,
             lacked: None,
+            first_lacked: None,
             ends: EndTiles::new(alloc),
         }
     }
@@ -73,6 +76,13 @@ impl<S: Source + Drop> Places<S> {
         ensures { result ≡ self.now.lacked }
     {
         self.lacked
+    }
+
+    /// The path of the first file that no place gave since the places were made. A new call does not clear it.
+    pub fn first_lacked(&self) -> Option<Path>
+        ensures { result ≡ self.now.first_lacked }
+    {
+        self.first_lacked
     }
 
     /// Whether a place failed in this call.
@@ -153,6 +163,8 @@ impl<S: Source + Drop> Places<S> {
         ensures more { AsksMore S.asked self.old self.new }
         ensures answer { IfOk result
             (AnswersEnd S.may_answer index path.now self.old self.new) }
+        ensures wrong { (d : Place S) → NotesFailure path.now
+            (get_or self.old.list.items index d) (get_or self.new.list.items index d) }
         ensures kept { IfOk result
             (IsKeptAnswer self.new.ends.tiles.items index path.now) }
         ensures stay { AnswersStay self.old.ends.tiles.items self.new.ends.tiles.items }
@@ -185,6 +197,7 @@ impl<S: Source + Drop> Places<S> {
         ensures list { self.new.list.items ≡ self.old.list.items }
         ensures failed { IsFalse self.new.has_failed }
         ensures lacked { self.new.lacked ≡ None }
+        ensures first { self.new.first_lacked ≡ self.old.first_lacked }
     {
         self.has_failed = false;
         self.lacked = None;
@@ -196,6 +209,7 @@ impl<S: Source + Drop> Places<S> {
         ensures failed { self.new.has_failed ≡ self.old.has_failed }
         ensures ends { self.new.ends.sizes ≡ (old_size, size) }
         ensures none { self.new.ends.tiles.items ≡ [] }
+        ensures first { self.new.first_lacked ≡ self.old.first_lacked }
     {
         self.ends.begin((old_size, size));
     }
@@ -218,10 +232,13 @@ impl<S: Source + Drop> Places<S> {
         self.verified_last = index;
     }
 
-    /// Records that a file of a place was wrong.
-    pub(crate) fn note_wrong(&mut self, index: usize, path: &Path, wrong: Wrong)
+    /// Records that a file of a place was wrong. The place keeps the first such record only.
+    pub fn note_wrong(&mut self, index: usize, path: &Path, wrong: Wrong)
         requires { index < length self.old.list.items }
         ensures asks { AsksPlaces S.may_answer S.failed S.asked (λ p. ⊥) self.old self.new }
+        ensures more { AsksMore S.asked self.old self.new }
+        ensures ends { self.new.ends ≡ self.old.ends }
+        ensures wrong { NotesWrong path.now wrong self.old self.new index }
         ensures noted { (d : Place S) → IsSome (get_or self.new.list.items index d).first_wrong }
     {
         self.list[index].note_wrong(path, wrong);
@@ -233,8 +250,14 @@ impl<S: Source + Drop> Places<S> {
         ensures asks { AsksPlaces S.may_answer S.failed S.asked (λ p. ⊥) self.old self.new }
         ensures lacked { IsSome self.new.lacked }
         ensures named { self.new.lacked ≡ Some path.now }
+        ensures first { self.old.first_lacked ≡ None → self.new.first_lacked ≡ Some path.now }
+        ensures kept { IsSome self.old.first_lacked
+            → self.new.first_lacked ≡ self.old.first_lacked }
     {
         self.lacked = Some(*path);
+        if self.first_lacked.is_none() {
+            self.first_lacked = Some(*path);
+        }
     }
 }
 

@@ -123,9 +123,10 @@ fn follow_among<R, F: RunFiles, D: RunFolders, I: Read, O: Write, E: Write, S: W
     followed(env, follow, lacked, answer)
 }
 
-// The path of the file that no place gave, if there is one. Drops the places.
+// The path of the first file that no place gave, if there is one. The greatest candidate, whose fault is returned, has the first turn.
+// Drops the places.
 fn lacked_of<S: Source + Drop>(places: Places<S>) -> Option<Path> {
-    let lacked = places.lacked();
+    let lacked = places.first_lacked();
     drop(places);
     lacked
 }
