@@ -26,13 +26,13 @@ module _ {S : Type 0} (may : S → Path → Option (List ℕ) → Type 0) (faile
   is_listed x y p f = elim (cases_lt f.index (length x.list.items)) [
     | inl lt ↦ lt
     | inr past ↦
-      let d = f.none in
-      let a : get_or x.list.items f.index d ≡ d = get_or_past x.list.items f.index d past in
-      let b : get_or y.list.items f.index d ≡ d =
-          get_or_past y.list.items f.index d (subst (λ n. n ≤ f.index) (sym p.count) past) in
-      let rose : d.failures < d.failures = subst (λ q. q.failures < d.failures) a
-          (subst (λ q. (get_or x.list.items f.index d).failures < q.failures) b f.rose) in
-      absurd (omega (arith, rose))
+        let d = f.none in
+        let a : get_or x.list.items f.index d ≡ d = get_or_past x.list.items f.index d past in
+        let b : get_or y.list.items f.index d ≡ d =
+        get_or_past y.list.items f.index d (subst (λ n. n ≤ f.index) (sym p.count) past) in
+        let rose : d.failures < d.failures = subst (λ q. q.failures < d.failures) a
+        (subst (λ q. (get_or x.list.items f.index d).failures < q.failures) b f.rose) in
+        absurd (omega (arith, rose))
   ]
 
   fails_one : (x y : Places S) → AsksAny may failed asked x y → APlaceFailed may failed asked x y → PlaceFails x y

@@ -61,7 +61,7 @@ returns-in-Err-clause-source g c =
     let failed = g.S.Source.failed in
     let asked = g.S.Source.asked in
     let asks = any_copied may failed asked g.H.TreeHash.digest c.args.origin.now _ _
-        c.args.places.now c.bring_copy.new.places c.bring_copy.ensures.asks in
+    c.args.places.now c.bring_copy.new.places c.bring_copy.ensures.asks in
     turned_fails may failed asked c.args.places.now c.bring_copy.new.places
     c.in-Err.fault c.turn_of.result asks c.in-Err.ensures.blames c.turn_of.ensures.source
 
