@@ -2,7 +2,7 @@
 //! spell, and which word is bad. `program_parser` finds the options in the words of a command line.
 //!
 //! ```text
-//! root::read(&found, &mut refusals)    // Command::Root(Root { width: 200 }), of the options of `root --width 200`
+//! root::read(&found, &mut refusals)    // Command::Report(ReportCommand::Root(Root { width: 200 })), of `root --width 200`
 //! ```
 #![tactic(auto)]
 

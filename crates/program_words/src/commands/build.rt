@@ -53,7 +53,7 @@ pub const LINE: CommandLine<'static> = CommandLine {
         Argument::Option(
             "keys",
             "K",
-            "The file of the keys, of which the first 'hmac' key signs the checkpoint",
+            "The file of the keys: the first 'hmac' key signs the checkpoint",
         ),
         WHY,
         Argument::Option("dir", "D", "The folder that the log is written to"),

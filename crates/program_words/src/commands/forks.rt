@@ -13,7 +13,7 @@ use clap::ArgMatches;
 // The text of the long help: input, output, statuses, faults and an example.
 const HELP: &str = "\
 The output is 'fork SIZE ROOT SIZE ROOT' for each two checkpoints of one size with different roots, and
-for each two complete ones of which neither list of entries is a prefix of the other. A fork is the
+for each two complete ones if neither list of entries is a prefix of the other. A fork is the
 operator's doing: keep the state, and write both notes with 'notes'.
 
 Exit status: 0 none, 3 there are forks, 1 a fault, 2 a usage error.
