@@ -25,7 +25,7 @@ IsOverFound puts found (Err OutOfMemory) = ⊤
 
 -- ---- only contracts of private functions cite what follows
 
--- no tip was read: the checkpoint differs from the one that was found, the shelf has no copy, or the shelf failed
+-- no tip was read: the checkpoint differs from the one that was found, the shelf has no copy, the shelf failed, or memory was refused
 abbrev pub BlamesTip : (List ℕ → List ℕ) → List ℕ → Option (List ℕ) → Option (List Put) → BringFault → Type 0
 BlamesTip digest origin found puts e =
     ((e ≡ CopyInUse) × IsOtherFound found puts) ⊎ (((e ≡ CopyDamaged) × IsDamaged digest origin puts) ⊎ IsOfNoPlace e)

@@ -258,7 +258,8 @@ pub fn bring_copy<H: TreeHash, D: ReadableShelf, S: Source + Drop>(
     ensures compared { IsOverFound (D.puts shelf.old) (option_map (λ b. b.now) found.entry) result }
     ensures damaged { IfErr result (λ e. e ≡ CopyDamaged
         → IsDamaged H.digest origin.now (D.puts shelf.old)) }
-    ensures suffices { RecordsRead (D.puts shelf.old) Checkpoint (option_map (λ b. b.now) found.entry)
+    ensures suffices { RecordsRead (D.puts shelf.old) Checkpoint
+        (option_map (λ b. b.now) found.entry)
         → IsHonestNote H.digest S.may_answer (D.puts shelf.old) places.old places.new
         origin.now note.now → IfErr result IsShelfOrMemory }
     ensures had { IfOk result (λ size. HadSize H.digest origin.now (D.puts shelf.old) size) }

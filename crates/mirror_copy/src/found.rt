@@ -36,8 +36,8 @@ pub(crate) fn read_found<H: TreeHash, D: ReadableShelf>(
 ) -> Result<CopyTip, BringFault>
     ensures fault { IfErr result IsNoConflict }
     ensures counted { CountsShelf (D.failed shelf.old) (D.failed shelf.new) result }
-    ensures blames { IfErr result (BlamesTip H.digest origin.now (option_map (λ b. b.now) found.entry)
-        (D.puts shelf.old)) }
+    ensures blames { IfErr result (BlamesTip H.digest origin.now
+        (option_map (λ b. b.now) found.entry) (D.puts shelf.old)) }
     ensures same { KeepsRecord (D.puts shelf.old) (D.puts shelf.new) }
     ensures tip { IfOk result (λ tip. IsTipRead H.digest origin.now (D.puts shelf.old) tip) }
     ensures compared { OnOk result (RecordsRead (D.puts shelf.old) Checkpoint
