@@ -15,17 +15,14 @@ use Rattle.program_monitor.specs.declared.fault.CopyEntriesFault.TheVariants as 
 use Rattle.program_words.specs.declared.parts.CopyArgs.{CopyArgs}
 use Rattle.program_words.specs.declared.commands.compare.CopyCompare.{CopyCompare as CopyCompareWords}
 use Rattle.program_words.specs.declared.commands.entries.CopyEntries.{CopyEntries as CopyEntriesWords}
-use Rattle.program_words.specs.declared.commands.serve.CopyServe.{CopyServe as CopyServeWords}
 use Rattle.program_env.specs.Moment.{Moment}
 use Rattle.program_env.specs.Performing.{IsStatus, KeepsFiles, Performs}
-use Rattle.program_env.specs.declared.port.ListenFault.{ListenFault}
-use Rattle.program_env.proofs.Performing.{performs, performs_done, quiet_port}
+use Rattle.program_env.proofs.Performing.{performs, performs_done}
 use Rattle.copy_commands.specs.Asks.{DoesAskCopy, DoesCopyCompare}
 use Rattle.copy_commands.specs.Entries.{DoesCopyEntries, WritesCopyEntries}
 use Rattle.copy_commands.specs.Faults.{IsLate}
-use Rattle.copy_commands.specs.Serve.{DoesCopyServe, ServesCopy}
 use Rattle.copy_commands.specs.declared.fault.CopyRunFault.{CopyRunFault}
-use Rattle.copy_commands.specs.declared.fault.CopyRunFault.TheVariants.{Copy, CopyEntries, Listen}
+use Rattle.copy_commands.specs.declared.fault.CopyRunFault.TheVariants.{Copy, CopyEntries}
 
 -- -- status, compare, prove
 

@@ -1,5 +1,5 @@
 -- The answers to clients from a copy. Only contracts of private functions cite these names.
-use Rattle.std.specs.Prelude.{ℕ, List, [], Option, Some, Result}
+use Rattle.std.specs.Prelude.{ℕ, List, [], Some, Result}
 use Rattle.mirror_folders.specs.Shelf.{Put}
 use Rattle.program_copies.specs.CopyAnswers.{AnswersFromCopy}
 use Rattle.program_copies.specs.declared.reply_fault.CopyAnswerFault.{CopyAnswerFault}

@@ -94,11 +94,6 @@ pub within_size : (ask : Ask) (n : ℕ) → IsWithin ask n → size_asked ask �
 within_size (AskInclusion size index) n within = within.0
 within_size (AskConsistency first second) n within = within.0
 
--- the requested entry or sizes are within the tree of the first entries
-pub within_first : (ask : Ask) (n : ℕ) → IsWithin ask n → IsWithin ask (size_asked ask)
-within_first (AskInclusion size index) n within = (omega arith, within.1)
-within_first (AskConsistency first second) n within = (omega arith, within.1, within.2)
-
 -- a proof in the tree of a root of that size is the requested one
 pub in_tree_asked : (digest : List ℕ → List ℕ) (size : ℕ) (root first_root : List ℕ) (ask : Ask) (proof : Proof) →
     size_asked ask ≤ size → IsRootOf digest size root (size_asked ask) first_root → IsInTree first_root ask proof →

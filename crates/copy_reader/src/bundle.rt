@@ -10,7 +10,7 @@ ghost use Rattle.copy_reader.specs.WholeCopies.{IsShelfFailure, ReadsCopyOf};
 
 use crate::fault::CopyFault;
 use crate::shelf_source::ShelfSource;
-use log_reader::{LogReader, ReadFault};
+use log_reader::LogReader;
 use mirror_folders::ReadableShelf;
 use std::alloc::Global;
 use tlog_hash::TreeHash;

@@ -10,7 +10,7 @@ ghost use Rattle.log_reader.specs.Holding.{IsReaderOf};
 
 use crate::fault::CopyFault;
 use crate::shelf_source::ShelfSource;
-use log_reader::{LogReader, ReadFault, open_head};
+use log_reader::{LogReader, open_head};
 use mirror_folders::ReadableShelf;
 use mirror_model::TakeFault;
 use signed_note::Verifier;

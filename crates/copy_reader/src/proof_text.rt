@@ -1,5 +1,5 @@
 //! The texts of proofs.
-ghost use Rattle.std.specs.Prelude.{◌≡◌, ◌≤◌, ◌↔◌, IfErr, IfNone, IfOk, IfSome, IsTrue, string_bytes};
+ghost use Rattle.std.specs.Prelude.{◌≤◌, ◌↔◌, IfErr, IfNone, IfOk, IfSome, IsTrue, string_bytes};
 ghost use Rattle.tlog_shape.specs.declared.TheConstants.{MAX_SIZE};
 ghost use Rattle.tlog_proof.specs.Text.{IsProofText, IsWritableProof};
 ghost use Rattle.mirror_sources.specs.Recorded.{KeepsRecord};

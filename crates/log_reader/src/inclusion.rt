@@ -1,5 +1,5 @@
 //! Inclusion proofs of a log, made from verified rows.
-ghost use Rattle.std.specs.Prelude.{◌≡◌, ◌+◌, ◌++◌, ◌^◌, ◌<◌, ◌≤◌, [], IfErr, IfOk, Ok, get_or, length};
+ghost use Rattle.std.specs.Prelude.{◌≡◌, ◌+◌, ◌++◌, ◌^◌, ◌<◌, [], IfErr, IfOk, Ok, get_or, length};
 ghost use Rattle.tlog_hash.specs.Rows.{part};
 ghost use Rattle.tlog_hash.specs.Tree.{leaf_hash};
 ghost use Rattle.tlog_proof.specs.Inclusion.{path_of};

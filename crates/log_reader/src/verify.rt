@@ -1,5 +1,5 @@
 //! The conditions on a full file.
-ghost use Rattle.std.specs.Prelude.{◌≡◌, ◌↔◌, IsTrue, ◌≤◌, ℕ, List, IfNone, IfOk, IfSome, map, length};
+ghost use Rattle.std.specs.Prelude.{◌≡◌, ◌↔◌, IsTrue, ◌≤◌, ℕ, List, IfNone, IfOk, IfSome, map};
 ghost use Rattle.tlog_hash.specs.Tree.{leaf_hash};
 ghost use Rattle.log_reader.specs.Verified.{IsRowOf, HasLeaves, Verifies};
 

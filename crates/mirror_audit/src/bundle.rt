@@ -1,5 +1,5 @@
 //! Reads a full bundle, and its tile of level 0.
-ghost use Rattle.std.specs.Prelude.{◌≡◌, ◌↔◌, ◌∷◌, [], ◌+◌, ◌*◌, ◌≤◌, ℕ, IfErr, IfOk, IsTrue, List, OnOk, Some, length};
+ghost use Rattle.std.specs.Prelude.{◌≡◌, ◌↔◌, ◌∷◌, [], ◌+◌, ◌*◌, ◌≤◌, ℕ, IfErr, IsTrue, List, OnOk, Some, length};
 ghost use Rattle.tlog_hash.specs.Rows.{level_row};
 ghost use Rattle.log_reader.specs.Holding.{IsSourceOf, IsTileHash};
 ghost use Rattle.mirror_sources.specs.Replies.{reply};

@@ -1,9 +1,8 @@
 //! The rows of the right edge.
-ghost use Rattle.std.specs.Prelude.{◌≡◌, ◌≤◌, [], ℕ, IfErr, IfOk, List, get_or, length};
+ghost use Rattle.std.specs.Prelude.{◌≡◌, ◌≤◌, ℕ, IfErr, IfOk, List, length};
 ghost use Rattle.tlog_hash.specs.Tree.{mth};
 ghost use Rattle.mirror_model.specs.Strings.{IsDigest};
 ghost use Rattle.log_reader.specs.Holding.{IsEdgeRowOf, IsSourceOf};
-ghost use Rattle.tlog_shape.specs.Edge.{width_of};
 ghost use Rattle.log_reader.specs.EdgeRows.{LeadsTo, IsEdgeOf, RowIsTrue, row_at};
 ghost use Rattle.mirror_audit.specs.Edges.{AreRowsGiven, IsRowGivenAt};
 ghost use Rattle.mirror_audit.specs.Faults.{BlamesPlace, GivesTrue, IsForAbsence};

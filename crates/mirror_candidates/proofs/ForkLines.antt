@@ -1,5 +1,5 @@
 -- A fork line is evidence: no log has both points.
-use Rattle.std.proofs.Common.{subst, inl, inr, ◌≡◌, ℕ, ◌+◌, ◌<◌, ◌≤◌, List, [], ◌∷◌, length, reverse, take, Some, None, true, sym, ap, ◌∙◌, arith, length-append}
+use Rattle.std.proofs.Common.{subst, inl, inr, ◌≡◌, ℕ, ◌<◌, ◌≤◌, List, [], ◌∷◌, length, reverse, take, Some, None, true, sym, ap, ◌∙◌, arith}
 use Rattle.std.specs.List.{Contains, AllByRecursion}
 use Rattle.std.proofs.lemmas.List.{reverse-append, nil_from_length, take_all}
 use Rattle.std.proofs.Math.Seq.{take-append_seam}
@@ -30,12 +30,6 @@ lengths (p ∷ path) all = (all.0.are_32, lengths path all.1)
 -- if a list begins another, it is the other's first entries
 front : (first second : List (List ℕ)) → IsPrefix first second → take (length first) second ≡ first
 front first second p = ap (take (length first)) (sym p.is) ∙ take-append_seam first p.rest
-
--- if a list begins another, it is not longer
-not_longer : (first second : List (List ℕ)) → IsPrefix first second → length first ≤ length second
-not_longer first second p =
-    let len : length first + length p.rest ≡ length second =
-    sym (length-append first p.rest) ∙ ap length p.is in omega (arith, len)
 
 -- a list begins another. If two points of them have one size, they have one root
 same_root : (digest : List ℕ → List ℕ) (small large : Point) (first second : List (List ℕ)) →

@@ -1,17 +1,12 @@
 -- Lists of fork lines: the candidates that they report.
-use Rattle.std.proofs.Common.{◌≡◌, inl, inr, ℕ, ◌<◌, List, [], ◌∷◌, length, get_or, Contains, Result, Ok, Err, OnOk, refl, sym, subst, arith}
+use Rattle.std.proofs.Common.{◌≡◌, inl, inr, ℕ, List, [], ◌∷◌, Contains, Result, Ok, Err, OnOk, refl, sym, subst, arith}
 use Rattle.std.specs.List.{insert}
 use Rattle.std.proofs.lemmas.List.Elements.{Contains-append_right}
 use Rattle.std.proofs.lemmas.List.Sorted.{Contains-permutation, IsPermutation-insert}
 use Rattle.mirror_candidates.specs.Lines.{HasLineOf, IsInLine, IsInSomeLine, KeepsLines}
-use Rattle.mirror_candidates.specs.Candidates.{IsOnePoint, IsSame}
 use Rattle.mirror_candidates.specs.declared.candidate.Candidate.{Candidate}
 use Rattle.mirror_candidates.specs.declared.fork_line.ForkLine.{ForkLine}
-use Rattle.mirror_candidates.proofs.Points.{one_of_same, one_then}
-
-pub line_both : (small large : Candidate) {P : Type 0} (proof : P) (line : ForkLine) → IsSame small line.small →
-    IsSame large line.large → IsInLine small line × IsInLine large line
-line_both small large proof line s l = (inl (one_of_same small line.small s), inr (one_of_same large line.large l))
+use Rattle.mirror_candidates.proofs.Points.{one_then}
 
 pub kept_itself : (lines : List ForkLine) → KeepsLines lines lines
 kept_itself lines line among = among
@@ -33,17 +28,6 @@ has_insert lines new at line e = record {
       (0, omega arith, refl));
   small_is = (refl, refl);
   large_is = (refl, refl);
-}
-
--- a line of the list
-pub line_at : (lines : List ForkLine) (line : ForkLine) (i : ℕ) (there : ForkLine) → i < length lines →
-    there ≡ get_or lines i there → IsOnePoint line.small there.small → IsOnePoint line.large there.large →
-    HasLineOf lines line
-line_at lines line i there lt is small large = record {
-  same = there;
-  listed = (i, lt, sym is);
-  small_is = small;
-  large_is = large;
 }
 
 -- a candidate of a line is in a line of the list with the same points

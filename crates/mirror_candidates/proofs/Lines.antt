@@ -6,7 +6,6 @@ use Rattle.std.specs.FinSet.{nat_cmp-IsAntisymmetric, slice_cmp-IsAntisymmetric}
 use Rattle.std.specs.List.{AllByRecursion, insert}
 use Rattle.std.specs.List.Sorted.{IsStrictlySortedBy}
 use Rattle.std.specs.Ordering.{ordering_reverse, ordering_then}
-use Rattle.std.proofs.lemmas.Cmp.{by_ranked, ranked}
 use Rattle.std.proofs.lemmas.List.Elements.{All-append, All-cons, All-drop, All-nil, All-take, All-weaker, Contains-append_left, Contains-push}
 use Rattle.tlog_proof.specs.declared.proof.Proof.{Proof}
 use Rattle.mirror_model.specs.Forks.{point_cmp}
@@ -31,32 +30,10 @@ line_total : IsTotalOrder fork_line_cmp
 line_total =
     then_total (on_total (λ (l : ForkLine). l.small) point_total) (on_total (λ (l : ForkLine). l.large) point_total)
 
-then_greater : (o r : Ordering) → o ≡ Greater → ordering_then o r ≡ Greater
-then_greater o r e = subst (λ p. ordering_then p r ≡ Greater) (sym e) refl
-
-then_less : (o r : Ordering) → o ≡ Less → ordering_then o r ≡ Less
-then_less o r e = subst (λ p. ordering_then p r ≡ Less) (sym e) refl
-
 tied_then : (o r : Ordering) → ordering_then o r ≡ Equal → (o ≡ Equal) × (r ≡ Equal)
 tied_then Less r e = absurd (cc e)
 tied_then Equal r e = (refl, e)
 tied_then Greater r e = absurd (cc e)
-
-pub before_size : (a b : Candidate) → by_point a b ≡ Less → a.size.0 ≤ b.size.0
-before_size a b h =
-    let n = a.size.0 in
-    let m = b.size.0 in
-    by_ranked (n < m) (n ≡ m) (m < n) (nat_cmp n m) (ranked n m (nat_cmp n m) refl) (λ e lt. omega (arith, lt))
-    (λ e s. omega (arith, s))
-    (λ e gt. let g : ordering_then (nat_cmp n m) (slice_cmp nat_cmp a.root b.root) ≡ Greater = then_greater _ _ e in
-    absurd (cc (g, h)))
-
-pub after_size : (a b : Candidate) → ¬ (by_point a b ≡ Less) → b.size.0 ≤ a.size.0
-after_size a b h =
-    let n = a.size.0 in
-    let m = b.size.0 in
-    by_ranked (n < m) (n ≡ m) (m < n) (nat_cmp n m) (ranked n m (nat_cmp n m) refl)
-    (λ e lt. absurd (h (then_less _ _ e))) (λ e s. omega (arith, s)) (λ e gt. omega (arith, gt))
 
 tied_points : (a b : Candidate) → by_point a b ≡ Equal → IsOnePoint a b
 tied_points a b e =
@@ -79,11 +56,6 @@ line_first : (a b : Candidate) (line : ForkLine) → IsSame a line.small → IsS
 line_first a b line s l e =
     subst (λ p. point_cmp p (point_of line.large) ≡ Less) (same_point a line.small s)
     (subst (λ p. point_cmp (point_of a) p ≡ Less) (same_point b line.large l) e)
-
--- the line of two checkpoints, with the first one as the smaller
-pub line_in_order : (a b : Candidate) (line : ForkLine) → IsSame a line.small → IsSame b line.large →
-    by_point a b ≡ Less → IsForkLine a b line
-line_in_order a b line s l e = record { both = inl (s, l); small_first = λ apart. line_first a b line s l e }
 
 pub line_turned : (a b : Candidate) (line : ForkLine) → IsSame b line.small → IsSame a line.large →
     ¬ (by_point a b ≡ Less) → IsForkLine a b line

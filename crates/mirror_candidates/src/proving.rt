@@ -26,7 +26,7 @@ use crate::files::{ReadFiles, ask_files, proof_paths};
 use log_reader::{LogReader, ReadFault};
 use mirror_places::{Places, Wrong};
 use mirror_sources::Source;
-use std::alloc::{AllocError, Global};
+use std::alloc::Global;
 use tlog_hash::{Hash, TreeHash};
 use tlog_proof::Proof;
 use tlog_tiles::Path;

@@ -14,7 +14,6 @@ use Rattle.mirror_sources.specs.Recorded.{KeepsRecord, AddsToRecord}
 use Rattle.mirror_sources.specs.Honest.{true_bytes}
 use Rattle.mirror_folders.specs.Shelf.{Put, Stands}
 use Rattle.log_paths.proofs.Standing.{stands_more}
-use Rattle.mirror_folders.specs.Shelf.{RecordsRead}
 use Rattle.mirror_copy.specs.Standing.{RecordsStands}
 use Rattle.mirror_copy.specs.Growing.{IsBelow, IsNewFile, Obtains, HoldsBelow}
 use Rattle.mirror_places.proofs.Prefixes.{bytes_front}
@@ -103,13 +102,6 @@ below_bundle index (Entries i width) h =
     inr (λ j. Entries (same j) (h.1 j))
 
 -- ---- files on the shelf
-
--- a file is read, and kept
-pub records_read : (x y : Option (List Put)) (path : Path) (bytes : List ℕ) → KeepsRecord x y →
-    RecordsRead x path (Some bytes) → RecordsStands x y path bytes
-records_read None y path bytes k h = tt
-records_read (Some xs) None path bytes k h = k
-records_read (Some xs) (Some ys) path bytes k h = subst (λ (l : List Put). Stands l path bytes) (sym k) h
 
 -- a file is put
 pub records_put : (x y z : Option (List Put)) (path : Path) (bytes : List ℕ) → KeepsRecord x y →

@@ -1,8 +1,6 @@
 -- Calls that end before anything is put.
-use Rattle.std.proofs.Common.{◌≡◌, ℕ, ◌+◌, ◌*◌, ◌^◌, ◌≤◌, List, Option, Some, None, Result, Ok, Err, IfErr, sym, subst}
+use Rattle.std.proofs.Common.{ℕ, ◌≤◌, List, Option, Some, None, Result, Ok, Err, IfErr, sym, subst}
 use Rattle.std.proofs.Common.{◌∙◌}
-use Rattle.std.proofs.Math.Nat.{div-mul-le_self}
-use Rattle.tlog_shape.specs.Edge.{edge_index_of}
 use Rattle.mirror_sources.specs.Recorded.{KeepsRecord}
 use Rattle.tlog_tiles.specs.declared.paths.Path.{Path}
 use Rattle.mirror_folders.specs.Shelf.{Put, Stands}
@@ -11,10 +9,6 @@ use Rattle.mirror_copy.specs.Conflicts.{ConflictPutsNothing, IsConflict, IsNoCon
 use Rattle.mirror_copy.specs.declared.fault.BringFault.{BringFault}
 use Rattle.mirror_copy.specs.declared.fault.BringFault.TheVariants.{BadCheckpoint, CopyDamaged, NotLarger, Contradiction}
 use Rattle.mirror_copy.specs.declared.fault.BringFault.TheVariants.{Collision, NoFile, Source, CopyInUse, ShelfFault, OutOfMemory}
-
--- the tile in which the m entries end begins within them
-pub edge_start : (m level index : ℕ) → index ≡ edge_index_of m level → index * 256 ^ (level + 1) ≤ m
-edge_start m level index is = subst (λ k. k * 256 ^ (level + 1) ≤ m) (sym is) (div-mul-le_self m (256 ^ (level + 1)))
 
 pub kept_then : (x y z : Option (List Put)) → KeepsRecord x y → KeepsRecord y z → KeepsRecord x z
 kept_then None y z p q = tt

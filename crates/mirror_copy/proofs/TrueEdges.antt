@@ -1,5 +1,5 @@
 -- An edge that leads to the root of a log is true, if nothing clashes.
-use Rattle.std.proofs.Common.{◌≡◌, ℕ, ◌*◌, ◌^◌, ◌<◌, List, [], ◌++◌, length, map, Option, refl, sym, ap, subst, ◌∙◌}
+use Rattle.std.proofs.Common.{◌≡◌, ℕ, ◌*◌, ◌^◌, ◌<◌, List, [], ◌++◌, length, map, refl, sym, ap, subst, ◌∙◌}
 use Rattle.std.specs.FinSet as set
 use Rattle.std.proofs.lemmas.List.{append-nil}
 use Rattle.tlog_shape.specs.Edge.{edge_index_of}
@@ -9,26 +9,13 @@ use Rattle.tlog_tiles.specs.declared.paths.Path.{Path}
 use Rattle.node_store.specs.Strings.{NoClash}
 use Rattle.mirror_model.specs.Edge.{edge_levels, edge_strings}
 use Rattle.mirror_model.specs.Strings.{IsDigest}
-use Rattle.mirror_folders.specs.Shelf.{Put}
 use Rattle.log_reader.specs.EdgeRows.{Edge, LeadsTo, row_at}
 use Rattle.log_reader.specs.Truth.{IsListClear}
 use Rattle.log_reader.specs.Ways.{HasEdgeHashes}
 use Rattle.log_reader.proofs.Truths.{shown_rows_are_true}
-use Rattle.mirror_copy.specs.Found.{IsEdgeRead}
 use Rattle.mirror_copy.specs.Suffices.{IsEdgeTrue}
-use Rattle.mirror_copy.specs.Taken.{EdgesAreClear, WasPut}
+use Rattle.mirror_copy.specs.Taken.{EdgesAreClear}
 use Rattle.mirror_places.specs.Giving.{IsEdgeFrom}
-
--- the rows that were read from a shelf were put there
-pub edge_put : (puts : Option (List Put)) (n : ℕ) (edge : Edge) → IsEdgeRead puts n edge → IsEdgeFrom (WasPut puts) n edge
-edge_put puts n edge h = record {
-  size_is = h.size_is;
-  rows_are = λ level upto. record {
-    bytes = (h.rows_are level upto).bytes;
-    is_row = (h.rows_are level upto).is_row;
-    taken = (h.rows_are level upto).taken;
-  };
-}
 
 module _ (digest : List ℕ → List ℕ) (hash : IsDigest digest) (log : List (List ℕ)) (take : Path → List ℕ → Type 0)
     (clear : EdgesAreClear digest log take) (n : ℕ) (small : n < 2 ^ 64) (long : length log ≡ n) (root : List ℕ)

@@ -1,5 +1,5 @@
 //! A copy on a shelf, brought to a checkpoint.
-ghost use Rattle.std.specs.Prelude.{◌≡◌, ◌↔◌, ◌⊎◌, ◌<◌, ◌^◌, ℕ, None, Some, [], IfErr, IfOk, IfSome, IsTrue, List, OnOk, length, option_map, take, ⊤};
+ghost use Rattle.std.specs.Prelude.{◌≡◌, ◌↔◌, ◌⊎◌, ◌<◌, ℕ, None, Some, [], IfErr, IfOk, IfSome, IsTrue, List, OnOk, length, option_map, take, ⊤};
 ghost use Rattle.tlog_hash.specs.Tree.{mth};
 ghost use Rattle.tlog_tiles.specs.declared.paths.Path.TheVariants.{Checkpoint};
 ghost use Rattle.mirror_model.specs.Heads.{IsHead};

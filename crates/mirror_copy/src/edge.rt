@@ -1,5 +1,5 @@
 //! A copy brought to the right edge of a larger tree.
-ghost use Rattle.std.specs.Prelude.{◌≡◌, ◌*◌, ◌^◌, ◌<◌, ◌≤◌, [], ℕ, List, IfErr, OnOk, take};
+ghost use Rattle.std.specs.Prelude.{◌*◌, ◌^◌, ◌<◌, ◌≤◌, [], ℕ, List, IfErr, OnOk, take};
 ghost use Rattle.tlog_shape.specs.Edge.{edge_index_of};
 ghost use Rattle.mirror_sources.specs.Recorded.{KeepsRecord};
 ghost use Rattle.mirror_copy.specs.Asked.{IsNewFull};

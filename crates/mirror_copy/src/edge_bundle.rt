@@ -1,21 +1,21 @@
 //! The partial bundle at the right edge.
-ghost use Rattle.std.specs.Prelude.{◌≡◌, ◌≢◌, ◌*◌, ◌^◌, ◌<◌, ◌≤◌, [], ℕ, List, IfErr, IfNone, IfOk, IfSome, IsTrue, Some, length, option_map, take};
+ghost use Rattle.std.specs.Prelude.{◌≢◌, ◌*◌, ◌^◌, ◌<◌, ◌≤◌, [], ℕ, List, IfErr, IfOk, Some, length, take};
 ghost use Rattle.tlog_shape.specs.Edge.{edge_index_of};
 ghost use Rattle.mirror_sources.specs.Files.{full_of};
 ghost use Rattle.mirror_sources.specs.Recorded.{KeepsRecord};
 ghost use Rattle.mirror_copy.specs.Asked.{IsEdgeBundle};
 ghost use Rattle.mirror_places.specs.Asked.{IsPathOrFull};
 ghost use Rattle.mirror_copy.specs.Faults.{BlamesPlaces, CountsShelf};
-ghost use Rattle.mirror_places.specs.AskedOnce.{AsksOnce, IsAtPlace};
+ghost use Rattle.mirror_places.specs.AskedOnce.{AsksOnce};
 ghost use Rattle.mirror_places.specs.PlaceGets.{AsksPlaces};
 ghost use Rattle.mirror_copy.specs.Conflicts.{ConflictPutsNothing, IsNoConflict};
 ghost use Rattle.log_reader.specs.Verified.{HasLeaves};
 ghost use Rattle.mirror_copy.specs.Growing.{IsKnown};
 ghost use Rattle.log_reader.specs.EdgeRows.{HasWidths};
 ghost use Rattle.mirror_copy.specs.Edges.{BringsEdgeBundle};
-ghost use Rattle.mirror_places.specs.TruePlaces.{HasTruePlace, IsTruePlace};
+ghost use Rattle.mirror_places.specs.TruePlaces.{HasTruePlace};
 ghost use Rattle.mirror_copy.specs.Suffices.{IsEdgeTrue, IsNoLack, IsSpared, IsTipOf, OneIsHonest};
-ghost use Rattle.mirror_places.specs.Giving.{MayGive, PartOf};
+ghost use Rattle.mirror_places.specs.Giving.{PartOf};
 ghost use Rattle.mirror_copy.specs.Taken.{MayTake};
 ghost use Rattle.mirror_places.specs.TrueAnswers.{HasTrueLeaves};
 ghost use Rattle.mirror_model.specs.TrueLaws.{AreShort};

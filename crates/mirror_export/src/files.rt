@@ -4,9 +4,9 @@ ghost use Rattle.std.specs.List.{filter};
 ghost use Rattle.tlog_tiles.specs.Tiles.{IsWithin};
 ghost use Rattle.mirror_served.specs.Tops.{IsListOf};
 ghost use Rattle.mirror_export.specs.Exports.{AddsFiles};
-ghost use Rattle.log_paths.specs.Files.{served_bytes, files_at, kind_paths, kind_level, kind_path};
+ghost use Rattle.log_paths.specs.Files.{served_bytes, files_at, kind_paths, kind_level};
 ghost use Rattle.mirror_folders.specs.Shelf.{CountsFailures};
-ghost use Rattle.log_paths.specs.Since.{is_new, since_parts, since_paths, width_at};
+ghost use Rattle.log_paths.specs.Since.{is_new, since_parts, since_paths};
 
 use log_paths::{FileKind, files_to_put, lacks, level_at, path_at};
 use mirror_folders::{Shelf, ShelfError};

@@ -1,5 +1,5 @@
 //! Reads a log's files in a folder.
-ghost use Rattle.std.specs.Prelude.{◌+◌, ◌≤◌, IfOk, IfSome, take, vec_len};
+ghost use Rattle.std.specs.Prelude.{◌+◌, ◌≤◌, IfOk, IfSome, vec_len};
 ghost use Rattle.byte_streams.specs.Streams.{TakesAtMost};
 ghost use Rattle.mirror_folders.specs.Places.{longest_file};
 

@@ -9,8 +9,6 @@ use Rattle.signed_note.specs.Keys.{Key}
 use Rattle.mirror_model.specs.Heads.{IsHead}
 use Rattle.mirror_model.proofs.HeadNotes.{head_once}
 use Rattle.mirror_folders.specs.Shelf.{Put, RecordsRead}
-use Rattle.mirror_folders.specs.declared.shelf.ShelfError.{ShelfError}
-use Rattle.mirror_folders.specs.declared.shelf.ShelfError.TheVariants as shelf
 use Rattle.mirror_places.specs.declared.places.Places.{Places}
 use Rattle.mirror_copy.proofs.Compared.{none_other}
 use Rattle.mirror_copy.proofs.PrunedFiles.{copies_are_pruned}
@@ -30,7 +28,7 @@ use Rattle.mirror_candidates.specs.declared.candidate.Candidate.{Candidate}
 use Rattle.mirror_candidates.specs.declared.fault.CandidateFault.{CandidateFault}
 use Rattle.mirror_candidates.specs.declared.fault.CandidateFault.TheVariants as none
 use Rattle.mirror_candidates.proofs.Requests.{fails_later, fails_then}
-use Rattle.mirror_follow.specs.Blame.{CountsFollow, CountsFollowFault, by_shelf, of_candidates}
+use Rattle.mirror_follow.specs.Blame.{CountsFollow, CountsFollowFault, of_candidates}
 use Rattle.mirror_follow.specs.Ending.{BlamesPlace, EndsAt, EndsFor, EndsRun, HadNone, HasFalseRoot, IsFaultOf, IsFirstFault, IsOfConflict, IsOfEmpty, IsOfOtherRun, KeepsFault, NoPlaceFails, fault_after, or_fault}
 use Rattle.mirror_follow.specs.Turning.{ShowsTurn}
 use Rattle.mirror_follow.specs.Standing.{HasStanding, HoldsNoCopy, HoldsNoSmaller, IsCopyNow, IsCopyOfRun, IsFoundCopy, IsHeadOf, KnowsAfter, RecordsNone}
@@ -92,6 +90,7 @@ pub turned_fails : {S E : Type 0} (may : S → Path → Option (List ℕ) → Ty
 turned_fails may failed asked x y e (Ok t) asks blames h = λ is. fails_brought may failed asked x y e asks (h is) blames
 turned_fails may failed asked x y e (Err f) asks blames h = tt
 
+-- the same of NoFile: then no place failed
 pub turned_spares : {S E : Type 0} (may : S → Path → Option (List ℕ) → Type 0) (failed : S → ℕ)
     (asked : S → Option (List Path)) (x y : Places S) (e : BringFault) (r : Result Outcome E) →
     BlamesFailed may failed asked x y e → IfOk r (λ t. t ≡ turn.NotHad fault.NoFile → e ≡ bring.NoFile) →
@@ -187,10 +186,6 @@ module _ (digest : List ℕ → List ℕ) where
   empty_shows (Ok (turn.NotHad f)) c h = tt
 
 -- ---- faults that end a run
-
-pub ends_shelf : (A B : Type 0) (e : ShelfError) → EndsRun A B (by_shelf e)
-ends_shelf A B shelf.Failed = tt
-ends_shelf A B shelf.OutOfMemory = tt
 
 -- a call that ends by CopyDamaged states that its shelf has no copy
 pub brought_damaged : (digest : List ℕ → List ℕ) (origin : List ℕ) (x : Option (List Put)) (e : BringFault) →

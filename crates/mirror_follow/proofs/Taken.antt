@@ -1,7 +1,6 @@
 -- The facts about the candidates, turn after turn.
 use Rattle.std.proofs.Common.{◌≡◌, ◌≢◌, ◌⊎◌, inl, inr, ℕ, ◌+◌, ◌<◌, ◌≤◌, Bool, true, false, List, [], ◌∷◌, ◌++◌, length, get_or, take, All, Contains, Option, Some, None, refl, sym, ap, subst, ◌∙◌, arith, true≢false, Result, Ok, Err, IfOk, IfSome, OnOk}
 use Rattle.std.specs.List.Sorted.{IsSorted}
-use Rattle.std.proofs.lemmas.Bool.{cases_lt}
 use Rattle.std.proofs.lemmas.List.{take_all, take_more}
 use Rattle.std.proofs.lemmas.List.Elements.{All-contains, All-nil, All-push, All-weaker, Contains-append_left, Contains-push}
 use Rattle.tlog_proof.specs.declared.proof.Proof.{Proof}
@@ -495,20 +494,6 @@ module _ (digest : List ℕ → List ℕ) (first : Option Candidate) where
 pub larger_above : (copy : Option Candidate) (c : Candidate) → IsLargerThan copy c → IsAbove copy c
 larger_above None c lt = tt
 larger_above (Some held) c lt = inl lt
-
--- a candidate of the copy's size or without entries, with the root that it has to have
-pub due_agrees : (digest : List ℕ → List ℕ) (copy c : Candidate) (due : List ℕ) → c.size.0 ≤ copy.size.0 →
-    (c.size.0 ≡ 0) ⊎ (c.size.0 ≡ copy.size.0) → (c.size.0 ≡ copy.size.0 → due ≡ copy.root) →
-    (c.size.0 ≢ copy.size.0 → due ≡ digest []) → c.root ≡ due → Agrees digest (point_of c) (point_of copy)
-due_agrees digest copy c due le which as_copy as_none same = elim (cases_lt c.size.0 copy.size.0) [
-  | inl lt ↦
-      let apart : c.size.0 ≢ copy.size.0 = omega (arith, lt) in
-      let none : c.size.0 ≡ 0 = elim which [ inl zero ↦ zero | inr one ↦ absurd (apart one) ] in
-      record { proof = None; shown = inr (none, same ∙ as_none apart) }
-  | inr ge ↦
-      let one : c.size.0 ≡ copy.size.0 = omega (arith, le, ge) in
-      record { proof = None; shown = inl (one, same ∙ as_copy one) }
-]
 
 -- the facts after a turn, with the copy of the run
 module _ (digest : List ℕ → List ℕ) {E : Type 0} (r : Result Outcome E) (copy : Option Candidate) (c held : Candidate)

@@ -6,7 +6,6 @@ use Rattle.mirror_candidates.specs.Shown.{ShowsEach, ShowsLine}
 use Rattle.mirror_candidates.specs.declared.candidate.Candidate.{Candidate}
 use Rattle.mirror_follow.specs.Standing.{IsCopyOfRun, IsHeadOf, KnowsAfter, StandsAfter, size_of_copy}
 use Rattle.mirror_follow.specs.Turning.{ContinuesRun, IsRunFrom}
-use Rattle.mirror_follow.specs.declared.fault.FollowFault.TheVariants as fault
 use Rattle.mirror_follow.specs.declared.run.Run.{Run}
 use Rattle.mirror_follow.specs.declared.run.Outcome.{Outcome}
 use Rattle.mirror_follow.proofs.Standing.{head_after, known_after}

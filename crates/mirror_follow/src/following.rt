@@ -1,5 +1,5 @@
 //! A copy that follows its places.
-ghost use Rattle.std.specs.Prelude.{◌≡◌, All, IfErr, IfOk, map, option_map};
+ghost use Rattle.std.specs.Prelude.{All, IfErr, IfOk, map, option_map};
 ghost use Rattle.mirror_candidates.specs.Requests.{IsGivenOrMayGive};
 ghost use Rattle.mirror_candidates.specs.GatheredFrom.{AreCandidates};
 ghost use Rattle.mirror_candidates.specs.Shown.{ShowsLine};

@@ -1,5 +1,5 @@
 //! The turns of all candidates.
-ghost use Rattle.std.specs.Prelude.{◌≡◌, ◌⊎◌, ◌↔◌, ◌∷◌, ◌+◌, ◌<◌, All, IfErr, IfOk, IfSome, IsTrue, List, None, OnOk, Option, Some, get_or, length, map, take};
+ghost use Rattle.std.specs.Prelude.{◌≡◌, ◌⊎◌, ◌↔◌, ◌+◌, ◌<◌, All, IfErr, IfOk, IfSome, IsTrue, List, OnOk, Option, Some, get_or, length, map, take};
 ghost use Rattle.std.specs.List.Sorted.{IsSorted};
 ghost use Rattle.mirror_folders.specs.Shelf.{Put};
 ghost use Rattle.mirror_candidates.specs.Requests.{AsksAny, PlaceFails};

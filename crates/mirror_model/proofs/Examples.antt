@@ -55,15 +55,6 @@ is_forked = record {
       λ p. let first : 20 ≡ 1 = ap (λ (es : List (List ℕ)). get_or (get_or es 0 []) 0 0) p.is in omega arith;
 }
 
--- no merge leads from a mirror if no event is left, or if the only merge has another source
-merges_on : (target source from to : ℕ) → (from ≡ source → ⊥) → OpeningReaches from to (Merge target source ∷ []) →
-    from ≡ to
-merges_on target source from to other h =
-    elim (open_first (Merge target source) [] from to h) [
-      | inl a ↦ open_none from to a
-      | inr b ↦ (let same : Merge target source ≡ Merge b.target from = b.is in absurd (other (sym (cc same))))
-    ]
-
 pub is_way : MergesLeadInOrder
 is_way = record {
   reaches =

@@ -21,7 +21,6 @@ use Rattle.mirror_model.specs.TrueLaws.{AreShort}
 use Rattle.mirror_sources.specs.Files.{full_of}
 use Rattle.mirror_sources.specs.Honest.{true_bytes}
 use Rattle.log_reader.specs.Holding.{GoesOn}
-use Rattle.mirror_places.specs.Giving.{IsFirstOf}
 
 -- the first w of some ranges
 take_ranges : {A : Type 0} (b first w count : ℕ) (es : List A) → w ≤ count →
@@ -40,9 +39,6 @@ pub count_row : (digest : List ℕ → List ℕ) (es : List (List ℕ)) (level f
     length (level_row digest es level first w) ≡ w
 count_row digest es level first w =
     length-map (ranges (256 ^ level) first w es) (mth digest) ∙ length-ranges (256 ^ level) first w es
-
-pub first_taken : (n : ℕ) (full : List ℕ) → IsFirstOf full (take n full)
-first_taken n full = record { rest = drop n full; full_is = sym (take-append-drop n full) }
 
 -- the next entry of a bundle
 next_there : (es : List (List ℕ)) (i : ℕ) → i < length es →

@@ -1,9 +1,9 @@
 -- An answer is put where none was kept. The others stay.
-use Rattle.std.proofs.Common.{◌≡◌, ◌≢◌, inl, inr, ℕ, ◌<◌, List, [], ◌∷◌, ◌++◌, length, get_or, Option, None, Some, refl, sym, subst, ap, ◌∙◌, arith, length-append}
+use Rattle.std.proofs.Common.{◌≡◌, ◌≢◌, inl, inr, ℕ, ◌<◌, List, length, get_or, Option, None, Some, refl, sym, subst, ap, ◌∙◌, arith}
 use Rattle.std.specs.Prelude.{IfSome}
 use Rattle.std.proofs.Math.ListN.{set}
 use Rattle.std.proofs.lemmas.Bool.{cases_order}
-use Rattle.std.proofs.lemmas.List.{get_or_append_left, get_or_default, length-set, get_or-set_same, get_or-set_other}
+use Rattle.std.proofs.lemmas.List.{get_or_default, length-set, get_or-set_same, get_or-set_other}
 use Rattle.tlog_tiles.specs.declared.paths.Path.{Path}
 use Rattle.mirror_places.specs.declared.end_tiles.EndTile.{EndTile}
 use Rattle.mirror_places.specs.declared.end_tiles.EndTiles.{EndTiles}
@@ -71,18 +71,6 @@ answers_then x y z p q =
       more = omega (arith, first, second);
       same = λ at lt d. q.same at (omega (arith, lt, first)) d ∙ p.same at lt d;
     }
-
--- one more answer is noted
-pub answers_more : (tiles : List EndTile) (tile : EndTile) → AnswersStay tiles (tiles ++ tile ∷ [])
-answers_more tiles tile =
-    let long = length-append tiles (tile ∷ []) in
-    record {
-      more = omega (arith, long);
-      same = λ at lt d. get_or_append_left tiles (tile ∷ []) d at lt;
-    }
-
-pub others_same : (but : Option ℕ) (tiles : List EndTile) → OthersStay but tiles tiles
-others_same but tiles = record { more = omega arith; same = λ at ne lt d. refl }
 
 pub others_set : (tiles : List EndTile) (i : ℕ) (tile : EndTile) → OthersStay (Some i) tiles (set tiles i tile)
 others_set tiles i tile =

@@ -1,5 +1,5 @@
 //! The edge rows of a tree, all from one place.
-ghost use Rattle.std.specs.Prelude.{◌≡◌, ◌<◌, ◌≤◌, ℕ, List, IfNone, IfOk, IfSome, IsSome, IsSomeAnd, length, option_map};
+ghost use Rattle.std.specs.Prelude.{◌<◌, ◌≤◌, ℕ, List, IfNone, IfOk, IfSome, IsSome, IsSomeAnd, length, option_map};
 ghost use Rattle.log_reader.specs.EdgeRows.{LeadsTo};
 ghost use Rattle.mirror_places.specs.Asked.{IsEdgeTile, IsLowestEdgeTile};
 ghost use Rattle.mirror_places.specs.AskedOnce.{AsksOnce, IsAtPlace, IsEdgeTileAt};

@@ -1,6 +1,6 @@
 -- Events on mirrors and the views: one more event, and one event again.
 use Rattle.std.proofs.Common.{◌≡◌, ℕ, zero, suc, ◌+◌, ◌-◌, ◌<◌, List, [], ◌∷◌, ◌++◌, length, map, take, set}
-use Rattle.std.proofs.Common.{get_or, Some, add-one, refl, sym, ap, subst, ◌∙◌, arith}
+use Rattle.std.proofs.Common.{get_or, Some, refl, sym, ap, subst, ◌∙◌, arith}
 use Rattle.std.specs.Prelude.{slice_get, option_map}
 use Rattle.std.proofs.lemmas.List.{set-append_left, set-append_right, get_or_append_left, get_or-append_right}
 use Rattle.std.proofs.lemmas.List.{map-append, map-set, set-get_or, take_more}
@@ -9,14 +9,12 @@ use Rattle.std.proofs.Math.Seq.{map-set_same}
 use Rattle.signed_note.specs.Keys.{Key}
 use Rattle.mirror_model.specs.View.{View}
 use Rattle.mirror_model.specs.Marks.{State}
-use Rattle.mirror_model.specs.Steps.{Answer, Exhausted, Happens, Merges, MergesAt, Run, Takes, TakesAt}
-use Rattle.mirror_model.specs.Events.{IsFitting}
+use Rattle.mirror_model.specs.Steps.{Answer, Happens, Merges, MergesAt, Run, Takes, TakesAt}
 use Rattle.mirror_model.specs.declared.events.Event.{Event}
-use Rattle.mirror_model.specs.declared.events.Event.TheVariants.{Take}
 use Rattle.mirror_model.specs.declared.items.Item.{Item}
-use Rattle.mirror_model.specs.declared.items.Item.TheVariants.{Head, Tile, Bundle}
+use Rattle.mirror_model.specs.declared.items.Item.TheVariants.{Tile, Bundle}
 use Rattle.mirror_model.proofs.Happening.{event_again}
-use Rattle.mirror_plays.specs.Plays.{HappensWithin, HasWidth, RunsOut, RunsWithin, all_remembered, views_of}
+use Rattle.mirror_plays.specs.Plays.{HappensWithin, RunsOut, RunsWithin, all_remembered, views_of}
 
 -- ---- which events fit
 

@@ -1,15 +1,14 @@
 -- The lines of missing paths, in order.
-use Rattle.std.proofs.Common.{zero, suc, ◌≡◌, ℕ, ◌+◌, ◌-◌, ◌*◌, ◌%◌, ◌^◌, ◌<◌, ◌≤◌, min, List, [], ◌∷◌, ◌++◌, map, sym, refl, ap, subst}
+use Rattle.std.proofs.Common.{zero, suc, ◌≡◌, ℕ, ◌+◌, ◌-◌, ◌*◌, ◌%◌, ◌<◌, ◌≤◌, min, List, [], ◌∷◌, ◌++◌, map, sym, refl, ap, subst}
 use Rattle.std.proofs.Common.{◌∙◌, ◌⊎◌, inl, inr, append_assoc, append-nil, arith, Bool, true, false, cond, Option, Some, None}
 use Rattle.std.specs.Prelude.{◌↔◌, ◌≢◌, IsTrue, codes, Result, Ok, Err, OnErr, OnOk, IsErrAnd}
 use Rattle.std.specs.Fmt.{decimal}
-use Rattle.std.specs.Io.KnownBytes.{Appends}
 use Rattle.std.proofs.lemmas.Bool.{ne_eqb, cases_lt}
 use Rattle.std.proofs.lemmas.Result.{on_ok_weaker, on_err_weaker}
 use Rattle.byte_streams.specs.Streams.{AppendsPrefix}
-use Rattle.tlog_tiles.specs.Path.{index_text, path_text, width_text}
+use Rattle.tlog_tiles.specs.Path.{index_text, width_text}
 use Rattle.tlog_tiles.specs.declared.paths.Path.{Path}
-use Rattle.node_store.specs.Strings.{Strings, NoClash}
+use Rattle.node_store.specs.Strings.{Strings}
 use Rattle.mirror_model.specs.Texts.{path_line, missing_text}
 use Rattle.mirror_trees.specs.Levels.{ListsLevels, first_from, fresh_from, path_at}
 use Rattle.mirror_trees.proofs.LevelLists.{first_rests, none_rests}

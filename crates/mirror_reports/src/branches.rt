@@ -1,6 +1,5 @@
 //! For each tree head on the way to the forks: the last complete tree head before it that is its prefix.
-ghost use Rattle.std.specs.Prelude.{◌≡◌, ◌≤◌, ◌<◌, ◌-◌, ◌++◌, ◌∷◌, [], ℕ, List, length, map, All, IfOk, IsTrue, ◌↔◌, slice_index_or, string_bytes, codes};
-ghost use Rattle.std.specs.List.{Contains};
+ghost use Rattle.std.specs.Prelude.{◌≡◌, ◌≤◌, ◌<◌, ◌-◌, ◌++◌, ◌∷◌, [], ℕ, length, map, All, IfOk, IsTrue, slice_index_or, string_bytes, codes};
 ghost use Rattle.node_store.specs.Strings.{NoClash};
 ghost use Rattle.mirror_model.specs.Complete.{IsBuilt};
 ghost use Rattle.mirror_model.specs.Texts.{point_text};

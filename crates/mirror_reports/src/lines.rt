@@ -1,5 +1,5 @@
 //! The lines of a tree head's missing paths, written one by one.
-ghost use Rattle.std.specs.Prelude.{◌≡◌, ◌≢◌, ◌++◌, ◌∷◌, [], ◌+◌, ◌-◌, ◌*◌, ◌≤◌, ◌<◌, ◌%◌, ℕ, List, map, IfErr, IfOk, IsTrue, ◌↔◌, ◌⊎◌, OnErr, OnOk, Err, string_bytes};
+ghost use Rattle.std.specs.Prelude.{◌≡◌, ◌≢◌, ◌++◌, [], ◌+◌, ◌-◌, ◌*◌, ◌≤◌, ◌<◌, ◌%◌, ℕ, List, IfErr, IfOk, IsTrue, ◌↔◌, ◌⊎◌, OnErr, OnOk, Err, string_bytes};
 ghost use Rattle.std.specs.Io.KnownBytes.{Appends, Keeps};
 ghost use Rattle.byte_streams.specs.Streams.{AppendsPrefix};
 ghost use Rattle.node_store.specs.Strings.{NoClash};

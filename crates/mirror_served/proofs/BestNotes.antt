@@ -1,5 +1,5 @@
 -- The best kept note, and the first one with a size and root.
-use Rattle.std.proofs.Common.{◌≡◌, ◌≢◌, ℕ, zero, suc, ◌+◌, ◌-◌, ◌<◌, ◌≤◌, List, [], ◌∷◌, length, drop, get_or}
+use Rattle.std.proofs.Common.{◌≡◌, ◌≢◌, ℕ, ◌+◌, ◌-◌, ◌<◌, ◌≤◌, List, ◌∷◌, length, drop}
 use Rattle.std.proofs.Common.{slice_index_or, Option, Some, None, Bool, true, false, sym, refl, ap, subst, ◌∙◌, ◌⊎◌}
 use Rattle.std.proofs.Common.{inl, inr, arith, nat_eq}
 use Rattle.std.specs.Ordering.{ordering_reverse, is_gt}

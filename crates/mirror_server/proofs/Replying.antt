@@ -1,15 +1,10 @@
 -- From the request to its reply.
-use Rattle.std.proofs.Common.{◌≡◌, ℕ, List, [], ◌∷◌, Option, Some, None, codes, refl, sym, subst, ◌∙◌}
-use Rattle.std.specs.Prelude.{IfSome, IsUtf8}
-use Rattle.httparse.specs.Spans.{span_bytes}
-use Rattle.httparse.specs.declared.spans.Span.{Span}
-use Rattle.mirror_server.specs.Answered.{IsBodyFor, IsForHead, IsForTarget, IsRequestOf, reply_with}
-use Rattle.mirror_server.specs.Looks.{SeesIn}
+use Rattle.std.proofs.Common.{◌≡◌, ℕ, List, [], ◌∷◌, Option, Some, None, refl, sym, subst}
+use Rattle.std.specs.Prelude.{IfSome}
+use Rattle.mirror_server.specs.Answered.{IsBodyFor, IsRequestOf, reply_with}
 use Rattle.mirror_server.specs.Resource.{Names}
 use Rattle.mirror_server.specs.Response.{bad_request, IsFoundBy, LacksRequest, ResponseBy}
 use Rattle.mirror_server.specs.Response.{other_method, not_there, is_there, silent, refused, replied}
-use Rattle.mirror_server.specs.declared.head.Received.{Received}
-use Rattle.mirror_server.specs.declared.head.Received.TheVariants as seeing
 use Rattle.mirror_server.specs.declared.request.Request.{Request}
 use Rattle.mirror_server.specs.declared.request.Request.TheVariants.{Nothing, Unreadable, OtherMethod, Unknown, Get}
 use Rattle.mirror_server.specs.declared.resource.Resource.{Resource}

@@ -5,16 +5,16 @@ use Rattle.std.specs.Prelude.{IfSome}
 use Rattle.std.specs.Io.KnownBytes.{Consumes, IsAtEnd}
 use Rattle.std.proofs.lemmas.List.{append-nil, length-append, take_all}
 use Rattle.std.proofs.Math.Seq.{take-append-add}
-use Rattle.std.proofs.KnownBytes.{Consumes-trans, Consumes-kept}
+use Rattle.std.proofs.KnownBytes.{Consumes-trans}
 use Rattle.httparse.specs.Grammar.{print_request, ReadsRequest, HasNoRequest}
 use Rattle.httparse.specs.Spans.{RequestOverflows}
 use Rattle.httparse.specs.declared.spans.Span.{Span}
 use Rattle.byte_streams.specs.Streams.{TakesAtMost}
 use Rattle.mirror_server.specs.Answered.{FailsBeforeHead}
 use Rattle.mirror_server.specs.Response.{HasRequest, LacksRequest}
-use Rattle.mirror_server.specs.Looks.{HasRequestAt, ReadsMore, ReadsEnd, ReadsNone, SeesIn}
+use Rattle.mirror_server.specs.Looks.{HasRequestAt, ReadsMore, ReadsEnd, SeesIn}
 use Rattle.mirror_server.specs.declared.limits.TheConstants.{MAX_FIELDS, MAX_HEAD_LEN}
-use Rattle.mirror_server.specs.declared.head.Received.TheVariants.{Nothing, NoHead, Head}
+use Rattle.mirror_server.specs.declared.head.Received.TheVariants.{NoHead, Head}
 
 -- ---- the bytes of a head and the bytes after them
 

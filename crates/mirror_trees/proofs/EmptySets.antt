@@ -6,8 +6,7 @@ use Rattle.node_store.specs.Strings.{Strings, NoClash}
 use Rattle.node_store.proofs.Sets.{Has-empty}
 use Rattle.mirror_model.specs.Forks.{Point, point_cmp}
 use Rattle.mirror_model.specs.Marks.{Points}
-use Rattle.mirror_trees.specs.HeldTrees.{AreBuilt, AreKnown, HasMark}
-use Rattle.mirror_trees.specs.declared.known.HeldTrees.{HeldTrees}
+use Rattle.mirror_trees.specs.HeldTrees.{AreBuilt, HasMark}
 use Rattle.mirror_trees.specs.Slices.{AreSettled}
 
 pub empty_no_clash : (digest : List ℕ → List ℕ) (v : Strings) → v ≡ set.empty → NoClash digest v
@@ -21,13 +20,6 @@ pub empty_known : (digest : List ℕ → List ℕ) (held : Strings) (points : Po
 empty_known digest held points is =
     subst (AreBuilt digest held) (sym is)
     (record { built = λ size root h. absurd (no_mark (record { size = size; root = root }) h) })
-
-pub nothing_known : (digest : List ℕ → List ℕ) (held : Strings) (known : HeldTrees) → known.remembered ≡ set.empty →
-    known.built ≡ set.empty → AreKnown digest held known
-nothing_known digest held known remembered built = record {
-  remembered = empty_known digest held known.remembered remembered;
-  built = empty_known digest held known.built built;
-}
 
 pub empty_settled : (digest : List ℕ → List ℕ) (held : Strings) (points : Points) → points ≡ set.empty →
     AreSettled digest held points

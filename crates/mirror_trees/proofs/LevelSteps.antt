@@ -42,10 +42,6 @@ one_in : {X : Type 0} (x y : X) → Contains (x ∷ []) y → x ≡ y
 one_in x y (zero, lt, is) = is
 one_in x y (suc k, lt, is) = absurd (omega (arith, lt))
 
-empty_of : {X : Type 0} (xs : List X) → ((x : X) → Contains xs x → ⊥) → xs ≡ []
-empty_of [] none = refl
-empty_of (x ∷ xs) none = absurd (none x (zero, omega arith, refl))
-
 pub never_both : (b : Bool) → IsTrue (not b) → IsTrue b → ⊥
 never_both true h e = absurd (cc h)
 never_both false h e = absurd (cc e)

@@ -61,11 +61,7 @@ add_point old new key is = same_set point_total point_same (points_of new) (inse
         ∙ (λ i. (key_ties key k ∙ turned (point_of key) q) i || sym (has_point old k) i)
         ∙ sym (contains-insert point_total (points_of old) (point_of key) q)
 
-pub keep_points : (old new : List (ℕ × List ℕ)) → old ≡ new → points_of new ≡ points_of old
-keep_points old new is = ap points_of (sym is)
-
 -- ---- the number of points
-
 none_same : (k : ℕ × List ℕ) (keys : List (ℕ × List ℕ)) → AllByRecursion (λ y. same_key k y ≡ false) keys →
     list_any (same_key k) keys ≡ false
 none_same k [] h = refl

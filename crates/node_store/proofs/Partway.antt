@@ -77,10 +77,6 @@ pub record IsPassed (digest : List ℕ → List ℕ) (now other rest : Strings) 
   pub left : (s : List ℕ) → Has rest s → Has other s
   pub passed : (s : List ℕ) → Has other s → (Clashes digest now s → ⊥) ⊎ Has rest s
 
-pub passed_start : (digest : List ℕ → List ℕ) (now other rest : Strings) → rest ≡ other → IsPassed digest now other rest
-passed_start digest now other rest e =
-    record { left = λ s h. subst (λ v. Has v s) e h; passed = λ s h. inr (subst (λ v. Has v s) (sym e) h) }
-
 pub passed_more : (digest : List ℕ → List ℕ) (now other rest rest' : Strings) (x : List ℕ) → rest ≡ insert rest' x →
     (Clashes digest now x → ⊥) → IsPassed digest now other rest → IsPassed digest now other rest'
 passed_more digest now other rest rest' x r not_x p = record {

@@ -206,9 +206,6 @@ pub record IsJoining (keys : List KeyLine) (rest : List Pins) (secrets : List Ke
       ≡ (is_trusted_by text line (map key_of secrets) || is_trusted_by text line (map pinned_key pins))
   pub secrets_in : (key : Secret) → Contains secrets (Hmac key) → Contains keys (Hmac key)
 
-pub joins_none : (secrets : List KeyLine) (pins : List Pins) → IsJoining secrets pins secrets pins
-joins_none secrets pins = record { alike = λ text line. refl; secrets_in = λ key h. h }
-
 pub joins_pins : (keys grown : List KeyLine) (rest left : List Pins) (secrets : List KeyLine) (all : List Pins)
     (pins : Pins) → rest ≡ pins ∷ left → AddsPins keys grown pins → IsJoining keys rest secrets all →
     IsJoining grown left secrets all

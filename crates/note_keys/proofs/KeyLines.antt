@@ -1,5 +1,5 @@
 -- Lines of key files: the key of a line, or that a line gives no key.
-use Rattle.std.proofs.Common.{◌≡◌, ◌≢◌, ℕ, ◌+◌, ◌<◌, true, List, [], ◌∷◌, ◌++◌, length, get_or, refl, sym, ap, ◌∙◌}
+use Rattle.std.proofs.Common.{◌≡◌, ℕ, ◌+◌, ◌<◌, true, List, [], ◌∷◌, ◌++◌, length, get_or, refl, sym, ap, ◌∙◌}
 use Rattle.std.proofs.Common.{subst, arith, append_assoc, length-append}
 use Rattle.std.specs.Prelude.{Result, Ok, Err, IsAscii, codes}
 use Rattle.std.specs.Str.{IsUtf8}
@@ -17,7 +17,7 @@ use Rattle.note_keys.specs.declared.key_line.KeyLine.{KeyLine}
 use Rattle.note_keys.specs.declared.key_line.KeyLine.TheVariants.{Hmac, Pin}
 use Rattle.note_keys.specs.declared.fault.KeyFileFault.{KeyFileFault}
 use Rattle.note_keys.specs.declared.fault.KeyFileFault.TheVariants.{BadKeyLine, OutOfMemory}
-use Rattle.signed_note.proofs.Lacking.{Lacks, Lacks-append, cut_once, no_cut}
+use Rattle.signed_note.proofs.Lacking.{Lacks, Lacks-append, cut_once}
 use Rattle.signed_note.proofs.NameBytes.{name_lacks_newline}
 use Rattle.note_keys.proofs.KeyWords.{hex_lacks, same_words}
 
@@ -117,11 +117,6 @@ from_pin line text number (Err (BadKeyLine n)) is h = (h.0, λ key. only_pin lin
         bad (Pin p) (subst (λ (x : List ℕ). IsPinText x (Pin p)) same h.2)
 from_pin line text number (Err OutOfMemory) is h = tt
 
-pub no_kind : (line : List ℕ) → ((text : List ℕ) → line ≢ codes "hmac" ++ space ∷ text) →
-    ((text : List ℕ) → line ≢ codes "pin" ++ space ∷ text) → (key : KeyLine) → IsKeyLine line key → ⊥
-no_kind line secret pin (Hmac k) h = secret h.0 h.1
-no_kind line secret pin (Pin p) h = pin h.0 h.1
-
 -- a hexadecimal digit is below 128
 hex_small : (c : ℕ) → is_hex_digit c ≡ true → c < 128
 hex_small c h = grind (arith, nat_tests)
@@ -201,9 +196,6 @@ pub no_first_key : (rest line after : List ℕ) → rest ≡ line ++ newline ∷
 no_first_key rest line after is lacks bad other more key e h =
     let cut = cut_once newline line after other more (sym is ∙ e) lacks (key_line_lacks other key h) in
     bad key (subst (λ (x : List ℕ). IsKeyLine x key) (sym cut.0) h)
-
-pub no_ended_key : (rest : List ℕ) → Lacks newline rest → BeginsWithNoKey rest
-no_ended_key rest lacks line more key e h = no_cut newline rest line more e lacks
 
 pub key_refused : (bytes front rest line after : List ℕ) (keys : List KeyLine) (number : ℕ) (fault : KeyFileFault) →
     bytes ≡ front ++ rest → IsKeyFile front keys → rest ≡ line ++ newline ∷ after → Lacks newline line →

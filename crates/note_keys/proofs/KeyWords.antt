@@ -6,7 +6,7 @@ use Rattle.std.specs.List.{AllPass}
 use Rattle.std.proofs.lemmas.Bool.{false≢true}
 use Rattle.hex.specs.Hex.{is_hex_digit, decode_sized}
 use Rattle.hex.specs.declared.error.FromHexError.{FromHexError}
-use Rattle.hex.proofs.HexLemmas.{decode_of-ok, decode_of-same, decode_sized-ok, decode_sized-twice}
+use Rattle.hex.proofs.HexLemmas.{decode_of-ok, decode_of-same, decode_sized-twice}
 use Rattle.byteorder.specs.Endian.{big_bytes, big_number}
 use Rattle.signed_note.specs.Names.{space}
 use Rattle.note_keys.specs.Keys.{IsOwnName}
@@ -33,15 +33,6 @@ pub not_sized : (text bytes : List ℕ) (n : ℕ) (r : Result (List ℕ) FromHex
 not_sized text bytes n r is bad len h =
     let ok : is_ok r ≡ true = ap is_ok (is ∙ sized text bytes n len h) in
     false≢true (sym bad ∙ ok)
-
--- digits that decode into room for n bytes are those of the decoded bytes
-pub from_sized : (text bytes : List ℕ) (n : ℕ) → decode_sized text n ≡ Ok bytes →
-    IsHexOf text bytes × (length bytes ≡ n)
-from_sized text bytes n h =
-    let len : length text ≡ 2 * n = decode_sized-ok text n bytes h in
-    let is : IsHexOf text bytes = sym (decode_sized-twice text n len) ∙ h in
-    let twice : length text ≡ 2 * length bytes = (decode_of-ok text bytes is).2 in
-    (is, omega arith)
 
 -- a text without a space does not have three words
 pub no_space : (text name digits : List ℕ) (id : ℕ) → Lacks space text → AreWords text name id digits → ⊥

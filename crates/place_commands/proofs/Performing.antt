@@ -1,6 +1,5 @@
 -- How a command over places ends, given the answer of its call. The answers of the commands cite one lemma each.
 use Rattle.std.proofs.Common.{◌≡◌, ℕ, List, Option, Result, Ok, Err, IfOk, Some, None}
-use Rattle.std.proofs.Common.{inl}
 use Rattle.std.specs.Io.KnownBytes.{Keeps}
 use Rattle.std.specs.Result.{result_map_both}
 use Rattle.signed_note.specs.Keys.{Key}
@@ -10,17 +9,13 @@ use Rattle.program_files.specs.Named.{NamedFile}
 use Rattle.program_follow.specs.Following.{IsNoteOf}
 use Rattle.program_follow.specs.declared.fault.FollowRunFault.{FollowRunFault}
 use Rattle.program_follow.specs.declared.fault.FollowRunFault.TheVariants as follow
-use Rattle.program_monitor.specs.declared.fault.AuditRunFault.{AuditRunFault}
-use Rattle.program_monitor.specs.declared.fault.AuditRunFault.TheVariants as audit
 use Rattle.program_words.specs.declared.commands.follow.Follow.{Follow as FollowWords}
-use Rattle.program_words.specs.declared.commands.audit.Audit.{Audit as AuditWords}
 use Rattle.program_env.specs.Moment.{Moment}
-use Rattle.program_env.specs.Performing.{IsStatus, MayLeave, Performs, Stays}
-use Rattle.place_commands.specs.Audit.{AuditsSource, DoesAudit}
+use Rattle.program_env.specs.Performing.{IsStatus, MayLeave, Performs}
 use Rattle.place_commands.specs.Faults.{IsLate}
 use Rattle.place_commands.specs.Follow.{DoesFollow, FollowsOne, MayFollow}
 use Rattle.place_commands.specs.declared.fault.PlaceRunFault.{PlaceRunFault}
-use Rattle.place_commands.specs.declared.fault.PlaceRunFault.TheVariants.{Audit, Follow}
+use Rattle.place_commands.specs.declared.fault.PlaceRunFault.TheVariants.{Follow}
 use Rattle.program_env.proofs.Performing.{performs, performs_done}
 
 -- -- follow

@@ -1,5 +1,4 @@
 //! The places that a command names, as sources.
-ghost use Rattle.std.specs.Prelude.{◌≡◌, IfOk};
 
 use mirror_client::TcpDial;
 use mirror_folders::DirSource;

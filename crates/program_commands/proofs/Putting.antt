@@ -9,13 +9,12 @@ use Rattle.std.proofs.lemmas.List.Elements.{All-cons, All-nil, All-weaker}
 use Rattle.std.proofs.lemmas.Option.{none-some, same_Some}
 use Rattle.std.proofs.lemmas.Slice.Eq.{bytes_eq-Decides}
 use Rattle.program_files.specs.Named.{NamedFile}
-use Rattle.program_files.specs.Named.{FindsFile, HasContents, LacksFile, RecordsReplace, contents_of}
-use Rattle.program_files.specs.declared.named.TheConstants.{MAX_FILE_LEN}
+use Rattle.program_files.specs.Named.{HasContents, LacksFile, RecordsReplace, contents_of}
 use Rattle.program_commands.specs.Notes.{IsRecorded, PutsEach, PutsFront, PutsOnce, PutsOne, RecordsOther}
 use Rattle.program_commands.specs.NoteLaws.{KeepsFiles, NotesStand, PutsMissing}
 use Rattle.program_files.specs.declared.fault.NamedFault.{NamedFault}
 use Rattle.program_files.specs.declared.fault.NamedFault.TheVariants as named
-use Rattle.program_files.proofs.NamedLemmas.{kept_itself, newer_named, standing_push}
+use Rattle.program_files.proofs.NamedLemmas.{newer_named, standing_push}
 
 -- ---- consequences of puts
 

@@ -1,5 +1,5 @@
 //! The checkpoint of a copy.
-ghost use Rattle.std.specs.Prelude.{◌≡◌, ℕ, IfErr, IfOk, List, option_map};
+ghost use Rattle.std.specs.Prelude.{ℕ, IfErr, IfOk, List, option_map};
 ghost use Rattle.mirror_sources.specs.Recorded.{KeepsRecord};
 ghost use Rattle.program_copies.specs.CopyHeads.{IsCopyHead, copy_head};
 ghost use Rattle.copy_reader.specs.Faults.{CountsRead};

@@ -1,5 +1,5 @@
 //! The first part of a file.
-ghost use Rattle.std.specs.Prelude.{◌≡◌, ◌≢◌, ℕ, IfNone, IfOk, IfSome, List};
+ghost use Rattle.std.specs.Prelude.{◌≢◌, ℕ, IfNone, IfOk, IfSome, List};
 ghost use Rattle.program_copies.specs.GivenFiles.{IsFirstEntries, IsFirstHashes, IsFirstOf, IsTaken, path_width};
 
 use crate::width::own_width;

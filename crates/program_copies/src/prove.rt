@@ -1,5 +1,5 @@
 //! Proofs of a copy's entries.
-ghost use Rattle.std.specs.Prelude.{◌≡◌, ℕ, IfErr, IfOk, List, OnOk, map};
+ghost use Rattle.std.specs.Prelude.{ℕ, IfErr, IfOk, List, OnOk, map};
 ghost use Rattle.mirror_sources.specs.Recorded.{KeepsRecord};
 ghost use Rattle.std.specs.Io.KnownBytes.{Keeps};
 ghost use Rattle.copy_reader.specs.Copies.{LeavesPuts};

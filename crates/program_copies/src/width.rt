@@ -1,5 +1,5 @@
 //! The widths of files.
-ghost use Rattle.std.specs.Prelude.{◌≡◌, ◌≤◌, IfNone, IfSome};
+ghost use Rattle.std.specs.Prelude.{◌≡◌, IfNone, IfSome};
 ghost use Rattle.tlog_tiles.specs.Tiles.{IsTileWithin, IsWithin};
 ghost use Rattle.log_paths.specs.Since.{width_at};
 ghost use Rattle.program_copies.specs.GivenFiles.{of_width, path_width, widest_of};

@@ -1,6 +1,6 @@
 -- Clients that were answered in order.
 use Rattle.std.proofs.Common.{◌≡◌, ◌∙◌, ℕ, ◌+◌, List, [], ◌∷◌, ◌++◌, append_assoc, Option, Some, None}
-use Rattle.std.proofs.Common.{Result, Ok, ap, refl}
+use Rattle.std.proofs.Common.{Result, Ok, ap}
 use Rattle.std.proofs.lemmas.List.{length-append}
 use Rattle.std.proofs.lemmas.List.Elements.{All-append, All-cons, All-nil}
 use Rattle.program_env.specs.Exchanges.{AnswersMore, AnswersNext, Exchange, IsAnswered}

@@ -1,31 +1,16 @@
 -- Files that are put one after another.
-use Rattle.std.proofs.Common.{◌≡◌, ℕ, ◌+◌, ◌<◌, List, [], ◌∷◌, ◌++◌, length, take, drop, get_or, Option, Some, None, Result, Ok, Err, refl, sym, ap, subst, ◌∙◌, inl, inr}
-use Rattle.std.specs.Prelude.{is_some}
+use Rattle.std.proofs.Common.{◌≡◌, ℕ, ◌+◌, ◌<◌, List, [], ◌∷◌, ◌++◌, length, take, drop, get_or, Option, Some, None, Result, Ok, Err, sym, ap, subst, ◌∙◌}
 use Rattle.std.specs.List.{flat_map}
-use Rattle.std.proofs.lemmas.List.{append_assoc, append-nil, flat_map_more, take_more, take-append-drop}
+use Rattle.std.proofs.lemmas.List.{append_assoc, flat_map_more, take_more, take-append-drop}
 use Rattle.std.proofs.lemmas.List.Concat.{flat_map-append}
-use Rattle.std.proofs.lemmas.Option.{none-some}
-use Rattle.mirror_sources.specs.Recorded.{KeepsRecord}
-use Rattle.program_files.specs.Named.{NamedFile, FindsFile, HasContents, LacksFile, RecordsFault, RecordsReplace}
+use Rattle.program_files.specs.Named.{NamedFile}
 use Rattle.program_files.specs.declared.fault.NamedFault.{NamedFault}
 use Rattle.program_files.specs.declared.fault.NamedFault.TheVariants as named
 use Rattle.program_follow.specs.Evidence.{PutsEach, PutsFiles, PutsFront, RecordsEach, StopsAt}
 
 -- ---- no files, and files in order
 
-kept_nothing : (old new : Option (List NamedFile)) → KeepsRecord old new → RecordsEach [] old new
-kept_nothing None new kept = tt
-kept_nothing (Some old) None kept = absurd kept
-kept_nothing (Some old) (Some new) kept = kept
-
 -- ---- the reason of an early end
-
-refused_stops : (old new : Option (List NamedFile)) (rest : List NamedFile) (fault : NamedFault) → RecordsFault old fault →
-    StopsAt old new rest fault
-refused_stops None new rest fault refused = tt
-refused_stops (Some old) new rest named.FileFault refused = absurd (none-some old (sym refused))
-refused_stops (Some old) new rest named.OutOfMemory refused = tt
-
 stops_more : (old new : Option (List NamedFile)) (rest ys : List NamedFile) (fault : NamedFault) → StopsAt old new rest fault →
     StopsAt old new (rest ++ ys) fault
 stops_more None new rest ys fault stops = tt

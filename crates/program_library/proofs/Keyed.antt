@@ -1,5 +1,5 @@
 -- A run whose words are understood, and a run without keys.
-use Rattle.std.proofs.Common.{◌≡◌, ℕ, List, [], Option, Some, None, Result, Ok, Err, IfOk, inl, inr, refl, subst, sym}
+use Rattle.std.proofs.Common.{◌≡◌, ℕ, List, Option, Some, None, Result, Ok, Err, IfOk, inl, inr, refl, subst, sym}
 use Rattle.signed_note.specs.Keys.{Key}
 use Rattle.note_keys.specs.KeyFiles.{ReadsKeys}
 use Rattle.note_keys.specs.declared.fault.KeyFileFault.{KeyFileFault}
@@ -13,7 +13,7 @@ use Rattle.program_parser.specs.declared.words.Line.{Line}
 use Rattle.program_library.specs.Commands.{IsDoable, IsWriteFault}
 use Rattle.program_env.specs.Moment.{Moment}
 use Rattle.program_env.specs.Performing.{Ends}
-use Rattle.program_library.specs.Runs.{AreKeyBytes, FailsAtKeys, FindsKeys, JoinsLines, ReadsKeyLines}
+use Rattle.program_library.specs.Runs.{AreKeyBytes, FailsAtKeys, FindsKeys, ReadsKeyLines}
 use Rattle.program_library.specs.Runs.{Runs, RunsKeyed, no_lines}
 use Rattle.program_library.specs.declared.fault.RunFault.{RunFault}
 use Rattle.program_library.specs.declared.fault.RunFault.TheVariants.{Command, KeyFile, KeyLines}

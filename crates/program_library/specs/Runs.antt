@@ -1,6 +1,6 @@
 -- The answer and the output of a run of the program. Only contracts of private functions cite `FindsKeys`, `JoinsLines`,
 -- `ReadsJoined` and `ReadsKeyLines`.
-use Rattle.std.specs.Prelude.{◌≡◌, ◌⊎◌, ℕ, List, [], Option, Some, None, Result, Ok, Err, map, ⊤}
+use Rattle.std.specs.Prelude.{◌≡◌, ◌⊎◌, ℕ, List, [], Option, Some, None, Result, Ok, Err, map}
 use Rattle.std.specs.Io.KnownBytes.{Keeps}
 use Rattle.signed_note.specs.Keys.{Key}
 use Rattle.note_keys.specs.KeyFiles.{IsKeyFile, ReadsKeys}
@@ -16,7 +16,6 @@ use Rattle.program_parser.specs.Program.{AsksFor}
 use Rattle.program_parser.specs.Readings.{HasKeys, HasNoKeys, Reads, ReadsKeyFile}
 use Rattle.program_library.specs.declared.fault.RunFault.{RunFault}
 use Rattle.program_library.specs.declared.fault.RunFault.TheVariants.{Command, KeyFile, KeyLines}
-use Rattle.program_library.specs.declared.fault.RunFault.TheVariants.{OutOfMemory}
 use Rattle.program_env.specs.Moment.{Moment}
 use Rattle.program_library.specs.Commands.{Executes}
 

@@ -1,6 +1,5 @@
 //! The end of the program: its exit status, and its last text.
 ghost use Rattle.std.specs.Prelude.{◌≡◌, IfOk, string_bytes};
-ghost use Rattle.byte_streams.specs.Streams.{AppendsPrefix};
 ghost use Rattle.program_library.specs.Endings.{PrintsEnding, IsFaultLine, PrintsRun, message_bytes};
 
 use crate::fault::RunFault;

@@ -1,15 +1,13 @@
 -- Entries of a copy, written bundle after bundle.
-use Rattle.std.proofs.Common.{◌≡◌, ℕ, ◌+◌, ◌-◌, ◌*◌, ◌/◌, ◌%◌, ◌<◌, ◌≤◌, min, List, [], ◌++◌, length, drop, Bool, Option}
+use Rattle.std.proofs.Common.{◌≡◌, ℕ, ◌+◌, ◌-◌, ◌*◌, ◌/◌, ◌%◌, ◌<◌, ◌≤◌, min, List, ◌++◌, length, drop, Bool, Option}
 use Rattle.std.proofs.Common.{sym, ap, ◌∙◌, subst, arith}
-use Rattle.std.specs.Io.KnownBytes.{Appends}
-use Rattle.std.proofs.KnownBytes.{Appends-nil}
 use Rattle.std.proofs.lemmas.List.{length-take, length-drop, length-append}
 use Rattle.tlog_hash.specs.Rows.{part}
 use Rattle.log_reader.specs.EdgeRows.{Edge}
 use Rattle.log_reader.specs.Ways.{HasEdgeHashes, IsShownBundle}
 use Rattle.program_monitor.specs.Texts.{bundle_width, entries_text}
 use Rattle.program_monitor.specs.Shown.{AppendsFrom, AreShownFrom, BeginsFrom, IsNext, WritesShown, WritesSomeShown}
-use Rattle.program_monitor.proofs.Parts.{entries_begin, entries_on, prefix_whole, text_none}
+use Rattle.program_monitor.proofs.Parts.{entries_begin, entries_on, prefix_whole}
 use Rattle.program_monitor.proofs.ShownBundles.{shown_bundle, shown_on, shown_part}
 
 -- a part of a bundle has the requested number of entries

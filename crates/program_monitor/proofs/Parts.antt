@@ -41,10 +41,6 @@ pub text_on : (base64 : Bool) (xs ys : List (List ℕ)) →
 text_on true xs ys = flat_map-append entry_line xs ys
 text_on false xs ys = flat_map-append entry_text xs ys
 
-pub text_none : (base64 : Bool) → entries_text base64 [] ≡ []
-text_none true = refl
-text_none false = refl
-
 -- the first bytes, and then the first n of others
 take_past : (bs cs : List ℕ) (n : ℕ) → take (length bs + n) (bs ++ cs) ≡ bs ++ take n cs
 take_past [] cs n = ap (λ i. take i cs) (omega arith)

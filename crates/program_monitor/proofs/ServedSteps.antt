@@ -2,7 +2,6 @@
 use Rattle.std.proofs.Common.{◌≡◌, ℕ, zero, suc, ◌+◌, ◌-◌, ◌*◌, ◌/◌, ◌%◌, ◌^◌, ◌<◌, ◌≤◌, min, All, List, [], ◌∷◌, ◌++◌, length, drop, map}
 use Rattle.std.proofs.Common.{Bool, Option, sym, ap, ◌∙◌, subst, arith}
 use Rattle.std.specs.Io.KnownBytes.{Appends}
-use Rattle.std.proofs.KnownBytes.{Appends-nil}
 use Rattle.byte_streams.specs.Streams.{AppendsPrefix}
 use Rattle.std.proofs.lemmas.List.{length-take, length-drop}
 use Rattle.std.proofs.lemmas.List.Elements.{All-contains_itself, All-drop, All-take, All-weaker}
@@ -19,7 +18,7 @@ use Rattle.tlog_tiles.specs.Tiles.{bundle_bytes}
 use Rattle.program_monitor.specs.Texts.{bundle_width, entries_text}
 use Rattle.program_monitor.specs.Served.{WritesAll, WritesFirst}
 use Rattle.program_monitor.specs.Shown.{AppendsFrom, BeginsFrom, IsNext}
-use Rattle.program_monitor.proofs.Parts.{entries_begin, entries_on, part_on, part_within, prefix_whole, text_none}
+use Rattle.program_monitor.proofs.Parts.{entries_begin, entries_on, part_on, part_within, prefix_whole}
 
 tagged : (es : List (List ℕ)) (e : List ℕ) → Contains es e → Contains (map (λ e. 0 ∷ e) es) (0 ∷ e)
 tagged [] e (k, lt, is) = absurd (omega (arith, lt))

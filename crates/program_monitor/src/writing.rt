@@ -1,5 +1,5 @@
 //! The entries of one bundle, from a number on.
-ghost use Rattle.std.specs.Prelude.{◌≡◌, ◌-◌, ◌+◌, ◌/◌, ◌%◌, ◌<◌, ◌≤◌, ℕ, List, IfOk, OnErr};
+ghost use Rattle.std.specs.Prelude.{◌≡◌, ◌-◌, ◌+◌, ◌/◌, ◌<◌, ◌≤◌, IfOk, OnErr};
 ghost use Rattle.program_monitor.specs.Shown.{AppendsFrom, BeginsFrom, IsNext};
 ghost use Rattle.program_monitor.specs.Texts.{bundle_width};
 

@@ -1,5 +1,5 @@
 -- The answers to clients of a mirror. Only contracts of private functions cite these names.
-use Rattle.std.specs.Prelude.{ℕ, List, [], Option, Some, Result}
+use Rattle.std.specs.Prelude.{ℕ, List, [], Some, Result}
 use Rattle.mirror_model.specs.View.{View}
 use Rattle.mirror_server.specs.Answered.{AnswersClient}
 use Rattle.mirror_server.specs.declared.fault.HttpFault.{HttpFault}

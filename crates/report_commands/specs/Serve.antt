@@ -1,9 +1,8 @@
 -- The command `serve`: the meaning of each answer for the state file and the line of its port.
-use Rattle.std.specs.Prelude.{◌≡◌, ◌⊎◌, ℕ, List, Option, Result, Ok, Err}
+use Rattle.std.specs.Prelude.{◌≡◌, ℕ, List, Result, Ok, Err}
 use Rattle.std.specs.Io.KnownBytes.{Keeps}
 use Rattle.signed_note.specs.Keys.{Key}
 use Rattle.mirror_model.specs.View.{View}
-use Rattle.program_files.specs.Named.{NamedFile}
 use Rattle.program_states.specs.States.{OpensFile}
 use Rattle.program_states.specs.declared.fault.StateFault.{StateFault}
 use Rattle.program_words.specs.declared.commands.serve.Serve.{Serve as ServeWords}

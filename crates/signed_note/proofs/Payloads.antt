@@ -3,7 +3,7 @@ use Rattle.std.proofs.Common.{◌≡◌, ◌≢◌, ℕ, zero, suc, ◌+◌, ◌
 use Rattle.std.proofs.Common.{length, replicate, refl, ◌∙◌, arith, lit<}
 use Rattle.std.specs.Prelude.{slice_index}
 use Rattle.std.specs.Int.{w32, from_be_bytes, to_be_bytes}
-use Rattle.std.proofs.lemmas.Nat.{be_bytes_4, from_be_bytes-to_be_bytes_4}
+use Rattle.std.proofs.lemmas.Nat.{from_be_bytes-to_be_bytes_4}
 use Rattle.std.specs.Str.{IsAscii}
 use Rattle.std.proofs.lemmas.List.Sums.{AllPass-from_list_all}
 use Rattle.base64.specs.Rfc4648.{encode_symbols, padding_len, encode_group}
@@ -91,9 +91,6 @@ base64_is_ascii bytes = IsAscii-encode_of standard bytes
 -- the id is the number of its four bytes
 pub number_is : (bytes : List ℕ) → big_number 4 bytes ≡ from_be_bytes w32 bytes
 number_is bytes = omega arith
-
-pub id_bytes : (bytes : List ℕ) → length bytes ≡ 4 → IsBytes bytes → big_bytes 4 (big_number 4 bytes) ≡ bytes
-id_bytes bytes four small = be_bytes_4 bytes (big_number 4 bytes) four small (number_is bytes)
 
 pub bytes_id : (id : ℕ) → id < 2 ^ 32 → big_number 4 (big_bytes 4 id) ≡ id
 bytes_id id small = number_is (big_bytes 4 id) ∙ from_be_bytes-to_be_bytes_4 id small

@@ -19,15 +19,6 @@ blank_in front after =
       second = next;
     }
 
--- a split has a blank line
-pub blank_of_split : (bytes text signed : List ℕ) → IsNoteSplit bytes text signed → (at : ℕ) × IsBlank bytes at
-blank_of_split bytes text signed s =
-    let front = s.ended.0 in
-    let whole : bytes ≡ front ++ newline ∷ (newline ∷ signed) =
-    s.whole ∙
-    (ap (λ (x : List ℕ). x ++ newline ∷ signed) s.ended.1 ∙ append_assoc front (newline ∷ []) (newline ∷ signed)) in
-    (length front, subst (λ b. IsBlank b (length front)) (sym whole) (blank_in front signed))
-
 -- the last blank line splits the bytes
 pub split_at_blank : (bytes : List ℕ) (at : ℕ) → IsBlank bytes at → ((j : ℕ) → at < j → IsBlank bytes j → ⊥) →
     IsNoteSplit bytes (take (at + 1) bytes) (drop (at + 2) bytes)

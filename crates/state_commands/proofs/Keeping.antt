@@ -1,6 +1,5 @@
 -- The files after a pull that ended early.
-use Rattle.std.proofs.Common.{◌≡◌, ℕ, List, Option, Result, Ok, Err, Bool, inl, refl, subst, sym}
-use Rattle.std.specs.Prelude.{◌≢◌}
+use Rattle.std.proofs.Common.{◌≡◌, ℕ, List, Option, Result, Ok, Err, inl, subst, sym}
 use Rattle.signed_note.specs.Keys.{Key}
 use Rattle.mirror_model.specs.View.{View, IsSubview}
 use Rattle.mirror_model.proofs.Views.{within_itself}
@@ -12,7 +11,7 @@ use Rattle.program_files.specs.Named.{NamedFile}
 use Rattle.program_files.specs.declared.fault.NamedFault.{NamedFault}
 use Rattle.program_states.specs.Saved.{IsSaved}
 use Rattle.program_states.specs.States.{SavesFile}
-use Rattle.state_commands.specs.Pulls.{IsHeld, IsKept, LeavesEarly, SavesPulled}
+use Rattle.state_commands.specs.Pulls.{IsHeld, SavesPulled}
 
 -- a mirror loses nothing in a pull that ends early
 pub pulled_within : (digest : List ℕ → List ℕ) (keys : List Key) (old new : View) (fault : PullFault) →

@@ -1,5 +1,5 @@
 //! The command `pull`: it fetches what is missing.
-ghost use Rattle.std.specs.Prelude.{◌≡◌, ◌≢◌, ◌↔◌, ℕ, IfErr, IfOk, IsTrue, List, OnOk, Option, Result, map, option_map};
+ghost use Rattle.std.specs.Prelude.{◌≡◌, ◌↔◌, ℕ, IfErr, IfOk, IsTrue, List, OnOk, Option, Result, map, option_map};
 ghost use Rattle.tlog_text.specs.Answers.{seen};
 ghost use Rattle.std.specs.Io.KnownBytes.{Keeps};
 ghost use Rattle.sha2.specs.Sha256.{sha256};

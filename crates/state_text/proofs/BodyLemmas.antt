@@ -12,7 +12,7 @@ use Rattle.state_text.specs.declared.parts.PartsFault.TheVariants.{OutOfMemory}
 use Rattle.state_text.specs.Items.{item_text, list_text}
 use Rattle.state_text.specs.StateText.{Parts, VersionTwo, VersionOne, magic_of, lists_text, body_text, IsText}
 use Rattle.state_text.specs.Reading.{HasMagic, HasBody, HasText, ReadsParts}
-use Rattle.state_text.specs.Stands.{HasList, HasLists, FindsLists, EndsAs}
+use Rattle.state_text.specs.Stands.{HasList, HasLists, EndsAs}
 use Rattle.state_text.proofs.ListLemmas.{list_one, origin_rest, parted_notes, tagged_notes}
 
 -- the versions have different first bytes
@@ -83,14 +83,6 @@ lists_one bytes (VersionOne o n s) (VersionOne o' n' s') a b m x y =
 pub body_one : (bytes : List ℕ) (p q : Parts) (a b : List ℕ) → HasBody bytes p a → HasBody bytes q b → (p ≡ q) × (a ≡ b)
 body_one bytes p q a b x y = lists_one (drop 8 bytes) p q a b (sym (magic_in bytes p a x) ∙ magic_in bytes q b y)
     (lists_in bytes p a x) (lists_in bytes q b y)
-
--- if the reader of the lists fails, so does the reader of the text
-pub finds_fails : (bytes : List ℕ) (fault : PartsFault) → FindsLists bytes (Err fault) → ReadsParts bytes (Err fault)
-finds_fails bytes StateMagic h = h
-finds_fails bytes StateShort h = (h.0, λ parts digest rest t. h.1 parts (digest ++ rest) t.has_body)
-finds_fails bytes StateLong h = absurd h
-finds_fails bytes StateDigest h = absurd h
-finds_fails bytes OutOfMemory h = tt
 
 -- if a digest and more bytes follow the body, the end has at least the length of a digest
 pub end_long : (bytes end digest rest : List ℕ) (parts others : Parts) → HasBody bytes parts end →

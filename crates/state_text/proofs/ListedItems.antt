@@ -18,7 +18,7 @@ use Rattle.node_store.specs.declared.store.AddFault.TheVariants as adding
 use Rattle.mirror_model.specs.Strings.{HasClash}
 use Rattle.mirror_model.proofs.StringSets.{listed_from_has, has_from_listed, same_strings, has_cases, has_left}
 use Rattle.mirror_model.proofs.StringSets.{has_right, has_empty, clash_within}
-use Rattle.mirror_trees.proofs.BuiltTrees.{added_both, added_one, added_none}
+use Rattle.mirror_trees.proofs.BuiltTrees.{added_both, added_one}
 use Rattle.state_text.specs.Content.{Rises}
 use Rattle.state_text.proofs.Mapped.{mapped}
 use Rattle.state_text.specs.Storing.{AddsListed, MakesStore, tagged_as}
@@ -100,10 +100,6 @@ clash_of digest v all s within held c = record {
   same_digest = c.same_digest;
   differ = c.differs;
 }
-
-pub listed_none : (v : Strings) (f : List ℕ → List ℕ) (items : List (List ℕ)) →
-    v ≡ set.union v (set.from_list (map f (take 0 items)))
-listed_none v f items = added_none v
 
 module _ (f : List ℕ → List ℕ) (items : List (Bor (List ℕ))) (i : ℕ) (d : Bor (List ℕ)) (lt : i < length items) where
   abbrev item : List ℕ

@@ -70,16 +70,7 @@ module _ (old new : Option (List ℕ)) where
       subst (λ (w : List ℕ). AppendsPrefix start new (w ++ piece)) (sym (u.text_is ∙ append-nil u.written))
       (front_behind start old new u.written piece u.appended p)
 
--- the piece is held back too
-pub more_held : (now : Option (List ℕ)) (held piece : List ℕ) → Writes now now held (held ++ piece) piece (Ok tt)
-more_held now held piece = λ start text u. record {
-  written = u.written;
-  appended = u.appended;
-  text_is = ap (λ (w : List ℕ). w ++ piece) u.text_is ∙ append_assoc u.written held piece;
-}
-
 -- ---- one piece, and then another
-
 module _ (old mid new : Option (List ℕ)) (held held' held'' first second : List ℕ) where
   pub writes_then : (answer : Result (Unit {0}) StreamFault) → Writes old mid held held' first (Ok tt) →
       Writes mid new held' held'' second answer → Writes old new held held'' (first ++ second) answer

@@ -1,12 +1,12 @@
 -- The decimal digits of a number.
 use Rattle.std.proofs.Common.{◌≡◌, ◌≢◌, ℕ, ◌+◌, ◌<◌, ◌≤◌, ◌^◌, Bool, true, false, List, length, get_or, refl, sym}
-use Rattle.std.proofs.Common.{subst, ◌∙◌, ap, arith, rules, Ok, Err, inl, inr, map, lit<, lit≤, MatchBool}
+use Rattle.std.proofs.Common.{subst, ◌∙◌, ap, arith, rules, Err, inl, inr, map, lit<, lit≤, MatchBool}
 use Rattle.std.specs.List.{list_all}
 use Rattle.std.specs.Char.{is_ascii_digit}
 use Rattle.std.specs.Fmt.{decimal}
-use Rattle.std.specs.Str.Parse.{digits_value, ParsesUnsigned}
+use Rattle.std.specs.Str.Parse.{digits_value}
 use Rattle.std.proofs.lemmas.Bool.{cases_lt}
-use Rattle.std.proofs.lemmas.Str.Parse.{IsNumeralModel, numerals_by_value, parse_digits}
+use Rattle.std.proofs.lemmas.Str.Parse.{IsNumeralModel, numerals_by_value}
 use Rattle.std.specs.Int.Digits.{digits_of}
 use Rattle.std.proofs.lemmas.List.{length-map, get_or-map}
 use Rattle.std.proofs.lemmas.Int.Digits.{first_digits_of}
@@ -39,24 +39,6 @@ decimal_test ds false some zero is = λ n. no_digits ds n (sym is)
 -- a text spells at most one number
 pub one_number : (ds : List ℕ) (m n : ℕ) → IsDecimal ds m → IsDecimal ds n → m ≡ n
 one_number ds m n p q = sym p.value ∙ q.value
-
--- a number that was read successfully is the number that the text spells
-pub number_read : (E : Type 0) (ds : List ℕ) (n : ℕ) → IsDecimal ds (digits_value 10 ds) →
-    ParsesUnsigned {E = E} 64 10 ds (Ok n) → IsDecimal ds n
-number_read E ds n is parses =
-    let ok = parse_digits own {E = E} 64 ds (Ok n) parses (own.from ds is.numeral.1) in
-    let e : n ≡ digits_value 10 ds = ok.1 in
-    rw e is
-
--- if reading the digits failed, their number is at least 2^64
-pub number_large : (E : Type 0) (ds : List ℕ) (e : E) → IsDecimal ds (digits_value 10 ds) →
-    ParsesUnsigned {E = E} 64 10 ds (Err e) → 2 ^ 64 ≤ digits_value 10 ds
-number_large E ds e is parses =
-    let none = parse_digits own {E = E} 64 ds (Err e) parses (own.from ds is.numeral.1) in
-    elim (cases_lt (digits_value 10 ds) (2 ^ 64)) [
-      | inl lt ↦ absurd (none (is.numeral.0, lt))
-      | inr ge ↦ ge
-    ]
 
 -- a number with a leading zero has only that one digit
 short : (ds : List ℕ) → (1 < length ds → get_or ds 0 0 ≢ 48) → 0 < length ds → get_or ds 0 0 ≡ 48 → length ds ≡ 1

@@ -16,34 +16,6 @@ pub record IsIndexAfter (before : ℕ) (text : List ℕ) (index : ℕ) : Type 0 
   pub text_is : text ≡ flat_map group_text groups ++ three_digits last
   pub index_is : index ≡ number_of before groups * 1000 + last
 
-pub IsIndexAfter-whole : (text : List ℕ) (n : ℕ) → IsIndex text n → IsIndexAfter 0 text n
-IsIndexAfter-whole text n h =
-    record {
-      groups =
-          h.groups;
-      last =
-          h.last;
-      fits = h.fits;
-      last_fits = h.last_fits;
-      begins = λ e. h.begins;
-      text_is = h.text_is;
-      index_is = h.index_is;
-    }
-
-pub IsIndex-after_none : (text : List ℕ) (n : ℕ) → IsIndexAfter 0 text n → IsIndex text n
-IsIndex-after_none text n h =
-    record {
-      groups =
-          h.groups;
-      last =
-          h.last;
-      fits = h.fits;
-      last_fits = h.last_fits;
-      begins = h.begins refl;
-      text_is = h.text_is;
-      index_is = h.index_is;
-    }
-
 -- the text determines its first three digits
 pub digits_one : (g h : ℕ) (a b : List ℕ) → g < 1000 → h < 1000 → three_digits g ++ a ≡ three_digits h ++ b →
     (g ≡ h) × (a ≡ b)
@@ -57,9 +29,6 @@ digits_one g h a b p q e =
 -- digits do not begin like a group
 pub digits_no_group : (g h : ℕ) (a b : List ℕ) → three_digits g ++ a ≡ group_text h ++ b → ⊥
 digits_no_group g h a b e = let first : 48 + g / 100 % 10 ≡ 120 = cc in omega arith
-
-group_split : (g : ℕ) (a : List ℕ) → group_text g ++ a ≡ 120 ∷ (three_digits g ++ 47 ∷ a)
-group_split g a = refl
 
 -- the text determines its first group
 pub group_one : (g h : ℕ) (a b : List ℕ) → g < 1000 → h < 1000 → group_text g ++ a ≡ group_text h ++ b →

@@ -1,7 +1,7 @@
 use Rattle.std.proofs.Common.{◌≡◌, ◌⊎◌, subst, sym, ℕ, Ok, Err}
 use Rattle.std.specs.Prelude.{option_map}
 use Rattle.mirror_copy.specs.Faults.{IsOtherFound}
-use Rattle.mirror_copy.specs.AskedForCopy.{RefusesNote, AsksForCopy}
+use Rattle.mirror_copy.specs.AskedForCopy.{RefusesNote}
 use Rattle.mirror_copy.specs.declared.fault.BringFault.TheVariants.{CopyDamaged}
 use Rattle.mirror_copy.specs.OneHonest.{IsHonestNote}
 use Rattle.mirror_copy.specs.Conflicts.{HasConflict}

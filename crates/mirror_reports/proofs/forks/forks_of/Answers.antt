@@ -1,5 +1,5 @@
 use Rattle.std.proofs.Common.{◌≡◌, List, length, subst, sym, rules}
-use Rattle.std.proofs.lemmas.Result.{IfOk-weaker, IfOk-from_err}
+use Rattle.std.proofs.lemmas.Result.{IfOk-weaker}
 use Rattle.mirror_reports.specs.Branches.{AreCalm, all_forks}
 use Rattle.mirror_reports.specs.Forks.{AreForksOf}
 use Rattle.mirror_reports.specs.declared.branches.Branch.{Branch}

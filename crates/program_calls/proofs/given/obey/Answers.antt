@@ -1,5 +1,4 @@
 use Rattle.std.proofs.Common.{Err, ap, inl, inr, refl}
-use Rattle.program_library.specs.declared.fault.RunFault.TheVariants.{Command}
 use Rattle.program_library.proofs.Keyed.{nothing_done}
 use Rattle.program_env.proofs.Written.{keeps_itself}
 use Rattle.program_calls.proofs.given.obey.Goals as goal

@@ -1,5 +1,4 @@
 use Rattle.std.proofs.Common.{◌≡◌}
-use Rattle.mirror_follow.specs.declared.fault.FollowFault.TheVariants.{NoFile}
 use Rattle.program_follow.proofs.following.follow_into.Goals as goal
 
 pub returns-in-Ok-follow_reporting-clause-follows : goal.returns-in-Ok-follow_reporting-clause-follows

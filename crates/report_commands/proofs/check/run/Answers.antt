@@ -1,4 +1,4 @@
-use Rattle.std.proofs.Common.{inl, refl}
+use Rattle.std.proofs.Common.{refl}
 use Rattle.program_streams.specs.declared.check.CheckFault.TheVariants as check
 use Rattle.program_env.specs.Performing.{verdict_status}
 use Rattle.report_commands.specs.declared.fault.ReportRunFault.TheVariants.{Check}
