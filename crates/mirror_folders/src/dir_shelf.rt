@@ -2,6 +2,7 @@
 ghost use Rattle.std.specs.Prelude.{◌≡◌};
 ghost use Rattle.mirror_folders.specs.Shelf.{CountsFailures};
 
+use crate::damaged::DamagedFile;
 use crate::failed::FailedFile;
 use crate::flush::flush_folder;
 use crate::folders::NamedFolders;
@@ -42,6 +43,7 @@ pub struct DirShelf<'a, R: Files> {
     opened: Option<String>,
     failures: u64,
     last_failed: Option<FailedFile>,
+    first_damaged: Option<DamagedFile>,
     recent: Recent,
 }
 
@@ -151,6 +153,7 @@ impl<'a, R: Files> DirShelf<'a, R> {
             opened: None,
             failures: 0,
             last_failed: None,
+            first_damaged: None,
             recent: Recent::none(alloc),
         }
     }
@@ -230,6 +233,23 @@ impl<'a, R: Files> ReadableShelf for DirShelf<'a, R> {
     fn read(&mut self, path: &Path) -> Result<Option<Vec<u8>>, ShelfError> {
         let found = read_file(self.files, self.alloc, self.folder(), path);
         self.answer(path, found)
+    }
+
+    // If the system does not say whether there is a file, none is noted.
+    fn note_damaged(&mut self, path: &Path) {
+        if self.first_damaged.is_some() {
+            return;
+        }
+        if let Ok(is_there) = self.find(path) {
+            self.first_damaged = Some(DamagedFile {
+                path: *path,
+                is_missing: !is_there,
+            });
+        }
+    }
+
+    fn first_damaged(&self) -> Option<DamagedFile> {
+        self.first_damaged
     }
 }
 

@@ -10,6 +10,7 @@
 //! ```
 #![tactic(auto)]
 
+mod damaged;
 mod dir_shelf;
 mod dir_source;
 mod failed;
@@ -25,6 +26,7 @@ mod shelf;
 mod temporary;
 mod unflushed;
 
+pub use damaged::DamagedFile;
 pub use dir_shelf::DirShelf;
 pub use dir_source::DirSource;
 pub use failed::FailedFile;

@@ -2,6 +2,7 @@
 ghost use Rattle.std.specs.Prelude.{◌≡◌};
 ghost use Rattle.mirror_folders.specs.declared.shelf.ShelfError.TheVariants.{OutOfMemory};
 
+use crate::damaged::DamagedFile;
 use std::alloc::AllocError;
 use thiserror::Error;
 use tlog_tiles::Path;
@@ -91,7 +92,7 @@ pub trait Shelf {
 /// shelf.read(&Path::Checkpoint)? // Some(b"a note")
 /// ```
 pub trait ReadableShelf: Shelf {
-    ghost use Rattle.std.specs.Prelude.{IfOk, option_map};
+    ghost use Rattle.std.specs.Prelude.{◌≡◌, IfOk, option_map};
     ghost use Rattle.mirror_sources.specs.Recorded.{KeepsRecord};
     ghost use Rattle.mirror_folders.specs.Shelf.{RecordsRead, CountsFailures};
 
@@ -105,4 +106,16 @@ pub trait ReadableShelf: Shelf {
             (λ found. RecordsRead (Self.puts self.old) path.now (option_map (λ v. v.items) found)) }
         ensures same { KeepsRecord (Self.puts self.old) (Self.puts self.new) }
         ensures counted { CountsFailures (Self.failed self.old) (Self.failed self.new) result };
+
+    /// The caller needs the file at the path, but it is missing or false. A shelf that can name such a file keeps the first one; this
+    /// default keeps none. All that was put stays.
+    fn note_damaged(&mut self, _path: &Path)
+        ensures puts { Self.puts self.new ≡ Self.puts self.old }
+        ensures failed { Self.failed self.new ≡ Self.failed self.old }
+    {}
+
+    /// The first file that was noted as missing or false. None: there was none, or it was not kept.
+    fn first_damaged(&self) -> Option<DamagedFile> {
+        None
+    }
 }

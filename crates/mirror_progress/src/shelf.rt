@@ -6,7 +6,7 @@ ghost use Rattle.mirror_progress.specs.Counting.{CountsPut};
 use crate::folders::CountedFolders;
 use crate::progress::Progress;
 use crate::task::Task;
-use mirror_folders::{NamedFolders, ReadableShelf, Shelf, ShelfError};
+use mirror_folders::{DamagedFile, NamedFolders, ReadableShelf, Shelf, ShelfError};
 use std::alloc::AllocError;
 use std::io::Write;
 use std::time::Clock;
@@ -85,6 +85,14 @@ impl<S: ReadableShelf + Drop, C: Clock + Drop, W: Write + Drop> ReadableShelf
     for CountingShelf<S, C, W> {
     fn read(&mut self, path: &Path) -> Result<Option<Vec<u8>>, ShelfError> {
         self.shelf.read(path)
+    }
+
+    fn note_damaged(&mut self, path: &Path) {
+        self.shelf.note_damaged(path);
+    }
+
+    fn first_damaged(&self) -> Option<DamagedFile> {
+        self.shelf.first_damaged()
     }
 }
 
