@@ -81,8 +81,14 @@ fn rows_at_place<S: Source + Drop>(
     Ok(Some(EdgeRows::new(size, rows)))
 }
 
-// The path of the lowest partial tile of a size.
-fn lowest_edge_path(size: u64) -> Path
+/// The path of the lowest partial tile of a size (C2SP tlog-tiles, "Partial Tiles"). It is named if the edge rows do not lead to the root.
+/// A tree without entries has no partial tile: then the path is that of level 7.
+///
+/// ```text
+/// lowest_edge_path(257) // tile/0/001.p/1
+/// lowest_edge_path(256) // tile/1/000.p/1
+/// ```
+pub fn lowest_edge_path(size: u64) -> Path
     ensures { IsLowestEdgeTile size result }
 {
     for level in 0..7u32 {

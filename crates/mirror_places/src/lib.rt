@@ -21,7 +21,7 @@ mod places;
 mod row;
 
 pub use bundle::{accept_bundle, bundle_at_places};
-pub use edge::edge_at_places;
+pub use edge::{edge_at_places, lowest_edge_path};
 pub use file::{Found, accept_file, file_at_places};
 pub use part::{full_of, part_of};
 pub use place::{Place, PlaceAnswer, Wrong, WrongFile};
