@@ -1,15 +1,10 @@
 -- What a call says where `?` ends it.
-use Rattle.std.proofs.Common.{◌≡◌, ℕ, List, Result, Ok, Err, IfErr, IsErr, IsErrAnd, Option, Some, None, Vec, Global, inl, sym, subst}
+use Rattle.std.proofs.Common.{◌≡◌, ℕ, List, Result, Ok, Err, IfErr, IsErr, IsErrAnd, Option, sym, subst}
 use Rattle.std.proofs.lemmas.Bool.{false≢true}
-use Rattle.std.specs.Prelude.{IfSome, option_map}
-use Rattle.tlog_tiles.specs.declared.paths.Path.{Path}
 use Rattle.mirror_folders.specs.Shelf.{Put}
-use Rattle.mirror_places.specs.Giving.{PartOf}
 use Rattle.mirror_places.specs.declared.places.Places.{Places}
-use Rattle.mirror_places.proofs.Giving.{part_weaker}
 use Rattle.mirror_copy.specs.Conflicts.{ConflictPutsNothing}
 use Rattle.mirror_copy.specs.Faults.{BlamesPlaces, CountsFault, CountsShelf, IsOfNoPlace}
-use Rattle.mirror_copy.specs.Taken.{MayTake, WasPut}
 use Rattle.mirror_copy.specs.declared.fault.BringFault.{BringFault}
 use Rattle.mirror_copy.specs.declared.fault.BringFault.TheVariants.{BadCheckpoint, CopyDamaged, NotLarger, Contradiction}
 use Rattle.mirror_copy.specs.declared.fault.BringFault.TheVariants.{Collision, NoFile, Source, CopyInUse, ShelfFault, OutOfMemory}
@@ -49,12 +44,3 @@ no_place places Source h = absurd h
 no_place places CopyInUse h = absurd h
 no_place places ShelfFault h = tt
 no_place places OutOfMemory h = tt
-
--- a partial file that was read from the shelf may be taken
-pub part_taken : {S : Type 0} (may : S → Path → Option (List ℕ) → Type 0) (places : Places S) (puts : Option (List Put)) (path : Path)
-    (read : Option (Vec ℕ Global)) (bytes : List ℕ) → IfSome read (λ v. PartOf (WasPut puts) path v.items) →
-    option_map (λ v. v.items) read ≡ Some bytes → PartOf (MayTake may places puts) path bytes
-part_taken may places puts path None bytes h is = absurd (cc is)
-part_taken may places puts path (Some v) bytes h is =
-    part_weaker (WasPut puts) (MayTake may places puts) (λ p b put. inl put) path bytes
-    (subst (λ b. PartOf (WasPut puts) path b) (cc is) h)

@@ -1,11 +1,11 @@
 //! The partial bundle at the right edge.
-ghost use Rattle.std.specs.Prelude.{◌≢◌, ◌*◌, ◌^◌, ◌<◌, ◌≤◌, [], ℕ, List, IfErr, IfOk, Some, length, take};
+ghost use Rattle.std.specs.Prelude.{◌≢◌, ◌*◌, ◌^◌, ◌<◌, ◌≤◌, [], ℕ, List, IfErr, IfOk, IfSome, Some, length, take};
 ghost use Rattle.tlog_shape.specs.Edge.{edge_index_of};
 ghost use Rattle.mirror_sources.specs.Files.{full_of};
 ghost use Rattle.mirror_sources.specs.Recorded.{KeepsRecord};
 ghost use Rattle.mirror_copy.specs.Asked.{IsEdgeBundle};
 ghost use Rattle.mirror_places.specs.Asked.{IsPathOrFull};
-ghost use Rattle.mirror_copy.specs.Faults.{BlamesPlaces, CountsShelf};
+ghost use Rattle.mirror_copy.specs.Faults.{BlamesPlaces, CountsShelf, IsOfNoPlace};
 ghost use Rattle.mirror_places.specs.AskedOnce.{AsksOnce};
 ghost use Rattle.mirror_places.specs.PlaceGets.{AsksPlaces};
 ghost use Rattle.mirror_copy.specs.Conflicts.{ConflictPutsNothing, IsNoConflict};
@@ -16,7 +16,7 @@ ghost use Rattle.mirror_copy.specs.Edges.{BringsEdgeBundle};
 ghost use Rattle.mirror_places.specs.TruePlaces.{HasTruePlace};
 ghost use Rattle.mirror_copy.specs.Suffices.{IsEdgeTrue, IsNoLack, IsSpared, IsTipOf, OneIsHonest};
 ghost use Rattle.mirror_places.specs.Giving.{PartOf};
-ghost use Rattle.mirror_copy.specs.Taken.{MayTake};
+ghost use Rattle.mirror_copy.specs.Taken.{MayTake, WasPut};
 ghost use Rattle.mirror_places.specs.TrueAnswers.{HasTrueLeaves};
 ghost use Rattle.mirror_model.specs.TrueLaws.{AreShort};
 
@@ -32,6 +32,35 @@ use std::alloc::Global;
 use tlog_hash::{Hash, TreeHash};
 use tlog_shape::edge_index;
 use tlog_tiles::Path;
+
+// The bundle from the shelf, if it has these leaf hashes. The shelf notes one that does not.
+fn edge_bundle_on_shelf<H: TreeHash, D: ReadableShelf>(
+    alloc: Global,
+    shelf: &mut D,
+    path: &Path,
+    row: &[Hash],
+) -> Result<Option<Vec<u8>>, BringFault>
+    requires { length row.now ≤ 256 }
+    ensures found { IfOk result (λ found. IfSome found
+        (λ bytes. HasLeaves H.digest (length row.now) bytes.items row.now)) }
+    ensures fault { IfErr result IsNoConflict }
+    ensures places { IfErr result IsOfNoPlace }
+    ensures same { KeepsRecord (D.puts shelf.old) (D.puts shelf.new) }
+    ensures counted { CountsShelf (D.failed shelf.old) (D.failed shelf.new) result }
+    ensures taken { IfOk result (λ found. IfSome found
+        (λ bytes. PartOf (WasPut (D.puts shelf.old)) path.now bytes.items)) }
+{
+    let Some(bytes) = read_partial(alloc, shelf, path)? else {
+        return Ok(None);
+    };
+    match accept_bundle::<H>(alloc, row, Some(bytes))? {
+        Some(found) => Ok(Some(found)),
+        None => {
+            shelf.note_damaged(path);
+            Ok(None)
+        }
+    }
+}
 
 // The bundle from the shelf, or else from a place.
 fn find_edge_bundle<H: TreeHash, D: ReadableShelf, S: Source + Drop>(
@@ -57,8 +86,7 @@ fn find_edge_bundle<H: TreeHash, D: ReadableShelf, S: Source + Drop>(
         → HasTrueLeaves H.digest entries path.now row.now
         → HasTruePlace H.digest entries S.may_answer places.old places.new → IsNoLack e) }
 {
-    let given = read_partial(alloc, shelf, path)?;
-    if let Some(found) = accept_bundle::<H>(alloc, row, given)? {
+    if let Some(found) = edge_bundle_on_shelf::<H, D>(alloc, shelf, path, row)? {
         return Ok(found);
     }
     match bundle_at_places::<H, S>(alloc, places, path, row)? {

@@ -1,5 +1,5 @@
 //! A full file that verifies, from the shelf or from a place.
-ghost use Rattle.std.specs.Prelude.{◌≡◌, ℕ, List, IfErr, IfOk};
+ghost use Rattle.std.specs.Prelude.{◌≡◌, ℕ, List, IfErr, IfOk, IfSome};
 ghost use Rattle.mirror_sources.specs.Recorded.{KeepsRecord};
 ghost use Rattle.mirror_model.specs.TrueLaws.{AreShort};
 ghost use Rattle.log_reader.specs.Verified.{Verifies};
@@ -7,9 +7,9 @@ ghost use Rattle.mirror_places.specs.AskedOnce.{AsksOnce};
 ghost use Rattle.mirror_places.specs.PlaceGets.{AsksPlaces};
 ghost use Rattle.mirror_places.specs.TruePlaces.{HasTruePlace, IsFileUnder};
 ghost use Rattle.mirror_copy.specs.Conflicts.{IsNoConflict};
-ghost use Rattle.mirror_copy.specs.Faults.{BlamesPlaces, CountsShelf};
+ghost use Rattle.mirror_copy.specs.Faults.{BlamesPlaces, CountsShelf, IsOfNoPlace};
 ghost use Rattle.mirror_copy.specs.Suffices.{IsNoLack};
-ghost use Rattle.mirror_copy.specs.Taken.{MayTake};
+ghost use Rattle.mirror_copy.specs.Taken.{MayTake, WasPut};
 
 use crate::fault::{BringFault, fault_of};
 use log_reader::FullFile;
@@ -19,6 +19,35 @@ use mirror_sources::Source;
 use std::alloc::Global;
 use tlog_hash::{Hash, TreeHash};
 use tlog_tiles::Path;
+
+// The file from the shelf, if it verifies. The shelf notes one that does not.
+fn file_on_shelf<H: TreeHash, D: ReadableShelf>(
+    alloc: Global,
+    shelf: &mut D,
+    kind: FullFile,
+    path: &Path,
+    hash: &Hash,
+) -> Result<Option<Found>, BringFault>
+    ensures found { IfOk result (λ found. IfSome found
+        (λ f. Verifies H.digest kind hash.now f.bytes.items f.row.items)) }
+    ensures fault { IfErr result IsNoConflict }
+    ensures places { IfErr result IsOfNoPlace }
+    ensures same { KeepsRecord (D.puts shelf.old) (D.puts shelf.new) }
+    ensures counted { CountsShelf (D.failed shelf.old) (D.failed shelf.new) result }
+    ensures taken { IfOk result (λ found. IfSome found
+        (λ f. WasPut (D.puts shelf.old) path.now f.bytes.items)) }
+{
+    let Some(bytes) = shelf.read(path)? else {
+        return Ok(None);
+    };
+    match accept_file::<H>(alloc, kind, hash, bytes)? {
+        Some(found) => Ok(Some(found)),
+        None => {
+            shelf.note_damaged(path);
+            Ok(None)
+        }
+    }
+}
 
 /// The file from the shelf, or else from a place. The tree has `bundles` full bundles: a hint names none after them.
 pub(crate) fn find<H: TreeHash, D: ReadableShelf, S: Source + Drop>(
@@ -44,10 +73,8 @@ pub(crate) fn find<H: TreeHash, D: ReadableShelf, S: Source + Drop>(
         → IsFileUnder H.digest entries kind path.now hash.now
         → HasTruePlace H.digest entries S.may_answer places.old places.new → IsNoLack e) }
 {
-    if let Some(bytes) = shelf.read(path)? {
-        if let Some(found) = accept_file::<H>(alloc, kind, hash, bytes)? {
-            return Ok(found);
-        }
+    if let Some(found) = file_on_shelf::<H, D>(alloc, shelf, kind, path, hash)? {
+        return Ok(found);
     }
     match file_at_places::<H, S>(alloc, places, kind, path, hash, bundles)? {
         Some(found) => Ok(found),

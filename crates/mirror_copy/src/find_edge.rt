@@ -19,7 +19,7 @@ use crate::fault::{BringFault, fault_of};
 use crate::shelf_files::read_partial;
 use log_reader::{EdgeRows, edge_path, leads_to};
 use mirror_folders::ReadableShelf;
-use mirror_places::{Places, edge_at_places, row_of};
+use mirror_places::{Places, edge_at_places, lowest_edge_path, row_of};
 use mirror_sources::Source;
 use std::alloc::Global;
 use tlog_hash::{Hash, TreeHash};
@@ -46,10 +46,17 @@ fn row_on_shelf<D: ReadableShelf>(
     if width == 0 {
         return Ok(Some(Vec::new(alloc)));
     }
-    let Some(bytes) = read_partial(alloc, shelf, &edge_path(size, level))? else {
+    let path = edge_path(size, level);
+    let Some(bytes) = read_partial(alloc, shelf, &path)? else {
         return Ok(None);
     };
-    Ok(row_of(alloc, width, &bytes)?)
+    match row_of(alloc, width, &bytes)? {
+        Some(row) => Ok(Some(row)),
+        None => {
+            shelf.note_damaged(&path);
+            Ok(None)
+        }
+    }
 }
 
 // The edge rows on the shelf, from the lowest level up, to the first row that the shelf lacks.
@@ -101,6 +108,7 @@ pub(crate) fn edge_on_shelf<H: TreeHash, D: ReadableShelf>(
     if leads_to::<H>(alloc, &edge, root)? {
         Ok(Some(edge))
     } else {
+        shelf.note_damaged(&lowest_edge_path(size));
         Ok(None)
     }
 }

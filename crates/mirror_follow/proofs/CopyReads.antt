@@ -1,7 +1,6 @@
 -- Reads of a copy: if the shelf has a whole copy, no read ends by CopyDamaged.
-use Rattle.std.proofs.Common.{◌≡◌, ℕ, ◌++◌, List, length, Option, None, Some, Result, Ok, Err, IsErr, IsErrAnd, IfErr, sym, subst, inl, inr}
+use Rattle.std.proofs.Common.{◌≡◌, ℕ, ◌++◌, List, length, Option, None, Some, Ok, Err, sym, subst, inl, inr}
 use Rattle.std.specs.Prelude.{⊤}
-use Rattle.std.proofs.lemmas.Bool.{false≢true}
 use Rattle.tlog_hash.specs.Tree.{mth}
 use Rattle.tlog_tiles.specs.declared.paths.Path.TheVariants.{Checkpoint}
 use Rattle.mirror_model.specs.Heads.{IsHead}
@@ -20,42 +19,28 @@ use Rattle.mirror_copy.proofs.PrunedFiles.{copies_are_pruned}
 use Rattle.mirror_copy.proofs.TipReads.{stands_has, stands_one}
 use Rattle.mirror_candidates.specs.Candidates.{note_of}
 use Rattle.mirror_candidates.specs.declared.candidate.Candidate.{Candidate}
-use Rattle.mirror_follow.specs.Blame.{CountsFollow, CountsFollowFault, by_copy}
+use Rattle.mirror_follow.specs.Blame.{CountsFollowFault, by_copy}
 use Rattle.mirror_follow.specs.Ending.{EndsRun}
 use Rattle.mirror_follow.specs.Standing.{HasStanding, HoldsNoCopy, LacksLog}
-use Rattle.mirror_follow.specs.declared.fault.FollowFault.{FollowFault}
 
 -- ---- faults of a read
 
--- the fault of the answer is the run's fault for this fault of reading a copy
-abbrev IsBy : {U : Type 0} → CopyFault → Result U FollowFault → Type 0
-IsBy e r = IsErr r × IsErrAnd r (λ f. f ≡ by_copy e)
-
-fault_counts : (T : Type 0) (a b : ℕ) (e : CopyFault) → CountsRead {T = T} a b (Err e) → CountsFollowFault a b (by_copy e)
+-- the count of failures at such a fault
+pub fault_counts : (T : Type 0) (a b : ℕ) (e : CopyFault) → CountsRead {T = T} a b (Err e) → CountsFollowFault a b (by_copy e)
 fault_counts T a b reading.BadOrigin h = absurd h
 fault_counts T a b (reading.Head f) h = absurd h
 fault_counts T a b (reading.CopyDamaged path) h = h
 fault_counts T a b reading.ShelfFault h = h
 fault_counts T a b reading.OutOfMemory h = h
 
-pub read_counts : (T : Type 0) {U : Type 0} (a b : ℕ) (e : CopyFault) (r : Result U FollowFault) → IsBy e r →
-    CountsRead {T = T} a b (Err e) → CountsFollow a b r
-read_counts T a b e (Ok x) is h = absurd (false≢true is.0)
-read_counts T a b e (Err f) is h = subst (CountsFollowFault a b) (sym is.1) (fault_counts T a b e h)
-
-fault_ends : (T : Type 0) (A : Type 0) (a b : ℕ) (e : CopyFault) → CountsRead {T = T} a b (Err e) →
+-- a fault that ends a run by CopyDamaged is no failure of the shelf
+pub fault_ends : (T : Type 0) (A : Type 0) (a b : ℕ) (e : CopyFault) → CountsRead {T = T} a b (Err e) →
     ((IsShelfFailure e → ⊥) → A) → EndsRun A ⊥ (by_copy e)
 fault_ends T A a b reading.BadOrigin h so = absurd h
 fault_ends T A a b (reading.Head f) h so = absurd h
 fault_ends T A a b (reading.CopyDamaged path) h so = so (λ no. no)
 fault_ends T A a b reading.ShelfFault h so = tt
 fault_ends T A a b reading.OutOfMemory h so = tt
-
--- a read that ends a run by CopyDamaged is no failure of the shelf
-pub read_ends : (T : Type 0) {U : Type 0} (A : Type 0) (a b : ℕ) (e : CopyFault) (r : Result U FollowFault) → IsBy e r →
-    CountsRead {T = T} a b (Err e) → ((IsShelfFailure e → ⊥) → A) → IfErr r (EndsRun A ⊥)
-read_ends T A a b e (Ok x) is h so = tt
-read_ends T A a b e (Err f) is h so = subst (EndsRun A ⊥) (sym is.1) (fault_ends T A a b e h so)
 
 module _ (digest : List ℕ → List ℕ) where
   -- after such a read, the shelf lacks the files of each such log
@@ -139,8 +124,3 @@ module _ (digest : List ℕ → List ℕ) (origin : List ℕ) where
 pub read_some : (x : Option (List Put)) (note : List ℕ) → RecordsRead x Checkpoint (Some note) → RecordsSome x Checkpoint
 read_some None note h = tt
 read_some (Some held) note h = stands_has held Checkpoint note h
-
-pub some_any : {T E : Type 0} (r : Result T E) (x : Option (List Put)) (f : E) → RecordsSome x Checkpoint →
-    IfErr r (λ e. e ≡ f → RecordsSome x Checkpoint)
-some_any (Ok t) x f h = tt
-some_any (Err e) x f h = λ is. h

@@ -10,7 +10,7 @@ ghost use Rattle.mirror_follow.specs.Turning.{ShowsTurn};
 ghost use Rattle.mirror_follow.specs.Standing.{EachStays, HasStanding, LacksLog, StandsAfter};
 ghost use Rattle.mirror_follow.specs.Taken.{IsNoted, SaysTurn};
 
-use crate::copy::read_proof;
+use crate::copy::{fault_of_copy, read_proof};
 use crate::fault::FollowFault;
 use crate::run::Outcome;
 use mirror_candidates::Candidate;
@@ -81,9 +81,10 @@ fn take_smaller<H: TreeHash, D: ReadableShelf>(
     if has_due_root(copy, candidate) {
         return Ok(compare_root::<H>(copy, candidate));
     }
-    match read_proof::<H, D>(alloc, shelf, candidate, copy)? {
-        Some(proof) => Ok(Outcome::Forks(Some(proof))),
-        None => Ok(Outcome::Agrees),
+    match read_proof::<H, D>(alloc, shelf, candidate, copy) {
+        Ok(Some(proof)) => Ok(Outcome::Forks(Some(proof))),
+        Ok(None) => Ok(Outcome::Agrees),
+        Err(fault) => Err(fault_of_copy::<D>(shelf, fault)),
     }
 }
 

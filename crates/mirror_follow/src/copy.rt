@@ -8,7 +8,7 @@ ghost use Rattle.copy_reader.specs.WholeCopies.{ReadsCopyLog};
 ghost use Rattle.mirror_candidates.specs.Agreeing.{Agrees};
 ghost use Rattle.mirror_candidates.specs.Shown.{ShowsLarger};
 ghost use Rattle.mirror_candidates.specs.Candidates.{point_of};
-ghost use Rattle.mirror_follow.specs.Blame.{CountsFollow};
+ghost use Rattle.mirror_follow.specs.Blame.{CountsFollow, by_copy};
 ghost use Rattle.mirror_follow.specs.Ending.{EndsRun};
 ghost use Rattle.mirror_follow.specs.Standing.{HoldsNoCopy, IsFoundCopy, IsHeadOf};
 
@@ -42,6 +42,25 @@ pub(crate) fn read_proof<H: TreeHash, D: ReadableShelf>(
 {
     let mut files = ShelfSource::new(shelf);
     Ok(fork_proof::<H, ShelfSource<D>>(alloc, &mut files, smaller, copy)?)
+}
+
+/// The fault of a run after a fault of its copy. The shelf notes the file that is missing or false.
+pub(crate) fn fault_of_copy<D: ReadableShelf>(shelf: &mut D, fault: CopyFault) -> FollowFault
+    ensures puts { D.puts shelf.new ≡ D.puts shelf.old }
+    ensures failed { D.failed shelf.new ≡ D.failed shelf.old }
+    ensures fault { result ≡ by_copy fault }
+{
+    match fault {
+        CopyFault::CopyDamaged(path) => {
+            shelf.note_damaged(&path);
+            FollowFault::CopyDamaged
+        }
+        // The checkpoint was read before, and no signature is verified: these two do not come.
+        CopyFault::BadOrigin => FollowFault::CopyDamaged,
+        CopyFault::Head(_) => FollowFault::CopyDamaged,
+        CopyFault::ShelfFault => FollowFault::ShelfFault,
+        CopyFault::OutOfMemory => FollowFault::OutOfMemory,
+    }
 }
 
 // Reads the edge of a copy of that size and root. Its rows have to lead to the root, and the partial bundle has to have the leaf hashes of
@@ -86,10 +105,14 @@ pub(crate) fn judge_copy<H: TreeHash, D: ReadableShelf>(
         return Ok(None);
     };
     let Some(head) = head_of(alloc, origin, &note)? else {
+        shelf.note_damaged(&Path::Checkpoint);
         return Err(FollowFault::CopyDamaged);
     };
     let root = head.1;
-    judge_files::<H, D>(alloc, shelf, head.0, &root)?;
+    match judge_files::<H, D>(alloc, shelf, head.0, &root) {
+        Ok(()) => {}
+        Err(fault) => return Err(fault_of_copy::<D>(shelf, fault)),
+    }
     Ok(Some(Candidate {
         size: Reverse(head.0),
         root,

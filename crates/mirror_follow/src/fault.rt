@@ -1,9 +1,8 @@
 //! The reasons why a call of `follow` ends early.
 ghost use Rattle.std.specs.Prelude.{◌≡◌};
-ghost use Rattle.mirror_follow.specs.Blame.{by_copy, by_shelf, of_candidates};
+ghost use Rattle.mirror_follow.specs.Blame.{by_shelf, of_candidates};
 ghost use Rattle.mirror_follow.specs.declared.fault.FollowFault.TheVariants as follow;
 
-use copy_reader::CopyFault;
 use mirror_candidates::CandidateFault;
 use mirror_folders::ShelfError;
 use mirror_model::TakeFault;
@@ -70,21 +69,6 @@ impl From<ShelfError> for FollowFault {
         match e {
             ShelfError::Failed => FollowFault::ShelfFault,
             ShelfError::OutOfMemory => FollowFault::OutOfMemory,
-        }
-    }
-}
-
-// After the shelf's checkpoint was read, only the last three faults can come.
-impl From<CopyFault> for FollowFault {
-    ghost from_gives = { λ e f. f ≡ by_copy e };
-
-    fn from(e: CopyFault) -> FollowFault {
-        match e {
-            CopyFault::BadOrigin => FollowFault::CopyDamaged,
-            CopyFault::Head(_) => FollowFault::CopyDamaged,
-            CopyFault::CopyDamaged(_) => FollowFault::CopyDamaged,
-            CopyFault::ShelfFault => FollowFault::ShelfFault,
-            CopyFault::OutOfMemory => FollowFault::OutOfMemory,
         }
     }
 }

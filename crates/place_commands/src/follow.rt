@@ -15,7 +15,7 @@ use mirror_sources::Source;
 use program_env::served::of_note;
 use program_env::why::{Why, of_folder, of_named, of_origin};
 use program_env::{Env, RunFiles, RunFolders, write_front};
-use program_follow::{FollowRunFault, Following, WatchedPlace, places_why, run_follow};
+use program_follow::{FollowRunFault, Following, WatchedPlace, follow_why, run_follow};
 use program_states::check_origin;
 use program_words::commands::follow::Follow;
 use signed_note::Verifier;
@@ -111,11 +111,12 @@ fn follow_among<R, F: RunFiles, D: RunFolders, I: Read, O: Write, E: Write, S: W
         &mut places,
         env.output,
     );
-    write_places(
+    write_whys::<D, S, E>(
         follow.why,
         env.alloc,
-        follow.copy.log.origin,
+        &following,
         keys,
+        &env.folders,
         &places,
         env.errors,
     );
@@ -178,7 +179,12 @@ fn why_of_copy<R, F: RunFiles, D: RunFolders, I, O, E>(
     fault: FollowFault,
 ) -> Option<Why> {
     match fault {
-        FollowFault::CopyDamaged | FollowFault::CopyInUse => Why::of_thing(env.alloc, folder),
+        // A damaged file has its line before this one.
+        FollowFault::CopyDamaged => match env.folders.first_damaged() {
+            Some(_) => None,
+            None => Why::of_thing(env.alloc, folder),
+        },
+        FollowFault::CopyInUse => Why::of_thing(env.alloc, folder),
         FollowFault::ShelfFault => of_folder(env.alloc, &env.folders, folder),
         FollowFault::Contradiction => {
             Why::of_reason(
@@ -195,17 +201,18 @@ fn why_of_copy<R, F: RunFiles, D: RunFolders, I, O, E>(
     }
 }
 
-// Writes the fault of each place if the words ask for it, or a prefix of that text if the stream fails.
-fn write_places<S: WatchedPlace + Drop, E: Write>(
+// Writes the lines about the copy and the places if the words ask for them, or a prefix of that text if the stream fails.
+fn write_whys<D: RunFolders, S: WatchedPlace + Drop, E: Write>(
     asked: bool,
     alloc: Global,
-    origin: &str,
+    following: &Following<'_>,
     keys: &[Box<dyn Verifier>],
+    folders: &D,
     places: &Places<S>,
     errors: &mut E,
 ) {
     if asked {
-        if let Ok(text) = places_why(alloc, origin, keys, places) {
+        if let Ok(text) = follow_why::<D, S>(alloc, following, keys, folders, places) {
             write_front(errors, text.as_bytes());
         }
     }

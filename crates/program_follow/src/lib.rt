@@ -19,4 +19,4 @@ pub use fault::FollowRunFault;
 pub use following::{Following, run_follow};
 pub use place::{Answered, FailedAt, PlaceSource, WatchedPlace};
 pub use text::{followed_status, followed_text};
-pub use why::places_why;
+pub use why::follow_why;

@@ -35,7 +35,7 @@ pub enum Answered {
     Note(Vec<u8>),
 }
 
-/// A place that keeps what `places_why` reports about it. Functions over any such place are checked much faster than those over the
+/// A place that keeps what `follow_why` reports about it. Functions over any such place are checked much faster than those over the
 /// places of the system.
 pub trait WatchedPlace: Source {
     /// The name of the place.
@@ -49,7 +49,7 @@ pub trait WatchedPlace: Source {
 }
 
 /// A place of a run: a folder, or a server. It keeps its name, the reason why its first get failed, and its answer for the checkpoint.
-/// `places_why` needs these to report what was wrong at the place. Contracts state nothing about its answers.
+/// `follow_why` needs these to report what was wrong at the place. Contracts state nothing about its answers.
 ///
 /// ```text
 /// places.add(PlaceSource::of_folder(alloc, "log", DirSource::new(&rt, alloc, "log"))?)?;

@@ -1,11 +1,13 @@
-//! The lines of `--why` about places.
+//! The lines of `--why` about the copy and the places.
 ghost use Rattle.std.specs.Prelude.{IfOk, OnOk, string_bytes};
 ghost use Rattle.program_files.specs.Why.{IsWhyLine};
 ghost use Rattle.program_follow.specs.Whys.{AreWhyLines};
 
+use crate::following::Following;
 use crate::place::{Answered, FailedAt, WatchedPlace};
 use log_reader::open_head;
 use mirror_client::Reason;
+use mirror_folders::ReadableShelf;
 use mirror_model::TakeFault;
 use mirror_places::{Place, Places, Wrong, WrongFile};
 use program_files::{system_reason, why_line};
@@ -107,11 +109,33 @@ fn push_place<S: WatchedPlace + Drop>(
     push_line(alloc, text, source.name(), &path, &reason)
 }
 
-/// The lines about the places of a run, in order. Each place at which something was wrong has one line, about the first such thing. Each
-/// line has at most 200 bytes with its newline, and no control character.
+// Adds the line about the first file of the copy that was missing or false, if there was one.
+fn push_copy<D: ReadableShelf>(
+    alloc: Global,
+    text: &mut String,
+    folder: &str,
+    shelf: &D,
+) -> Result<(), AllocError>
+    requires { AreWhyLines (string_bytes text.old) }
+    ensures { OnOk result (AreWhyLines (string_bytes text.new)) }
+{
+    let Some(damaged) = shelf.first_damaged() else {
+        return Ok(());
+    };
+    let reason = if damaged.is_missing {
+        "not found"
+    } else {
+        "false"
+    };
+    push_line(alloc, text, folder, &damaged.path, reason)
+}
+
+/// The lines about the copy and the places of a run, in the order of the command's words. Each one at which something was wrong has one
+/// line, about the first such thing. Each line has at most 200 bytes with its newline, and no control character.
 ///
 /// ```text
-/// copy: checkpoint: NoTrustedSignature
+/// copy: tile/entries/000.p/3: false
+/// place: checkpoint: NoTrustedSignature
 /// log.example:80/2026: tile/entries/001: not found
 /// mirror: tile/entries/001: false
 /// other.example:80: tile/1/000: status 503
@@ -121,17 +145,19 @@ fn push_place<S: WatchedPlace + Drop>(
 ///
 /// `AllocError`: memory was refused.
 #[tactic(auto, using(crate::proofs::Whys::no_whys))]
-pub fn places_why<S: WatchedPlace + Drop>(
+pub fn follow_why<D: ReadableShelf, S: WatchedPlace + Drop>(
     alloc: Global,
-    origin: &str,
+    following: &Following<'_>,
     keys: &[Box<dyn Verifier>],
+    shelf: &D,
     places: &Places<S>,
 ) -> Result<String, AllocError>
     ensures { IfOk result (λ text. AreWhyLines (string_bytes text)) }
 {
     let mut text = String::new(alloc);
+    push_copy::<D>(alloc, &mut text, following.folder, shelf)?;
     for place in places.list() {
-        push_place(alloc, &mut text, origin, keys, place)?;
+        push_place(alloc, &mut text, following.origin, keys, place)?;
     }
     Ok(text)
 }

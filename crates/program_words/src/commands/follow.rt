@@ -47,7 +47,7 @@ A fork is the operator's doing. With --forks both notes and the proof that 'chec
 With --checkpoint D is brought to the note in FILE, and no place is asked for one.
 With --progress lines like 'follow: 1,024 of 7,832 files, 23 MB' go to standard error, from the first
 second on, and at its end 'follow: 5,000 to 5,300 entries, 4 files, 91 kB'.
-With --why a line goes to standard error for each place at which something was wrong.
+With --why a line goes to standard error for D and for each place, if something was wrong there.
 'http' is plain HTTP, with no TLS and no redirects: a proxy beside it ends HTTPS.
 
 Exit status: 0 done, 3 there is a fork, or a larger checkpoint, 1 a fault, 2 a usage error,

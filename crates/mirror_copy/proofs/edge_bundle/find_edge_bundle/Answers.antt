@@ -1,52 +1,35 @@
-use Rattle.std.proofs.Common.{inr, refl, subst}
+use Rattle.std.proofs.Common.{inl, inr, refl, subst}
 use Rattle.std.proofs.lemmas.Result.{IfOk-from_err}
 use Rattle.mirror_copy.specs.Conflicts.{IsNoConflict}
 use Rattle.mirror_copy.specs.Faults.{BlamesPlaces, CountsFault}
-use Rattle.mirror_copy.specs.Taken.{MayTake}
+use Rattle.mirror_copy.specs.Taken.{MayTake, WasPut}
 use Rattle.mirror_copy.specs.declared.fault.BringFault.TheVariants.{OutOfMemory}
 use Rattle.mirror_places.specs.Asked.{IsPathOrFull}
 use Rattle.mirror_places.specs.Giving.{MayGive}
 use Rattle.mirror_places.proofs.Asking.{asks_same}
 use Rattle.mirror_places.proofs.AskingOnce.{once_same}
 use Rattle.mirror_places.proofs.Giving.{part_weaker}
-use Rattle.mirror_copy.proofs.Exits.{counted_exit, err_exit, no_place, part_taken}
+use Rattle.mirror_copy.proofs.Exits.{counted_exit, err_exit, no_place}
 use Rattle.mirror_copy.proofs.Spared.{no_lack}
 use Rattle.mirror_copy.proofs.edge_bundle.find_edge_bundle.Goals as goal
 
-pub returns-in_err-given : goal.returns-in_err-given
-returns-in_err-given g c =
+pub returns-in_err-found : goal.returns-in_err-found
+returns-in_err-found g c =
     let exit = c.from_residual in
-    let fault = c.in_err-given.field-0.0 in
-    let step = c.in_err-given.ensures in
+    let fault = c.in_err-found.field-0.0 in
+    let step = c.in_err-found.ensures in
     let failed = g.D.Shelf.failed in
     record {
       found = IfOk-from_err exit.result _ exit.ensures.0;
       fault = err_exit IsNoConflict exit.result fault exit.ensures step.fault;
       same = step.same;
       counted = counted_exit exit.result fault exit.ensures (failed c.args.shelf.now) (failed c.args.shelf.now)
-          (failed c.read_partial.new.shelf) refl step.counted;
+          (failed c.edge_bundle_on_shelf.new.shelf) refl step.counted;
       asks = asks_same g.S.Source.may_answer g.S.Source.failed g.S.Source.asked (IsPathOrFull c.args.path.now) c.args.places.now;
       once = λ differ. once_same g.S.Source.asked (λ k. IsPathOrFull c.args.path.now) c.args.places.now;
       blames = err_exit (BlamesPlaces c.args.places.now) exit.result fault exit.ensures (no_place c.args.places.now fault step.places);
       taken = IfOk-from_err exit.result _ exit.ensures.0;
       suffices = err_exit _ exit.result fault exit.ensures (λ entries short leaves t. no_lack fault step.places);
-    }
-
-pub returns-in_err-found : goal.returns-in_err-found
-returns-in_err-found g c =
-    let exit = c.from_residual-in_err-found in
-    let failed = g.D.Shelf.failed in
-    record {
-      found = IfOk-from_err exit.result _ exit.ensures.0;
-      fault = err_exit IsNoConflict exit.result OutOfMemory exit.ensures tt;
-      same = c.read_partial.ensures.same;
-      counted = counted_exit exit.result OutOfMemory exit.ensures (failed c.args.shelf.now) (failed c.read_partial.new.shelf)
-          (failed c.read_partial.new.shelf) c.in_ok-given.ensures.counted refl;
-      asks = asks_same g.S.Source.may_answer g.S.Source.failed g.S.Source.asked (IsPathOrFull c.args.path.now) c.args.places.now;
-      once = λ differ. once_same g.S.Source.asked (λ k. IsPathOrFull c.args.path.now) c.args.places.now;
-      blames = err_exit (BlamesPlaces c.args.places.now) exit.result OutOfMemory exit.ensures tt;
-      taken = IfOk-from_err exit.result _ exit.ensures.0;
-      suffices = err_exit _ exit.result OutOfMemory exit.ensures (λ entries short leaves t. no_lack OutOfMemory tt);
     }
 
 pub returns-in_err-found-2 : goal.returns-in_err-found-2
@@ -56,9 +39,9 @@ returns-in_err-found-2 g c =
     record {
       found = IfOk-from_err exit.result _ exit.ensures.0;
       fault = err_exit IsNoConflict exit.result OutOfMemory exit.ensures tt;
-      same = c.read_partial.ensures.same;
-      counted = counted_exit exit.result OutOfMemory exit.ensures (failed c.args.shelf.now) (failed c.read_partial.new.shelf)
-          (failed c.read_partial.new.shelf) c.in_ok-given.ensures.counted refl;
+      same = c.edge_bundle_on_shelf.ensures.same;
+      counted = counted_exit exit.result OutOfMemory exit.ensures (failed c.args.shelf.now) (failed c.edge_bundle_on_shelf.new.shelf)
+          (failed c.edge_bundle_on_shelf.new.shelf) c.in_ok-found.ensures.counted refl;
       asks = c.bundle_at_places.ensures.asks;
       once = c.bundle_at_places.ensures.once;
       blames = err_exit (BlamesPlaces c.bundle_at_places.new.places) exit.result OutOfMemory exit.ensures tt;
@@ -68,8 +51,9 @@ returns-in_err-found-2 g c =
 
 pub returns-in-Some-clause-taken : goal.returns-in-Some-clause-taken
 returns-in-Some-clause-taken g c =
-    part_taken g.S.Source.may_answer c.args.places.now (g.D.Shelf.puts c.args.shelf.now) c.args.path.now c.in_ok-given.given
-    c.in-Some.found.items c.in_ok-given.ensures.taken (rw c.in-Some.is at c.in_ok-found.ensures.given)
+    let puts = g.D.Shelf.puts c.args.shelf.now in
+    part_weaker (WasPut puts) (MayTake g.S.Source.may_answer c.args.places.now puts) (λ path bytes put. inl put) c.args.path.now
+    c.in-Some.found.items (rw c.in-Some.is at c.in_ok-found.ensures.taken)
 
 pub returns-in-Some-2-clause-taken : goal.returns-in-Some-2-clause-taken
 returns-in-Some-2-clause-taken g c =
@@ -80,8 +64,8 @@ returns-in-Some-2-clause-taken g c =
 
 pub returns-in-None-clause-counted : goal.returns-in-None-clause-counted
 returns-in-None-clause-counted g c =
-    subst (λ n. CountsFault n (g.D.Shelf.failed c.read_partial.new.shelf) c.fault_of.result) c.in_ok-given.ensures.counted
-    (c.fault_of.ensures.counted (g.D.Shelf.failed c.read_partial.new.shelf))
+    subst (λ n. CountsFault n (g.D.Shelf.failed c.edge_bundle_on_shelf.new.shelf) c.fault_of.result) c.in_ok-found.ensures.counted
+    (c.fault_of.ensures.counted (g.D.Shelf.failed c.edge_bundle_on_shelf.new.shelf))
 
 pub returns-in-None-clause-suffices : goal.returns-in-None-clause-suffices
 returns-in-None-clause-suffices g c = λ entries short leaves t.
