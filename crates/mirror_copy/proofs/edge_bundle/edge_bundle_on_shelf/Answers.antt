@@ -24,9 +24,9 @@ returns-in_err-bytes g c =
       taken = IfOk-from_err exit.result _ exit.ensures.0;
     }
 
-pub returns-in_err-accept_bundle : goal.returns-in_err-accept_bundle
-returns-in_err-accept_bundle g c =
-    let exit = c.from_residual-in_err-accept_bundle in
+pub returns-in_err-found : goal.returns-in_err-found
+returns-in_err-found g c =
+    let exit = c.from_residual-in_err-found in
     let failed = g.D.Shelf.failed in
     record {
       found = IfOk-from_err exit.result _ exit.ensures.0;
@@ -41,5 +41,5 @@ returns-in_err-accept_bundle g c =
 pub returns-in-Some-2-clause-taken : goal.returns-in-Some-2-clause-taken
 returns-in-Some-2-clause-taken g c =
     let read = rw c.in-Some.is at c.in_ok-bytes.ensures.taken in
-    let given = rw c.in-Some-2.is at c.in_ok-accept_bundle.ensures.given in
+    let given = rw c.in-Some-2.is at c.in_ok-found.ensures.given in
     subst (λ (b : List ℕ). PartOf (WasPut (g.D.Shelf.puts c.args.shelf.now)) c.args.path.now b) (cc given) read

@@ -1,4 +1,4 @@
-use Rattle.std.proofs.Common.{List, refl, subst, sym}
+use Rattle.std.proofs.Common.{ℕ, List, refl, subst, sym}
 use Rattle.std.proofs.lemmas.Result.{IfOk-from_err}
 use Rattle.mirror_copy.specs.Conflicts.{IsNoConflict}
 use Rattle.mirror_copy.specs.Faults.{IsOfNoPlace}
@@ -8,9 +8,9 @@ use Rattle.mirror_copy.proofs.Exits.{counted_exit, err_exit}
 use Rattle.mirror_copy.proofs.OnePlace.{put_read}
 use Rattle.mirror_copy.proofs.find.file_on_shelf.Goals as goal
 
-pub returns-in_err-accept_file : goal.returns-in_err-accept_file
-returns-in_err-accept_file g c =
-    let exit = c.from_residual-in_err-accept_file in
+pub returns-in_err-found : goal.returns-in_err-found
+returns-in_err-found g c =
+    let exit = c.from_residual-in_err-found in
     let failed = g.D.Shelf.failed in
     record {
       found = IfOk-from_err exit.result _ exit.ensures.0;
@@ -25,7 +25,7 @@ returns-in_err-accept_file g c =
 pub returns-in-Some-2-clause-taken : goal.returns-in-Some-2-clause-taken
 returns-in-Some-2-clause-taken g c =
     let puts = g.D.Shelf.puts c.args.shelf.now in
-    let same = rw c.in-Some-2.is at c.in_ok-accept_file.ensures.same in
+    let same = rw c.in-Some-2.is at c.in_ok-found.ensures.same in
     let read = rw c.in-Some.is at c.in_ok-bytes.ensures.answer in
     subst (λ (b : List ℕ). WasPut puts c.args.path.now b) (sym same)
     (put_read puts c.args.path.now c.in-Some.bytes.items read)
