@@ -1,6 +1,6 @@
 -- The facts that a report states about each candidate.
 use Rattle.std.proofs.Common.{◌≡◌, ◌⊎◌, inl, inr, ℕ, ◌<◌, ◌≤◌, Bool, true, false, cond, List, [], ◌∷◌, length, All, Contains, Option, Some, None, refl, sym, ap, subst, ◌∙◌, arith, true≢false}
-use Rattle.std.specs.List.Sorted.{IsPermutation}
+use Rattle.std.specs.List.Sorted.{IsPermutation, IsSorted}
 use Rattle.std.proofs.lemmas.List.Elements.{All-contains}
 use Rattle.std.proofs.lemmas.List.Sorted.{All-permutation, Contains-permutation}
 use Rattle.mirror_candidates.specs.Agreeing.{Agrees}
@@ -9,7 +9,7 @@ use Rattle.mirror_candidates.specs.Candidates.{IsOnePoint, point_of}
 use Rattle.mirror_candidates.specs.declared.candidate.Candidate.{Candidate}
 use Rattle.mirror_candidates.specs.declared.fork_line.ForkLine.{ForkLine}
 use Rattle.mirror_candidates.proofs.LineLists.{lines_kept}
-use Rattle.mirror_follow.specs.Says.{IsBehind, IsLarger, IsSettled, SettlesEach, point_of_copy}
+use Rattle.mirror_follow.specs.Says.{IsBehind, IsLarger, IsSettled, SettlesEach, larger_cmp, point_of_copy}
 use Rattle.mirror_follow.specs.Taken.{HasTaken, IsAgreed, IsBehindTest, IsBeyond, IsLacked, IsLeft, IsReached, IsReported, IsSplit, KeepsFirst, SplitsLacked}
 use Rattle.mirror_follow.specs.declared.report.Followed.{Followed}
 use Rattle.mirror_follow.proofs.Taken.{in_some_line}
@@ -111,7 +111,7 @@ module _ (digest : List ℕ → List ℕ) (first : Option Candidate) (candidates
   behind_first (c ∷ cs) (inr (inr r)) not_yet p b same = absurd (none_reported b.no_forks b.no_larger c r)
 
   module _ (test : Bool) (is : IsBehindTest test reached f.forks.items f.larger.items)
-      (answer : f.behind ≡ cond test behind None) where
+      (answer : f.behind ≡ cond test behind None) (rises : IsSorted larger_cmp f.larger.items) where
     all_under : reached ≡ false → f.forks.items ≡ [] → f.larger.items ≡ [] → All (λ c. c.size.0 < f.size) candidates
     all_under not_yet no_forks no_larger k d lt = elim (h.under not_yet k d lt) [
       | inl u ↦ let less : _ < copy.size.0 = u in omega (arith, less, size_is)
@@ -138,5 +138,6 @@ module _ (digest : List ℕ → List ℕ) (first : Option Candidate) (candidates
       each = λ k d lt. settled _ (h.each k d lt);
       larger = All-permutation (IsLarger candidates f) larger f.larger.items sorted
           (λ k d lt. left_larger _ (split.left k d lt));
+      rising = rises;
       behind = λ p. (to_behind test refl p, from_behind test refl p);
     }

@@ -2,7 +2,8 @@
 use Rattle.std.specs.Prelude.{◌≡◌, ◌⊎◌, ◌↔◌, ℕ, ◌<◌, ◌≤◌, false, List, [], ◌∷◌, ◌++◌, length, All, Contains, Option, None, Some, ⊤}
 use Rattle.std.specs.Cmp.Lexicographic.{slice_cmp}
 use Rattle.std.specs.List.Sorted.{IsSorted}
-use Rattle.std.specs.Ordering.{is_gt, nat_cmp}
+use Rattle.std.specs.Ordering.{is_gt, nat_cmp, ordering_then}
+use Rattle.std.specs.declared.cmp.Ordering.{Ordering}
 use Rattle.tlog_hash.specs.Tree.{mth}
 use Rattle.tlog_tiles.specs.declared.paths.Path.TheVariants.{Checkpoint}
 use Rattle.mirror_model.specs.Forks.{Point}
@@ -35,6 +36,10 @@ pub record IsLarger (candidates : List Candidate) (followed : Followed) (point :
   pub listed : Contains candidates candidate
   pub is : point ≡ (candidate.size.0, candidate.root)
   pub more : followed.size < candidate.size.0
+
+-- the order of the larger candidates: the lesser size first, then the lesser root
+abbrev pub larger_cmp : ℕ × List ℕ → ℕ × List ℕ → Ordering
+larger_cmp a b = ordering_then (nat_cmp a.0 b.0) (slice_cmp nat_cmp a.1 b.1)
 
 -- no line reports a candidate, all have fewer entries than the copy, and the first of them has that size and root
 pub record IsBehind (candidates : List Candidate) (followed : Followed) (point : ℕ × List ℕ) : Type 0 where
@@ -78,6 +83,7 @@ module _ (digest : List ℕ → List ℕ) where
   pub record SettlesEach (candidates : List Candidate) (followed : Followed) : Type 0 where
     pub each : All (IsSettled followed) candidates
     pub larger : All (IsLarger candidates followed) followed.larger.items
+    pub rising : IsSorted larger_cmp followed.larger.items
     pub behind : (point : ℕ × List ℕ) → (followed.behind ≡ Some point) ↔ IsBehind candidates followed point
 
   module _ (origin : List ℕ) (candidates : List Candidate) where

@@ -28,7 +28,7 @@ returns-clause-settles c = λ digest first h.
     (subst (λ l. IsBehindTest c.is_behind-is_behind.result run.is_reached forks.items l) c.deref-3.ensures.value
     (subst (λ l. IsBehindTest c.is_behind-is_behind.result run.is_reached l c.deref-3.result.now) c.deref-2.ensures.value
     c.is_behind-is_behind.ensures))
-    c.point_if-behind.ensures
+    c.point_if-behind.ensures c.sort_unstable.ensures.sorted
 
 pub returns-clause-lines : goal.returns-clause-lines
 returns-clause-lines c = λ digest first h.
