@@ -8,3 +8,12 @@ pub mod LineLists
 pub mod LineCounts
 pub mod Readings
 pub mod OneReading
+pub mod MaskedBlocks
+pub mod Digests
+pub mod PinnedSearch
+pub mod OnePin
+pub mod Signed
+pub mod KeyWords
+pub mod KeyLines
+pub mod OneKeyFile
+pub mod JoinedPins

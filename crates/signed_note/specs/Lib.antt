@@ -3,3 +3,9 @@ pub mod Names
 pub mod Notes
 pub mod Reading
 pub mod Laws
+pub mod Hmac
+pub mod KeyKinds
+pub mod Signing
+pub mod KeyFiles
+pub mod Verifiers
+pub mod KeyLaws

@@ -1,9 +1,0 @@
-pub mod MaskedBlocks
-pub mod Digests
-pub mod PinnedSearch
-pub mod OnePin
-pub mod Signed
-pub mod KeyWords
-pub mod KeyLines
-pub mod OneKeyFile
-pub mod JoinedPins
