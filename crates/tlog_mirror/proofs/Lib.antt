@@ -13,3 +13,6 @@ pub mod WrittenMissing
 pub mod FoundForks
 pub mod RestoredMirrors
 pub mod LaidOut
+pub mod PlayedEvents
+pub mod JudgedEvents
+pub mod PlayedMerges

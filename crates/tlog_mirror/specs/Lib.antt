@@ -8,3 +8,4 @@ pub mod Judged
 pub mod ForksWritten
 pub mod MissingWritten
 pub mod Opened
+pub mod Plays

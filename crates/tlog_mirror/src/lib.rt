@@ -10,17 +10,21 @@
 //! mirror.take_tile(alloc, 256, tile)?;
 //! mirror.take_bundle(alloc, 256, bundle)?;
 //! ```
+//!
+//! `play` lets takes and merges happen to several mirrors, in order.
 #![tactic(auto)]
 
 mod compare;
 mod fault;
 mod forks;
 mod heads;
+mod items;
 mod kept;
 mod laid;
 mod merge;
 mod mirror;
 mod missing;
+mod plays;
 mod restored;
 mod rows;
 mod served;
@@ -37,3 +41,5 @@ pub use mirror_model::{
     keeping_law, lists_law, part_law, plays_law, reports_law, retry_example, retry_law, run_law,
     served_law,
 };
+pub use mirror_served::TopRanges;
+pub use plays::{fits, play, play_again};

@@ -6,14 +6,14 @@ ghost use Rattle.mirror_model.specs.Item.{IsWidth};
 ghost use Rattle.mirror_model.specs.Steps.{Happens, Merges, MergesAt, Run, TakesAt};
 ghost use Rattle.mirror_model.specs.declared.events.Event.TheVariants.{Take};
 ghost use Rattle.signed_note.specs.Keys.{Key};
-ghost use Rattle.mirror_plays.specs.Plays.{HappensWithin, HasWidth, IsMergeAnswer, JudgesEvent, JudgesEvents, RunsWithin, all_remembered, origins_of, views_of};
+ghost use Rattle.tlog_mirror.specs.Plays.{HappensWithin, HasWidth, IsMergeAnswer, JudgesEvent, JudgesEvents, RunsWithin, all_remembered, origins_of, views_of};
 
 use crate::items::take_item;
+use crate::mirror::Mirror;
 use mirror_model::{Event, Item, MergeFault, TakeFault};
 use signed_note::Verifier;
 use std::alloc::{AllocError, Global};
 use tlog_hash::TreeHash;
-use tlog_mirror::Mirror;
 
 /// Whether the events are on mirrors below that count, and their items have widths from 1 to 256. It takes no memory.
 pub fn fits(events: &[Event], count: usize) -> bool

@@ -2,7 +2,7 @@ use Rattle.std.proofs.Common.{refl, sym, subst}
 use Rattle.mirror_model.specs.View.{View}
 use Rattle.mirror_model.proofs.Views.{union_repeats}
 use Rattle.node_store.specs.Strings.{NoClash}
-use Rattle.mirror_plays.proofs.plays.merge_itself.Goals as goal
+use Rattle.tlog_mirror.proofs.plays.merge_itself.Goals as goal
 
 pub returns-clause-merges : goal.returns-clause-merges
 returns-clause-merges g c =

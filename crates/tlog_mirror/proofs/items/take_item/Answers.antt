@@ -1,7 +1,7 @@
 use Rattle.std.proofs.Common.{map}
 use Rattle.mirror_model.specs.Answered.{answer_of}
-use Rattle.mirror_plays.proofs.PlayedEvents.{bundle_taken, tile_taken}
-use Rattle.mirror_plays.proofs.items.take_item.Goals as goal
+use Rattle.tlog_mirror.proofs.PlayedEvents.{bundle_taken, tile_taken}
+use Rattle.tlog_mirror.proofs.items.take_item.Goals as goal
 
 pub returns-in-Tile-clause-takes : goal.returns-in-Tile-clause-takes
 returns-in-Tile-clause-takes g c =

@@ -3,13 +3,13 @@ ghost use Rattle.std.specs.Prelude.{◌≡◌, map};
 ghost use Rattle.mirror_model.specs.Answered.{answer_of};
 ghost use Rattle.mirror_model.specs.Steps.{Takes};
 ghost use Rattle.tlog_mirror.specs.Judged.{JudgesItem};
-ghost use Rattle.mirror_plays.specs.Plays.{HasWidth};
+ghost use Rattle.tlog_mirror.specs.Plays.{HasWidth};
 
+use crate::mirror::Mirror;
 use mirror_model::{Item, TakeFault};
 use signed_note::Verifier;
 use std::alloc::Global;
 use tlog_hash::TreeHash;
-use tlog_mirror::Mirror;
 
 // Takes an item, by the call for its kind.
 pub(crate) fn take_item<H: TreeHash>(

@@ -13,7 +13,7 @@ use Rattle.mirror_model.specs.declared.events.Event.{Event}
 use Rattle.mirror_model.specs.declared.fault.TakeFault.{TakeFault}
 use Rattle.mirror_model.specs.declared.items.Item.{Item}
 use Rattle.mirror_model.proofs.Happening.{takes_grow, merges_grow}
-use Rattle.mirror_plays.specs.Plays.{JudgesEvent, JudgesEvents, origins_of}
+use Rattle.tlog_mirror.specs.Plays.{JudgesEvent, JudgesEvents, origins_of}
 use Rattle.tlog_mirror.specs.Judged.{JudgesItem}
 
 module _ (digest : List ℕ → List ℕ) (keys : List Key) where

@@ -1,8 +1,8 @@
 use Rattle.std.proofs.Common.{◌≡◌, ◌≤◌, map, take, length, vec_len, vec_capacity}
 use Rattle.mirror_model.specs.Answered.{answer_of}
 use Rattle.mirror_model.specs.Events.{Fits}
-use Rattle.mirror_plays.specs.Plays.{JudgesEvents, RunsWithin, all_remembered, origins_of, views_of}
-use Rattle.mirror_plays.proofs.plays.play_again.Given as goal
+use Rattle.tlog_mirror.specs.Plays.{JudgesEvents, RunsWithin, all_remembered, origins_of, views_of}
+use Rattle.tlog_mirror.proofs.plays.play_again.Given as goal
 
 -- the events so far have run, and there is room for the answers of the others
 abbrev pub invariant-loop-event : goal.invariant-loop-event

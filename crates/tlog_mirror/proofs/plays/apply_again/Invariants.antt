@@ -1,7 +1,7 @@
 use Rattle.std.proofs.Common.{◌≡◌, map, length}
 use Rattle.mirror_model.specs.Events.{IsFitting}
-use Rattle.mirror_plays.specs.Plays.{RunsOut, all_remembered, origins_of, views_of}
-use Rattle.mirror_plays.proofs.plays.apply_again.Given as goal
+use Rattle.tlog_mirror.specs.Plays.{RunsOut, all_remembered, origins_of, views_of}
+use Rattle.tlog_mirror.proofs.plays.apply_again.Given as goal
 
 -- memory was refused each time
 abbrev pub invariant-loop-before : goal.invariant-loop-before

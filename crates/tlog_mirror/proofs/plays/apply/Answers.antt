@@ -1,5 +1,5 @@
 use Rattle.std.proofs.Common.{map}
-use Rattle.mirror_plays.proofs.plays.apply.Goals as goal
+use Rattle.tlog_mirror.proofs.plays.apply.Goals as goal
 
 pub returns-in-Take-clause-happens : goal.returns-in-Take-clause-happens
 returns-in-Take-clause-happens g c = rw c.in-Take.is c.take_at.ensures.takes

@@ -14,7 +14,7 @@ use Rattle.mirror_model.specs.declared.events.Event.{Event}
 use Rattle.mirror_model.specs.declared.items.Item.{Item}
 use Rattle.mirror_model.specs.declared.items.Item.TheVariants.{Tile, Bundle}
 use Rattle.mirror_model.proofs.Happening.{event_again}
-use Rattle.mirror_plays.specs.Plays.{HappensWithin, RunsOut, RunsWithin, all_remembered, views_of}
+use Rattle.tlog_mirror.specs.Plays.{HappensWithin, RunsOut, RunsWithin, all_remembered, views_of}
 
 -- ---- which events fit
 

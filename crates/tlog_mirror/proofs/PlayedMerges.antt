@@ -3,10 +3,10 @@ use Rattle.std.proofs.Common.{◌≡◌, ℕ, ◌<◌, List, ◌++◌, length, s
 use Rattle.signed_note.specs.Keys.{Key}
 use Rattle.mirror_model.specs.Marks.{State}
 use Rattle.mirror_model.specs.Steps.{Answer, Merges, MergesAt}
-use Rattle.mirror_plays.specs.Plays.{all_remembered, origins_of, views_of}
-use Rattle.mirror_plays.proofs.JudgedEvents.{merged_origins}
-use Rattle.mirror_plays.proofs.PlayedEvents.{merged_at, remembers, set_in_back, set_in_front}
-use Rattle.mirror_plays.proofs.PlayedEvents.{source_in_back, source_in_front, target_in_back, target_in_front}
+use Rattle.tlog_mirror.specs.Plays.{all_remembered, origins_of, views_of}
+use Rattle.tlog_mirror.proofs.JudgedEvents.{merged_origins}
+use Rattle.tlog_mirror.proofs.PlayedEvents.{merged_at, remembers, set_in_back, set_in_front}
+use Rattle.tlog_mirror.proofs.PlayedEvents.{source_in_back, source_in_front, target_in_back, target_in_front}
 
 -- the result of the merge for all the mirrors
 pub record IsMerged (digest : List ℕ → List ℕ) (world after : List State) (target source : ℕ) (answer : Answer)

@@ -1,5 +1,5 @@
 use Rattle.std.proofs.Common.{lt-ltb, ltb-true}
-use Rattle.mirror_plays.proofs.plays.is_fitting.Goals as goal
+use Rattle.tlog_mirror.proofs.plays.is_fitting.Goals as goal
 
 pub returns-then-target-count-2 : goal.returns-then-target-count-2
 returns-then-target-count-2 c =

@@ -1,8 +1,8 @@
 use Rattle.std.proofs.Common.{◌<◌, arith, rules}
 use Rattle.mirror_model.specs.Answered.{answer_of}
-use Rattle.mirror_plays.proofs.PlayedMerges.{merged_in_back, merged_in_front}
-use Rattle.mirror_plays.proofs.PlayedEvents.{merged_itself}
-use Rattle.mirror_plays.proofs.plays.merge_at.Goals as goal
+use Rattle.tlog_mirror.proofs.PlayedMerges.{merged_in_back, merged_in_front}
+use Rattle.tlog_mirror.proofs.PlayedEvents.{merged_itself}
+use Rattle.tlog_mirror.proofs.plays.merge_at.Goals as goal
 
 pub returns-then-target-source-clause-merges : goal.returns-then-target-source-clause-merges
 returns-then-target-source-clause-merges g c = λ keys.

@@ -1,8 +1,8 @@
 use Rattle.std.proofs.Common.{map}
 use Rattle.mirror_model.specs.Answered.{answer_of}
-use Rattle.mirror_plays.proofs.PlayedEvents.{remembers, taken_at}
-use Rattle.mirror_plays.proofs.JudgedEvents.{judged_at, taken_origins}
-use Rattle.mirror_plays.proofs.plays.take_at.Goals as goal
+use Rattle.tlog_mirror.proofs.PlayedEvents.{remembers, taken_at}
+use Rattle.tlog_mirror.proofs.JudgedEvents.{judged_at, taken_origins}
+use Rattle.tlog_mirror.proofs.plays.take_at.Goals as goal
 
 pub returns-clause-takes : goal.returns-clause-takes
 returns-clause-takes g c =

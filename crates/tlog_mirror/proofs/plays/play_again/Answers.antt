@@ -1,10 +1,10 @@
 use Rattle.std.proofs.Common.{◌≡◌, map, take, subst, ◌∙◌, arith}
 use Rattle.std.proofs.lemmas.List.{take_all}
 use Rattle.mirror_model.specs.Answered.{answer_of}
-use Rattle.mirror_plays.specs.Plays.{RunsWithin, origins_of, views_of}
-use Rattle.mirror_plays.proofs.PlayedEvents.{within_more, runs_once}
-use Rattle.mirror_plays.proofs.JudgedEvents.{judged_more}
-use Rattle.mirror_plays.proofs.plays.play_again.Goals as goal
+use Rattle.tlog_mirror.specs.Plays.{RunsWithin, origins_of, views_of}
+use Rattle.tlog_mirror.proofs.PlayedEvents.{within_more, runs_once}
+use Rattle.tlog_mirror.proofs.JudgedEvents.{judged_more}
+use Rattle.tlog_mirror.proofs.plays.play_again.Goals as goal
 
 pub loop-event-preserved : goal.loop-event-preserved
 loop-event-preserved g c = record {

@@ -1,3 +1,0 @@
-pub mod PlayedEvents
-pub mod JudgedEvents
-pub mod PlayedMerges
