@@ -97,6 +97,13 @@ impl<S: Drop, C: Clock + Drop> TimedStream<S, C> {
         Ok(TimedStream { stream, clock, end })
     }
 
+    /// The inner stream.
+    pub fn inner(&self) -> &S
+        ensures { result.now ≡ self.now }
+    {
+        &self.stream
+    }
+
     /// Moves the deadline to `time` after now. No byte of the stream moves.
     ///
     /// # Errors
@@ -109,8 +116,12 @@ impl<S: Drop, C: Clock + Drop> TimedStream<S, C> {
         Ok(())
     }
 
-    // The time until the deadline; an error if none is left.
-    fn left(&self) -> io::Result<Duration>
+    /// The time until the deadline.
+    ///
+    /// # Errors
+    ///
+    /// `ErrorKind::TimedOut` if none is left; or the clock cannot be read.
+    pub fn left(&self) -> io::Result<Duration>
         ensures { IfOk result (λ left. 0 < as_nanos left) }
     {
         match left_at(Instant::now(&self.clock)?, self.end) {

@@ -1,58 +1,143 @@
 //! Requests that are sent ahead, before their replies are needed.
-ghost use Rattle.std.specs.Prelude.{[], ◌≡◌, ◌<◌, ◌≤◌, Contains, IfOk, IfSome, length, option_map, slice_index_or, vec_len};
+ghost use Rattle.std.specs.Prelude.{[], ◌≡◌, ◌<◌, ◌≤◌, ◌/◌, Contains, IfOk, IfSome, length, option_map, slice_index_or, vec_len};
 ghost use Rattle.std.specs.Io.KnownBytes.{Appends};
 ghost use Rattle.mirror_client.specs.Request.{request_text};
 ghost use Rattle.mirror_sources.specs.Source.{IsShortAnswer};
 
 use crate::dial::Dial;
-use crate::exchange::{receive_reply, send_request};
-use crate::limits::{MAX_REPLY_LEN, MOST_TAKEN};
+use crate::exchange::{receive_watched, send_request};
+use crate::failed::Miss;
+use crate::limits::{MAX_REPLY_LEN, MOST_TAKEN, STATUS_END};
+use crate::refusal::begins_busy;
 use crate::site::Site;
-use byte_streams::read_all;
+use crate::tempo::Tempo;
+use crate::times::micros;
+use byte_streams::{WatchedStream, read_all};
 use mirror_sources::SourceFault;
 use std::alloc::Global;
 use std::io;
 use std::io::{Read, Write};
 use tlog_tiles::Path;
 
-/// A request that was sent ahead: its path, and the connection for its reply.
+/// How far a request that is sent ahead is.
+#[derive(Clone, Copy, PartialEq, Eq, Debug, Drop)]
+pub(crate) enum Stage {
+    /// Its connection was begun.
+    Begun,
+    /// It was sent.
+    Asked,
+    /// It failed, or was refused.
+    Lost,
+}
+
+/// A request that is sent ahead: its path, and the connection for its reply.
 #[derive(Drop)]
 pub(crate) struct Sent<S: Drop> {
     pub(crate) path: Path,
     pub(crate) stream: S,
+    pub(crate) stage: Stage,
 }
 
 /// The requests that are out: they were sent ahead, and their replies were not read yet.
 ///
-/// At most `most` are out at once. If the server refuses more, at most `room` are out, until `widen` is called.
+/// At most `most` are out at once, and after refusals of a busy server fewer, `fair`. If the server refuses connections,
+/// at most `room` are out, until `widen` is called.
 #[derive(Drop)]
 pub(crate) struct Ahead<S: Drop> {
     pub(crate) sent: Vec<Sent<S>>,
     pub(crate) most: usize,
+    pub(crate) fair: usize,
     pub(crate) room: usize,
+    pub(crate) tempo: Tempo,
     ghost few: { vec_len sent ≤ most },
+    ghost fewer: { fair ≤ most },
     ghost within: { room ≤ most },
 }
 
-// Sends the request for that path over the connection, if there is one. If it was not sent completely, or memory was
-// refused, the connection is closed.
-fn send_one<S: Read + Write + Drop>(
-    alloc: Global,
-    dialled: io::Result<S>,
-    site: &Site,
-    path: &Path,
-) -> Option<Sent<S>>
-    ensures path { IfSome result (λ sent. sent.path ≡ path.now) }
-    ensures asked { IfOk dialled (λ fresh. IfSome result (λ sent. Appends (S.contents fresh)
-        (S.contents sent.stream) (request_text site.now path.now))) }
+// Sends the request, if it was not sent yet. If the connection does not stand yet, it waits for it.
+fn ask_now<S: Read + Write + Drop>(alloc: Global, site: &Site, one: &mut Sent<S>)
+    ensures path { one.new.path ≡ one.old.path }
+    ensures asked { one.old.stage ≡ Stage.Begun → one.new.stage ≡ Stage.Asked
+        → Appends (S.contents one.old.stream) (S.contents one.new.stream)
+        (request_text site.now one.old.path) }
 {
-    let Ok(mut stream) = dialled else {
+    if one.stage == Stage::Begun {
+        one.stage = match send_request(alloc, &mut one.stream, site, &one.path) {
+            Ok(()) => Stage::Asked,
+            Err(_) => Stage::Lost,
+        };
+    }
+}
+
+// Sends the request, if it was not sent yet and the connection stands. It waits for no connection.
+fn ask_ready<D: Dial>(alloc: Global, site: &Site, dial: &mut D, one: &mut Sent<D::Stream>)
+    ensures path { one.new.path ≡ one.old.path }
+{
+    if one.stage != Stage::Begun {
+        return;
+    }
+    match dial.stands(&mut one.stream) {
+        Ok(true) => match dial.restart(&mut one.stream) {
+            Ok(()) => ask_now(alloc, site, one),
+            Err(_) => one.stage = Stage::Lost,
+        },
+        Ok(false) => {}
+        Err(_) => one.stage = Stage::Lost,
+    }
+}
+
+// Sends each request that was not sent yet and whose connection stands. It waits for no connection.
+fn ask_each<D: Dial>(alloc: Global, site: &Site, dial: &mut D, sent: &mut [Sent<D::Stream>]) {
+    for one in sent {
+        ask_ready(alloc, site, dial, one);
+    }
+}
+
+// Whether the reply has begun, and if so, whether it is a refusal of a busy server. It does not wait.
+fn peek<D: Dial>(dial: &mut D, one: &mut Sent<D::Stream>) -> Option<bool>
+    ensures path { one.new.path ≡ one.old.path }
+    ensures stage { one.new.stage ≡ one.old.stage }
+{
+    if one.stage != Stage::Asked {
         return None;
-    };
-    match send_request(alloc, &mut stream, site, path) {
-        Ok(()) => Some(Sent {
+    }
+    let mut front = [0; STATUS_END];
+    match dial.peek(&mut one.stream, &mut front) {
+        Ok(0) => None,
+        Ok(_) => Some(begins_busy(&front)),
+        Err(_) => None,
+    }
+}
+
+// Marks each request that was refused.
+fn mark_refused<D: Dial>(dial: &mut D, sent: &mut [Sent<D::Stream>]) {
+    for one in sent {
+        if peek(dial, one) == Some(true) {
+            one.stage = Stage::Lost;
+        }
+    }
+}
+
+// Whether a reply has begun.
+fn has_begun<D: Dial>(dial: &mut D, sent: &mut [Sent<D::Stream>]) -> bool {
+    for one in sent {
+        if peek(dial, one).is_some() {
+            return true;
+        }
+    }
+    false
+}
+
+// The request for that path over the connection, if there is one. It is not sent yet.
+fn begun<S: Drop>(dialled: io::Result<S>, path: &Path) -> Option<Sent<S>>
+    ensures path { IfSome result (λ sent. sent.path ≡ path.now) }
+    ensures stage { IfSome result (λ sent. sent.stage ≡ Stage.Begun) }
+{
+    match dialled {
+        Ok(stream) => Some(Sent {
             path: *path,
             stream,
+            stage: Stage::Begun,
         }),
         Err(_) => None,
     }
@@ -92,7 +177,9 @@ impl<S: Read + Write + Drop> Ahead<S> {
         Ahead {
             sent: Vec::new(alloc),
             most,
+            fair: most,
             room: most,
+            tempo: Tempo::new(),
         }
     }
 
@@ -101,8 +188,9 @@ impl<S: Read + Write + Drop> Ahead<S> {
         self.sent.is_empty()
     }
 
-    /// Sends the requests for the first of the paths, until there is no more room. It closes each request that is out
-    /// for another path. If a connection fails, or memory is refused, the room shrinks to the requests that are out.
+    /// Begins connections for the first of the paths, until there is no more room or the pace allows no more, and sends
+    /// the requests whose connections stand. It closes each request that is out for another path. If a connection fails,
+    /// or memory is refused, the room shrinks to the requests that are out.
     pub(crate) fn send<D: Dial<Stream = S>>(
         &mut self,
         alloc: Global,
@@ -112,16 +200,57 @@ impl<S: Read + Write + Drop> Ahead<S> {
     )
         ensures { self.new.most ≡ self.old.most }
     {
+        self.begin(dial, paths);
+        self.ask(alloc, site, dial);
+    }
+
+    // Begins connections for the first of the paths, until there is no more room or the pace allows no more.
+    fn begin<D: Dial<Stream = S>>(&mut self, dial: &mut D, paths: &[Path])
+        ensures { self.new.most ≡ self.old.most }
+    {
         for path in self.left(paths) {
             if self.sent.len() >= self.room {
                 return;
             }
-            if find_sent(&self.sent, path).is_none()
-                && !self.keep(send_one(alloc, dial.dial(), site, path))
-            {
+            if find_sent(&self.sent, path).is_some() {
+                continue;
+            }
+            if self.delay(dial) > 0 {
+                return;
+            }
+            if !self.keep(begun(dial.begin(), path)) {
                 self.room = self.sent.len();
                 return;
             }
+        }
+    }
+
+    /// The number of microseconds until a request may be sent; if it may be sent now, it counts as sent.
+    pub(crate) fn delay<D: Dial<Stream = S>>(&mut self, dial: &mut D) -> u64
+        ensures most { self.new.most ≡ self.old.most }
+        ensures sent { self.new.sent ≡ self.old.sent }
+        ensures room { self.new.room ≡ self.old.room }
+    {
+        if self.tempo.interval == 0 {
+            return 0;
+        }
+        let now = micros(dial.now());
+        let delay = self.tempo.delay(now);
+        if delay == 0 {
+            self.tempo.sent(now);
+        }
+        delay
+    }
+
+    /// Sends the requests that were not sent yet and whose connections stand. It waits for no connection.
+    pub(crate) fn ask<D: Dial<Stream = S>>(&mut self, alloc: Global, site: &Site, dial: &mut D)
+        ensures { self.new.most ≡ self.old.most }
+    {
+        let count = self.sent.len();
+        ask_each(alloc, site, dial, self.sent.as_mut_slice());
+        self.sent.retain(|one| one.stage != Stage::Lost);
+        if self.sent.len() < count {
+            self.room = self.sent.len();
         }
     }
 
@@ -138,7 +267,7 @@ impl<S: Read + Write + Drop> Ahead<S> {
         paths
     }
 
-    // Keeps the request, if it was sent and there is memory for it. Returns whether it did.
+    // Keeps the request, if it was begun and there is memory for it. Returns whether it did.
     fn keep(&mut self, sent: Option<Sent<S>>) -> bool
         requires { vec_len self.old.sent < self.old.most }
         ensures { self.new.most ≡ self.old.most }
@@ -149,47 +278,124 @@ impl<S: Read + Write + Drop> Ahead<S> {
         }
     }
 
-    /// The connection of the request for that path, if it is out. The request is then no longer out.
-    pub(crate) fn take(&mut self, path: &Path) -> Option<S>
-        ensures found { IfSome result (λ stream. Contains self.old.sent.items
-            (record { path = path.now; stream = stream })) }
+    /// The request for that path, if it is out. It is then no longer out.
+    pub(crate) fn take(&mut self, path: &Path) -> Option<Sent<S>>
+        ensures found { IfSome result (λ one. Contains self.old.sent.items one) }
+        ensures path { IfSome result (λ one. one.path ≡ path.now) }
         ensures most { self.new.most ≡ self.old.most }
     {
         let i = find_sent(&self.sent, path)?;
-        let Sent { path: _, stream } = self.sent.remove(i);
-        Some(stream)
+        Some(self.sent.remove(i))
     }
 
-    /// Waits until the server has finished with all requests that are out, and drops their replies.
+    /// Waits until the request is sent and its reply begins, or no other waits for its connection. In the meantime it
+    /// sends each other request whose connection stands.
+    pub(crate) fn attend<D: Dial<Stream = S>>(
+        &mut self,
+        alloc: Global,
+        site: &Site,
+        dial: &mut D,
+        one: &mut Sent<S>,
+    )
+        ensures most { self.new.most ≡ self.old.most }
+        ensures path { one.new.path ≡ one.old.path }
+    {
+        for _ in 0..u64::MAX {
+            ask_ready(alloc, site, dial, one);
+            self.ask(alloc, site, dial);
+            let asked = one.stage != Stage::Begun;
+            if asked && !self.sent.iter().any(|other| other.stage == Stage::Begun) {
+                return;
+            }
+            match dial.watch(&mut one.stream, asked) {
+                Ok(false) => {}
+                _ => return,
+            }
+        }
+    }
+
+    /// Waits until the server has finished with all requests that were sent, and drops their replies. Once one is silent
+    /// until its time is over, it waits for no other. It closes each connection.
     pub(crate) fn finish(&mut self, alloc: Global)
         ensures none { self.new.sent.items ≡ [] }
         ensures most { self.new.most ≡ self.old.most }
     {
         for one in &mut self.sent {
-            let _reply = read_all(alloc, &mut one.stream, MOST_TAKEN, u64::MAX);
+            if one.stage == Stage::Asked
+                && read_all(alloc, &mut one.stream, MOST_TAKEN, u64::MAX).is_err()
+            {
+                break;
+            }
         }
         self.sent.clear();
     }
 
-    /// Sets the room to its first value.
+    /// Closes all requests that are out.
+    pub(crate) fn close(&mut self)
+        ensures none { self.new.sent.items ≡ [] }
+        ensures most { self.new.most ≡ self.old.most }
+    {
+        self.sent.clear();
+    }
+
+    /// Whether the reply to a request that is out has begun.
+    pub(crate) fn has_reply<D: Dial<Stream = S>>(&mut self, dial: &mut D) -> bool
+        ensures { self.new.most ≡ self.old.most }
+    {
+        has_begun(dial, self.sent.as_mut_slice())
+    }
+
+    /// Sets the room to what is fair.
     pub(crate) fn widen(&mut self)
         ensures { self.new.most ≡ self.old.most }
     {
-        self.room = self.most;
+        self.room = self.fair;
+    }
+
+    /// A good reply. If the pace rises though no request had to wait for it, one more may be out.
+    pub(crate) fn answered(&mut self)
+        ensures { self.new.most ≡ self.old.most }
+    {
+        if self.tempo.answered() && self.fair < self.most {
+            self.fair += 1;
+            self.room = self.fair;
+        }
+    }
+
+    /// A refusal of a busy server: half as many requests may be out from now on, at the pace that was answered.
+    pub(crate) fn refused<D: Dial<Stream = S>>(&mut self, dial: &mut D)
+        ensures most { self.new.most ≡ self.old.most }
+        ensures half { self.new.fair ≡ self.old.fair / 2 }
+        ensures room { self.new.room ≤ self.new.fair }
+    {
+        self.tempo.refused(micros(dial.now()));
+        self.fair /= 2;
+        self.room = self.room.min(self.fair);
+    }
+
+    /// Closes the requests that are out and were refused.
+    pub(crate) fn close_refused<D: Dial<Stream = S>>(&mut self, dial: &mut D)
+        ensures { self.new.most ≡ self.old.most }
+    {
+        mark_refused(dial, self.sent.as_mut_slice());
+        self.sent.retain(|one| one.stage != Stage::Lost);
     }
 }
 
-/// The body of the reply to a request that was sent ahead. Its time starts now.
-pub(crate) fn receive_ahead<D: Dial>(
+/// The body of the reply to a request that was sent ahead; if it was not sent yet, it is sent now, which may wait for the
+/// connection. If it gives `Failed`, the reason is in `miss`.
+pub(crate) fn receive_ahead<S: Read + Write + Drop>(
     alloc: Global,
-    dial: &mut D,
-    mut stream: D::Stream,
+    site: &Site,
+    mut one: Sent<S>,
+    miss: &mut Option<Miss>,
 ) -> Result<Option<Vec<u8>>, SourceFault>
     ensures { IfOk result (λ answer. IsShortAnswer MAX_REPLY_LEN
         (option_map (λ v. v.items) answer)) }
 {
-    match dial.restart(&mut stream) {
-        Ok(()) => receive_reply(alloc, &mut stream, Ok(()), &mut None),
-        Err(_) => Err(SourceFault::Failed),
+    ask_now(alloc, site, &mut one);
+    if one.stage == Stage::Lost {
+        return Err(SourceFault::Failed);
     }
+    receive_watched(alloc, &mut WatchedStream::new(one.stream), Ok(()), miss)
 }

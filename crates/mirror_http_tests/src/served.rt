@@ -69,7 +69,7 @@ fn take_3<H: TreeHash>(alloc: Global, mirror: &mut Mirror<H>) -> Result<(), Fail
 }
 
 // A mirror that is complete for the three entries.
-fn mirror_of_3<H: TreeHash>(alloc: Global) -> Result<Mirror<H>, Fail> {
+pub(crate) fn mirror_of_3<H: TreeHash>(alloc: Global) -> Result<Mirror<H>, Fail> {
     let mut mirror = Mirror::<H>::new(alloc, "ex")?;
     let answer = take_3(alloc, &mut mirror);
     kept(mirror, answer)

@@ -8,7 +8,7 @@ use Rattle.mirror_progress.specs.declared.counts.Counts.{Counts}
 use Rattle.mirror_progress.specs.declared.task.Task.{Task}
 use Rattle.mirror_progress.specs.declared.task.Task.TheVariants.{Build, Pull, Export, Follow, Audit}
 use Rattle.mirror_progress.specs.Text.{comma_before, with_commas, count_text, files_text, size_text, task_text}
-use Rattle.mirror_progress.specs.Text.{counts_text, bytes_text, share_text, progress_text, older_text, grown_text, pulled_text, line_of}
+use Rattle.mirror_progress.specs.Text.{counts_text, bytes_text, share_text, progress_text, older_text, grown_text, pulled_text, waited_text, line_of}
 use Rattle.mirror_progress.specs.Text.{is_printed, are_printed, IsLine}
 
 both : (a b : Bool) → a ≡ true → b ≡ true → (a && b) ≡ true
@@ -158,6 +158,14 @@ pub printed_pulled : (held size : ℕ) (counts : Counts) → are_printed (pulled
 printed_pulled held size counts =
     printed_choice (nat_lt size held) (older_text size held) (grown_text Pull held size counts) (printed_older size held)
     (printed_grown Pull held size counts)
+
+pub printed_waited : (task : Task) (seconds : ℕ) (place : List ℕ) → are_printed place ≡ true →
+    are_printed (waited_text task seconds place) ≡ true
+printed_waited task seconds place p =
+    let behind : List ℕ = codes " s for " ++ place in
+    printed-append (task_text task) (codes "waited " ++ (count_text seconds ++ behind)) (printed_task task)
+    (printed-append (codes "waited ") (count_text seconds ++ behind) refl
+    (printed_amount seconds behind (printed-append (codes " s for ") place refl p)))
 
 -- ---- lines
 

@@ -89,6 +89,11 @@ abbrev pub pulled_text : ℕ → ℕ → Counts → List ℕ
 pulled_text held size counts =
     if nat_lt size held then older_text size held else grown_text Pull held size counts
 
+-- a command waited that number of seconds for a busy place: `follow: waited 12 s for log.example:80`
+abbrev pub waited_text : Task → ℕ → List ℕ → List ℕ
+waited_text task seconds place =
+    task_text task ++ (codes "waited " ++ (count_text seconds ++ (codes " s for " ++ place)))
+
 -- ---- lines
 
 -- the line of a text: at most 79 characters of it, and a newline

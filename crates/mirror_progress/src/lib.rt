@@ -26,7 +26,7 @@ pub use counts::Counts;
 pub use errors::StandardError;
 pub use folders::CountedFolders;
 pub use laws::{counted_shelf_law, counted_source_law};
-pub use line::{followed_line, progress_line, pulled_line};
+pub use line::{followed_line, progress_line, pulled_line, waited_line};
 pub use progress::Progress;
 pub use shelf::CountingShelf;
 pub use source::CountingSource;

@@ -1,6 +1,6 @@
 //! The lines that report progress.
-ghost use Rattle.std.specs.Prelude.{◌≡◌, ◌∷◌, ◌++◌, IfOk, OnOk};
-ghost use Rattle.mirror_progress.specs.Text.{comma_before, with_commas, count_text, files_text, size_text, task_text, counts_text, bytes_text, share_text, progress_text, older_text, grown_text, pulled_text, line_of, IsLine};
+ghost use Rattle.std.specs.Prelude.{◌≡◌, ◌∷◌, ◌++◌, IfOk, OnOk, true};
+ghost use Rattle.mirror_progress.specs.Text.{comma_before, with_commas, count_text, files_text, size_text, task_text, counts_text, bytes_text, share_text, progress_text, older_text, grown_text, pulled_text, waited_text, line_of, are_printed, IsLine};
 
 use crate::counts::Counts;
 use crate::task::Task;
@@ -84,6 +84,32 @@ pub fn followed_line(
 {
     let mut line = Vec::new(alloc);
     push_grown(alloc, &mut line, Task::Follow, old, size, counts)?;
+    end_line(&mut line)?;
+    Ok(line)
+}
+
+/// The number of seconds that a command waited for a busy place, as a line of at most 80 bytes with its newline. The name of the
+/// place is as it is given, and cut off if the line would be longer. Names of servers have only printed characters.
+///
+/// ```text
+/// waited_line(alloc, Task::Follow, 1_200, "log.example:80/2026")  // follow: waited 1,200 s for log.example:80/2026
+/// ```
+///
+/// # Errors
+///
+/// Memory was refused.
+pub fn waited_line(
+    alloc: Global,
+    task: Task,
+    seconds: u64,
+    place: &str,
+) -> Result<Vec<u8>, AllocError>
+    ensures text { IfOk result
+        (λ line. line.items ≡ line_of (waited_text task seconds place.now)) }
+    ensures line { are_printed place.now ≡ true → IfOk result (λ line. IsLine line.items) }
+{
+    let mut line = Vec::new(alloc);
+    push_waited(alloc, &mut line, task, seconds, place)?;
     end_line(&mut line)?;
     Ok(line)
 }
@@ -185,6 +211,22 @@ fn push_grown(
     push_count(alloc, text, size)?;
     text.extend_from_slice(b" entries, ")?;
     push_counts(alloc, text, counts)
+}
+
+// How long a command waited, and for which place.
+fn push_waited(
+    alloc: Global,
+    text: &mut Vec<u8>,
+    task: Task,
+    seconds: u64,
+    place: &str,
+) -> Result<(), AllocError>
+    ensures { OnOk result (text.new.items ≡ text.old.items ++ waited_text task seconds place.now) }
+{
+    push_task(text, task)?;
+    text.extend_from_slice(b"waited ")?;
+    push_amount(alloc, text, seconds, b" s for ")?;
+    text.extend_from_slice(place.as_bytes())
 }
 
 fn push_task(text: &mut Vec<u8>, task: Task) -> Result<(), AllocError>

@@ -102,4 +102,8 @@ impl<S: Source + Drop, C: Clock + Drop, W: Write + Drop> Source for CountingSour
     fn failures(&self) -> u64 {
         self.source.failures()
     }
+
+    fn reply_millis(&self) -> Option<u64> {
+        self.source.reply_millis()
+    }
 }

@@ -78,6 +78,12 @@ pub trait Source {
         ensures counted { failed self.new ≡ failed self.old }
     {}
 
+    /// How many milliseconds a get took, on average over the last eight that had an answer. None if that is not known, which is
+    /// the default. It decides nothing but which of several sources is asked first.
+    fn reply_millis(&self) -> Option<u64> {
+        None
+    }
+
     /// The number of gets that failed. At the last value of a `u64` the count stays as it is.
     fn failures(&self) -> u64
         ensures { result ≡ failed self.now };

@@ -24,5 +24,5 @@ pub use error::Error;
 pub use failing::{Failed, Failing, RunFiles, RunFolders};
 pub use front::write_front;
 pub use port::{ListenFault, port_fault, print_fault, print_port};
-pub use progress::{report_end, report_puts};
+pub use progress::{print_waited, report_end, report_puts};
 pub use watched::WatchedSource;

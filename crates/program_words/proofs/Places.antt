@@ -1,18 +1,23 @@
 -- A word that names a server has one division into its parts.
 use Rattle.std.proofs.Common.{◌≡◌, ◌≢◌, inl, inr, ℕ, ◌<◌, ◌≤◌, List, [], ◌∷◌, ◌++◌, length, take, drop, nat_eq, get_or}
-use Rattle.std.proofs.Common.{get_or-take, map, ◌+◌, Option, Some, None, Bor, refl, sym, ap, subst, ◌∙◌, arith, codes}
-use Rattle.std.proofs.Common.{MatchOption}
+use Rattle.std.proofs.Common.{get_or-take, map, ◌+◌, Option, Some, None, Bor, true, refl, sym, ap, subst, ◌∙◌, arith, codes}
+use Rattle.std.proofs.Common.{MatchOption, lit<}
 use Rattle.std.specs.Prelude.{IfNone, IfSome}
 use Rattle.std.specs.Str.Pattern.{RFindsChar}
 use Rattle.std.specs.Str.{NoCharPasses}
 use Rattle.std.proofs.lemmas.Str.Pattern.{NoCharPasses-char}
-use Rattle.std.proofs.lemmas.List.{append-nil, append_assoc, drop_all, drop_more, length-drop, length-take}
-use Rattle.program_words.specs.Spelling.{ArePlaces, FindsPart, IsEmptyOrSlash, IsNumberIn, IsPlace, IsServer, Text, colon}
+use Rattle.std.proofs.lemmas.List.Sums.{AllPass-from_list_all}
+use Rattle.std.proofs.lemmas.List.{append-nil, append_assoc, drop_all, drop_more, length-append, length-drop, length-take}
+use Rattle.std.specs.Net.Grammar.{IsGroups, IsIpv6Text}
+use Rattle.std.specs.declared.net.ipv6_addr.Ipv6Addr.{Ipv6Addr}
+use Rattle.program_words.specs.Spelling.{ArePlaces, FindsPart, IsAddressOf, IsBetweenBrackets, IsBracketed, IsEmptyOrSlash}
+use Rattle.program_words.specs.Spelling.{IsLiteral, IsNumberIn, IsPlace, IsServer, Text, WordsNameOnePlace, colon, left_bracket, right_bracket}
 use Rattle.std.specs.Str.Parse.{AllDigits}
 use Rattle.std.specs.Char.{digit_value}
-use Rattle.signed_note.proofs.Lacking.{Lacks, Lacks-from_reads}
+use Rattle.signed_note.proofs.Lacking.{Lacks, Lacks-from_reads, Lacks-from_test, Lacks-reads}
 use Rattle.tlog_text.specs.Number.{IsDecimal}
-use Rattle.mirror_client.specs.Site.{slash, IsSitePrefix}
+use Rattle.tlog_text.proofs.Decimals.{one_number}
+use Rattle.mirror_client.specs.Site.{slash, is_visible, IsSitePrefix}
 use Rattle.program_words.specs.declared.place.Place.{Place}
 use Rattle.program_words.specs.declared.place.Place.TheVariants.{Folder, Server}
 use Rattle.program_words.proofs.Named.{apart}
@@ -116,15 +121,143 @@ pub one_port : (word host prefix front digits address : List ℕ) (port : ℕ) �
     ((i : ℕ) → i < length digits → get_or digits i 0 ≢ colon) → IsServer word host prefix address port →
     IsNumberIn 1 65535 port digits
 one_port word host prefix front digits address port parts lacks s =
-    let one = cut_last colon front digits address s.digits (sym parts ∙ s.parts) (Lacks-from_reads colon digits lacks)
+    let one = cut_last colon front digits s.name s.digits (sym parts ∙ s.parts) (Lacks-from_reads colon digits lacks)
     (digits_lack s.digits port s.is_port.number) in
     subst (IsNumberIn 1 65535 port) (sym one.1) s.is_port
+
+-- the name is the text before the last colon
+pub one_name : (word host prefix front digits address : List ℕ) (port : ℕ) → host ≡ front ++ colon ∷ digits →
+    ((i : ℕ) → i < length digits → get_or digits i 0 ≢ colon) → IsServer word host prefix address port →
+    IsAddressOf front address
+one_name word host prefix front digits address port parts lacks s =
+    let one = cut_last colon front digits s.name s.digits (sym parts ∙ s.parts) (Lacks-from_reads colon digits lacks)
+    (digits_lack s.digits port s.is_port.number) in
+    subst (λ (n : List ℕ). IsAddressOf n address) (sym one.0) s.is_address
 
 -- the host of a server contains a colon
 pub some_port : (word host prefix address : List ℕ) (port : ℕ) → ((i : ℕ) → i < length host → get_or host i 0 ≢ colon) →
     IsServer word host prefix address port → ⊥
 some_port word host prefix address port lacks s =
-    Lacks-middle colon address s.digits (subst (Lacks colon) s.parts (Lacks-from_reads colon host lacks))
+    Lacks-middle colon s.name s.digits (subst (Lacks colon) s.parts (Lacks-from_reads colon host lacks))
+
+-- ---- names in brackets
+
+-- text that lacks the last bracket is not between brackets
+pub unclosed : (behind text : List ℕ) → ((front : List ℕ) → behind ≢ front ++ right_bracket ∷ []) →
+    IsBetweenBrackets (left_bracket ∷ behind) text → ⊥
+unclosed behind text none is = none text cc
+
+-- two texts with one byte behind each are the same if these are
+one_front : (c : ℕ) (a b : List ℕ) → a ++ (c ∷ []) ≡ b ++ (c ∷ []) → a ≡ b
+one_front c [] [] e = refl
+one_front c [] (y ∷ b) e = absurd (omega (arith, ap length e, length-append b (c ∷ [])))
+one_front c (x ∷ a) [] e = absurd (omega (arith, ap length e, length-append a (c ∷ [])))
+one_front c (x ∷ a) (y ∷ b) e =
+    let heads : x ≡ y = cc in
+    let tails : a ++ (c ∷ []) ≡ b ++ (c ∷ []) = cc in
+    let rest = one_front c a b tails in
+    cc
+
+-- one text is in the brackets of a name
+pub one_between : (name a b : List ℕ) → IsBetweenBrackets name a → IsBetweenBrackets name b → a ≡ b
+one_between name a b p q =
+    let same : left_bracket ∷ (a ++ right_bracket ∷ []) ≡ left_bracket ∷ (b ++ right_bracket ∷ []) = sym p ∙ q in
+    let tails : a ++ right_bracket ∷ [] ≡ b ++ right_bracket ∷ [] = cc in
+    one_front right_bracket a b tails
+
+-- the text between the brackets writes no address
+pub no_literal : (name a b : List ℕ) → IsBetweenBrackets name a → ((x : Ipv6Addr) → ¬ IsIpv6Text a x) →
+    IsLiteral name b → ⊥
+no_literal name a b p none is =
+    none is.address (subst (λ (t : List ℕ). IsIpv6Text t is.address) (sym (one_between name a b p is.whole)) is.writes)
+
+-- of a name that begins with a bracket the address is the literal's
+pub bracketed : (name : List ℕ) (found : Option (List ℕ)) → IsBracketed name → FindsPart (IsLiteral name) found →
+    FindsPart (IsAddressOf name) found
+bracketed name (Some text) begins h = inl h
+bracketed name None begins h = λ text is. elim is [ inl literal ↦ h text literal | inr other ↦ other.0 begins ]
+
+-- a name has one address
+one_address : (name a b : List ℕ) → IsAddressOf name a → IsAddressOf name b → a ≡ b
+one_address name a b (inl p) (inl q) = one_between name a b p.whole q.whole
+one_address name a b (inl p) (inr q) = absurd (q.0 (a ++ right_bracket ∷ [], p.whole))
+one_address name a b (inr p) (inl q) = absurd (p.0 (b ++ right_bracket ∷ [], q.whole))
+one_address name a b (inr p) (inr q) = p.1 ∙ sym q.1
+
+-- two words name one place at most
+pub one_place : WordsNameOnePlace
+one_place kind word (Folder a) (Folder b) p q = p.1 ∙ sym q.1
+one_place kind word (Folder a) (Server host prefix address port) p q =
+    apart kind (codes "dir") (codes "http") p.0 q.0 refl
+one_place kind word (Server host prefix address port) (Folder b) p q =
+    apart kind (codes "dir") (codes "http") q.0 p.0 refl
+one_place kind word (Server h p a n) (Server host prefix address port) x y =
+    let s = x.1 in
+    let t = y.1 in
+    let cut = cut_first h.now p.now host.now prefix.now (sym s.whole ∙ t.whole) (Lacks-from_reads slash h.now s.before)
+    (Lacks-from_reads slash host.now t.before) (prefix_begins p.now s.site.is_prefix)
+    (prefix_begins prefix.now t.site.is_prefix) in
+    let parts : s.name ++ colon ∷ s.digits ≡ t.name ++ colon ∷ t.digits = sym s.parts ∙ (cut.0 ∙ t.parts) in
+    let one = cut_last colon s.name s.digits t.name t.digits parts (digits_lack s.digits n s.is_port.number)
+    (digits_lack t.digits port t.is_port.number) in (
+      cut.0,
+      cut.1,
+      one_address s.name a.now address.now s.is_address
+          (subst (λ (x : List ℕ). IsAddressOf x address.now) (sym one.0) t.is_address),
+      one_number s.digits n port s.is_port.number
+          (subst (λ (x : List ℕ). IsDecimal x port) (sym one.1) t.is_port.number),
+    )
+
+-- ---- worked cases
+
+-- the host of `[::1]:80`
+abbrev shown : List ℕ
+shown = codes "[::1]:80"
+
+shown_lacks : Lacks slash shown
+shown_lacks = Lacks-from_test slash shown refl
+
+one_group : IsGroups true (codes "1") (1 ∷ [])
+one_group = inl (codes "1", [], refl, (((lit< tt, (lit< tt, tt)), refl), omega arith), refl)
+
+abbrev loopback : Ipv6Addr
+loopback = record { segments = 0 ∷ 0 ∷ 0 ∷ 0 ∷ 0 ∷ 0 ∷ 0 ∷ 1 ∷ [] }
+
+writes_loopback : IsIpv6Text (codes "::1") loopback
+writes_loopback = inr (record {
+  head_text = [];
+  tail_text = codes "1";
+  head = [];
+  tail = 1 ∷ [];
+  spelled = refl;
+  head_groups = refl;
+  tail_groups = one_group;
+  room = omega arith;
+  value = refl;
+})
+
+pub literal_server : IsServer (codes "[::1]:80") (codes "[::1]:80") [] (codes "::1") 80
+literal_server = record {
+  whole = refl;
+  before = Lacks-reads slash shown shown_lacks;
+  site = record {
+    is_host = record { some = omega arith; short = omega arith; visible = AllPass-from_list_all is_visible shown refl };
+    is_prefix = inl refl;
+  };
+  name = codes "[::1]";
+  digits = codes "80";
+  parts = refl;
+  is_address = inl (record { whole = refl; address = loopback; writes = writes_loopback });
+  is_port = record {
+    number = record { numeral = (lit< tt, (lit< tt, (lit< tt, tt))); no_leading_zero = λ more zero. absurd (omega (arith, zero)); value = refl };
+    least_is = omega arith;
+    most_is = omega arith;
+  };
+}
+
+pub plain_name : IsAddressOf (codes "log.example") (codes "log.example")
+plain_name =
+    inr (λ begins. let other : 108 ≡ 91 = ap (λ l. get_or l 0 0) begins.1 in absurd (omega (arith, other)), refl)
 
 -- ---- lists of places
 

@@ -38,6 +38,10 @@ flag_rule name = record (new_rule name) { long = Some name; action = Some SetTru
 abbrev pub ahead_rule : Rule
 ahead_rule = choice_rule (codes "ahead")
 
+-- `[--wait SECONDS]`
+abbrev pub wait_rule : Rule
+wait_rule = choice_rule (codes "wait")
+
 -- `[--progress]`
 abbrev pub progress_rule : Rule
 progress_rule = flag_rule (codes "progress")

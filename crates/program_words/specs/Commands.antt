@@ -7,9 +7,10 @@ use Rattle.tlog_text.specs.Hash.{IsHashText}
 use Rattle.tlog_shape.specs.declared.TheConstants.{MAX_SIZE}
 use Rattle.tlog_proof.specs.declared.proof.Ask.{Ask}
 use Rattle.tlog_proof.specs.declared.proof.Ask.TheVariants.{Inclusion, Consistency}
+use Rattle.mirror_client.specs.declared.pace.Pace.{Pace}
 use Rattle.program_words.specs.App.{state_or_copy_app, choice_rule, copy_app, flag_rule, folder_app, held_app}
 use Rattle.program_words.specs.App.{list_rule, log_app, made_app, option_rule, place_rule}
-use Rattle.program_words.specs.App.{ahead_rule, progress_rule, words_rule}
+use Rattle.program_words.specs.App.{ahead_rule, progress_rule, wait_rule, words_rule}
 use Rattle.program_words.specs.declared.commands.Command.{Command}
 use Rattle.program_words.specs.declared.commands.Command.TheVariants as order
 use Rattle.program_words.specs.declared.commands.CopyCommand.TheVariants as copy
@@ -85,6 +86,15 @@ HasNumberOr options name least most other n = IsNumberOr least most other (first
 -- the number of requests that may be sent ahead
 abbrev pub IsAhead : List Row → ℕ → Type 0
 IsAhead options ahead = HasNumberOr options (codes "ahead") 0 64 6 ahead
+
+-- the number of seconds that a run waits in all for one busy place: up to a day, a minute by default
+abbrev pub IsWait : List Row → ℕ → Type 0
+IsWait options wait = HasNumberOr options (codes "wait") 0 86_400 60 wait
+
+-- how servers are asked
+pub record IsPace (options : List Row) (pace : Pace) : Type 0 where
+  pub ahead : IsAhead options pace.ahead
+  pub wait : IsWait options pace.wait
 
 -- the words for `file`, in order
 abbrev pub AreFiles : List Row → List Text → Type 0
@@ -206,29 +216,31 @@ pub record IsMerge (options : List Row) (merge : Merge) : Type 0 where
 
 -- -- pull
 
--- `pull --origin O --keys K --out T [--state S] [--keep] [--ahead N] [--progress] KIND PLACE`
+-- `pull --origin O --keys K --out T [--state S] [--keep] [--ahead N] [--wait SECONDS] [--progress] KIND
+-- PLACE`
 abbrev pub pull_app : App
-pull_app = with_rule (with_rule (with_rule (with_rule (with_rule (with_rule (made_app (codes "pull"))
-    (choice_rule (codes "state"))) (flag_rule (codes "keep"))) ahead_rule) progress_rule)
-    (place_rule (codes "kind"))) (place_rule (codes "place"))
+pull_app = with_rule (with_rule (with_rule (with_rule (with_rule (with_rule (with_rule
+    (made_app (codes "pull")) (choice_rule (codes "state"))) (flag_rule (codes "keep"))) ahead_rule)
+    wait_rule) progress_rule) (place_rule (codes "kind"))) (place_rule (codes "place"))
 
 -- the options of `pull`
 pub record IsPull (options : List Row) (pull : Pull) : Type 0 where
   pub mirror : IsOutputArgs options pull.mirror
   pub state : first_of (codes "state") options ≡ option_map (λ s. s.now) pull.state
   pub keep : IsTrue pull.keep ↔ HasFlag options (codes "keep")
-  pub ahead : IsAhead options pull.ahead
+  pub pace : IsPace options pull.pace
   pub progress : IsTrue pull.progress ↔ HasFlag options (codes "progress")
   pub place : HasValue options (codes "kind")
       (λ kind. HasValue options (codes "place") (λ word. IsPlace kind word pull.place))
 
 -- -- follow
 
--- `follow --origin O --keys K --dir D [--checkpoint FILE] [--forks F] [--ahead N] [--progress] KIND PLACE..`
+-- `follow --origin O --keys K --dir D [--checkpoint FILE] [--forks F] [--ahead N] [--wait SECONDS] [--progress] KIND
+-- PLACE..`
 abbrev pub follow_app : App
-follow_app = with_rule (with_rule (with_rule (with_rule (with_rule (copy_app (codes "follow"))
-    (choice_rule (codes "checkpoint"))) (choice_rule (codes "forks"))) ahead_rule) progress_rule)
-    (words_rule (codes "place"))
+follow_app = with_rule (with_rule (with_rule (with_rule (with_rule (with_rule
+    (copy_app (codes "follow")) (choice_rule (codes "checkpoint"))) (choice_rule (codes "forks")))
+    ahead_rule) wait_rule) progress_rule) (words_rule (codes "place"))
 
 -- there are words, and they name these places; `clap` requires at least one word
 abbrev pub ArePlacesGiven : Option (List Text) → List Place → Type 0
@@ -244,22 +256,22 @@ pub record IsFollow (options : List Row) (follow : Follow) : Type 0 where
   pub copy : IsCopyArgs options follow.copy
   pub checkpoint : first_of (codes "checkpoint") options ≡ option_map (λ f. f.now) follow.checkpoint
   pub forks : first_of (codes "forks") options ≡ option_map (λ f. f.now) follow.forks
-  pub ahead : IsAhead options follow.ahead
+  pub pace : IsPace options follow.pace
   pub progress : IsTrue follow.progress ↔ HasFlag options (codes "progress")
   pub why : IsTrue follow.why ↔ HasFlag options (codes "why")
   pub places : IsPlacesGiven options follow.places.items
 
 -- -- audit
 
--- `audit --origin O --keys K [--ahead N] [--progress] KIND PLACE`
+-- `audit --origin O --keys K [--ahead N] [--wait SECONDS] [--progress] KIND PLACE`
 abbrev pub audit_app : App
-audit_app = with_rule (with_rule (with_rule (with_rule (log_app (codes "audit")) ahead_rule)
-    progress_rule) (place_rule (codes "kind"))) (place_rule (codes "place"))
+audit_app = with_rule (with_rule (with_rule (with_rule (with_rule (log_app (codes "audit"))
+    ahead_rule) wait_rule) progress_rule) (place_rule (codes "kind"))) (place_rule (codes "place"))
 
 -- the options of `audit`
 pub record IsAudit (options : List Row) (audit : Audit) : Type 0 where
   pub log : IsLog options audit.log
-  pub ahead : IsAhead options audit.ahead
+  pub pace : IsPace options audit.pace
   pub progress : IsTrue audit.progress ↔ HasFlag options (codes "progress")
   pub place : HasValue options (codes "kind")
       (λ kind. HasValue options (codes "place") (λ word. IsPlace kind word audit.place))

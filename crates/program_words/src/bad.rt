@@ -59,6 +59,8 @@ fn server_reason(word: &str) -> &'static str {
         "host:port is due, with no scheme before it"
     } else if prefix.ends_with('/') {
         "it ends in a slash"
+    } else if host.starts_with('[') {
+        "[IPv6 address]:port is due, with an optional /prefix"
     } else {
         "host:port is due, with an optional /prefix"
     }

@@ -9,6 +9,7 @@
 mod bad;
 pub mod commands;
 mod fault;
+mod laws;
 mod line;
 mod number;
 mod parts;
@@ -18,6 +19,7 @@ mod refusals;
 pub use bad::BadWord;
 pub use commands::{Command, CopyCommand, PlaceCommand, ReportCommand, StateCommand};
 pub use fault::CommandFault;
+pub use laws::one_place_law;
 pub use line::{Argument, Base, CommandLine, ORIGIN, WHY};
 pub use parts::{CopyArgs, Log, OutputArgs, StateArgs, has_flag};
 pub use place::Place;

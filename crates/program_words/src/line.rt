@@ -77,3 +77,10 @@ pub(crate) const AHEAD: Argument<'static> = Argument::Choice(
     "N",
     "How many requests may be sent ahead to a server, 0 to 64; 6 where it is left out",
 );
+
+/// The number of seconds that a run waits for a busy server, for each command that reads a log at a place.
+pub(crate) const WAIT: Argument<'static> = Argument::Choice(
+    "wait",
+    "SECONDS",
+    "How long a run waits in all for one busy server, 0 to 86400; 60 where it is left out",
+);

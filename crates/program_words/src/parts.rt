@@ -3,7 +3,7 @@ ghost use Rattle.std.specs.Prelude.{◌≡◌, ◌↔◌, ℕ, IsTrue, List, map
 ghost use Rattle.std.specs.Str.{bytes_eq};
 ghost use Rattle.clap.specs.Words.{found_of, rows_of};
 ghost use Rattle.program_words.specs.Spelling.{FindsPart};
-ghost use Rattle.program_words.specs.Commands.{AreFiles, Given, HasFlag, HasNumber, IsAhead, IsCopyArgs, IsLog, IsOutputArgs, IsStateArgs};
+ghost use Rattle.program_words.specs.Commands.{AreFiles, Given, HasFlag, HasNumber, HasNumberOr, IsAhead, IsCopyArgs, IsLog, IsOutputArgs, IsPace, IsStateArgs, IsWait};
 ghost use Rattle.program_words.specs.Refusals.{JudgesPart};
 ghost use Rattle.program_words.specs.Readings.{IsSource, IsWordAlone};
 
@@ -11,6 +11,7 @@ use crate::bad::BadWord;
 use crate::number::number_in;
 use crate::refusals::Refusals;
 use clap::ArgMatches;
+use mirror_client::Pace;
 use std::alloc::Global;
 use tlog_shape::MAX_SIZE;
 
@@ -133,27 +134,49 @@ pub(crate) fn size_of(
     }
 }
 
-// The number from 0 to 64 that the value of `--ahead` spells, or 6 if the option is missing.
-fn ahead_given(found: &ArgMatches<'_>) -> Option<u64>
-    ensures { FindsPart (IsAhead (rows_of (found_of found.now))) result }
+// The number from 0 to `most` that the option's value spells, or `other` if the option is missing.
+fn number_or(found: &ArgMatches<'_>, name: &str, most: u64, other: u64) -> Option<u64>
+    ensures { FindsPart (HasNumberOr (rows_of (found_of found.now)) name.now 0 most other) result }
 {
-    match found.get_str("ahead") {
-        Some(word) => number_in(word, 0, 64),
-        None => Some(6),
+    match found.get_str(name) {
+        Some(word) => number_in(word, 0, most),
+        None => Some(other),
     }
 }
 
-/// Reads the number of requests that may be sent ahead.
-pub(crate) fn ahead_of(found: &ArgMatches<'_>, refusals: &mut Refusals) -> u64
+// Reads the number of requests that may be sent ahead.
+fn ahead_of(found: &ArgMatches<'_>, refusals: &mut Refusals) -> usize
     ensures { JudgesPart (IsAhead (rows_of (found_of found.now))) refusals.old refusals.new result }
 {
-    match ahead_given(found) {
-        Some(ahead) => ahead,
+    match number_or(found, "ahead", 64, 6) {
+        Some(ahead) => ahead as usize,
         None => {
             refusals.note(BadWord::new("--ahead", "a number from 0 to 64 is due"));
             0
         }
     }
+}
+
+// Reads the number of seconds that a run waits for a busy place.
+fn wait_of(found: &ArgMatches<'_>, refusals: &mut Refusals) -> u64
+    ensures { JudgesPart (IsWait (rows_of (found_of found.now))) refusals.old refusals.new result }
+{
+    match number_or(found, "wait", 86_400, 60) {
+        Some(wait) => wait,
+        None => {
+            refusals.note(BadWord::new("--wait", "a number from 0 to 86400 is due"));
+            0
+        }
+    }
+}
+
+/// Reads how servers are asked: how many requests are sent ahead, and how long a busy one is waited for.
+pub(crate) fn pace_of(found: &ArgMatches<'_>, refusals: &mut Refusals) -> Pace
+    ensures { JudgesPart (IsPace (rows_of (found_of found.now))) refusals.old refusals.new result }
+{
+    let ahead = ahead_of(found, refusals);
+    let wait = wait_of(found, refusals);
+    Pace { ahead, wait }
 }
 
 /// Reads the log: its origin and its key file.

@@ -2,7 +2,7 @@
 ghost use Rattle.std.specs.Prelude.{◌≡◌, ◌≢◌, ◌++◌, ◌∷◌, ◌↔◌, ℕ, ◌<◌, IfNone, IfOk, IfSome, IsTrue, codes, length, map, option_map, slice_index};
 ghost use Rattle.clap.specs.Words.{found_of, rows_of};
 ghost use Rattle.program_words.specs.Refusals.{JudgesPart};
-ghost use Rattle.program_words.specs.Spelling.{ArePlaces, FindsPart, IsEmptyOrSlash, IsHostAndPrefix, IsPlace, colon};
+ghost use Rattle.program_words.specs.Spelling.{ArePlaces, FindsPart, IsAddressOf, IsEmptyOrSlash, IsHostAndPrefix, IsLiteral, IsPlace, colon, left_bracket};
 ghost use Rattle.mirror_client.specs.Site.{slash};
 ghost use Rattle.program_words.specs.Readings.{IsPlaceGiven};
 
@@ -13,6 +13,7 @@ use crate::refusals::Refusals;
 use clap::ArgMatches;
 use mirror_client::{Site, SiteFault};
 use std::alloc::{AllocError, Global};
+use std::net::Ipv6Addr;
 
 /// The place of a log's files.
 #[derive(Drop, Clone, Copy)]
@@ -25,7 +26,7 @@ pub enum Place<'a> {
         host: &'a str,
         /// The text before the paths of the files: empty, or a path that begins with a slash.
         prefix: &'a str,
-        /// The host to connect to.
+        /// The host to connect to: a name or an address, an IPv6 one without its brackets.
         address: &'a str,
         /// The port to connect to, 1 to 65535.
         port: u16,
@@ -45,13 +46,37 @@ pub(crate) fn host_and_prefix(word: &str) -> (&str, &str)
 }
 
 // Divides the host at its last colon, which is in neither part.
-fn address_and_digits(host: &str) -> Option<(&str, &str)>
+fn name_and_digits(host: &str) -> Option<(&str, &str)>
     ensures some { IfSome result (λ x. host.now ≡ x.0.now ++ colon ∷ x.1.now) }
     ensures last { IfSome result (λ x. (i : ℕ) → i < length x.1.now
         → slice_index x.1.now i ≢ colon) }
     ensures none { IfNone result ((i : ℕ) → i < length host.now → slice_index host.now i ≢ colon) }
 {
     host.rsplit_once(':')
+}
+
+// The text before the last bracket, if it writes an IPv6 address. The first bracket stands before all of this.
+fn literal_of(behind: &str) -> Option<&str>
+    ensures { FindsPart (IsLiteral (left_bracket ∷ behind.now))
+        (option_map (λ text. text.now) result) }
+{
+    let Some(text) = behind.strip_suffix(']') else {
+        return None;
+    };
+    match text.parse::<Ipv6Addr>() {
+        Ok(_) => Some(text),
+        Err(_) => None,
+    }
+}
+
+// The address for a connection to the host of this name, if it has one.
+fn address_of(name: &str) -> Option<&str>
+    ensures { FindsPart (IsAddressOf name.now) (option_map (λ address. address.now) result) }
+{
+    match name.strip_prefix('[') {
+        Some(behind) => literal_of(behind),
+        None => Some(name),
+    }
 }
 
 // Whether a site may have this host and prefix.
@@ -73,10 +98,13 @@ fn server_of<'a>(alloc: Global, word: &'a str) -> Result<Option<Place<'a>>, Allo
     if !is_site(alloc, host, prefix)? {
         return Ok(None);
     }
-    let Some((address, digits)) = address_and_digits(host) else {
+    let Some((name, digits)) = name_and_digits(host) else {
         return Ok(None);
     };
     let Some(port) = number_in(digits, 1, 65_535) else {
+        return Ok(None);
+    };
+    let Some(address) = address_of(name) else {
         return Ok(None);
     };
     Ok(Some(Place::Server {
@@ -107,6 +135,7 @@ pub(crate) fn place_of<'a>(
 ///
 /// ```text
 /// place_or_bad(alloc, "http", "log.example:80/2026", &mut refusals)   // host log.example:80, prefix /2026, port 80
+/// place_or_bad(alloc, "http", "[::1]:80", &mut refusals)              // host [::1]:80, address ::1, port 80
 /// ```
 pub(crate) fn place_or_bad<'a>(
     alloc: Global,

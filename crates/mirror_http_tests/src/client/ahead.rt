@@ -1,6 +1,6 @@
 //! Requests that a client sends ahead, to a server in memory.
 use crate::client::bundle_server::{BundleDial, BundleServer, bundle, bundles_from};
-use mirror_http::{HttpSource, Site};
+use mirror_http::{HttpSource, Pace, Site};
 use mirror_sources::{Source, SourceFault};
 use std::alloc::Global;
 use std::process::Abort;
@@ -15,7 +15,7 @@ fn source_to(
 ) -> Result<HttpSource<BundleDial>, Fail> {
     let site = Site::new(alloc, "log.example", "")?;
     let server = server.clone()?;
-    Ok(HttpSource::new(alloc, site, BundleDial { server }, ahead))
+    Ok(HttpSource::new(alloc, site, BundleDial { server }, Pace { ahead, wait: 0 }))
 }
 
 // The source gives the bundle with that number.

@@ -1,5 +1,5 @@
 //! Connections that give one reply to any request.
-use mirror_http::{Dial, HttpSource, Site};
+use mirror_http::{Dial, HttpSource, Pace, Site};
 use std::alloc::Global;
 use std::io;
 use std::io::{ErrorKind, Read, Write};
@@ -67,5 +67,5 @@ pub(crate) fn source_over(
     let reply = Rc::new(alloc, Vec::from_slice(alloc, reply.as_bytes())?)?;
     let dial = CannedDial { reply, hears };
     let site = Site::new(alloc, "log.example", "/2026")?;
-    Ok(HttpSource::new(alloc, site, dial, 0))
+    Ok(HttpSource::new(alloc, site, dial, Pace { ahead: 0, wait: 0 }))
 }

@@ -5,11 +5,12 @@ ghost use Rattle.program_words.specs.Refusals.{JudgesPart};
 ghost use Rattle.program_words.specs.Readings.{IsSaid};
 
 use crate::commands::{Command, PlaceCommand};
-use crate::line::{AHEAD, Argument, Base, CommandLine, PROGRESS};
-use crate::parts::{Log, ahead_of, has_flag, log_of};
+use crate::line::{AHEAD, Argument, Base, CommandLine, PROGRESS, WAIT};
+use crate::parts::{Log, has_flag, log_of, pace_of};
 use crate::place::{Place, place_given};
 use crate::refusals::Refusals;
 use clap::ArgMatches;
+use mirror_client::Pace;
 use std::alloc::Global;
 
 /// `audit`: verifies a complete log at a place, file by file.
@@ -17,8 +18,8 @@ use std::alloc::Global;
 pub struct Audit<'a> {
     /// The log.
     pub log: Log<'a>,
-    /// The number of requests that may be sent ahead, 0 to 64. A folder ignores it.
-    pub ahead: u64,
+    /// How a server is asked. A folder ignores it.
+    pub pace: Pace,
     /// Whether lines report the progress.
     pub progress: bool,
     /// The place of the log.
@@ -32,7 +33,8 @@ file of a log of that size, one after the other. A partial file may have given w
 The output is 'audited SIZE ROOT', where every file has the bytes that the log has there.
 With --progress lines like 'audit: 1,024 of 7,832 files, 23 MB' go to standard error, from the first
 second on, and one at the end.
-'http' is plain HTTP, with no TLS and no redirects: a proxy beside it ends HTTPS.
+'http' is plain HTTP, with no TLS and no redirects: a proxy beside it ends HTTPS. A server that is busy,
+which answers 429 or 503, is asked again: all waits for it together take at most SECONDS.
 
 Exit status: 0 done, 1 a fault, 2 a usage error, or a bad value (BadArgument).
 Faults of O and K: see 'tlogmirror --help'. Of the place:
@@ -40,7 +42,7 @@ Faults of O and K: see 'tlogmirror --help'. Of the place:
   NoEdge              it lacks a tile of the checkpoint's edge: --why names that of a folder
   NoFile              it lacks another file, which --why names
   FalseFile           a file has other bytes than the log has there: --why names the file
-  Source              it could not be read or did not answer: try again
+  Source              it could not be read, did not answer, or stayed busy: try again
   NoteTooLong, NotText, NoSignatures, TooManySignatures, BadSignatureLine
                       the checkpoint is no signed note
   TooFewLines, EmptyLine, BadSize, SizeTooLarge, BadRoot
@@ -58,6 +60,7 @@ pub const LINE: CommandLine<'static> = CommandLine {
     base: Base::Log,
     arguments: &[
         AHEAD,
+        WAIT,
         PROGRESS,
         Argument::Place(
             "kind",
@@ -67,7 +70,7 @@ pub const LINE: CommandLine<'static> = CommandLine {
         Argument::Place(
             "place",
             "PLACE",
-            "The folder, or host:port with an optional /prefix",
+            "The folder, or host:port with an optional /prefix; an IPv6 address in brackets",
         ),
     ],
 };
@@ -78,12 +81,12 @@ pub fn read<'a>(alloc: Global, found: &ArgMatches<'a>, refusals: &mut Refusals) 
         refusals.new result }
 {
     let log = log_of(found, refusals);
-    let ahead = ahead_of(found, refusals);
+    let pace = pace_of(found, refusals);
     let progress = has_flag(found, "progress");
     let place = place_given(alloc, found, refusals);
     Command::Place(PlaceCommand::Audit(Audit {
         log,
-        ahead,
+        pace,
         progress,
         place,
     }))

@@ -7,11 +7,12 @@ ghost use Rattle.program_words.specs.Readings.{IsSaid};
 
 use crate::bad::BadWord;
 use crate::commands::{Command, PlaceCommand};
-use crate::line::{AHEAD, Argument, Base, CommandLine, PROGRESS};
-use crate::parts::{CopyArgs, ahead_of, copy_args, has_flag};
+use crate::line::{AHEAD, Argument, Base, CommandLine, PROGRESS, WAIT};
+use crate::parts::{CopyArgs, copy_args, has_flag, pace_of};
 use crate::place::{Place, places_or_bad};
 use crate::refusals::Refusals;
 use clap::ArgMatches;
+use mirror_client::Pace;
 use std::alloc::Global;
 
 /// `follow`: brings a copy to the newest checkpoint of its places.
@@ -23,8 +24,8 @@ pub struct Follow<'a> {
     pub checkpoint: Option<&'a str>,
     /// The folder for the evidence of forks, if it is wanted.
     pub forks: Option<&'a str>,
-    /// The number of requests that may be sent ahead to each server, 0 to 64.
-    pub ahead: u64,
+    /// How each server is asked. A folder ignores it.
+    pub pace: Pace,
     /// Whether lines report the progress.
     pub progress: bool,
     /// Whether lines report the first fault of each place.
@@ -48,7 +49,8 @@ With --checkpoint D is brought to the note in FILE, and no place is asked for on
 With --progress lines like 'follow: 1,024 of 7,832 files, 23 MB' go to standard error, from the first
 second on, and at its end 'follow: 5,000 to 5,300 entries, 4 files, 91 kB'.
 With --why a line goes to standard error for D and for each place, if something was wrong there.
-'http' is plain HTTP, with no TLS and no redirects: a proxy beside it ends HTTPS.
+'http' is plain HTTP, with no TLS and no redirects: a proxy beside it ends HTTPS. A server that is busy,
+which answers 429 or 503, is asked again: all waits for it together take at most SECONDS.
 
 Exit status: 0 done, 3 there is a fork, or a larger checkpoint, 1 a fault, 2 a usage error,
 or a bad value (BadArgument).
@@ -60,7 +62,7 @@ Faults of O and K: see 'tlogmirror --help'. Besides, on standard error:
   ShelfFault          D cannot be read or written: see the path, the rights and the room
   NoCheckpoint        the first place has no checkpoint, and no other has one of the log
   NoFile              D is empty, and no place has a file that is wanted: try again, or another place
-  Source              a place could not be read or did not answer, and no other had what was wanted
+  Source              a place could not be read, did not answer or stayed busy, and no other had what was wanted
   NoteTooLong, NotText, NoSignatures, TooManySignatures, BadSignatureLine
                       the checkpoint is no signed note
   TooFewLines, EmptyLine, BadSize, SizeTooLarge, BadRoot
@@ -92,6 +94,7 @@ pub const LINE: CommandLine<'static> = CommandLine {
             "The folder that the evidence of forks is written to",
         ),
         AHEAD,
+        WAIT,
         PROGRESS,
         Argument::Words(
             "place",
@@ -128,7 +131,7 @@ pub fn read<'a>(alloc: Global, found: &ArgMatches<'a>, refusals: &mut Refusals) 
     let copy = copy_args(found, refusals);
     let checkpoint = found.get_str("checkpoint");
     let forks = found.get_str("forks");
-    let ahead = ahead_of(found, refusals);
+    let pace = pace_of(found, refusals);
     let progress = has_flag(found, "progress");
     let why = has_flag(found, "why");
     let places = places_given(alloc, found, refusals);
@@ -136,7 +139,7 @@ pub fn read<'a>(alloc: Global, found: &ArgMatches<'a>, refusals: &mut Refusals) 
         copy,
         checkpoint,
         forks,
-        ahead,
+        pace,
         progress,
         why,
         places,

@@ -5,11 +5,12 @@ ghost use Rattle.program_words.specs.Refusals.{JudgesPart};
 ghost use Rattle.program_words.specs.Readings.{IsSaid};
 
 use crate::commands::{Command, StateCommand};
-use crate::line::{AHEAD, Argument, Base, CommandLine, FIRST_STATE, PROGRESS};
-use crate::parts::{OutputArgs, ahead_of, has_flag, output_args};
+use crate::line::{AHEAD, Argument, Base, CommandLine, FIRST_STATE, PROGRESS, WAIT};
+use crate::parts::{OutputArgs, has_flag, output_args, pace_of};
 use crate::place::{Place, place_given};
 use crate::refusals::Refusals;
 use clap::ArgMatches;
+use mirror_client::Pace;
 use std::alloc::Global;
 
 /// `pull`: fetches what is missing.
@@ -21,8 +22,8 @@ pub struct Pull<'a> {
     pub state: Option<&'a str>,
     /// Whether the fetched files are kept if the place fails.
     pub keep: bool,
-    /// The number of requests that may be sent ahead, 0 to 64. A folder ignores it.
-    pub ahead: u64,
+    /// How a server is asked. A folder ignores it.
+    pub pace: Pace,
     /// Whether lines report the progress.
     pub progress: bool,
     /// The place of the log.
@@ -38,13 +39,14 @@ With --keep T is also written at Source, where anything was gained: give it to a
 log over a bad line, and call it again with --state T until it ends with 0.
 With --progress lines like 'pull: 1,024 files, 23 MB' go to standard error, from the first second on,
 and at its end 'pull: 5,000 to 5,300 entries, 4 files, 91 kB'.
-'http' is plain HTTP, with no TLS and no redirects: a proxy beside it ends HTTPS.
+'http' is plain HTTP, with no TLS and no redirects: a proxy beside it ends HTTPS. A server that is busy,
+which answers 429 or 503, is asked again: all waits for it together take at most SECONDS.
 
 Exit status: 0 complete, 3 partial, 1 a fault, 2 a usage error, or a bad value (BadArgument).
 Faults of O, K, S and T: see 'tlogmirror --help'. Of the place:
   NoCheckpoint        it has no checkpoint: see PLACE
   NoEdge              it lacks a tile of the checkpoint's edge: try again, or another place
-  Source              it could not be read or did not answer: try again, with --keep to go on
+  Source              it could not be read, did not answer, or stayed busy: try again, with --keep to go on
   NoteTooLong, NotText, NoSignatures, TooManySignatures, BadSignatureLine
                       the checkpoint is no signed note
   TooFewLines, EmptyLine, BadSize, SizeTooLarge, BadRoot
@@ -71,6 +73,7 @@ pub const LINE: CommandLine<'static> = CommandLine {
             "Write the state where the place fails too, as a first pull over a bad line wants it",
         ),
         AHEAD,
+        WAIT,
         PROGRESS,
         Argument::Place(
             "kind",
@@ -80,7 +83,7 @@ pub const LINE: CommandLine<'static> = CommandLine {
         Argument::Place(
             "place",
             "PLACE",
-            "The folder, or host:port with an optional /prefix",
+            "The folder, or host:port with an optional /prefix; an IPv6 address in brackets",
         ),
     ],
 };
@@ -93,14 +96,14 @@ pub fn read<'a>(alloc: Global, found: &ArgMatches<'a>, refusals: &mut Refusals) 
     let mirror = output_args(found, refusals);
     let state = found.get_str("state");
     let keep = has_flag(found, "keep");
-    let ahead = ahead_of(found, refusals);
+    let pace = pace_of(found, refusals);
     let progress = has_flag(found, "progress");
     let place = place_given(alloc, found, refusals);
     Command::State(StateCommand::Pull(Pull {
         mirror,
         state,
         keep,
-        ahead,
+        pace,
         progress,
         place,
     }))

@@ -18,12 +18,12 @@ pub returns : goal.returns
 returns c = record {
   good = λ g.
       let s2 = c.place_given-place.ensures.good g in
-      let s1 = c.ahead_of-ahead.ensures.good s2.0 in
+      let s1 = c.pace_of-pace.ensures.good s2.0 in
       let s0 = c.log_of-log.ensures.good s1.0 in
-      (s0.0, (refl, record { log = s0.1; ahead = s1.1; progress = c.has_flag-progress.ensures; place = s2.1 }));
+      (s0.0, (refl, record { log = s0.1; pace = s1.1; progress = c.has_flag-progress.ensures; place = s2.1 }));
   bad = λ command said.
       let m = by_place (codes "audit") refl refl refl (named (rows_of (found_of c.args.found.now))) command said in
       c.place_given-place.ensures.bad m.0.place m.1.place
-      ∙ (c.ahead_of-ahead.ensures.bad m.0.ahead m.1.ahead
+      ∙ (c.pace_of-pace.ensures.bad m.0.pace m.1.pace
       ∙ (c.log_of-log.ensures.bad m.0.log m.1.log));
 }

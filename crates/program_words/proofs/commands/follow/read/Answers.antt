@@ -19,7 +19,7 @@ pub returns : goal.returns
 returns c = record {
   good = λ g.
       let s2 = c.places_given-places.ensures.good g in
-      let s1 = c.ahead_of-ahead.ensures.good s2.0 in
+      let s1 = c.pace_of-pace.ensures.good s2.0 in
       let s0 = c.copy_args-copy.ensures.good s1.0 in (
         s0.0,
         (
@@ -28,7 +28,7 @@ returns c = record {
             copy = s0.1;
             checkpoint = given_or_none (found_of c.args.found.now) (codes "checkpoint") (option_map (λ s. s.now) c.get_str-checkpoint.result) c.get_str-checkpoint.ensures;
             forks = given_or_none (found_of c.args.found.now) (codes "forks") (option_map (λ s. s.now) c.get_str-forks.result) c.get_str-forks.ensures;
-            ahead = s1.1;
+            pace = s1.1;
             progress = c.has_flag-progress.ensures;
             why = c.has_flag-why.ensures;
             places = s2.1;
@@ -38,6 +38,6 @@ returns c = record {
   bad = λ command said.
       let m = by_place (codes "follow") refl refl refl (named (rows_of (found_of c.args.found.now))) command said in
       c.places_given-places.ensures.bad m.0.places.items m.1.places
-      ∙ (c.ahead_of-ahead.ensures.bad m.0.ahead m.1.ahead
+      ∙ (c.pace_of-pace.ensures.bad m.0.pace m.1.pace
       ∙ (c.copy_args-copy.ensures.bad m.0.copy m.1.copy));
 }

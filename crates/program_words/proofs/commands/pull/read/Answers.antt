@@ -19,7 +19,7 @@ pub returns : goal.returns
 returns c = record {
   good = λ g.
       let s2 = c.place_given-place.ensures.good g in
-      let s1 = c.ahead_of-ahead.ensures.good s2.0 in
+      let s1 = c.pace_of-pace.ensures.good s2.0 in
       let s0 = c.output_args-mirror.ensures.good s1.0 in (
         s0.0,
         (
@@ -28,7 +28,7 @@ returns c = record {
             mirror = s0.1;
             state = given_or_none (found_of c.args.found.now) (codes "state") (option_map (λ s. s.now) c.get_str-state.result) c.get_str-state.ensures;
             keep = c.has_flag-keep.ensures;
-            ahead = s1.1;
+            pace = s1.1;
             progress = c.has_flag-progress.ensures;
             place = s2.1;
           },
@@ -37,6 +37,6 @@ returns c = record {
   bad = λ command said.
       let m = by_state (codes "pull") refl refl refl (named (rows_of (found_of c.args.found.now))) command said in
       c.place_given-place.ensures.bad m.0.place m.1.place
-      ∙ (c.ahead_of-ahead.ensures.bad m.0.ahead m.1.ahead
+      ∙ (c.pace_of-pace.ensures.bad m.0.pace m.1.pace
       ∙ (c.output_args-mirror.ensures.bad m.0.mirror m.1.mirror));
 }
