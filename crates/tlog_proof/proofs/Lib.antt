@@ -8,6 +8,7 @@ pub mod Paths
 pub mod Subproofs
 pub mod Readers
 pub mod Parts
+pub mod Widening
 pub mod Lines
 pub mod Spelling
 pub mod Lengths

@@ -6,5 +6,6 @@ pub mod Laws
 pub mod Answers
 pub mod Made
 pub mod Ranges
+pub mod Making
 pub mod Text
 pub mod Reading

@@ -1,10 +1,8 @@
 -- Hashes of a range of entries, for each list that a value may represent, since only its hashes are
--- known. Only contracts of private functions cite `AddsHashes` and `FailsForMemory`.
+-- known. Only contracts of private functions cite `AddsHashes`.
 use Rattle.std.specs.Prelude.{◌≡◌, ℕ, ◌+◌, ◌<◌, ◌≤◌, List, ◌++◌, length}
 use Rattle.tlog_hash.specs.Tree.{mth}
 use Rattle.tlog_hash.specs.Rows.{part}
-use Rattle.tlog_proof.specs.declared.make.ProofFault.{ProofFault}
-use Rattle.tlog_proof.specs.declared.make.ProofFault.TheVariants.{OutOfMemory}
 
 module _ (lists : List (List ℕ) → Type 0) (start len : ℕ) where
   -- each list has the range, and this is the tree hash of the range
@@ -24,8 +22,3 @@ module _ (lists : List (List ℕ) → Type 0) (start len : ℕ) where
   AddsHashes made old new =
       (entries : List (List ℕ)) → lists entries → start + len ≤ length entries →
       new ≡ old ++ made (part start len entries)
-
-  -- if a list has the range, the fault is OutOfMemory
-  abbrev pub FailsForMemory : ProofFault → Type 0
-  FailsForMemory fault =
-      (entries : List (List ℕ)) → lists entries → start + len ≤ length entries → fault ≡ OutOfMemory

@@ -22,10 +22,13 @@ mod fault;
 mod laws;
 mod limits;
 mod make;
+mod making;
+mod may_ranges;
 mod path;
 mod proof;
 mod ranges;
 mod read;
+mod sure;
 mod write;
 
 pub use check::{check_consistency, check_inclusion};
@@ -36,6 +39,8 @@ pub use laws::{
 };
 pub use limits::MAX_TEXT_LEN;
 pub use make::{ProofFault, consistency, inclusion};
+pub use making::{MakeFault, try_consistency, try_inclusion};
+pub use may_ranges::MayRanges;
 pub use path::HashPath;
 pub use proof::{Ask, Proof, holds, prove};
 pub use ranges::Ranges;

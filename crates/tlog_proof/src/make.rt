@@ -1,18 +1,17 @@
 //! Makes paths from the hashes of ranges of a list.
-ghost use Rattle.std.specs.Prelude.{◌≡◌, ◌+◌, ◌<◌, ◌≤◌, ◌^◌, ℕ, List, IfOk, IfErr, OnOk};
+ghost use Rattle.std.specs.Prelude.{◌≡◌, ℕ, List, IfOk, IfErr};
 ghost use Rattle.tlog_proof.specs.Answers.{AnswersAs};
-ghost use Rattle.tlog_proof.specs.Inclusion.{path_of};
-ghost use Rattle.tlog_proof.specs.Consistency.{subproof_of};
 ghost use Rattle.tlog_proof.specs.Made.{inclusion_in, consistency_in};
-ghost use Rattle.tlog_proof.specs.Ranges.{AddsHashes, FailsForMemory, HashesRange, LacksRange};
+ghost use Rattle.tlog_proof.specs.Ranges.{HashesRange, LacksRange};
 ghost use Rattle.tlog_proof.specs.declared.make.ProofFault.TheVariants.{OutOfMemory};
 
+use crate::making::{MakeFault, try_consistency, try_inclusion};
 use crate::ranges::Ranges;
+use crate::sure::{NoRange, Sure};
 use std::alloc::{AllocFailed, Global};
 use std::error::Error;
 use std::fmt;
 use tlog_hash::Hash;
-use tlog_shape::split;
 
 /// Why no proof was made, in the order in which the faults are found. For three entries,
 /// `Ask::Inclusion { size: 4, index: 0 }` is `NoSuchSize`, and `{ size: 3, index: 3 }` is `NoSuchIndex`.
@@ -69,9 +68,12 @@ pub fn inclusion<R: Ranges>(
     if index >= size {
         return Err(ProofFault::NoSuchIndex);
     }
-    let mut path = Vec::new(alloc);
-    add_path(ranges, 0, size, index, &mut path)?;
-    Ok(path)
+    let mut sure = Sure { ranges };
+    match try_inclusion(alloc, &mut sure, size, index) {
+        Ok(path) => Ok(path),
+        Err(MakeFault::Ranges(NoRange)) => Err(ProofFault::NoSuchSize),
+        Err(MakeFault::OutOfMemory) => Err(ProofFault::OutOfMemory),
+    }
 }
 
 /// The path that shows that the tree of the first `first` entries is a prefix of the tree of the first `second`. It is PROOF
@@ -100,9 +102,12 @@ pub fn consistency<R: Ranges>(
     if first > second {
         return Err(ProofFault::Backwards);
     }
-    let mut path = Vec::new(alloc);
-    add_subproof(ranges, 0, second, first, true, &mut path)?;
-    Ok(path)
+    let mut sure = Sure { ranges };
+    match try_consistency(alloc, &mut sure, first, second) {
+        Ok(path) => Ok(path),
+        Err(MakeFault::Ranges(NoRange)) => Err(ProofFault::NoSuchSize),
+        Err(MakeFault::OutOfMemory) => Err(ProofFault::OutOfMemory),
+    }
 }
 
 /// The tree hash of a range.
@@ -114,68 +119,4 @@ pub(crate) fn hash_of<R: Ranges>(ranges: &R, start: u64, len: u64) -> Result<Has
         Some(hash) => Ok(hash),
         None => Err(ProofFault::NoSuchSize),
     }
-}
-
-// Appends the path for an index within a range; the index is counted from the start of the range.
-fn add_path<R: Ranges>(
-    ranges: &R,
-    start: u64,
-    len: u64,
-    index: u64,
-    path: &mut Vec<Hash>,
-) -> Result<(), ProofFault>
-    requires inside { index < len }
-    requires fits { start + len < 2 ^ 64 }
-    ensures ok { OnOk result (AddsHashes (R.lists ranges.now) start len (path_of R.digest index)
-        path.old.items path.new.items) }
-    ensures err { IfErr result (FailsForMemory (R.lists ranges.now) start len) }
-{
-    if len == 1 {
-        return Ok(());
-    }
-    let k = split(len);
-    let beside = if index < k {
-        add_path(ranges, start, k, index, path)?;
-        hash_of(ranges, start + k, len - k)?
-    } else {
-        add_path(ranges, start + k, len - k, index - k, path)?;
-        hash_of(ranges, start, k)?
-    };
-    path.push(beside)?;
-    Ok(())
-}
-
-// Appends the path from the first entries of a range to the whole range. `held` says that the checker knows the root of the
-// first entries.
-fn add_subproof<R: Ranges>(
-    ranges: &R,
-    start: u64,
-    len: u64,
-    first: u64,
-    held: bool,
-    path: &mut Vec<Hash>,
-) -> Result<(), ProofFault>
-    requires some { 0 < first }
-    requires within { first ≤ len }
-    requires fits { start + len < 2 ^ 64 }
-    ensures ok { OnOk result (AddsHashes (R.lists ranges.now) start len
-        (λ es. subproof_of R.digest first es held) path.old.items path.new.items) }
-    ensures err { IfErr result (FailsForMemory (R.lists ranges.now) start len) }
-{
-    if first == len {
-        if !held {
-            path.push(hash_of(ranges, start, len)?)?;
-        }
-        return Ok(());
-    }
-    let k = split(len);
-    let beside = if first <= k {
-        add_subproof(ranges, start, k, first, held, path)?;
-        hash_of(ranges, start + k, len - k)?
-    } else {
-        add_subproof(ranges, start + k, len - k, first - k, false, path)?;
-        hash_of(ranges, start, k)?
-    };
-    path.push(beside)?;
-    Ok(())
 }

@@ -117,10 +117,12 @@ bundle_one (e ∷ es) (f ∷ fs) a b n p q h =
     let others = bundle_one es fs a b (omega arith) (All-tail P e es p) (All-tail P f fs q) one.1 in
     (ap (λ (x : List ℕ). x ∷ es) one.0 ∙ ap (λ (xs : List (List ℕ)). f ∷ xs) others.0, others.1)
 
-whole_bundle : (width : ℕ) (bytes : List ℕ) (es : List (List ℕ)) → IsBundle width bytes es → HasBundle width bytes []
+-- a bundle is at the front of its own bytes
+pub whole_bundle : (width : ℕ) (bytes : List ℕ) (es : List (List ℕ)) → IsBundle width bytes es → HasBundle width bytes []
 whole_bundle width bytes es h = record { front = bytes; entries = es; parts = sym (append-nil bytes); is_bundle = h }
 
-ok_long : (width : ℕ) (bytes : List ℕ) (es : List (List ℕ)) (next : ℕ) (rest : List ℕ) → IsBundle width bytes es →
+-- more bytes do not follow a whole bundle
+pub ok_long : (width : ℕ) (bytes : List ℕ) (es : List (List ℕ)) (next : ℕ) (rest : List ℕ) → IsBundle width bytes es →
     HasBundle width bytes (next ∷ rest) → ⊥
 ok_long width bytes es next rest p q =
     let same : flat_map entry_text es ++ [] ≡ flat_map entry_text q.entries ++ (next ∷ rest) =

@@ -1,5 +1,6 @@
 pub mod Exits
 pub mod BundleLemmas
+pub mod Cuts
 pub mod RowLemmas
 pub mod TextLemmas
 pub mod IndexLemmas

@@ -1,10 +1,11 @@
 -- Laws of the file formats and of tiles.
-use Rattle.std.specs.Prelude.{◌≡◌, ◌↔◌, ℕ, ◌+◌, ◌*◌, ◌^◌, ◌<◌, ◌≤◌, All, AllPairs, Contains, List}
+use Rattle.std.specs.Prelude.{◌≡◌, ◌↔◌, ℕ, ◌+◌, ◌*◌, ◌^◌, ◌<◌, ◌≤◌, ◌++◌, All, AllPairs, Contains, List}
 use Rattle.std.specs.Prelude.{length}
 use Rattle.tlog_text.specs.Answers.{AlwaysHasOneAnswer, HasOneAnswer}
 use Rattle.tlog_hash.specs.Rows.{part, level_row}
 use Rattle.tlog_hash.specs.Tree.{fold_of, mth}
 use Rattle.tlog_tiles.specs.Bundle.{IsBundle, ReadsBundle}
+use Rattle.tlog_tiles.specs.Cut.{HasEntries, HasFormat, HasRowLength, IsFileCut, IsPart, of_width}
 use Rattle.tlog_tiles.specs.Edge.{edge_of, level_of}
 use Rattle.tlog_tiles.specs.Path.{path_text, IsLawfulPath, IsPath, ReadsPath}
 use Rattle.tlog_tiles.specs.Row.{IsRow, ReadsRow}
@@ -73,3 +74,34 @@ abbrev pub TrueBytesAreRead : Type 0
 TrueBytesAreRead =
     (digest : List ℕ → List ℕ) → ((s : List ℕ) → length (digest s) ≡ 32) →
     (entries : List (List ℕ)) → All (λ entry. length entry < 2 ^ 16) entries → IsRead digest entries
+
+-- a file begins with its cut, which is the only one. A file of the format of a width has as cut each
+-- file of the path's format that it begins with
+pub record CutsAreFirst : Type 0 where
+  pub one :
+      (path : Path) (wider : ℕ) (file first second : List ℕ) →
+      IsFileCut path wider file first → IsFileCut path wider file second → first ≡ second
+  pub first :
+      (path : Path) (wider : ℕ) (file part : List ℕ) →
+      IsFileCut path wider file part → (rest : List ℕ) × (file ≡ part ++ rest)
+  pub begins :
+      (path : Path) (wider : ℕ) (file part rest : List ℕ) →
+      HasFormat (of_width path wider) file → HasFormat path part → file ≡ part ++ rest →
+      IsFileCut path wider file part
+
+-- the true bytes of a tile or a bundle are the cut of those of a wider one
+pub record AreCuts (digest : List ℕ → List ℕ) (entries : List (List ℕ)) : Type 0 where
+  pub tile :
+      (level index width wider : ℕ) → width ≤ wider →
+      IsPart HasRowLength width wider (tile_bytes digest entries level index wider)
+      (tile_bytes digest entries level index width)
+  pub bundle :
+      (index width wider : ℕ) → width ≤ wider → IsTileWithin (length entries) 0 index wider →
+      IsPart HasEntries width wider (bundle_bytes entries index wider)
+      (bundle_bytes entries index width)
+
+-- the same for each log of entries of at most 65,535 bytes, if a digest has 32 bytes
+abbrev pub CutsOfTrueBytes : Type 0
+CutsOfTrueBytes =
+    (digest : List ℕ → List ℕ) → ((s : List ℕ) → length (digest s) ≡ 32) →
+    (entries : List (List ℕ)) → All (λ entry. length entry < 2 ^ 16) entries → AreCuts digest entries

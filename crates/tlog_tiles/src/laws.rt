@@ -1,7 +1,7 @@
 //! Laws of the file formats and of tiles, for the definitions that the contracts cite.
 //!
 //! A law is a function with an empty body: only its contract counts.
-ghost use Rattle.tlog_tiles.specs.Laws.{BundlesAreShort, EdgeIsPartialTiles, EdgeLevelsRise, LevelsFoldToTreeHash, OneBundleAnswer, OnePathAnswer, OneRowAnswer, PathsAreSpelled, TrueBytesAreRead};
+ghost use Rattle.tlog_tiles.specs.Laws.{BundlesAreShort, CutsAreFirst, CutsOfTrueBytes, EdgeIsPartialTiles, EdgeLevelsRise, LevelsFoldToTreeHash, OneBundleAnswer, OnePathAnswer, OneRowAnswer, PathsAreSpelled, TrueBytesAreRead};
 
 /// Reading bytes as a bundle of a width has one answer, apart from `OutOfMemory`. The bytes determine the entries, and the
 /// three outcomes exclude one another.
@@ -48,4 +48,15 @@ pub fn row_fold_law()
 /// The true bytes of each tile and bundle are read as a row or a bundle.
 pub fn served_law()
     ensures { TrueBytesAreRead }
+{}
+
+/// A file begins with its cut at a path, and has no other one. Where the file has the format of its width, each file of the
+/// path's format that it begins with is the cut.
+pub fn cut_law()
+    ensures { CutsAreFirst }
+{}
+
+/// The true bytes of a partial tile or bundle are the cut of the true bytes of a wider one.
+pub fn true_cut_law()
+    ensures { CutsOfTrueBytes }
 {}

@@ -16,6 +16,7 @@
 #![tactic(auto)]
 
 mod bundle;
+mod cut;
 mod edge;
 mod laws;
 mod paths;
@@ -24,8 +25,8 @@ mod row;
 pub use bundle::{BundleFault, MAX_BUNDLE_LEN, read_bundle, split_entry, write_bundle};
 pub use edge::edge_paths;
 pub use laws::{
-    bundle_length_law, edge_law, edge_order_law, one_bundle_law, one_path_law, one_row_law,
-    row_fold_law, served_law, spelling_law,
+    bundle_length_law, cut_law, edge_law, edge_order_law, one_bundle_law, one_path_law,
+    one_row_law, row_fold_law, served_law, spelling_law, true_cut_law,
 };
 pub use paths::{Path, PathFault, print};
 pub use row::{RowFault, read_row, write_row};

@@ -1,0 +1,4 @@
+pub mod Refusing
+pub mod Asking
+pub mod TrueSources
+pub mod Mixing

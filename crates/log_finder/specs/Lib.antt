@@ -1,0 +1,10 @@
+pub mod Verified
+pub mod Wanted
+pub mod Faults
+pub mod Counts
+pub mod Answers
+pub mod Sources
+pub mod InTurn
+pub mod Each
+pub mod Rows
+pub mod Mixes
