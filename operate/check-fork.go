@@ -2,6 +2,7 @@
 //
 //	check-fork LOG.VKEY SMALLER.note LARGER.note [PROOF.txt]
 //
+// LOG.VKEY has the log's keys, one in each line. Any of them counts, for each note: a log may have changed its key.
 // Without a proof both notes have to be of one size, or the smaller one of no entries, with another root than the hash of the empty list.
 // It prints what it found and ends with 0 where a fork is shown, else with 1. Needs Go, and golang.org/x/mod. In a new folder with this
 // file: go mod init check-fork && go mod tidy && go build
@@ -36,9 +37,26 @@ func hash(text string) tlog.Hash {
 	return h
 }
 
+// verifiers reads the keys of a file, one in each line. Empty lines, and those that begin with #, are none.
+func verifiers(name string) note.Verifiers {
+	var keys []note.Verifier
+	for _, line := range strings.Split(read(name), "\n") {
+		line = strings.TrimSpace(line)
+		if line == "" || line[0] == '#' {
+			continue
+		}
+		key, err := note.NewVerifier(line)
+		if err != nil {
+			log.Fatalf("%s: %v", name, err)
+		}
+		keys = append(keys, key)
+	}
+	return note.VerifierList(keys...)
+}
+
 // open verifies a note, and gives the origin, the size and the root of its checkpoint.
-func open(name string, key note.Verifier) (origin string, size int64, root tlog.Hash) {
-	signed, err := note.Open([]byte(read(name)), note.VerifierList(key))
+func open(name string, keys note.Verifiers) (origin string, size int64, root tlog.Hash) {
+	signed, err := note.Open([]byte(read(name)), keys)
 	if err != nil {
 		log.Fatalf("%s: %v", name, err)
 	}
@@ -57,12 +75,9 @@ func main() {
 	if len(os.Args) < 4 || len(os.Args) > 5 {
 		log.Fatal("usage: check-fork LOG.VKEY SMALLER.note LARGER.note [PROOF.txt]")
 	}
-	key, err := note.NewVerifier(strings.TrimSpace(read(os.Args[1])))
-	if err != nil {
-		log.Fatal(err)
-	}
-	origin, size, root := open(os.Args[2], key)
-	other, largerSize, largerRoot := open(os.Args[3], key)
+	keys := verifiers(os.Args[1])
+	origin, size, root := open(os.Args[2], keys)
+	other, largerSize, largerRoot := open(os.Args[3], keys)
 	if origin != other {
 		log.Fatal("the notes are of two logs")
 	}
