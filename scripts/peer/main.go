@@ -4,6 +4,8 @@
 //	peer follow FOLDER COPY     so too, and writes what is new of it into COPY, the checkpoint last, all flushed by one syncfs
 //	peer build FOLDER <ENTRIES  writes the tiles, the bundles and the text of the checkpoint of entries, each behind its length in two bytes
 //	peer ask PORT N <PATHS      asks a server on this machine for each path, over a connection of its own, N at once, and prints the seconds
+//	peer fetch URL COPY N [PEM] follows a log of a server into a new folder by N requests at once, over connections that are kept; PEM has
+//	                            certificates to trust (scripts/line)
 package main
 
 import (
@@ -55,20 +57,24 @@ func bundle(data []byte) ([][]byte, error) {
 	return entries, nil
 }
 
-// checkpoint reads the checkpoint of a folder. Its signatures are not looked at.
+// checkpoint reads the checkpoint of a folder.
 func checkpoint(folder string) (text []byte, size int64, root tlog.Hash, err error) {
 	if text, err = os.ReadFile(filepath.Join(folder, "checkpoint")); err != nil {
 		return
 	}
+	size, root, err = stated(text)
+	return
+}
+
+// stated reads the size and the root of a checkpoint. Its signatures are not looked at.
+func stated(text []byte) (size int64, root tlog.Hash, err error) {
 	lines := strings.Split(string(text), "\n")
 	if len(lines) < 4 {
-		err = fmt.Errorf("%s: no checkpoint", folder)
-		return
+		return 0, root, fmt.Errorf("no checkpoint: %.40q", text)
 	}
-	if size, err = strconv.ParseInt(lines[1], 10, 64); err != nil {
-		return
+	if size, err = strconv.ParseInt(lines[1], 10, 64); err == nil {
+		root, err = tlog.ParseHash(lines[2])
 	}
-	root, err = tlog.ParseHash(lines[2])
 	return
 }
 
@@ -434,8 +440,12 @@ func main() {
 		err = build(os.Args[2])
 	case len(os.Args) == 4 && os.Args[1] == "ask":
 		err = ask(os.Args[2], os.Args[3])
+	case len(os.Args) == 5 && os.Args[1] == "fetch":
+		err = fetch(os.Args[2], os.Args[3], os.Args[4], "")
+	case len(os.Args) == 6 && os.Args[1] == "fetch":
+		err = fetch(os.Args[2], os.Args[3], os.Args[4], os.Args[5])
 	default:
-		log.Fatal("usage: peer verify FOLDER | follow FOLDER COPY | build FOLDER | ask PORT N")
+		log.Fatal("usage: peer verify FOLDER | follow FOLDER COPY | build FOLDER | ask PORT N | fetch URL COPY N [PEM]")
 	}
 	if err != nil {
 		log.Fatal(err)

@@ -36,11 +36,17 @@ fn takes_and_tells<H: TreeHash>(
     alloc: Global,
     mirror: &mut Mirror<H>,
 ) -> Result<(), Fail> {
+    take_both(alloc, mirror)?;
+    tells_fork(rt, alloc, mirror)
+}
+
+// The mirror takes both logs.
+fn take_both<H: TreeHash>(alloc: Global, mirror: &mut Mirror<H>) -> Result<(), Fail> {
     for &(head, letters) in &LOGS {
         take_log(alloc, mirror, head, letters)?;
         take_letters(alloc, mirror, letters)?;
     }
-    tells_fork(rt, alloc, mirror)
+    Ok(())
 }
 
 // The mirror has two complete tree heads, and reports that fork.
@@ -67,4 +73,45 @@ fn forks_at_last<H: TreeHash>(alloc: Global, mirror: &Mirror<H>) -> Result<Vec<F
         Ok(forks) => Ok(forks),
         Err(AllocError) => mirror.forks(alloc),
     }
+}
+
+// Refused memory in the two lists: nothing is lost, and a second call gives them.
+#[test]
+fn forks_again_after_want_of_memory(rt: HostRuntime) -> Result<(), Fail> {
+    let mut mirror = Mirror::<SumTree>::new(rt.alloc(), "ex")?;
+    let answer = lists_forks(&rt, rt.alloc(), &mut mirror);
+    drop(mirror);
+    answer
+}
+
+fn lists_forks<H: TreeHash>(
+    rt: &impl Abort,
+    alloc: Global,
+    mirror: &mut Mirror<H>,
+) -> Result<(), Fail> {
+    take_both(alloc, mirror)?;
+    assert!(rt; forks_at_last(alloc, mirror)?.len() == 1);
+    Ok(())
+}
+
+#[test]
+fn heads_again_after_want_of_memory(rt: HostRuntime) -> Result<(), Fail> {
+    let mut mirror = Mirror::<SumTree>::new(rt.alloc(), "ex")?;
+    let answer = lists_heads(&rt, rt.alloc(), &mut mirror);
+    drop(mirror);
+    answer
+}
+
+fn lists_heads<H: TreeHash>(
+    rt: &impl Abort,
+    alloc: Global,
+    mirror: &mut Mirror<H>,
+) -> Result<(), Fail> {
+    take_both(alloc, mirror)?;
+    let heads = match mirror.heads(alloc) {
+        Ok(heads) => heads,
+        Err(AllocError) => mirror.heads(alloc)?,
+    };
+    assert!(rt; heads.len() == 2 && heads[0].complete && heads[1].complete);
+    Ok(())
 }

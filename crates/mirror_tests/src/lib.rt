@@ -18,6 +18,8 @@ mod loads;
 #[cfg(test)]
 mod memory;
 #[cfg(test)]
+mod merges;
+#[cfg(test)]
 mod plays;
 #[cfg(test)]
 mod pulls;

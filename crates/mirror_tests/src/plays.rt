@@ -1,12 +1,11 @@
 //! Plays of two mirrors.
 use crate::given::keys;
-use mirror_plays::{fits, play, play_again};
 use signed_note::Verifier;
 use std::alloc::{AllocError, Global};
 use std::process::Abort;
 use std::test::Fail;
 use tlog_hash::{Hash, Sha256Tree, TreeHash};
-use tlog_mirror::{Bytes, Event, Item, Mirror, Rows, TakeFault};
+use tlog_mirror::{Bytes, Event, Item, Mirror, Rows, TakeFault, fits, play, play_again};
 
 // The note of a log of one entry, which is its number.
 const HEAD_OF_1: &str =

@@ -1,9 +1,8 @@
 //! The key of the tests, and mirrors that are loaded from states.
 use crate::states::COMPLETE;
 use mirror_state::{LoadFault, SaveFault, load, save};
-use note_keys::{HmacKey, KeyFault};
 use program_states::check_origin;
-use signed_note::Verifier;
+use signed_note::{HmacKey, KeyFault, Verifier};
 use std::alloc::Global;
 use std::io::{Read, Write};
 use std::test::Fail;

@@ -44,13 +44,21 @@ fn refuses_cuts<H: TreeHash>(
     Ok(())
 }
 
-// One reader fails at its first read, and one never ends.
+// The bytes of readers that give one byte for each read, and why these are refused. The first reader fails at once. The second
+// ends at the last read of the 16,777,216 that there may be, and the third would end at the next one. The last does not end.
+const READERS: [(Option<u64>, LoadFault); 4] = [
+    (None, LoadFault::ReadFault),
+    (Some(16_777_215), LoadFault::StateMagic),
+    (Some(16_777_216), LoadFault::ReadFault),
+    (Some(u64::MAX), LoadFault::ReadFault),
+];
+
 #[test]
 fn endless_reader(rt: HostRuntime) {
-    for is_endless in [false, true] {
-        let mut reader = Strange { is_endless };
-        let fault = fault_of::<Sha256Tree, _>(rt.alloc(), &[], &mut reader);
-        assert!(rt; fault == Some(LoadFault::ReadFault));
+    for &(left, fault) in &READERS {
+        let mut reader = Strange { left };
+        let found = fault_of::<Sha256Tree, _>(rt.alloc(), &[], &mut reader);
+        assert!(rt; found == Some(fault));
     }
 }
 

@@ -3,20 +3,24 @@ use std::alloc::Global;
 use std::io;
 use std::io::{ErrorKind, Read, Write};
 
-// Fails at its first read, or gives one byte for each read without end.
+// Gives one byte for each read, as many as are left, and then ends; or fails at its first read.
 #[derive(Drop)]
 pub(crate) struct Strange {
-    pub(crate) is_endless: bool,
+    pub(crate) left: Option<u64>,
 }
 
 impl Read for Strange {
     fn read(&mut self, buf: &mut [u8]) -> io::Result<usize> {
-        if !self.is_endless {
+        let Some(left) = self.left else {
             return Err(io::Error::from(ErrorKind::Other));
+        };
+        if left == 0 {
+            return Ok(0);
         }
         match buf.first_mut() {
             Some(cell) => {
                 *cell = b'a';
+                self.left = Some(left.saturating_sub(1));
                 Ok(1)
             }
             None => Ok(0),

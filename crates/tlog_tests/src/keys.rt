@@ -1,7 +1,6 @@
-//! Keys and notes that the tests of `signed_note` and `note_keys` share.
+//! Keys and notes that the tests of `signed_note` share.
 
-use note_keys::{HmacKey, KeyFault};
-use signed_note::{Note, NoteFault};
+use signed_note::{HmacKey, KeyFault, Note, NoteFault};
 use std::alloc::Global;
 
 // The result of reading the bytes. The tests need no clause of it, or of the key below.

@@ -1,7 +1,7 @@
-//! HMAC-SHA-256 by the vectors of RFC 4231, and the keys that are accepted (`note_keys`).
+//! HMAC-SHA-256 by the vectors of RFC 4231, and the keys that are accepted (`signed_note`).
 
 use crate::keys::key_of;
-use note_keys::KeyFault;
+use signed_note::KeyFault;
 use std::alloc::Global;
 use std::test::Fail;
 

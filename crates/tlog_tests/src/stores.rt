@@ -39,7 +39,7 @@ fn add_at_last<H: TreeHash>(rt: &impl Abort, store: &mut Store<H>, string: Tagge
 }
 
 #[test]
-fn refused_growth_changes_nothing(rt: HostRuntime) {
+fn add_again_after_want_of_memory(rt: HostRuntime) {
     let ten = [10u8; 32];
     let mut store: Store<Sha256Tree> = empty(rt.alloc());
     for byte in 0..10u8 {
