@@ -4,7 +4,7 @@ ghost use Rattle.mirror_model.specs.TrueLaws.{AreShort};
 
 use crate::clock::now;
 use list_source::ListSource;
-use note_keys::{HmacKey, KeyFault};
+use signed_note::{HmacKey, KeyFault};
 use std::alloc::{AllocError, Global};
 use std::time::CpuClock;
 use tlog_hash::{Hash, TreeHash, tree_hash};

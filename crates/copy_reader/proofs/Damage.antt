@@ -18,7 +18,7 @@ use Rattle.log_reader.proofs.FalseFiles.{false_given, files_before}
 use Rattle.copy_reader.specs.Copies.{HasCheckpoint, RefusesNote}
 use Rattle.copy_reader.specs.Damage.{IsFalseWithin, NamesDamage, NamesEdgeDamage, NamesOpenDamage, NamesProofDamage, NamesWithin}
 use Rattle.copy_reader.specs.Faults.{by_read}
-use Rattle.copy_reader.specs.ShelfSources.{MayGive}
+use Rattle.copy_reader.specs.ShelfSources.{ShelfMayAnswer}
 use Rattle.copy_reader.specs.declared.fault.CopyFault.{CopyFault}
 use Rattle.copy_reader.specs.declared.fault.CopyFault.TheVariants as copy
 use Rattle.copy_reader.proofs.ShelfSources.{recorded_before}
@@ -31,16 +31,16 @@ damage_exit P (Err f) fault is h = subst P (sym is.1) h
 -- ---- a source over a shelf
 
 module _ (digest : List ℕ → List ℕ) (name : ℕ) (before held : Option (List Put)) (same : before ≡ held) where
-  recorded : (path : Path) → path ≢ Tile 0 0 0 → (answer : Option (List ℕ)) → MayGive name before path answer →
+  recorded : (path : Path) → path ≢ Tile 0 0 0 → (answer : Option (List ℕ)) → ShelfMayAnswer name before path answer →
       RecordsRead held path answer
   recorded path some answer (inl h) = subst (λ s. RecordsRead s path answer) same h.1
   recorded path some answer (inr h) = absurd (some h.0)
 
-  file_recorded : (edge : Edge) (path : Path) → IsFalseFile digest (MayGive name before) edge path →
+  file_recorded : (edge : Edge) (path : Path) → IsFalseFile digest (ShelfMayAnswer name before) edge path →
       IsFalseFile digest (RecordsRead held) edge path
-  file_recorded edge path f = false_given digest (RecordsRead held) (MayGive name before) recorded edge path f
+  file_recorded edge path f = false_given digest (RecordsRead held) (ShelfMayAnswer name before) recorded edge path f
 
-  pub read_damage : (edge : Edge) (fault : ReadFault) → NamesFalse digest (MayGive name before) edge fault →
+  pub read_damage : (edge : Edge) (fault : ReadFault) → NamesFalse digest (ShelfMayAnswer name before) edge fault →
       NamesDamage digest held edge (by_read fault)
   read_damage edge (reading.NoFile path) h = file_recorded edge path h
   read_damage edge (reading.FalseFile path) h = file_recorded edge path h
@@ -48,12 +48,12 @@ module _ (digest : List ℕ → List ℕ) (name : ℕ) (before held : Option (Li
   read_damage edge reading.Source h = tt
   read_damage edge reading.OutOfMemory h = tt
 
-  within_recorded : (edge : Edge) (path : Path) → IsFalseWithin digest (MayGive name before) edge path →
+  within_recorded : (edge : Edge) (path : Path) → IsFalseWithin digest (ShelfMayAnswer name before) edge path →
       IsFalseWithin digest (RecordsRead held) edge path
   within_recorded edge path (inl h) = inl (file_recorded edge path h)
   within_recorded edge path (inr h) = inr (h.0, h.1, file_recorded h.0 path h.2)
 
-  pub proof_damage : (edge : Edge) (fault : ReadFault) → NamesWithin digest (MayGive name before) edge fault →
+  pub proof_damage : (edge : Edge) (fault : ReadFault) → NamesWithin digest (ShelfMayAnswer name before) edge fault →
       NamesProofDamage digest held edge (by_read fault)
   proof_damage edge (reading.NoFile path) h = inr (within_recorded edge path h)
   proof_damage edge (reading.FalseFile path) h = inr (within_recorded edge path h)
@@ -62,11 +62,11 @@ module _ (digest : List ℕ → List ℕ) (name : ℕ) (before held : Option (Li
   proof_damage edge reading.OutOfMemory h = tt
 
   pub edge_damage : (size : ℕ) (root : List ℕ) (fault : ReadFault) →
-      NamesFalseEdge digest (MayGive name before) size root fault → NamesEdgeDamage digest held size root (by_read fault)
+      NamesFalseEdge digest (ShelfMayAnswer name before) size root fault → NamesEdgeDamage digest held size root (by_read fault)
   edge_damage size root (reading.NoFile path) h =
-      edge_given (RecordsRead held) (MayGive name before) size recorded digest root path h
+      edge_given (RecordsRead held) (ShelfMayAnswer name before) size recorded digest root path h
   edge_damage size root (reading.FalseFile path) h =
-      edge_given (RecordsRead held) (MayGive name before) size recorded digest root path h
+      edge_given (RecordsRead held) (ShelfMayAnswer name before) size recorded digest root path h
   edge_damage size root reading.Collision h = absurd h
   edge_damage size root reading.Source h = tt
   edge_damage size root reading.OutOfMemory h = tt

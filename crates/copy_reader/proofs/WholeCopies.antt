@@ -20,7 +20,7 @@ use Rattle.log_reader.specs.declared.fault.ReadFault.TheVariants as reading
 use Rattle.log_reader.proofs.TrueReads.{source_later}
 use Rattle.copy_reader.specs.Copies.{IsRefused, OpensCopy}
 use Rattle.copy_reader.specs.Faults.{by_read, CountsRead}
-use Rattle.copy_reader.specs.ShelfSources.{MayGive}
+use Rattle.copy_reader.specs.ShelfSources.{ShelfMayAnswer}
 use Rattle.copy_reader.specs.WholeCopies.{GivesOr, HasFilesOf, IsDamaged, IsOfShelf, IsShelfFailure, IsWholeCopy, ReadsCopyLog, ReadsCopyOf}
 use Rattle.copy_reader.specs.declared.fault.CopyFault.{CopyFault}
 use Rattle.copy_reader.specs.declared.fault.CopyFault.TheVariants as copy
@@ -44,23 +44,23 @@ no_full_of_none n (Entries index width) file e = absurd cc
 
 module _ (digest : List ℕ → List ℕ) (entries : List (List ℕ)) (name : ℕ) (held : Option (List Put)) where
   full_recorded : (path : Path) (answer : Option (List ℕ)) → IsTreeFile (length entries) path →
-      MayGive name held (full_of path) answer → RecordsRead held (full_of path) answer
+      ShelfMayAnswer name held (full_of path) answer → RecordsRead held (full_of path) answer
   full_recorded path answer file (inl recorded) = recorded.1
   full_recorded path answer file (inr named) = absurd (no_full_of_none (length entries) path file named.0)
 
-  recorded : (path : Path) (answer : Option (List ℕ)) → IsTreeFile (length entries) path → MayGive name held path answer →
+  recorded : (path : Path) (answer : Option (List ℕ)) → IsTreeFile (length entries) path → ShelfMayAnswer name held path answer →
       RecordsRead held path answer
   recorded path answer file (inl t) = t.1
   recorded path answer file (inr named) = absurd (no_tile_of_none (length entries) path file named.0)
 
   held_answer : (path : Path) (answer : Option (List ℕ)) → IsTreeFile (length entries) path →
-      IsHeldAnswer digest entries (RecordsRead held) path answer → IsHeldAnswer digest entries (MayGive name held) path answer
+      IsHeldAnswer digest entries (RecordsRead held) path answer → IsHeldAnswer digest entries (ShelfMayAnswer name held) path answer
   held_answer path (Some bytes) file h = h
   held_answer path None file h =
       record { partial = h.partial; full = λ answer may. h.full answer (full_recorded path answer file may) }
 
   -- the source has the files of the log that the shelf has
-  pub shelf_is_source : HasFilesOf digest entries held → IsSourceOf digest entries (MayGive name held)
+  pub shelf_is_source : HasFilesOf digest entries held → IsSourceOf digest entries (ShelfMayAnswer name held)
   shelf_is_source s = record {
     short = s.short;
     files = λ path file answer may. held_answer path answer file (s.files path file answer (recorded path answer file may));
@@ -77,12 +77,12 @@ shelf_failed reading.OutOfMemory h = tt
 
 module _ {T : Type 0} (digest : List ℕ → List ℕ) (name : ℕ) (before held : Option (List Put)) (same : before ≡ held)
     (claim : List (List ℕ) → T → Type 0) where
-  source_is : (entries : List (List ℕ)) → HasFilesOf digest entries held → IsSourceOf digest entries (MayGive name before)
+  source_is : (entries : List (List ℕ)) → HasFilesOf digest entries held → IsSourceOf digest entries (ShelfMayAnswer name before)
   source_is entries files =
       shelf_is_source digest entries name before (subst (λ h. HasFilesOf digest entries h) (sym same) files)
 
   -- a read of the source is one of the shelf
-  pub read_ok : (old new : Reader) (x : T) → ReadsOf digest old new (MayGive name before) (Ok x) claim →
+  pub read_ok : (old new : Reader) (x : T) → ReadsOf digest old new (ShelfMayAnswer name before) (Ok x) claim →
       ReadsCopyOf {E = CopyFault} IsShelfFailure digest old new held (Ok x) claim
   read_ok old new x reads entries is files =
       let r = reads entries is (source_is entries files) in record { reader_is = r.reader_is; answer = r.answer }
@@ -93,19 +93,19 @@ module _ {T : Type 0} (digest : List ℕ → List ℕ) (name : ℕ) (before held
   err_given fault (Err f) entries h is = subst IsShelfFailure (sym is.1) (shelf_failed fault h)
 
   pub read_err : (old new : Reader) (fault : ReadFault) (result : Result T CopyFault) →
-      IsErr result × IsErrAnd result (λ f. f ≡ by_read fault) → ReadsOf digest old new (MayGive name before) (Err fault) claim →
+      IsErr result × IsErrAnd result (λ f. f ≡ by_read fault) → ReadsOf digest old new (ShelfMayAnswer name before) (Err fault) claim →
       ReadsCopyOf IsShelfFailure digest old new held result claim
   read_err old new fault result is reads entries reader files =
       let r = reads entries reader (source_is entries files) in
       record { reader_is = r.reader_is; answer = err_given fault result entries r.answer is }
 
   -- the opening of a log from the source is one from the shelf
-  pub log_ok : (size : ℕ) (root : List ℕ) (x : T) → ReadsLog digest size root (MayGive name before) (Ok x) claim →
+  pub log_ok : (size : ℕ) (root : List ℕ) (x : T) → ReadsLog digest size root (ShelfMayAnswer name before) (Ok x) claim →
       ReadsCopyLog digest size root held (Ok x) claim
   log_ok size root x reads entries size_is root_is files = reads entries size_is root_is (source_is entries files)
 
   pub log_err : (size : ℕ) (root : List ℕ) (fault : ReadFault) (result : Result T CopyFault) →
-      IsErr result × IsErrAnd result (λ f. f ≡ by_read fault) → ReadsLog digest size root (MayGive name before) (Err fault) claim →
+      IsErr result × IsErrAnd result (λ f. f ≡ by_read fault) → ReadsLog digest size root (ShelfMayAnswer name before) (Err fault) claim →
       ReadsCopyLog digest size root held result claim
   log_err size root fault result is reads entries size_is root_is files =
       err_given fault result entries (reads entries size_is root_is (source_is entries files)) is

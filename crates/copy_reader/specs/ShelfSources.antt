@@ -15,6 +15,6 @@ NamesShelf name path answer = (path ≡ Tile 0 0 0) × (answer ≡ Some ((256 + 
 
 -- the answer is the shelf's content at the path. The other answer is there for `StaysWithin`: with it, that clause implies that the
 -- source still refers to the same shelf. No other clause of a call on any source implies this
-abbrev pub MayGive : ℕ → Option (List Put) → Path → Option (List ℕ) → Type 0
-MayGive name held path answer =
+abbrev pub ShelfMayAnswer : ℕ → Option (List Put) → Path → Option (List ℕ) → Type 0
+ShelfMayAnswer name held path answer =
     (HasBytes answer × RecordsRead held path answer) ⊎ NamesShelf name path answer

@@ -35,9 +35,9 @@ impl<'a, D: ReadableShelf> ShelfSource<'a, D> {
 }
 
 impl<'a, D: ReadableShelf> Source for ShelfSource<'a, D> {
-    ghost use Rattle.copy_reader.specs.ShelfSources.{MayGive};
+    ghost use Rattle.copy_reader.specs.ShelfSources.{ShelfMayAnswer};
 
-    ghost may_answer = { λ s. MayGive s.shelf.ghost_name (D.puts s.shelf.now) };
+    ghost may_answer = { λ s. ShelfMayAnswer s.shelf.ghost_name (D.puts s.shelf.now) };
 
     ghost files = { λ s. D.puts s.shelf.now };
 

@@ -23,9 +23,9 @@ use Rattle.tlog_checkpoint.specs.Grammar.{IsFullLine, IsCheckpoint}
 use Rattle.signed_note.specs.Keys.{Key}
 use Rattle.signed_note.specs.Names.{newline, is_note_char, IsNoteText}
 use Rattle.signed_note.specs.Notes.{SignatureParts, Opens, IsAcceptedBy}
-use Rattle.note_keys.specs.Signing.{IsLawfulText}
+use Rattle.signed_note.specs.Signing.{IsLawfulText}
 use Rattle.signed_note.proofs.Payloads.{Passing, base64_passes, base64_is_ascii}
-use Rattle.note_keys.proofs.Signed.{text_append, ascii_text, newline_text}
+use Rattle.signed_note.proofs.Signed.{text_append, ascii_text, newline_text}
 use Rattle.mirror_model.specs.Origin.{IsOrigin}
 
 -- ---- the origin

@@ -1,10 +1,10 @@
 //! The checkpoint note of a list.
 ghost use Rattle.std.specs.Prelude.{◌≤◌, IfOk};
-ghost use Rattle.note_keys.specs.Keys.{secret_key};
+ghost use Rattle.signed_note.specs.KeyKinds.{secret_key};
 ghost use Rattle.mirror_model.specs.Origin.{IsOrigin};
 ghost use Rattle.list_source.specs.ListSource.{OpensAnywhere};
 
-use note_keys::{HmacKey, sign};
+use signed_note::{HmacKey, sign};
 use std::alloc::{AllocError, Global};
 use tlog_checkpoint::{Checkpoint, Line, Lines, write};
 use tlog_hash::Hash;

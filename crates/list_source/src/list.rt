@@ -1,13 +1,13 @@
 //! A source over a list of entries.
 ghost use Rattle.std.specs.Prelude.{◌≡◌, [], map, IfOk, option_map};
-ghost use Rattle.note_keys.specs.Keys.{secret_key};
+ghost use Rattle.signed_note.specs.KeyKinds.{secret_key};
 ghost use Rattle.mirror_model.specs.Origin.{IsOrigin};
 ghost use Rattle.mirror_model.specs.TrueLaws.{AreShort};
 ghost use Rattle.list_source.specs.ListSource.{IsListAnswer, IsHonestAnywhere};
 
 use crate::head::head_note;
 use mirror_sources::{Source, SourceFault};
-use note_keys::HmacKey;
+use signed_note::HmacKey;
 use std::alloc::{AllocError, Global};
 use std::marker::Model;
 use tlog_files::LogFiles;

@@ -12,9 +12,8 @@
 use byte_streams::write_whole;
 use mirror_folders::DirSource;
 use mirror_pull::pull;
-use note_keys::{KeyLine, join_pins, read_keys};
 use program_reports::{Question, print_report, pulled_text};
-use signed_note::Verifier;
+use signed_note::{KeyLine, Verifier, join_pins, read_keys};
 use std::alloc::Global;
 use std::io::Write;
 use std::process::ExitCode;

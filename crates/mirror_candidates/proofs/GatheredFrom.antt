@@ -15,7 +15,7 @@ use Rattle.mirror_places.specs.declared.place.Place.{Place}
 use Rattle.mirror_places.specs.declared.places.Places.{Places}
 use Rattle.mirror_places.specs.declared.place.PlaceAnswer.{PlaceAnswer}
 use Rattle.mirror_places.specs.declared.place.PlaceAnswer.TheVariants.{File, NotFound, Failed}
-use Rattle.mirror_candidates.specs.Requests.{AsksAny, MayGive, PlaceFails}
+use Rattle.mirror_candidates.specs.Requests.{AsksAny, MayGiveNote, PlaceFails}
 use Rattle.mirror_candidates.specs.GatheredFrom.{AnswerEach, AreCandidates, GathersFrom, GiveCandidates, GiveNone, GiveNoneFor, MayAnswer}
 use Rattle.mirror_candidates.specs.Gathering.{AreCandidatesOf, Gathers, IsFirstReason, IsGiven, IsNote, IsReason, option_or}
 use Rattle.mirror_candidates.specs.Candidates.{note_of}
@@ -131,7 +131,7 @@ module _ (origin : List ℕ) (keys : List Key) where
     pub gathered_then : (x y z : Places S) (count : ℕ) (g next : Gathered) (answer : PlaceAnswer) →
         AsksAny may failed asked x y → AsksAny may failed asked y z → From x y count g →
         ((d : Place S) → MayAnswer may (get_or y.list.items count d) (get_or z.list.items count d) answer) →
-        ((note : List ℕ) → IsNote note answer → MayGive may y note) → (answer ≡ Failed → PlaceFails y z) →
+        ((note : List ℕ) → IsNote note answer → MayGiveNote may y note) → (answer ≡ Failed → PlaceFails y z) →
         ((answers : List PlaceAnswer) → Gathers origin keys answers g.candidates.items g.first →
         Gathers origin keys (answers ++ answer ∷ []) next.candidates.items next.first) → From x z (count + 1) next
     gathered_then x y z count g next answer p q is answered gives fails more = record {
@@ -154,11 +154,11 @@ module _ (origin : List ℕ) (keys : List Key) where
 
     pub turns_gave : (x y : Places S) (n : ℕ) (g : Gathered) (r : Result (Vec Candidate Global) CandidateFault) → From x y n g →
         IfOk r (λ c. IsPermutation g.candidates.items c.items) →
-        IfOk r (λ c. All (λ candidate. MayGive may x (note_of candidate)) c.items)
+        IfOk r (λ c. All (λ candidate. MayGiveNote may x (note_of candidate)) c.items)
     turns_gave x y n g (Err e) is same = tt
     turns_gave x y n g (Ok c) is same =
-        All-permutation (λ candidate. MayGive may x (note_of candidate)) g.candidates.items c.items same
-        (All-weaker (IsGiven origin keys is.answers) (λ candidate. MayGive may x (note_of candidate))
+        All-permutation (λ candidate. MayGiveNote may x (note_of candidate)) g.candidates.items c.items same
+        (All-weaker (IsGiven origin keys is.answers) (λ candidate. MayGiveNote may x (note_of candidate))
         (λ candidate given. is.gave (note_of candidate) given.gave) g.candidates.items is.gathers.are_of.each)
 
     -- the given candidates, in the order of turns

@@ -11,7 +11,7 @@ use Rattle.mirror_places.specs.declared.place.PlaceAnswer.TheVariants as answer
 use Rattle.mirror_places.specs.declared.places.Places.{Places}
 use Rattle.mirror_places.proofs.Asking.{asked_same, asked_then, asked_weaker}
 use Rattle.mirror_places.specs.EndTiles.{IsEndTile}
-use Rattle.mirror_candidates.specs.Requests.{AsksAny, MayGive, PlaceFails}
+use Rattle.mirror_candidates.specs.Requests.{AsksAny, MayGiveNote, PlaceFails}
 use Rattle.mirror_candidates.specs.Gathering.{IsNote}
 
 -- the full file of a tile in which a tree ends is one too
@@ -79,7 +79,7 @@ module _ {S : Type 0} (may : S → Path → Option (List ℕ) → Type 0) (faile
       }
 
   -- a note that a place may give now is one that it might have given before
-  pub gives_before : (x y : Places S) (note : List ℕ) → Any x y → MayGive may y note → MayGive may x note
+  pub gives_before : (x y : Places S) (note : List ℕ) → Any x y → MayGiveNote may y note → MayGiveNote may x note
   gives_before x y note p g = record {
     index = g.index;
     listed = subst (λ n. g.index < n) p.count g.listed;
@@ -109,7 +109,7 @@ module _ {S : Type 0} (may : S → Path → Option (List ℕ) → Type 0) (faile
       }
 
   pub answer_gives : (x y : Places S) (i : ℕ) (a : PlaceAnswer) (bytes : Vec ℕ Global) (note : List ℕ) →
-      i < length x.list.items → Answers x y i a → a ≡ answer.File bytes → bytes.items ≡ note → MayGive may x note
+      i < length x.list.items → Answers x y i a → a ≡ answer.File bytes → bytes.items ≡ note → MayGiveNote may x note
   answer_gives x y i a bytes note lt h is same = record {
     index = i;
     listed = lt;
@@ -119,7 +119,7 @@ module _ {S : Type 0} (may : S → Path → Option (List ℕ) → Type 0) (faile
   }
 
   pub note_given : (x y : Places S) (i : ℕ) (a : PlaceAnswer) (note : List ℕ) → i < length x.list.items →
-      Answers x y i a → IsNote note a → MayGive may x note
+      Answers x y i a → IsNote note a → MayGiveNote may x note
   note_given x y i (answer.File bytes) note lt h is = answer_gives x y i (answer.File bytes) bytes note lt h refl is
   note_given x y i answer.NotFound note lt h is = absurd is
   note_given x y i answer.Failed note lt h is = absurd is

@@ -11,7 +11,7 @@ use Rattle.mirror_places.specs.declared.place.Place.{Place}
 use Rattle.mirror_places.specs.declared.places.Places.{Places}
 use Rattle.mirror_places.specs.declared.place.PlaceAnswer.{PlaceAnswer}
 use Rattle.mirror_places.specs.declared.place.PlaceAnswer.TheVariants.{Failed}
-use Rattle.mirror_candidates.specs.Requests.{MayGive, PlaceFails}
+use Rattle.mirror_candidates.specs.Requests.{MayGiveNote, PlaceFails}
 use Rattle.mirror_candidates.specs.Candidates.{IsCandidateOf}
 use Rattle.mirror_candidates.specs.Gathering.{AreCandidatesOf, Gathers, Gave, IsFirstReason, option_or}
 use Rattle.mirror_candidates.specs.declared.candidate.Candidate.{Candidate}
@@ -54,7 +54,7 @@ module _ {S : Type 0} (may : S → Path → Option (List ℕ) → Type 0) where
       pub answers : List PlaceAnswer
       pub gathers : Gathers origin keys answers gathered.candidates.items gathered.first
       pub answer_each : AnswerEach old new answers count
-      pub gave : (note : List ℕ) → Gave answers note → MayGive may old note
+      pub gave : (note : List ℕ) → Gave answers note → MayGiveNote may old note
       pub failed : Contains answers Failed → PlaceFails old new
 
     -- each place answered, failed or had been given up. No answer is a note that opens, and the fault is the reason of the first

@@ -16,14 +16,14 @@ pub record PlaceFails {S : Type 0} (old new : Places S) : Type 0 where
 
 module _ {S : Type 0} (may : S → Path → Option (List ℕ) → Type 0) where
   -- a place may give the note as its checkpoint
-  pub record MayGive (places : Places S) (note : List ℕ) : Type 0 where
+  pub record MayGiveNote (places : Places S) (note : List ℕ) : Type 0 where
     pub index : ℕ
     pub listed : index < length places.list.items
     pub gives : (none : Place S) → may (get_or places.list.items index none).source Checkpoint (Some note)
 
   -- the note is the given one, or else one that a place may give
   abbrev pub IsGivenOrMayGive : Option (List ℕ) → Places S → List ℕ → Type 0
-  IsGivenOrMayGive None places note = MayGive places note
+  IsGivenOrMayGive None places note = MayGiveNote places note
   IsGivenOrMayGive (Some given) places note = note ≡ given
 
 -- the places may get requests for any files

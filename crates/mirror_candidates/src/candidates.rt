@@ -3,7 +3,7 @@ ghost use Rattle.std.specs.Prelude.{◌≡◌, ◌<◌, All, IfErr, IfOk, length
 ghost use Rattle.std.specs.List.Sorted.{IsSorted};
 ghost use Rattle.mirror_candidates.specs.Candidates.{IsCandidate, note_of, turn_cmp};
 ghost use Rattle.mirror_candidates.specs.GatheredFrom.{AreCandidates, GathersFrom, GiveCandidates, GiveNoneFor, IsOnly, LacksCandidates, RefusesGiven};
-ghost use Rattle.mirror_candidates.specs.Requests.{AsksAny, IsGivenOrMayGive, MayGive};
+ghost use Rattle.mirror_candidates.specs.Requests.{AsksAny, IsGivenOrMayGive, MayGiveNote};
 
 use crate::candidate::{Candidate, candidate_of};
 use crate::fault::CandidateFault;
@@ -45,7 +45,7 @@ fn ask_places<S: Source + Drop>(
     ensures opened { IfOk result
         (λ candidates. All (IsCandidate origin.now (map (λ k. key k) keys.now)) candidates.items) }
     ensures gave { IfOk result (λ candidates. All
-        (λ c. MayGive S.may_answer places.old (note_of c)) candidates.items) }
+        (λ c. MayGiveNote S.may_answer places.old (note_of c)) candidates.items) }
     ensures some { IfOk result (λ candidates. 0 < length candidates.items) }
     ensures gives { IfOk result (λ candidates. GiveCandidates S.may_answer origin.now
         (map (λ k. key k) keys.now) places.old places.new candidates.items) }

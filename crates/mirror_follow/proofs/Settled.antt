@@ -10,7 +10,7 @@ use Rattle.mirror_candidates.specs.declared.candidate.Candidate.{Candidate}
 use Rattle.mirror_candidates.specs.declared.fork_line.ForkLine.{ForkLine}
 use Rattle.mirror_candidates.proofs.LineLists.{lines_kept}
 use Rattle.mirror_follow.specs.Says.{IsBehind, IsLarger, IsSettled, SettlesEach, larger_cmp, point_of_copy}
-use Rattle.mirror_follow.specs.Taken.{HasTaken, IsAgreed, IsBehindTest, IsBeyond, IsLacked, IsLeft, IsReached, IsReported, IsSplit, KeepsFirst, SplitsLacked}
+use Rattle.mirror_follow.specs.Taken.{HasTaken, IsAgreed, IsBehindTest, IsBeyond, IsLacked, IsUnreached, IsReached, IsReported, IsSplit, KeepsFirst, SplitsLacked}
 use Rattle.mirror_follow.specs.declared.report.Followed.{Followed}
 use Rattle.mirror_follow.proofs.Taken.{in_some_line}
 
@@ -50,7 +50,7 @@ module _ (digest : List ℕ → List ℕ) (first : Option Candidate) (candidates
   settled x (inr r) = inr (reported_settled x r)
 
   -- a larger candidate
-  left_larger : (p : ℕ × List ℕ) → IsLeft copy lacked p → IsLarger candidates f p
+  left_larger : (p : ℕ × List ℕ) → IsUnreached copy lacked p → IsLarger candidates f p
   left_larger p l =
       let both = All-contains (λ c. IsBeyond (Some copy) c × IsLacked candidates c) lacked l.candidate h.lacks l.listed in
       let le : copy.size.0 ≤ l.candidate.size.0 = both.0.0 in

@@ -6,7 +6,7 @@ use Rattle.mirror_candidates.specs.Lines.{IsInSomeLine, KeepsLines}
 use Rattle.mirror_candidates.specs.declared.candidate.Candidate.{Candidate}
 use Rattle.mirror_candidates.specs.declared.fork_line.ForkLine.{ForkLine}
 use Rattle.mirror_candidates.proofs.LineLists.{kept_itself, kept_then, lines_kept}
-use Rattle.mirror_follow.specs.Taken.{IsLeft, IsSplit, SplitsLacked}
+use Rattle.mirror_follow.specs.Taken.{IsUnreached, IsSplit, SplitsLacked}
 
 -- a line of the copy and a candidate was added
 pub line_added : {T E : Type 0} (r : Result T E) (old new : List ForkLine) (c : Candidate) (P : Type 0) →
@@ -22,10 +22,10 @@ module _ (copy : Candidate) (old : List ForkLine) where
   split_none lacked larger none empty = record {
     kept = kept_itself old;
     each = subst (All (IsSplit old larger)) (sym none) (λ k d lt. absurd (omega (arith, lt)));
-    left = subst (All (IsLeft copy lacked)) (sym empty) (λ k d lt. absurd (omega (arith, lt)));
+    left = subst (All (IsUnreached copy lacked)) (sym empty) (λ k d lt. absurd (omega (arith, lt)));
   }
 
-  left_more : (done : List Candidate) (x : Candidate) (p : ℕ × List ℕ) → IsLeft copy done p → IsLeft copy (done ++ x ∷ []) p
+  left_more : (done : List Candidate) (x : Candidate) (p : ℕ × List ℕ) → IsUnreached copy done p → IsUnreached copy (done ++ x ∷ []) p
   left_more done x p l = record {
     candidate = l.candidate;
     listed = Contains-append_left done (x ∷ []) l.candidate l.listed;
@@ -65,7 +65,7 @@ module _ (copy : Candidate) (old : List ForkLine) where
         each = All-push (IsSplit next (larger ++ p ∷ [])) done x
             (λ k d lt. split_longer next larger p _ (split_kept forks next larger _ kept (s.each k d lt)))
             (inr (Contains-push larger p));
-        left = All-push (IsLeft copy (done ++ x ∷ [])) larger p (λ k d lt. left_more done x _ (s.left k d lt))
+        left = All-push (IsUnreached copy (done ++ x ∷ [])) larger p (λ k d lt. left_more done x _ (s.left k d lt))
             (record { candidate = x; listed = Contains-push done x; is = refl; same = same });
       }
       in subst (SplitsLacked copy old (done ++ x ∷ []) next) (sym e) both

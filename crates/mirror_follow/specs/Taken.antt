@@ -86,7 +86,7 @@ IsSplit forks larger candidate =
     IsInSomeLine forks candidate ⊎ Contains larger (candidate.size.0, candidate.root)
 
 -- one of the larger ones is a candidate to which the copy could not be brought. If it has the copy's size, it has its root
-pub record IsLeft (copy : Candidate) (lacked : List Candidate) (point : ℕ × List ℕ) : Type 0 where
+pub record IsUnreached (copy : Candidate) (lacked : List Candidate) (point : ℕ × List ℕ) : Type 0 where
   pub candidate : Candidate
   pub listed : Contains lacked candidate
   pub is : point ≡ (candidate.size.0, candidate.root)
@@ -97,7 +97,7 @@ pub record SplitsLacked (copy : Candidate) (old : List ForkLine) (lacked : List 
     (larger : List (ℕ × List ℕ)) : Type 0 where
   pub kept : KeepsLines old new
   pub each : All (IsSplit new larger) lacked
-  pub left : All (IsLeft copy lacked) larger
+  pub left : All (IsUnreached copy lacked) larger
 
 -- the test: no line reports a candidate, and no candidate has the copy's size
 pub record IsBehindTest (test reached : Bool) (forks : List ForkLine) (larger : List (ℕ × List ℕ)) : Type 0 where

@@ -220,6 +220,16 @@ module _ {S : Type 0} (asked : S → Option (List Path)) where
     still = still_same x.ends;
   }
 
+  -- a call that requests nothing
+  pub more_none : (may : S → Path → Option (List ℕ) → Type 0) (failed : S → ℕ) (x y : Places S) →
+      AsksPlaces may failed asked (λ path. ⊥) x y → AsksMore asked x y
+  more_none may failed x y q = record {
+    asks = each_weaker (λ k path. ⊥ × IsKept y k path) (λ k path. IsEndTile y.ends.sizes path
+        × (¬ IsHeard x.ends.tiles.items k path) × IsHeard y.ends.tiles.items k path) (λ k path h. absurd h.0) x y
+        (once_none may failed x y q).asks;
+    still = q.still;
+  }
+
   -- one place got a request
   pub more_one : (index : ℕ) (path : Path) (x y : Places S) → IsEndTile x.ends.sizes path →
       (¬ IsHeard x.ends.tiles.items index path) → AsksOnce asked (IsAtPlace index (λ p. p ≡ path)) x y → AsksMore asked x y

@@ -14,8 +14,8 @@ use tlog_tiles::Path;
 
 /// The places of a run, in the order in which they were added. What was learnt about them is kept from call to call.
 ///
-/// The place whose bytes verified last is asked first, then the others in order. A place that failed 8 times in the run is not asked
-/// again.
+/// The place whose bytes verified last is asked first, then the others in order. Before it comes a place at which nothing was wrong, if
+/// that answers more than twice as fast. A place that failed 8 times in the run is not asked again.
 ///
 /// ```text
 /// let mut places = Places::new(alloc);
@@ -181,15 +181,19 @@ impl<S: Source + Drop> Places<S> {
         self.list.len()
     }
 
-    /// The place that is asked first: its bytes verified last.
+    /// The place that is asked first: its bytes verified last, or nothing was wrong at it and it answers more than twice as fast.
     pub(crate) fn first(&self) -> usize
         ensures { 0 < length self.now.list.items → result < length self.now.list.items }
     {
-        if self.verified_last < self.list.len() {
-            self.verified_last
-        } else {
-            0
+        let Some(last) = self.list.get(self.verified_last) else {
+            return 0;
+        };
+        for (i, place) in self.list.iter().enumerate() {
+            if place.is_faster(last) {
+                return i;
+            }
         }
+        self.verified_last
     }
 
     /// Begins a call: no place has failed in it yet, and no file is lacked.

@@ -19,5 +19,6 @@ pub use fault::PullFault;
 pub use laws::{
     fetched_once_law, front_round_law, front_rounds_law, no_round_law, pull_growth_law,
 };
+pub use list_source::ListSource;
 pub use mirror_sources::{Source, SourceFault};
 pub use pulling::{Pulled, pull};

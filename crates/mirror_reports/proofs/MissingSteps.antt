@@ -12,7 +12,7 @@ use Rattle.node_store.specs.Strings.{Strings}
 use Rattle.mirror_model.specs.Texts.{path_line, missing_text}
 use Rattle.mirror_trees.specs.Levels.{ListsLevels, first_from, fresh_from, path_at}
 use Rattle.mirror_trees.proofs.LevelLists.{first_rests, none_rests}
-use Rattle.mirror_reports.specs.MissingLines.{begin_text, part_text, paths_of, IsLevelOf}
+use Rattle.mirror_reports.specs.MissingLines.{begin_text, part_text, level_paths, IsLevelOf}
 use Rattle.mirror_reports.specs.Pieces.{Sends}
 use Rattle.mirror_reports.proofs.SentPieces.{prefix_more, sends_then, fails_then}
 use Rattle.mirror_reports.proofs.WrittenLines.{text_append}
@@ -114,7 +114,7 @@ module _ (digest : List ℕ → List ℕ) (held : Strings) (size : ℕ) (root : 
     pub numbers : List ℕ
     pub higher : ListsLevels digest held size root (levels - 1) above
     pub own : IsLevelOf digest held size root (8 - levels) numbers
-    pub is : paths ≡ above ++ paths_of size (8 - levels) numbers
+    pub is : paths ≡ above ++ level_paths size (8 - levels) numbers
 
   pub parts_of : (levels : ℕ) (paths : List Path) → (levels ≡ 0 → ⊥) → ListsLevels digest held size root levels paths →
       AreParts levels paths
@@ -127,7 +127,7 @@ module _ (digest : List ℕ → List ℕ) (held : Strings) (size : ℕ) (root : 
         numbers = numbers;
         higher = subst (λ n. ListsLevels digest held size root n above) same higher;
         own = subst (λ n. IsLevelOf digest held size root n numbers) level own;
-        is = subst (λ n. paths ≡ above ++ paths_of size n numbers) level is;
+        is = subst (λ n. paths ≡ above ++ level_paths size n numbers) level is;
       }
 
   pub no_levels : (levels : ℕ) (paths : List Path) → levels ≡ 0 → ListsLevels digest held size root levels paths → paths ≡ []

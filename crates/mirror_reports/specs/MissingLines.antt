@@ -16,8 +16,8 @@ abbrev pub part_text : ℕ → List ℕ
 part_text size = codes ".p/" ++ (decimal (size % 256) ++ 10 ∷ [])
 
 -- the paths of a level's files with these numbers
-abbrev pub paths_of : ℕ → ℕ → List ℕ → List Path
-paths_of size level numbers = map (path_at size level) (fresh_from 0 numbers)
+abbrev pub level_paths : ℕ → ℕ → List ℕ → List Path
+level_paths size level numbers = map (path_at size level) (fresh_from 0 numbers)
 
 -- the numbers are those of the missing files of that level
 abbrev pub IsLevelOf : (List ℕ → List ℕ) → Strings → ℕ → List ℕ → ℕ → List ℕ → Type 0

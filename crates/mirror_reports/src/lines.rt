@@ -8,7 +8,7 @@ ghost use Rattle.tlog_tiles.specs.declared.paths.Path.{Path as AnyPath};
 ghost use Rattle.mirror_model.specs.Texts.{missing_text, path_line};
 ghost use Rattle.mirror_trees.specs.HeldTrees.{AreKnown};
 ghost use Rattle.mirror_trees.specs.Levels.{AreClear, ListsLevels, path_at};
-ghost use Rattle.mirror_reports.specs.MissingLines.{IsLevelOf, begin_text, part_text, paths_of};
+ghost use Rattle.mirror_reports.specs.MissingLines.{IsLevelOf, begin_text, part_text, level_paths};
 ghost use Rattle.mirror_reports.specs.Pieces.{Sends};
 
 use crate::pieces::send;
@@ -170,14 +170,14 @@ fn write_level<H: TreeHash, W: Write>(
     ensures ok { OnOk result ((numbers : List ℕ)
         → IsLevelOf H.digest store.now size root.now level numbers
         → Sends (W.contents output.old) (W.contents output.new) held.new.items
-        (held.old.items ++ missing_text (paths_of size level numbers))) }
+        (held.old.items ++ missing_text (level_paths size level numbers))) }
     ensures any { IfOk result (λ any. (numbers : List ℕ)
         → IsLevelOf H.digest store.now size root.now level numbers
-        → IsTrue any ↔ (IsTrue before ⊎ (paths_of size level numbers ≢ []))) }
+        → IsTrue any ↔ (IsTrue before ⊎ (level_paths size level numbers ≢ []))) }
     ensures err { OnErr result ((numbers : List ℕ)
         → IsLevelOf H.digest store.now size root.now level numbers
         → AppendsPrefix (W.contents output.old) (W.contents output.new)
-        (held.old.items ++ missing_text (paths_of size level numbers))) }
+        (held.old.items ++ missing_text (level_paths size level numbers))) }
     ensures fault { IfErr result (λ e. e ≡ StreamFault.WriteFault) }
 {
     let mut any = before;

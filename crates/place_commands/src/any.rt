@@ -2,7 +2,7 @@
 use mirror_client::Dial;
 use mirror_sources::{Source, SourceFault};
 use program_env::{Failed, Failing};
-use program_follow::{FailedAt, PlaceSource};
+use program_follow::{FailedAt, PlaceSource, WatchedPlace};
 use std::fs::Files;
 use tlog_tiles::Path;
 
@@ -10,6 +10,9 @@ use tlog_tiles::Path;
 pub(crate) trait FailingPlace: Source {
     /// The last failure; None if there was none, or if it was not kept.
     fn failure(&self) -> Option<Failed>;
+
+    /// The number of seconds that were waited for it while it was busy.
+    fn waited(&self) -> u64;
 }
 
 impl<'a, R: Files, D: Dial + Drop> FailingPlace for PlaceSource<'a, R, D> {
@@ -19,6 +22,10 @@ impl<'a, R: Files, D: Dial + Drop> FailingPlace for PlaceSource<'a, R, D> {
             Some(FailedAt::Get(failed)) => Some(Failed::Get(failed)),
             None => None,
         }
+    }
+
+    fn waited(&self) -> u64 {
+        WatchedPlace::waited(self)
     }
 }
 
@@ -32,6 +39,13 @@ impl<S: Drop> AnySource<S> {
     /// Passes on the answers of that place.
     pub(crate) fn new(source: S) -> AnySource<S> {
         AnySource { source }
+    }
+}
+
+impl<S: FailingPlace + Drop> AnySource<S> {
+    /// The number of seconds that were waited for the place while it was busy.
+    pub(crate) fn waited(&self) -> u64 {
+        self.source.waited()
     }
 }
 

@@ -14,9 +14,9 @@ use crate::places::source_of;
 use mirror_audit::AuditFault;
 use mirror_progress::{CountingSource, Progress, StandardError, Task};
 use mirror_sources::Source;
-use program_env::places::{of_edge, of_file, of_refused, of_source};
+use program_env::places::{of_edge, of_file, of_refused, of_source, place_name};
 use program_env::why::{Why, of_origin};
-use program_env::{Env, Failing, RunFiles, RunFolders, WatchedSource};
+use program_env::{Env, Failing, RunFiles, RunFolders, WatchedSource, print_waited};
 use program_monitor::{AuditRunFault, run_audit};
 use program_states::check_origin;
 use program_words::Place;
@@ -73,7 +73,7 @@ where
             return Err(Error::new(PlaceRunFault::Origin(fault), why));
         }
     }
-    match source_of(env.rt, &net, env.alloc, &audit.place, audit.ahead as usize) {
+    match source_of(env.rt, &net, env.alloc, &audit.place, audit.pace) {
         Ok(source) => audit_any(env, keys, audit, source),
         Err(_) => Err(Error::new(PlaceRunFault::OutOfMemory, None)),
     }
@@ -95,7 +95,17 @@ where
 {
     let source = WatchedSource::new(env.alloc, AnySource::new(source));
     let (answer, source) = audit_source(env.rt, env.alloc, audit, keys, source, env.output);
+    write_waited(env.alloc, audit, source.source.waited(), env.errors);
     audited(env.alloc, audit, source, answer)
+}
+
+// Writes the line about a wait for a busy place, if the words ask for lines.
+fn write_waited<E: Write>(alloc: Global, words: &Audit<'_>, seconds: u64, errors: &mut E) {
+    if words.progress {
+        if let Ok(name) = place_name(alloc, &words.place) {
+            print_waited(alloc, Task::Audit, seconds, &name, errors);
+        }
+    }
 }
 
 // The answer of the command from the answer of the audit.

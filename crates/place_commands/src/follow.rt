@@ -11,10 +11,11 @@ use crate::fault::{Error, PlaceRunFault};
 use crate::places::places_of;
 use mirror_follow::FollowFault;
 use mirror_places::Places;
+use mirror_progress::Task;
 use mirror_sources::Source;
 use program_env::served::of_note;
 use program_env::why::{Why, of_folder, of_named, of_origin};
-use program_env::{Env, RunFiles, RunFolders, write_front};
+use program_env::{Env, RunFiles, RunFolders, print_waited, write_front};
 use program_follow::{FollowRunFault, Following, WatchedPlace, follow_why, run_follow};
 use program_states::check_origin;
 use program_words::commands::follow::Follow;
@@ -71,13 +72,7 @@ where
             return Err(Error::new(PlaceRunFault::Origin(fault), why));
         }
     }
-    match places_of(
-        env.rt,
-        &net,
-        env.alloc,
-        &follow.places,
-        follow.ahead as usize,
-    ) {
+    match places_of(env.rt, &net, env.alloc, &follow.places, follow.pace) {
         Ok(places) => follow_among(env, keys, follow, places),
         Err(_) => Err(Error::new(PlaceRunFault::OutOfMemory, None)),
     }
@@ -111,6 +106,7 @@ fn follow_among<R, F: RunFiles, D: RunFolders, I: Read, O: Write, E: Write, S: W
         &mut places,
         env.output,
     );
+    write_waits(follow.progress, env.alloc, &places, env.errors);
     write_whys::<D, S, E>(
         follow.why,
         env.alloc,
@@ -198,6 +194,21 @@ fn why_of_copy<R, F: RunFiles, D: RunFolders, I, O, E>(
             Why::of_made(env.alloc, format!(in env.alloc; "{path}"))
         }
         _ => None,
+    }
+}
+
+// Writes a line about each busy place that was waited for, if the words ask for lines.
+fn write_waits<S: WatchedPlace + Drop, E: Write>(
+    asked: bool,
+    alloc: Global,
+    places: &Places<S>,
+    errors: &mut E,
+) {
+    if asked {
+        for place in places.list() {
+            let source = place.source();
+            print_waited(alloc, Task::Follow, source.waited(), source.name(), errors);
+        }
     }
 }
 

@@ -1,6 +1,6 @@
 //! The places that a command names, as sources.
 
-use mirror_client::TcpDial;
+use mirror_client::{Pace, TcpDial};
 use mirror_folders::DirSource;
 use mirror_places::Places;
 use mirror_sources::Source;
@@ -12,14 +12,14 @@ use std::fs::Files;
 use std::net::{Net, TcpStream};
 use std::rt::Clock;
 
-/// The source at a place: a folder, or a server over TCP. A server gets at most `ahead` requests ahead. Over any net this is checked
-/// much faster than over a reference to the runtime.
+/// The source at a place: a folder, or a server over TCP, which is asked at that pace. Over any net this is checked much faster than
+/// over a reference to the runtime.
 pub(crate) fn source_of<'a, R: Files, N: Net<Stream = TcpStream> + Clock + Clone + Drop>(
     rt: &'a R,
     net: &N,
     alloc: Global,
     place: &'a Place<'a>,
-    ahead: usize,
+    pace: Pace,
 ) -> Result<PlaceSource<'a, R, TcpDial<N>>, AllocError> {
     let name = place_name(alloc, place)?;
     match place {
@@ -33,7 +33,7 @@ pub(crate) fn source_of<'a, R: Files, N: Net<Stream = TcpStream> + Clock + Clone
             address,
             port,
         } => {
-            let source = server_of(net.clone()?, alloc, (host, prefix), (address, *port), ahead)?;
+            let source = server_of(net.clone()?, alloc, (host, prefix), (address, *port), pace)?;
             PlaceSource::of_server(alloc, &name, source)
         }
     }
@@ -55,11 +55,11 @@ pub(crate) fn places_of<'a, R: Files, N: Net<Stream = TcpStream> + Clock + Clone
     net: &N,
     alloc: Global,
     words: &'a [Place<'a>],
-    ahead: usize,
+    pace: Pace,
 ) -> Result<Places<PlaceSource<'a, R, TcpDial<N>>>, AllocError> {
     let mut places = Ok(Places::new(alloc));
     for place in words {
-        places = with_place(places, source_of(rt, net, alloc, place, ahead));
+        places = with_place(places, source_of(rt, net, alloc, place, pace));
     }
     places
 }

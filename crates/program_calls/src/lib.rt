@@ -1,5 +1,6 @@
-//! The calls of the program for a caller that has the keys: the name of the key file in the words, and a run with given keys over
-//! the files of the system. The program itself calls `run` of `program_library`, which reads the key file too.
+//! The library of the program: what its commands do, for a caller that has the keys. That is the name of the key file in the words, and
+//! a run with given keys over the files of the system. The program itself calls `run` of `program_library`, which reads the key file too.
+//! It also re-exports the work of `root` and `check`, and the reader of entries of `build`.
 //!
 //! ```text
 //! let name = key_file(alloc, &words)?;    // Some("log.keys"): read it, and box its keys
@@ -12,3 +13,6 @@ mod names;
 
 pub use given::run_words;
 pub use names::key_file;
+pub use program_library::{
+    CheckFault, EntriesFault, RootFault, RunFault, read_entries, run_check, run_root,
+};

@@ -63,7 +63,7 @@ Stands puts folder heads head =
     (number : ℕ) × (number < alike_count heads head) × IsUnder puts folder head number
 
 -- one of these notes is there under that number of the size and root of `head`
-pub record IsTaken (puts : List NamedFile) (folder : List ℕ) (heads : List HeadNote)
+pub record IsNumberTaken (puts : List NamedFile) (folder : List ℕ) (heads : List HeadNote)
     (head : HeadNote) (number : ℕ) : Type 0 where
   pub other : HeadNote
   pub is_listed : Contains heads other
@@ -77,7 +77,7 @@ KeepsOthers puts folder old new =
     slice_get old index ≡ Some head →
     (slice_get new index ≡ Some head)
     ⊎ (Stands puts folder old head
-    ⊎ IsTaken puts folder old head (alike_count (take index old) head))
+    ⊎ IsNumberTaken puts folder old head (alike_count (take index old) head))
 
 -- the numbers in a new order. A note that is there under any number that the old order gives to its size and root gets such a
 -- number, so its file is left. Each other note keeps its number, unless one of the notes is there under it

@@ -30,7 +30,7 @@ use Rattle.copy_reader.proofs.WholeLaws.{copies_are_whole, log_stands}
 use Rattle.program_copies.specs.Bodies.{head_point, IsBodyAt, IsCopyBody}
 use Rattle.program_copies.specs.CopyHeads.{copy_head, CopyHead, IsCopyHead}
 use Rattle.program_copies.specs.CopyLaws.{copy_view}
-use Rattle.program_copies.specs.GivenFiles.{IsFileGiven, IsFileRead, IsTaken, of_width}
+use Rattle.program_copies.specs.GivenFiles.{IsFileGiven, IsFileRead, IsCutFrom, of_width}
 use Rattle.program_copies.specs.GivenProofs.{HasLogOf, IsProofGiven}
 use Rattle.program_copies.proofs.OneViews.{no_file, no_head, none_forks, none_status, one_forks, one_head, one_list, one_missing}
 use Rattle.program_copies.proofs.OneViews.{no_list, only_list}
@@ -97,8 +97,8 @@ module _ (digest : List ℕ → List ℕ) (hash : IsDigest digest) (origin note 
         served = one_list digest origin note entries is_head;
         within = is.within;
         bytes_are = tile_taken digest hash entries short level index width wide body le
-            (subst (λ k. IsTaken (Tile level index width) k (tile_bytes digest entries level index wide) body) file.0
-            (subst (λ x. IsTaken (Tile level index width) is.width x body) file.1 is.taken));
+            (subst (λ k. IsCutFrom (Tile level index width) k (tile_bytes digest entries level index wide) body) file.0
+            (subst (λ x. IsCutFrom (Tile level index width) is.width x body) file.1 is.taken));
       }
 
   given_bundle : (index width : ℕ) (body : List ℕ) → IsFileGiven (Some puts) n (Entries index width) body →
@@ -112,8 +112,8 @@ module _ (digest : List ℕ → List ℕ) (hash : IsDigest digest) (origin note 
         served = one_list digest origin note entries is_head;
         within = is.within;
         bytes_are = bundle_taken digest hash entries short index width wide body is.within le
-            (subst (λ k. IsTaken (Entries index width) k (bundle_bytes entries index wide) body) file.0
-            (subst (λ x. IsTaken (Entries index width) is.width x body) file.1 is.taken));
+            (subst (λ k. IsCutFrom (Entries index width) k (bundle_bytes entries index wide) body) file.0
+            (subst (λ x. IsCutFrom (Entries index width) is.width x body) file.1 is.taken));
       }
 
   tile_is_given : (level index width : ℕ) → IsTileWithin n level index width →

@@ -17,7 +17,7 @@ use Rattle.tlog_tiles.proofs.RowLemmas.{length-row_text}
 use Rattle.tlog_tiles.proofs.TileLemmas.{served_is_read}
 use Rattle.mirror_model.specs.Strings.{IsDigest}
 use Rattle.mirror_model.specs.TrueLaws.{AreShort}
-use Rattle.program_copies.specs.GivenFiles.{IsFirstEntries, IsFirstHashes, IsTaken}
+use Rattle.program_copies.specs.GivenFiles.{IsFirstEntries, IsFirstHashes, IsCutFrom}
 
 -- ---- narrower and wider
 
@@ -60,7 +60,7 @@ module _ (digest : List ℕ → List ℕ) (hash : IsDigest digest) (entries : Li
 
   -- so the bytes that are taken from a wider tile are the tile
   pub tile_taken : (level index w wide : ℕ) (body : List ℕ) → w ≤ wide →
-      IsTaken (Tile level index w) wide (tile_bytes digest entries level index wide) body →
+      IsCutFrom (Tile level index w) wide (tile_bytes digest entries level index wide) body →
       body ≡ tile_bytes digest entries level index w
   tile_taken level index w wide body le (inl own) =
       own.1 ∙ ap (λ k. tile_bytes digest entries level index k) own.0
@@ -87,7 +87,7 @@ module _ (digest : List ℕ → List ℕ) (hash : IsDigest digest) (entries : Li
 
   -- so the bytes that are taken from a wider bundle are the bundle
   pub bundle_taken : (index w wide : ℕ) (body : List ℕ) → IsTileWithin (length entries) 0 index w → w ≤ wide →
-      IsTaken (Entries index w) wide (bundle_bytes entries index wide) body → body ≡ bundle_bytes entries index w
+      IsCutFrom (Entries index w) wide (bundle_bytes entries index wide) body → body ≡ bundle_bytes entries index w
   bundle_taken index w wide body within le (inl own) =
       own.1 ∙ ap (λ k. bundle_bytes entries index k) own.0
   bundle_taken index w wide body within le (inr first) =

@@ -45,8 +45,8 @@ IsFirstOf (Tile level index width) file bytes = IsFirstHashes width file bytes
 IsFirstOf (Entries index width) file bytes = IsFirstEntries width file bytes
 
 -- the bytes from a file of that width: all if the width is the path's, else from its start
-abbrev pub IsTaken : Path → ℕ → List ℕ → List ℕ → Type 0
-IsTaken path width file bytes = ((width ≡ path_width path) × (bytes ≡ file)) ⊎ IsFirstOf path file bytes
+abbrev pub IsCutFrom : Path → ℕ → List ℕ → List ℕ → Type 0
+IsCutFrom path width file bytes = ((width ≡ path_width path) × (bytes ≡ file)) ⊎ IsFirstOf path file bytes
 
 -- the shelf has the file of that width. It is the widest that the log has there. If the shelf lacks that, it is the path's own file, or
 -- the full one
@@ -62,4 +62,4 @@ pub record IsFileGiven (held : Option (List Put)) (n : ℕ) (path : Path) (bytes
   pub width : ℕ
   pub file : List ℕ
   pub read : IsFileRead held path (widest_of n path) width file
-  pub taken : IsTaken path width file bytes
+  pub taken : IsCutFrom path width file bytes

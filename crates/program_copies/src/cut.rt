@@ -1,6 +1,6 @@
 //! The first part of a file.
 ghost use Rattle.std.specs.Prelude.{◌≢◌, ℕ, IfNone, IfOk, IfSome, List};
-ghost use Rattle.program_copies.specs.GivenFiles.{IsFirstEntries, IsFirstHashes, IsFirstOf, IsTaken, path_width};
+ghost use Rattle.program_copies.specs.GivenFiles.{IsFirstEntries, IsFirstHashes, IsFirstOf, IsCutFrom, path_width};
 
 use crate::width::own_width;
 use std::alloc::{AllocError, Global};
@@ -57,7 +57,7 @@ pub(crate) fn take_part(
     file: Vec<u8>,
 ) -> Result<Option<Vec<u8>>, AllocError>
     ensures some { IfOk result (λ o. IfSome o
-        (λ bytes. IsTaken path.now width file.items bytes.items)) }
+        (λ bytes. IsCutFrom path.now width file.items bytes.items)) }
     ensures none { IfOk result (λ o. IfNone o ((width ≢ path_width path.now)
         × ((part : List ℕ) → ¬ IsFirstOf path.now file.items part))) }
 {

@@ -6,7 +6,7 @@ use Rattle.byte_streams.specs.Streams.{AppendsPrefix}
 use Rattle.signed_note.specs.Keys.{Key}
 use Rattle.mirror_folders.specs.Shelf.{Put}
 use Rattle.mirror_places.specs.declared.places.Places.{Places}
-use Rattle.mirror_candidates.specs.Requests.{MayGive}
+use Rattle.mirror_candidates.specs.Requests.{MayGiveNote}
 use Rattle.mirror_candidates.specs.GatheredFrom.{AreCandidates}
 use Rattle.mirror_candidates.specs.Shown.{ShowsLine}
 use Rattle.mirror_candidates.specs.declared.candidate.Candidate.{Candidate}
@@ -48,7 +48,7 @@ ReadsGiven recorded name (Ok x) = (note : Option (List ℕ)) × ReadsNote record
 -- the note is that of the named file. If none is named, it is one that a place may give for its checkpoint
 abbrev pub IsNoteOf : {S : Type 0} → (S → Path → Option (List ℕ) → Type 0) → Option (List NamedFile) →
     Option (List ℕ) → Places S → List ℕ → Type 0
-IsNoteOf may recorded None places note = MayGive may places note
+IsNoteOf may recorded None places note = MayGiveNote may places note
 IsNoteOf may recorded (Some name) places note = HasContents recorded name note
 
 -- ---- the candidates

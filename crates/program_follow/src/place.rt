@@ -46,6 +46,9 @@ pub trait WatchedPlace: Source {
 
     /// Its first answer for the checkpoint.
     fn answered(&self) -> &Answered;
+
+    /// The number of seconds that were waited for it while it was busy.
+    fn waited(&self) -> u64;
 }
 
 /// A place of a run: a folder, or a server. It keeps its name, the reason why its first get failed, and its answer for the checkpoint.
@@ -53,7 +56,7 @@ pub trait WatchedPlace: Source {
 ///
 /// ```text
 /// places.add(PlaceSource::of_folder(alloc, "log", DirSource::new(&rt, alloc, "log"))?)?;
-/// places.add(PlaceSource::of_server(alloc, "log.example:80/2026", HttpSource::new(alloc, site, dial, 0))?)?;
+/// places.add(PlaceSource::of_server(alloc, "log.example:80/2026", HttpSource::new(alloc, site, dial, pace))?)?;
 /// ```
 #[derive(Drop)]
 pub struct PlaceSource<'a, R: Files, D: Dial + Drop> {
@@ -178,6 +181,13 @@ impl<'a, R: Files, D: Dial + Drop> Source for PlaceSource<'a, R, D> {
     fn failures(&self) -> u64 {
         self.failures
     }
+
+    fn reply_millis(&self) -> Option<u64> {
+        match &self.kind {
+            Kind::Folder(_) => Some(0),
+            Kind::Server(source) => source.reply_millis(),
+        }
+    }
 }
 
 impl<'a, R: Files, D: Dial + Drop> WatchedPlace for PlaceSource<'a, R, D> {
@@ -191,5 +201,12 @@ impl<'a, R: Files, D: Dial + Drop> WatchedPlace for PlaceSource<'a, R, D> {
 
     fn answered(&self) -> &Answered {
         &self.answered
+    }
+
+    fn waited(&self) -> u64 {
+        match &self.kind {
+            Kind::Folder(_) => 0,
+            Kind::Server(source) => source.waited(),
+        }
     }
 }

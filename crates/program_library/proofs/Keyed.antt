@@ -1,9 +1,9 @@
 -- A run whose words are understood, and a run without keys.
 use Rattle.std.proofs.Common.{◌≡◌, ℕ, List, Option, Some, None, Result, Ok, Err, IfOk, inl, inr, refl, subst, sym}
 use Rattle.signed_note.specs.Keys.{Key}
-use Rattle.note_keys.specs.KeyFiles.{ReadsKeys}
-use Rattle.note_keys.specs.declared.fault.KeyFileFault.{KeyFileFault}
-use Rattle.note_keys.specs.declared.key_line.KeyLine.{KeyLine}
+use Rattle.signed_note.specs.KeyFiles.{ReadsKeys}
+use Rattle.signed_note.specs.declared.key_fault.KeyFileFault.{KeyFileFault}
+use Rattle.signed_note.specs.declared.key_line.KeyLine.{KeyLine}
 use Rattle.program_files.specs.Named.{NamedFile}
 use Rattle.program_parser.specs.Lines.{IsLine}
 use Rattle.program_parser.specs.Readings.{Reads, ReadsKeyFile}

@@ -4,13 +4,13 @@ use Rattle.std.proofs.Common.{◌∙◌, arith, is_some, unwrap_or}
 use Rattle.std.proofs.lemmas.List.{get_or-map, length-map}
 use Rattle.std.specs.Result.{is_ok}
 use Rattle.std.proofs.lemmas.Bool.{false≢true}
-use Rattle.note_keys.specs.Keys.{Secret, secret_key}
-use Rattle.note_keys.specs.KeyFiles.{IsKeyFile}
-use Rattle.note_keys.specs.Verifiers.{key_of}
-use Rattle.note_keys.specs.declared.fault.KeyFileFault.{KeyFileFault}
-use Rattle.note_keys.specs.declared.key_line.KeyLine.{KeyLine}
-use Rattle.note_keys.specs.declared.key_line.KeyLine.TheVariants.{Hmac, Pin}
-use Rattle.note_keys.proofs.OneKeyFile.{one_key_answer}
+use Rattle.signed_note.specs.KeyKinds.{Secret, secret_key}
+use Rattle.signed_note.specs.KeyFiles.{IsKeyFile}
+use Rattle.signed_note.specs.Verifiers.{key_of}
+use Rattle.signed_note.specs.declared.key_fault.KeyFileFault.{KeyFileFault}
+use Rattle.signed_note.specs.declared.key_line.KeyLine.{KeyLine}
+use Rattle.signed_note.specs.declared.key_line.KeyLine.TheVariants.{Hmac, Pin}
+use Rattle.signed_note.proofs.OneKeyFile.{one_key_answer}
 use Rattle.tlog_build.specs.Signing.{first_secret}
 use Rattle.program_library.specs.RunLaws.{SignersAreKeys}
 

@@ -1,10 +1,10 @@
 -- Consequences of a run under the keys of a key file, and of a pull.
 use Rattle.std.specs.Prelude.{ℕ, List, Option, Result, Some, Ok, Contains, map}
 use Rattle.signed_note.specs.Keys.{Key}
-use Rattle.note_keys.specs.Keys.{Secret, secret_key}
-use Rattle.note_keys.specs.KeyFiles.{IsKeyFile}
-use Rattle.note_keys.specs.Verifiers.{JoinsPins, key_of}
-use Rattle.note_keys.specs.declared.key_line.KeyLine.{KeyLine}
+use Rattle.signed_note.specs.KeyKinds.{Secret, secret_key}
+use Rattle.signed_note.specs.KeyFiles.{IsKeyFile}
+use Rattle.signed_note.specs.Verifiers.{JoinsPins, key_of}
+use Rattle.signed_note.specs.declared.key_line.KeyLine.{KeyLine}
 use Rattle.mirror_model.specs.View.{View}
 use Rattle.mirror_state.specs.Loading.{Loads}
 use Rattle.state_text.specs.StateText.{StateText}

@@ -3,10 +3,10 @@
 use Rattle.std.specs.Prelude.{◌≡◌, ◌⊎◌, ℕ, List, [], Option, Some, None, Result, Ok, Err, map}
 use Rattle.std.specs.Io.KnownBytes.{Keeps}
 use Rattle.signed_note.specs.Keys.{Key}
-use Rattle.note_keys.specs.KeyFiles.{IsKeyFile, ReadsKeys}
-use Rattle.note_keys.specs.declared.fault.KeyFileFault.{KeyFileFault}
-use Rattle.note_keys.specs.declared.key_line.KeyLine.{KeyLine}
-use Rattle.note_keys.specs.Verifiers.{JoinsPins, key_of}
+use Rattle.signed_note.specs.KeyFiles.{IsKeyFile, ReadsKeys}
+use Rattle.signed_note.specs.declared.key_fault.KeyFileFault.{KeyFileFault}
+use Rattle.signed_note.specs.declared.key_line.KeyLine.{KeyLine}
+use Rattle.signed_note.specs.Verifiers.{JoinsPins, key_of}
 use Rattle.program_files.specs.Named.{NamedFile}
 use Rattle.program_files.specs.Named.{ReadsShort, HasContents}
 use Rattle.program_files.specs.declared.fault.NamedFault.{NamedFault}

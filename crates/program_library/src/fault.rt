@@ -1,10 +1,10 @@
 //! Why a run of the program was not done.
 use copy_commands::CopyRunFault;
-use note_keys::KeyFileFault;
 use place_commands::PlaceRunFault;
 use program_files::NamedFault;
 use program_words::CommandFault;
 use report_commands::ReportRunFault;
+use signed_note::KeyFileFault;
 use state_commands::StateRunFault;
 use std::fmt;
 use thiserror::Error as FaultText;

@@ -4,10 +4,9 @@ ghost use Rattle.tlog_text.specs.Answers.{seen};
 ghost use Rattle.program_library.specs.Runs.{FindsKeys, ReadsJoined, ReadsKeyLines};
 
 use crate::fault::{Error, RunFault};
-use note_keys::{KeyFileFault, KeyLine, join_pins, read_keys};
 use program_env::RunFiles;
 use program_env::why::{Why, of_named};
-use signed_note::Verifier;
+use signed_note::{KeyFileFault, KeyLine, Verifier, join_pins, read_keys};
 use std::alloc::Global;
 
 /// The keys of a run: the bytes of the key file, and its keys. Both are empty if the command has no keys.

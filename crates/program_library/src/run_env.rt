@@ -1,9 +1,9 @@
 //! What a run needs of its environment.
 use crate::fault::Error;
 use crate::keys::Keys;
-use note_keys::KeyLine;
 use program_env::why::{FailedStreams, Why};
 use program_words::Command;
+use signed_note::KeyLine;
 use std::alloc::Global;
 
 /// What a run needs of its environment. A function over it is checked in a few seconds, one over an `Env` with all its bounds in

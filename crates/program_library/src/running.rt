@@ -13,10 +13,9 @@ use crate::answers::{printed, refused};
 use crate::fault::{Error, RunFault};
 use crate::keys::Keys;
 use crate::run_env::{RunEnv, WatchedEnv};
-use note_keys::{KeyFileFault, KeyLine};
 use program_parser::{Line, read_line};
 use program_words::Command;
-use signed_note::Verifier;
+use signed_note::{KeyFileFault, KeyLine, Verifier};
 
 /// Runs the command of the words over any files and folders that have names, with the keys of the key file that the words name. It
 /// returns the exit status: 0 for success, and 3 for the other answer, such as no.

@@ -2,7 +2,7 @@
 use Rattle.std.proofs.Common.{◌≡◌, ℕ, List, Option, Some, Result, subst}
 use Rattle.std.specs.Prelude.{IfSome}
 use Rattle.signed_note.specs.Keys.{Key}
-use Rattle.note_keys.specs.Keys.{Secret, secret_key}
+use Rattle.signed_note.specs.KeyKinds.{Secret, secret_key}
 use Rattle.mirror_model.specs.Origin.{IsOrigin}
 use Rattle.mirror_folders.specs.Shelf.{Put}
 use Rattle.tlog_build.specs.Building.{BuildsLogUnder}

@@ -1,9 +1,9 @@
 -- The meaning of each answer of `build` for the key file, the input, and the files that were put into its folder.
 use Rattle.std.specs.Prelude.{◌≡◌, ℕ, List, Option, Some, None, Result, Ok, Err, IfSome}
 use Rattle.signed_note.specs.Keys.{Key}
-use Rattle.note_keys.specs.Keys.{Secret, secret_key}
-use Rattle.note_keys.specs.KeyFiles.{IsKeyFile}
-use Rattle.note_keys.specs.declared.key_line.KeyLine.{KeyLine}
+use Rattle.signed_note.specs.KeyKinds.{Secret, secret_key}
+use Rattle.signed_note.specs.KeyFiles.{IsKeyFile}
+use Rattle.signed_note.specs.declared.key_line.KeyLine.{KeyLine}
 use Rattle.mirror_model.specs.Origin.{IsOrigin}
 use Rattle.mirror_folders.specs.Shelf.{Put}
 use Rattle.tlog_build.specs.Building.{BuildsLogUnder}

@@ -19,12 +19,15 @@ use crate::pulling::pull_from;
 use byte_streams::write_whole;
 use mirror_client::{Dial, HttpSource};
 use mirror_folders::DirSource;
+use mirror_progress::{StandardError, Task};
 use mirror_pull::{PullFault, Pulled};
 use mirror_sources::Source;
 use program_commands::{HeldCounts, has_gained, holding_of};
-use program_env::places::{of_edge, of_file, of_place, of_refused, of_source, server_of};
+use program_env::places::{
+    of_edge, of_file, of_place, of_refused, of_source, place_name, server_of,
+};
 use program_env::why::{Why, of_named, of_state};
-use program_env::{Env, Failing, RunFiles, RunFolders, WatchedSource};
+use program_env::{Env, Failing, RunFiles, RunFolders, WatchedSource, print_waited};
 use program_files::NamedFault;
 use program_reports::{pulled_status, pulled_text};
 use program_states::{open_to_save, write_state};
@@ -320,7 +323,7 @@ fn from_place<'a, H: TreeHash, R: Files + Clock + Eprint + Net<Stream = TcpStrea
             port,
         } => {
             let site = (*host, *prefix);
-            match server_of(rt, alloc, site, (*address, *port), words.ahead as usize) {
+            match server_of(rt, alloc, site, (*address, *port), words.pace) {
                 Ok(source) => from_server(rt, alloc, mirror, keys, source, words),
                 Err(_) => (Err(PullFault::OutOfMemory), None),
             }
@@ -344,8 +347,24 @@ fn from_server<H: TreeHash, R: Clock + Eprint, D: Dial + Drop>(
 {
     let source = WatchedSource::new(alloc, source);
     let (pulled, source) = pull_from(rt, alloc, mirror, keys, source, words.progress);
+    write_waited(rt, alloc, words, source.source.waited());
     let why = why_of(alloc, &words.place, &pulled, &source);
     (pulled, why)
+}
+
+// Writes the line about a wait for a busy server to standard error, if the words ask for lines.
+fn write_waited<R: Eprint>(rt: &R, alloc: Global, words: &Pull<'_>, seconds: u64) {
+    if words.progress {
+        if let Ok(name) = place_name(alloc, &words.place) {
+            print_waited(
+                alloc,
+                Task::Pull,
+                seconds,
+                &name,
+                &mut StandardError::new(rt),
+            );
+        }
+    }
 }
 
 // The thing that the end of a pull is about: a file of the place, or the place.

@@ -1,8 +1,8 @@
 -- The key that signs a log.
 use Rattle.std.specs.Prelude.{List, [], ◌∷◌, Option, Some, None}
-use Rattle.note_keys.specs.Keys.{Secret}
-use Rattle.note_keys.specs.declared.key_line.KeyLine.{KeyLine}
-use Rattle.note_keys.specs.declared.key_line.KeyLine.TheVariants.{Hmac, Pin}
+use Rattle.signed_note.specs.KeyKinds.{Secret}
+use Rattle.signed_note.specs.declared.key_line.KeyLine.{KeyLine}
+use Rattle.signed_note.specs.declared.key_line.KeyLine.TheVariants.{Hmac, Pin}
 
 -- the first key with a shared secret
 abbrev pub first_secret : List KeyLine → Option Secret

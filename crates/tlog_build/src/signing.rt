@@ -2,7 +2,7 @@
 ghost use Rattle.std.specs.Prelude.{◌≡◌};
 ghost use Rattle.tlog_build.specs.Signing.{first_secret};
 
-use note_keys::{HmacKey, KeyLine};
+use signed_note::{HmacKey, KeyLine};
 
 /// The first key with a shared secret in a key file, which signs a log. `None` if there is no such key, since pinned texts
 /// sign nothing.

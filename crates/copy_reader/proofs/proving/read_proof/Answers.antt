@@ -1,6 +1,6 @@
 use Rattle.std.proofs.Common.{ap, ◌≡◌, ◌∙◌, rules, subst}
 use Rattle.log_reader.proofs.FullTiles.{reads_of_source}
-use Rattle.copy_reader.specs.ShelfSources.{MayGive}
+use Rattle.copy_reader.specs.ShelfSources.{ShelfMayAnswer}
 use Rattle.copy_reader.proofs.WholeCopies.{read_err, read_ok}
 use Rattle.std.proofs.lemmas.Result.{IfOk-from_err}
 use Rattle.mirror_sources.specs.Recorded.{KeepsRecord}
@@ -42,7 +42,7 @@ returns-in_err-proof_of g c =
           (g.D.Shelf.puts c.args.shelf.now) (ap g.D.Shelf.puts c.new-files.ensures.now) _ c.args.reader.now _
           c.in_err-proof_of.field-0.0 c.from_residual.result c.from_residual.ensures
           (reads_of_source g.H.TreeHash.digest c.args.reader.now _
-          (MayGive c.new-files.result.shelf.ghost_name (g.D.Shelf.puts c.new-files.result.shelf.now)) _ _ c.in_err-proof_of.ensures.honest);
+          (ShelfMayAnswer c.new-files.result.shelf.ghost_name (g.D.Shelf.puts c.new-files.result.shelf.now)) _ _ c.in_err-proof_of.ensures.honest);
     }
 
 pub returns-clause-same : goal.returns-clause-same
@@ -75,4 +75,4 @@ pub returns-clause-honest : goal.returns-clause-honest
 returns-clause-honest g c =
     read_ok g.H.TreeHash.digest c.new-files.result.shelf.ghost_name (g.D.Shelf.puts c.new-files.result.shelf.now)
     (g.D.Shelf.puts c.args.shelf.now) (ap g.D.Shelf.puts c.new-files.ensures.now) _ c.args.reader.now _ _
-    (reads_of_source g.H.TreeHash.digest c.args.reader.now _ (MayGive c.new-files.result.shelf.ghost_name (g.D.Shelf.puts c.new-files.result.shelf.now)) _ _ c.in_ok-proof_of.ensures.honest)
+    (reads_of_source g.H.TreeHash.digest c.args.reader.now _ (ShelfMayAnswer c.new-files.result.shelf.ghost_name (g.D.Shelf.puts c.new-files.result.shelf.now)) _ _ c.in_ok-proof_of.ensures.honest)

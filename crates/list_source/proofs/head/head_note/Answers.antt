@@ -1,7 +1,7 @@
 use Rattle.std.proofs.Common.{◌≡◌, [], map, string_bytes, ap, ◌∙◌, subst}
 use Rattle.tlog_checkpoint.specs.Grammar.{IsCheckpoint}
-use Rattle.note_keys.specs.Keys.{secret_key}
-use Rattle.note_keys.specs.Signing.{signed_line}
+use Rattle.signed_note.specs.KeyKinds.{secret_key}
+use Rattle.signed_note.specs.Signing.{signed_line}
 use Rattle.list_source.proofs.Texts.{origin_line, checkpoint_text, opens_more}
 use Rattle.list_source.proofs.head.head_note.Goals as goal
 

@@ -5,7 +5,7 @@ use Rattle.std.proofs.lemmas.Result.{IfOk-from_err}
 use Rattle.mirror_model.specs.Texts.{missing_text}
 use Rattle.byte_streams.specs.Streams.{AppendsPrefix}
 use Rattle.byte_streams.specs.declared.fault.StreamFault.TheVariants.{WriteFault}
-use Rattle.mirror_reports.specs.MissingLines.{IsLevelOf, paths_of}
+use Rattle.mirror_reports.specs.MissingLines.{IsLevelOf, level_paths}
 use Rattle.mirror_reports.specs.Pieces.{Sends}
 use Rattle.mirror_reports.proofs.SentPieces.{held_back, sends_then, fails_then}
 use Rattle.mirror_reports.proofs.MissingSteps.{fails_first, parts_of, no_levels, says_both, text_both, at_err, is_err}
@@ -36,7 +36,7 @@ returns-in_err-above-clause-err g t c = λ is paths lists.
     let p =
     parts_of g.H.TreeHash.digest c.args.store.now c.args.size c.args.root.now c.args.levels paths c.if-levels-eq0.false
     lists in
-    let own = paths_of c.args.size (8 - c.args.levels) p.numbers in
+    let own = level_paths c.args.size (8 - c.args.levels) p.numbers in
     fails_first old mid had (missing_text p.above) (missing_text own) (missing_text paths)
     (text_both p.above own paths p.is)
     (c.in_err-above.ensures.err
@@ -54,11 +54,11 @@ returns-clause-ok g t c =
     on_ok_weaker c.write_level.result
     (λ (q : (numbers : List ℕ) →
     IsLevelOf g.H.TreeHash.digest c.args.store.now c.args.size c.args.root.now (8 - c.args.levels) numbers →
-    Sends mid new held (back ++ missing_text (paths_of c.args.size (8 - c.args.levels) numbers))). λ paths lists.
+    Sends mid new held (back ++ missing_text (level_paths c.args.size (8 - c.args.levels) numbers))). λ paths lists.
     let p =
     parts_of g.H.TreeHash.digest c.args.store.now c.args.size c.args.root.now c.args.levels paths c.if-levels-eq0.false
     lists in
-    let own = paths_of c.args.size (8 - c.args.levels) p.numbers in
+    let own = level_paths c.args.size (8 - c.args.levels) p.numbers in
     subst (λ t. Sends old new held (had ++ t)) (text_both p.above own paths p.is)
     (sends_then old mid new had back (missing_text p.above) (missing_text own)
     (c.in_ok-above.ensures.ok p.above p.higher) held (q p.numbers p.own)))
@@ -69,11 +69,11 @@ returns-clause-any g t c =
     IfOk-weaker c.write_level.result
     (λ any. (numbers : List ℕ) →
     IsLevelOf g.H.TreeHash.digest c.args.store.now c.args.size c.args.root.now (8 - c.args.levels) numbers →
-    IsTrue any ↔ (IsTrue c.in_ok-above.above ⊎ (paths_of c.args.size (8 - c.args.levels) numbers ≢ [])))
+    IsTrue any ↔ (IsTrue c.in_ok-above.above ⊎ (level_paths c.args.size (8 - c.args.levels) numbers ≢ [])))
     _ (λ any q. λ paths lists. let p =
     parts_of g.H.TreeHash.digest c.args.store.now c.args.size c.args.root.now c.args.levels paths c.if-levels-eq0.false
     lists in
-    says_both c.in_ok-above.above any p.above (paths_of c.args.size (8 - c.args.levels) p.numbers) paths p.is
+    says_both c.in_ok-above.above any p.above (level_paths c.args.size (8 - c.args.levels) p.numbers) paths p.is
     (c.in_ok-above.ensures.any p.above p.higher) (q p.numbers p.own))
     c.write_level.ensures.any
 
@@ -87,7 +87,7 @@ returns-clause-err g t c = λ is paths lists.
     let p =
     parts_of g.H.TreeHash.digest c.args.store.now c.args.size c.args.root.now c.args.levels paths c.if-levels-eq0.false
     lists in
-    let own = paths_of c.args.size (8 - c.args.levels) p.numbers in
+    let own = level_paths c.args.size (8 - c.args.levels) p.numbers in
     subst (λ t. AppendsPrefix old new (had ++ t)) (text_both p.above own paths p.is)
     (fails_then old mid new had back (missing_text p.above) (missing_text own)
     (c.in_ok-above.ensures.ok p.above p.higher)

@@ -2,7 +2,7 @@ use Rattle.std.proofs.Common.{◌+◌, [], ◌∷◌, ◌++◌, map, refl, sym, 
 use Rattle.mirror_model.specs.Texts.{path_line}
 use Rattle.byte_streams.specs.Streams.{AppendsPrefix}
 use Rattle.mirror_trees.specs.Levels.{fresh_from, path_at}
-use Rattle.mirror_reports.specs.MissingLines.{paths_of}
+use Rattle.mirror_reports.specs.MissingLines.{level_paths}
 use Rattle.mirror_reports.specs.Pieces.{Sends}
 use Rattle.mirror_reports.proofs.SentPieces.{in_err}
 use Rattle.mirror_reports.proofs.WrittenLines.{IsWritten, one_text, starts, writes, breaks, all_sends, all_records}
@@ -12,7 +12,7 @@ use Rattle.mirror_reports.proofs.lines.write_level.Goals as goal
 pub loop-number-init : goal.loop-number-init
 loop-number-init g c = λ numbers lists.
     starts path_line (g.W.Write.contents c.args.output.now) c.args.held.now.items c.args.held.now.items c.args.before
-    (paths_of c.args.size c.args.level numbers) refl
+    (level_paths c.args.size c.args.level numbers) refl
 
 pub loop-number-preserved : goal.loop-number-preserved
 loop-number-preserved g c = λ numbers lists.
@@ -20,7 +20,7 @@ loop-number-preserved g c = λ numbers lists.
     let now = g.W.Write.contents c.loop-number.output in
     let new = g.W.Write.contents c.write_file.new.output in
     let path = path_at c.args.size c.args.level c.in-Some.number in
-    let all = paths_of c.args.size c.args.level numbers in
+    let all = level_paths c.args.size c.args.level numbers in
     let rest = map (path_at c.args.size c.args.level) (fresh_from (c.in-Some.number + 1) numbers) in
     writes path_line old now c.args.held.now.items c.loop-number.held.items c.args.before c.loop-number.any all
     (path ∷ []) rest
@@ -38,7 +38,7 @@ returns-in_err-write_file-clause-err g c =
     let now = g.W.Write.contents c.loop-number.output in
     let new = g.W.Write.contents c.write_file.new.output in
     let path = path_at c.args.size c.args.level c.in-Some.number in
-    let all = paths_of c.args.size c.args.level numbers in
+    let all = level_paths c.args.size c.args.level numbers in
     let rest = map (path_at c.args.size c.args.level) (fresh_from (c.in-Some.number + 1) numbers) in
     breaks path_line old now c.args.held.now.items c.loop-number.held.items c.args.before c.loop-number.any all
     (path ∷ []) rest
@@ -53,7 +53,7 @@ pub returns-clause-ok : goal.returns-clause-ok
 returns-clause-ok g c = λ numbers lists.
     all_sends path_line (g.W.Write.contents c.args.output.now) (g.W.Write.contents c.loop-number.output)
     c.args.held.now.items c.loop-number.held.items c.args.before c.loop-number.any
-    (paths_of c.args.size c.args.level numbers) _
+    (level_paths c.args.size c.args.level numbers) _
     (no_path c.args.size c.args.level numbers c.loop-number.from (sym (c.in_default.ensures.first numbers lists)))
     (c.loop-number.invariant numbers lists)
 
@@ -61,6 +61,6 @@ pub returns-clause-any : goal.returns-clause-any
 returns-clause-any g c = λ numbers lists.
     all_records path_line (g.W.Write.contents c.args.output.now) (g.W.Write.contents c.loop-number.output)
     c.args.held.now.items c.loop-number.held.items c.args.before c.loop-number.any
-    (paths_of c.args.size c.args.level numbers) _
+    (level_paths c.args.size c.args.level numbers) _
     (no_path c.args.size c.args.level numbers c.loop-number.from (sym (c.in_default.ensures.first numbers lists)))
     (c.loop-number.invariant numbers lists)

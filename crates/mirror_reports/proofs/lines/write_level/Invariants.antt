@@ -1,7 +1,7 @@
 use Rattle.std.proofs.Common.{ℕ, ◌-◌, List, map}
 use Rattle.mirror_model.specs.Texts.{path_line}
 use Rattle.mirror_trees.specs.Levels.{fresh_from, path_at}
-use Rattle.mirror_reports.specs.MissingLines.{IsLevelOf, paths_of}
+use Rattle.mirror_reports.specs.MissingLines.{IsLevelOf, level_paths}
 use Rattle.mirror_reports.proofs.WrittenLines.{IsWritten}
 use Rattle.mirror_reports.proofs.lines.write_level.Given as goal
 
@@ -10,7 +10,7 @@ abbrev pub invariant-loop-number : goal.invariant-loop-number
 invariant-loop-number g l =
     (numbers : List ℕ) → IsLevelOf g.H.TreeHash.digest l.store l.size l.root l.level numbers →
     IsWritten path_line (g.W.Write.contents l.fn.output) (g.W.Write.contents l.output) l.fn.held.items l.held.items
-    l.before l.any (paths_of l.size l.level numbers) (map (path_at l.size l.level) (fresh_from l.from numbers))
+    l.before l.any (level_paths l.size l.level numbers) (map (path_at l.size l.level) (fresh_from l.from numbers))
 
 abbrev pub decreases-loop-number : goal.decreases-loop-number
 decreases-loop-number g l = l.size - l.from

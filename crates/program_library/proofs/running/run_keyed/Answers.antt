@@ -1,10 +1,10 @@
 use Rattle.std.proofs.Common.{◌++◌, ◌∙◌, ap, inr, map, refl, sym}
 use Rattle.sha2.specs.Sha256.{sha256}
-use Rattle.note_keys.specs.Keys.{pinned_key, secret_key}
-use Rattle.note_keys.specs.contracts.mac_key.HmacKey as hmac
-use Rattle.note_keys.specs.contracts.pinned.PinnedTexts as pinned
-use Rattle.note_keys.specs.Verifiers.{key_of}
-use Rattle.note_keys.specs.declared.fault.KeyFileFault.TheVariants.{OutOfMemory}
+use Rattle.signed_note.specs.KeyKinds.{pinned_key, secret_key}
+use Rattle.signed_note.specs.contracts.mac_key.HmacKey as hmac
+use Rattle.signed_note.specs.contracts.pinned.PinnedTexts as pinned
+use Rattle.signed_note.specs.Verifiers.{key_of}
+use Rattle.signed_note.specs.declared.key_fault.KeyFileFault.TheVariants.{OutOfMemory}
 use Rattle.program_library.proofs.Keyed.{lines_lack, runs_under}
 use Rattle.program_library.proofs.MadeKeys.{all_boxes, key_in, made_first, made_second, none_left, one_more}
 use Rattle.program_library.proofs.running.run_keyed.Goals as goal

@@ -1,6 +1,6 @@
 use Rattle.std.proofs.Common.{◌≡◌, ◌++◌, map}
-use Rattle.note_keys.specs.Keys.{pinned_key, secret_key}
-use Rattle.note_keys.specs.Verifiers.{key_of}
+use Rattle.signed_note.specs.KeyKinds.{pinned_key, secret_key}
+use Rattle.signed_note.specs.Verifiers.{key_of}
 use Rattle.program_library.proofs.MadeKeys.{key_in}
 use Rattle.program_library.proofs.running.run_keyed.Given as goal
 

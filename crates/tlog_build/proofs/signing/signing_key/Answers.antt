@@ -1,7 +1,7 @@
 use Rattle.std.proofs.Common.{arith, sym, ◌∙◌, ◌≡◌, Option, Some, None, List, [], ◌∷◌, length, ap, refl}
-use Rattle.note_keys.specs.Keys.{Secret, Pins}
-use Rattle.note_keys.specs.declared.key_line.KeyLine.{KeyLine}
-use Rattle.note_keys.specs.declared.key_line.KeyLine.TheVariants.{Hmac, Pin}
+use Rattle.signed_note.specs.KeyKinds.{Secret, Pins}
+use Rattle.signed_note.specs.declared.key_line.KeyLine.{KeyLine}
+use Rattle.signed_note.specs.declared.key_line.KeyLine.TheVariants.{Hmac, Pin}
 use Rattle.tlog_build.specs.Signing.{first_secret}
 use Rattle.tlog_build.proofs.signing.signing_key.Goals as goal
 

@@ -1,5 +1,5 @@
 use Rattle.std.proofs.Common.{All, ℕ, List, ◌<◌, ◌^◌, map, length, ap, sym, ◌∙◌, subst}
-use Rattle.note_keys.specs.Keys.{secret_key}
+use Rattle.signed_note.specs.KeyKinds.{secret_key}
 use Rattle.tlog_hash.specs.Tree.{mth}
 use Rattle.mirror_model.specs.TrueLaws.{AreShort}
 use Rattle.list_source.specs.ListSource.{OpensAnywhere}

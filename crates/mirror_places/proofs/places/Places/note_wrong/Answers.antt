@@ -1,5 +1,6 @@
 use Rattle.std.proofs.Common.{refl}
 use Rattle.mirror_places.proofs.Asking.{asked_noted, asks_well}
+use Rattle.mirror_places.proofs.AskingOnce.{more_none}
 use Rattle.mirror_places.proofs.places.Places.note_wrong.Goals as goal
 
 pub returns-clause-asks : goal.returns-clause-asks
@@ -9,3 +10,7 @@ returns-clause-asks g c =
     (asked_noted g.S.Source.may_answer g.S.Source.failed g.S.Source.asked (λ p. ⊥) c.index_mut.result.now c.note_wrong.new.self
     c.args.path.now c.args.wrong c.note_wrong.ensures.source c.note_wrong.ensures.failures c.note_wrong.ensures.wrong)
     c.note_wrong.ensures.failures
+
+pub returns-clause-more : goal.returns-clause-more
+returns-clause-more g c =
+    more_none g.S.Source.asked g.S.Source.may_answer g.S.Source.failed c.args.self.now _ (returns-clause-asks g c)
