@@ -1,47 +1,84 @@
 -- How a command over places ends, given the answer of its call. The answers of the commands cite one lemma each.
-use Rattle.std.proofs.Common.{◌≡◌, ℕ, List, Option, Result, Ok, Err, IfOk, Some, None}
+use Rattle.std.proofs.Common.{◌≡◌, inl, ℕ, List, Option, Result, Ok, Err, IfErr, IfOk, Some, None, map, refl}
 use Rattle.std.specs.Io.KnownBytes.{Keeps}
 use Rattle.std.specs.Result.{result_map_both}
 use Rattle.signed_note.specs.Keys.{Key}
 use Rattle.tlog_tiles.specs.declared.paths.Path.{Path}
 use Rattle.mirror_places.specs.declared.places.Places.{Places}
-use Rattle.program_files.specs.Named.{NamedFile}
-use Rattle.program_follow.specs.Following.{IsNoteOf}
+use Rattle.program_follow.specs.Places.{MayAnswerAny, SeenPlace}
 use Rattle.program_follow.specs.declared.fault.FollowRunFault.{FollowRunFault}
 use Rattle.program_follow.specs.declared.fault.FollowRunFault.TheVariants as follow
+use Rattle.program_monitor.specs.Audits.{RunsAudit}
+use Rattle.program_monitor.specs.declared.fault.AuditRunFault.{AuditRunFault}
+use Rattle.program_monitor.specs.declared.fault.AuditRunFault.TheVariants as audit
+use Rattle.program_words.specs.declared.commands.audit.Audit.{Audit as AuditWords}
 use Rattle.program_words.specs.declared.commands.follow.Follow.{Follow as FollowWords}
 use Rattle.program_env.specs.Moment.{Moment}
-use Rattle.program_env.specs.Performing.{IsStatus, MayLeave, Performs}
+use Rattle.program_env.specs.Performing.{IsStatus, MayLeave, Performs, Stays}
 use Rattle.place_commands.specs.Faults.{IsLate}
-use Rattle.place_commands.specs.Follow.{DoesFollow, FollowsOne, MayFollow}
+use Rattle.place_commands.specs.Audit.{DoesAudit}
+use Rattle.place_commands.specs.Follow.{AnswersAmong, DoesFollow, FollowsAmong}
+use Rattle.place_commands.specs.Places.{name_of, names_of}
 use Rattle.place_commands.specs.declared.fault.PlaceRunFault.{PlaceRunFault}
-use Rattle.place_commands.specs.declared.fault.PlaceRunFault.TheVariants.{Follow}
+use Rattle.place_commands.specs.declared.fault.PlaceRunFault.TheVariants.{Audit, Follow, Origin, OutOfMemory}
 use Rattle.program_env.proofs.Performing.{performs, performs_done}
 
--- -- follow
+-- ---- follow, over these places
 
-module _ (digest : List ℕ → List ℕ) (keys : List Key) (old new : Moment) (c : FollowWords) where
-  quiet_follow : (fault : FollowRunFault) → FollowsOne digest keys old new c (Err fault) →
-      (¬ IsLate (Follow fault)) → Keeps old.output new.output
-  quiet_follow (follow.File fault) h other = h.0.text
-  quiet_follow follow.OutOfMemory h other = h.0.text
-  quiet_follow (follow.Follow fault) h other = h.0.text
-  quiet_follow follow.WriteFault h other = absurd (other tt)
-  quiet_follow (follow.Evidence fault) h other = absurd (other tt)
-
-  -- a copy was followed
-  pub follows : (answer : Result ℕ FollowRunFault) → IfOk answer IsStatus → FollowsOne digest keys old new c answer →
+module _ (digest : List ℕ → List ℕ) {S : Type 0} (may : S → Path → Option (List ℕ) → Type 0) (keys : List Key)
+    (old new : Moment) (places : Places S) (c : FollowWords) where
+  -- the places were followed
+  pub follows : (answer : Result ℕ FollowRunFault) → FollowsAmong digest may keys old new places c answer →
       (is : Result ℕ PlaceRunFault) → is ≡ result_map_both (λ status. status) (λ fault. Follow fault) answer →
-      Performs DoesFollow IsLate MayLeave digest keys old new c is
-  follows (Ok status) status_is h is same =
-      rw same (performs_done DoesFollow IsLate MayLeave digest keys old new c tt status status_is h)
-  follows (Err fault) status_is h is same =
-      rw same (performs DoesFollow IsLate MayLeave digest keys old new c tt (Err (Follow fault)) tt
-      (quiet_follow fault h) h)
+      AnswersAmong digest may keys old new places c is
+  follows (Ok status) h is same = rw same h
+  follows (Err fault) h is same = rw same h
 
--- a note that a place or the file may give may be followed
-pub may_follow : {S : Type 0} (may : S → Path → Option (List ℕ) → Type 0) (recorded : Option (List NamedFile))
-    (name : Option (List ℕ)) (places : Places S) (note : List ℕ) → IsNoteOf may recorded name places note →
-    MayFollow recorded name note
-may_follow may recorded None places note h = tt
-may_follow may recorded (Some name) places note h = h
+-- ---- follow, over the places of the words
+
+module _ (digest : List ℕ → List ℕ) (keys : List Key) (old new : Moment) (c : FollowWords) (places : Places SeenPlace)
+    (named : names_of places ≡ map name_of c.places.items) where
+  quiet : (fault : FollowRunFault) → FollowsAmong digest MayAnswerAny keys old new places c (Err fault) →
+      (¬ IsLate (Follow fault)) → Keeps old.output new.output
+  quiet (follow.File fault) h other = h.runs.follows.text
+  quiet follow.CopyInUse h other = h.runs.follows.text
+  quiet follow.OutOfMemory h other = h.runs.follows.text
+  quiet (follow.Follow fault) h other = h.runs.follows.text
+  quiet follow.WriteFault h other = absurd (other tt)
+  quiet (follow.Evidence fault) h other = absurd (other tt)
+  quiet (follow.EvidenceAndOutput fault) h other = absurd (other tt)
+
+  pub performed : (is : Result ℕ PlaceRunFault) → AnswersAmong digest MayAnswerAny keys old new places c is →
+      Performs DoesFollow IsLate MayLeave digest keys old new c is
+  performed (Ok status) h =
+      performs_done DoesFollow IsLate MayLeave digest keys old new c tt status h.runs.status
+      (record { places = places; named = named; among = h })
+  performed (Err (Follow fault)) h =
+      performs DoesFollow IsLate MayLeave digest keys old new c tt (Err (Follow fault)) tt (quiet fault h)
+      (record { places = places; named = named; among = h })
+  performed (Err OutOfMemory) h = absurd h
+  performed (Err (Origin fault)) h = absurd h
+  performed (Err (Audit fault)) h = absurd h
+
+-- ---- audit
+
+module _ (digest : List ℕ → List ℕ) (keys : List Key) (old new : Moment) (c : AuditWords) (stays : Stays old new)
+    (place : SeenPlace) (named : place.name ≡ name_of c.place) where
+  abbrev Audited : Result ℕ AuditRunFault → Type 0
+  Audited answer =
+      RunsAudit digest c.log.origin.now keys (λ path bytes. ⊤) (λ path bytes. ⊤) None None old.output new.output answer
+
+  quiet_audit : (fault : AuditRunFault) → Audited (Err fault) → (¬ IsLate (Audit fault)) → Keeps old.output new.output
+  quiet_audit audit.WriteFault h other = absurd (other tt)
+  quiet_audit (audit.Audit fault) h other = h.2
+
+  -- the source at the place was audited
+  pub audits : (answer : Result ℕ AuditRunFault) → Audited answer → (is : Result ℕ PlaceRunFault) →
+      is ≡ result_map_both (λ status. status) (λ fault. Audit fault) answer →
+      Performs DoesAudit IsLate Stays digest keys old new c is
+  audits (Ok status) h is same =
+      rw same (performs_done DoesAudit IsLate Stays digest keys old new c stays status (inl h.0)
+      (record { place = place; named = named; left = place; audits = h }))
+  audits (Err fault) h is same =
+      rw same (performs DoesAudit IsLate Stays digest keys old new c stays (Err (Audit fault)) tt (quiet_audit fault h)
+      (record { place = place; named = named; left = place; audits = h }))

@@ -5,9 +5,10 @@ use Rattle.program_monitor.specs.declared.fault.AuditRunFault.TheVariants as aud
 use Rattle.place_commands.specs.declared.fault.PlaceRunFault.{PlaceRunFault}
 use Rattle.place_commands.specs.declared.fault.PlaceRunFault.TheVariants.{Audit, Follow}
 
--- a write failed; the evidence, which follows the text, was not put
+-- a write failed, or the evidence was not put, which does not keep the text from being written
 abbrev pub IsLate : PlaceRunFault → Type 0
 IsLate (Follow follow.WriteFault) = ⊤
 IsLate (Follow (follow.Evidence fault)) = ⊤
+IsLate (Follow (follow.EvidenceAndOutput fault)) = ⊤
 IsLate (Audit audit.WriteFault) = ⊤
 IsLate other = ⊥

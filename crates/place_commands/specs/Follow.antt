@@ -1,30 +1,43 @@
--- The command `follow`: the meaning of each answer for the given note, the folder of the copy, and the output.
-use Rattle.std.specs.Prelude.{ℕ, List, Option, Some, None, Result, Ok, Err, option_map, ⊤}
+-- The command `follow`: the meaning of each answer for the places, the given note, the folder of the copy, the output and the evidence.
+use Rattle.std.specs.Prelude.{◌≡◌, ℕ, List, Option, Result, Ok, Err, map, option_map, ⊤}
 use Rattle.signed_note.specs.Keys.{Key}
+use Rattle.tlog_tiles.specs.declared.paths.Path.{Path}
+use Rattle.mirror_places.specs.declared.places.Places.{Places}
 use Rattle.program_words.specs.declared.commands.follow.Follow.{Follow as FollowWords}
-use Rattle.program_files.specs.Named.{HasContents, NamedFile}
-use Rattle.program_follow.specs.Following.{Follows, ReadsGiven}
+use Rattle.program_follow.specs.Following.{RunsFollow}
+use Rattle.program_follow.specs.Places.{MayAnswerAny, SeenPlace}
 use Rattle.program_follow.specs.declared.fault.FollowRunFault.{FollowRunFault}
 use Rattle.program_env.specs.Moment.{Moment}
 use Rattle.program_env.specs.Origins.{RefusesOrigin}
 use Rattle.program_env.specs.Performing.{DoesNothing}
+use Rattle.place_commands.specs.Places.{name_of, names_of}
 use Rattle.place_commands.specs.declared.fault.PlaceRunFault.{PlaceRunFault}
 use Rattle.place_commands.specs.declared.fault.PlaceRunFault.TheVariants.{Follow, OutOfMemory, Origin}
 
--- the note may be the one that is followed: the note of the named file; without a named file any note, because a place of the
--- system may give any
-abbrev pub MayFollow : Option (List NamedFile) → Option (List ℕ) → List ℕ → Type 0
-MayFollow recorded None note = ⊤
-MayFollow recorded (Some name) note = HasContents recorded name note
+module _ (digest : List ℕ → List ℕ) {S : Type 0} (may : S → Path → Option (List ℕ) → Type 0) (keys : List Key)
+    (old new : Moment) (places : Places S) where
+  -- these places were followed with this answer. A moment has no count of the folder's failures, so that is some number
+  pub record FollowsAmong (c : FollowWords) (answer : Result ℕ FollowRunFault) : Type 0 where
+    pub left : Places S
+    pub failures : ℕ
+    pub more_failures : ℕ
+    pub runs :
+        RunsFollow digest may c.copy.log.origin.now keys places left (option_map (λ name. name.now) c.checkpoint)
+        (option_map (λ name. name.now) c.forks) (old.held c.copy.folder.now) old.puts new.puts failures more_failures
+        old.files new.files old.output new.output answer
+
+  -- the meaning of each answer for these places, whose words are right
+  abbrev pub AnswersAmong : FollowWords → Result ℕ PlaceRunFault → Type 0
+  AnswersAmong c (Ok status) = FollowsAmong c (Ok status)
+  AnswersAmong c (Err (Follow fault)) = FollowsAmong c (Err fault)
+  AnswersAmong c (Err other) = ⊥
 
 module _ (digest : List ℕ → List ℕ) (keys : List Key) (old new : Moment) where
-  -- the meaning of an answer of the follower
-  abbrev pub FollowsOne : FollowWords → Result ℕ FollowRunFault → Type 0
-  FollowsOne c answer =
-      Follows digest c.copy.log.origin.now keys
-      (MayFollow old.files (option_map (λ name. name.now) c.checkpoint)) (option_map (λ name. name.now) c.forks)
-      (old.held c.copy.folder.now) old.puts new.puts old.files new.files old.output new.output answer
-      × ReadsGiven old.files (option_map (λ name. name.now) c.checkpoint) answer
+  -- the places that the words name were followed, each and in their order, with this answer. A place of the system may answer anything
+  pub record FollowsOne (c : FollowWords) (answer : Result ℕ FollowRunFault) : Type 0 where
+    pub places : Places SeenPlace
+    pub named : names_of places ≡ map name_of c.places.items
+    pub among : FollowsAmong digest MayAnswerAny keys old new places c answer
 
   abbrev pub DoesFollow : FollowWords → Result ℕ PlaceRunFault → Type 0
   DoesFollow c (Ok status) = FollowsOne c (Ok status)

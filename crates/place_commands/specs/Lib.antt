@@ -1,4 +1,5 @@
 pub mod Faults
+pub mod Places
 pub mod Follow
 pub mod Audit
 pub mod Commands

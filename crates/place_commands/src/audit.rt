@@ -6,6 +6,8 @@ ghost use Rattle.program_env.specs.Envs.{IsSameEnv, moment};
 ghost use Rattle.program_env.specs.Performing.{Stays, Performs};
 ghost use Rattle.place_commands.specs.Faults.{IsLate};
 ghost use Rattle.place_commands.specs.Audit.{DoesAudit};
+ghost use Rattle.place_commands.specs.Places.{name_of};
+ghost use Rattle.program_follow.specs.Places.{SeenPlace};
 ghost use Rattle.program_monitor.specs.Audits.{RunsAudit};
 
 use crate::any::{AnySource, FailingPlace};
@@ -79,7 +81,7 @@ where
     }
 }
 
-// Audits this source.
+// Audits this source, which is at the place of the words.
 fn audit_any<R, F: RunFiles, D: RunFolders, I: Read, O: Write, E: Write, S: FailingPlace + Drop>(
     env: &mut Env<'_, '_, '_, '_, R, F, D, I, O, E>,
     keys: &[Box<dyn Verifier>],
@@ -89,7 +91,8 @@ fn audit_any<R, F: RunFiles, D: RunFolders, I: Read, O: Write, E: Write, S: Fail
 where
     R: Clock + Eprint,
     ensures same { IsSameEnv env.old env.new }
-    ensures does { Performs DoesAudit IsLate Stays sha256 (map (λ k. key k) keys.now)
+    ensures does { (place : SeenPlace) → place.name ≡ name_of audit.now.place
+        → Performs DoesAudit IsLate Stays sha256 (map (λ k. key k) keys.now)
         (moment F.puts D.held D.puts I.remaining O.contents env.old)
         (moment F.puts D.held D.puts I.remaining O.contents env.new) audit.now result }
 {

@@ -5,7 +5,7 @@ ghost use Rattle.sha2.specs.Sha256.{sha256};
 ghost use Rattle.program_env.specs.Envs.{IsSameEnv, moment};
 ghost use Rattle.program_env.specs.Performing.{MayLeave, Performs};
 ghost use Rattle.place_commands.specs.Faults.{IsLate};
-ghost use Rattle.place_commands.specs.Follow.{DoesFollow};
+ghost use Rattle.place_commands.specs.Follow.{AnswersAmong, DoesFollow};
 
 use crate::fault::{Error, PlaceRunFault};
 use crate::places::places_of;
@@ -14,14 +14,16 @@ use mirror_places::Places;
 use mirror_progress::Task;
 use mirror_sources::Source;
 use program_env::served::of_note;
-use program_env::why::{Why, of_folder, of_named, of_origin};
+use program_env::why::{FailedStreams, Why, of_folder, of_named, of_origin, print_why};
 use program_env::{Env, RunFiles, RunFolders, print_waited, write_front};
-use program_follow::{FollowRunFault, Following, WatchedPlace, follow_why, run_follow};
+use program_files::system_reason;
+use program_follow::{FollowRunFault, Following, SystemHold, WatchedPlace, follow_why, run_follow};
 use program_states::check_origin;
 use program_words::commands::follow::Follow;
 use signed_note::Verifier;
 use std::alloc::Global;
-use std::fs::Files;
+use std::fs::{File, Files};
+use std::io;
 use std::io::{Read, Write};
 use std::net::{Net, TcpStream};
 use std::rt::Clock;
@@ -40,7 +42,7 @@ pub fn run<R, F: RunFiles, D: RunFolders, I: Read, O: Write, E: Write>(
     follow: &Follow<'_>,
 ) -> Result<u8, Error>
 where
-    R: Files + Clock + Net<Stream = TcpStream>,
+    R: Files<File = File> + Clock + Net<Stream = TcpStream>,
     ensures same { IsSameEnv env.old env.new }
     ensures does { Performs DoesFollow IsLate MayLeave sha256 (map (λ k. key k) keys.now)
         (moment F.puts D.held D.puts I.remaining O.contents env.old)
@@ -58,7 +60,7 @@ fn follow_over<R, F: RunFiles, D: RunFolders, I: Read, O: Write, E: Write, N>(
     net: N,
 ) -> Result<u8, Error>
 where
-    R: Files,
+    R: Files<File = File>,
     N: Net<Stream = TcpStream> + Clock + Clone + Drop,
     ensures same { IsSameEnv env.old env.new }
     ensures does { Performs DoesFollow IsLate MayLeave sha256 (map (λ k. key k) keys.now)
@@ -85,10 +87,12 @@ fn follow_among<R, F: RunFiles, D: RunFolders, I: Read, O: Write, E: Write, S: W
     follow: &Follow<'_>,
     mut places: Places<S>,
 ) -> Result<u8, Error>
+where
+    R: Files<File = File>,
     ensures same { IsSameEnv env.old env.new }
-    ensures does { Performs DoesFollow IsLate MayLeave sha256 (map (λ k. key k) keys.now)
+    ensures does { AnswersAmong sha256 S.may_answer (map (λ k. key k) keys.now)
         (moment F.puts D.held D.puts I.remaining O.contents env.old)
-        (moment F.puts D.held D.puts I.remaining O.contents env.new) follow.now result }
+        (moment F.puts D.held D.puts I.remaining O.contents env.new) places follow.now result }
 {
     let following = Following {
         origin: follow.copy.log.origin,
@@ -97,15 +101,19 @@ fn follow_among<R, F: RunFiles, D: RunFolders, I: Read, O: Write, E: Write, S: W
         forks: follow.forks,
         progress: follow.progress,
     };
-    let answer = run_follow::<Sha256Tree, F, D, S, O>(
+    let mut hold = SystemHold::new(env.rt, env.alloc);
+    let answer = run_follow::<Sha256Tree, F, D, S, SystemHold<'_, R>, O>(
         &mut env.files,
         &mut env.folders,
         env.alloc,
         keys,
         &following,
         &mut places,
+        &mut hold,
         env.output,
     );
+    write_unlocked(follow, env.alloc, hold.unlocked(), env.errors);
+    drop(hold);
     write_waits(follow.progress, env.alloc, &places, env.errors);
     write_whys::<D, S, E>(
         follow.why,
@@ -155,10 +163,11 @@ fn why_of<R, F: RunFiles, D: RunFolders, I, O, E>(
     fault: FollowRunFault,
 ) -> Option<Why> {
     match fault {
-        FollowRunFault::File(fault) | FollowRunFault::Evidence(fault) => {
-            of_named(env.alloc, &env.files, fault)
-        }
+        FollowRunFault::File(fault)
+        | FollowRunFault::Evidence(fault)
+        | FollowRunFault::EvidenceAndOutput(fault) => of_named(env.alloc, &env.files, fault),
         FollowRunFault::WriteFault => Some(Why::Output),
+        FollowRunFault::CopyInUse => Why::of_thing(env.alloc, follow.copy.folder),
         FollowRunFault::OutOfMemory => None,
         FollowRunFault::Follow(FollowFault::Head(fault)) => {
             of_note(env.alloc, &env.files, follow.checkpoint?, fault)
@@ -226,5 +235,29 @@ fn write_whys<D: RunFolders, S: WatchedPlace + Drop, E: Write>(
         if let Ok(text) = follow_why::<D, S>(alloc, following, keys, folders, places) {
             write_front(errors, text.as_bytes());
         }
+    }
+}
+
+// Writes a line if the system did not lock the folder of the copy, and the words ask for lines.
+fn write_unlocked<E: Write>(
+    follow: &Follow<'_>,
+    alloc: Global,
+    unlocked: Option<&io::Error>,
+    errors: &mut E,
+) {
+    if let Some(error) = unlocked {
+        let why = why_unlocked(alloc, follow.copy.folder, error);
+        print_why(alloc, follow.why, why, FailedStreams::none(), errors);
+    }
+}
+
+// Names the folder of the copy, and says why it is not locked.
+fn why_unlocked(alloc: Global, folder: &str, error: &io::Error) -> Option<Why> {
+    let Ok(reason) = system_reason(alloc, error) else {
+        return None;
+    };
+    match format!(in alloc; "not locked: {reason}") {
+        Ok(reason) => Why::of_reason(alloc, folder, &reason),
+        Err(_) => None,
     }
 }

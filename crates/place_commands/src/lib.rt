@@ -22,7 +22,7 @@ pub use fault::{Error, PlaceRunFault};
 use program_env::{Env, RunFiles, RunFolders};
 use program_words::PlaceCommand;
 use signed_note::Verifier;
-use std::fs::Files;
+use std::fs::{File, Files};
 use std::io::{Read, Write};
 use std::net::{Net, TcpStream};
 use std::rt::Clock;
@@ -38,7 +38,7 @@ pub fn run<R, F: RunFiles, D: RunFolders, I: Read, O: Write, E: Write>(
     command: &PlaceCommand<'_>,
 ) -> Result<u8, Error>
 where
-    R: Files + Clock + Eprint + Net<Stream = TcpStream>,
+    R: Files<File = File> + Clock + Eprint + Net<Stream = TcpStream>,
     ensures same { IsSameEnv env.old env.new }
     ensures does { ExecutesPlace sha256 (map (λ k. key k) keys.now)
         (moment F.puts D.held D.puts I.remaining O.contents env.old)

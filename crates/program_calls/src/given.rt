@@ -16,7 +16,7 @@ use program_library::{Error, Keys, RunEnv, RunFault, printed, refused, system_fo
 use program_parser::{Line, read_line};
 use signed_note::Verifier;
 use std::alloc::Global;
-use std::fs::Files;
+use std::fs::{File, Files};
 use std::io::{Read, Write};
 use std::net::{Net, TcpListener, TcpStream};
 use std::rt::Clock;
@@ -44,7 +44,7 @@ pub fn run_words<R, I: Read, O: Write, E: Write>(
     errors: &mut E,
 ) -> Result<u8, RunFault>
 where
-    R: Files + Clock + Eprint + Net<Stream = TcpStream, Listener = TcpListener>,
+    R: Files<File = File> + Clock + Eprint + Net<Stream = TcpStream, Listener = TcpListener>,
     ensures answer { Runs sha256 (map (λ k. key k) keys.now) key_bytes.now
         (map string_bytes words.now)
         (on_system (I.remaining input.old) (O.contents output.old))
@@ -75,7 +75,7 @@ fn run_words_on<R, F: RunFiles + Drop, D: RunFolders + Drop, I: Read, O: Write, 
     errors: &mut E,
 ) -> Result<u8, RunFault>
 where
-    R: Files + Clock + Eprint + Net<Stream = TcpStream, Listener = TcpListener>,
+    R: Files<File = File> + Clock + Eprint + Net<Stream = TcpStream, Listener = TcpListener>,
     ensures answer { (left : F) × (left_folders : D) × Runs sha256
         (map (λ k. key k) keys.now) key_bytes.now (map string_bytes words.now)
         (seen_of F.puts D.held D.puts files folders (I.remaining input.old)

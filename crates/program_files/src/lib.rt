@@ -9,6 +9,7 @@
 #![tactic(auto)]
 
 mod fault;
+mod flush;
 mod laws;
 mod memory;
 mod named;

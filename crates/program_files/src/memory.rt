@@ -140,5 +140,9 @@ impl NamedFiles for MemoryFiles {
         Ok(())
     }
 
+    fn flush_file(&self, _name: &str) -> Result<(), NamedFault> {
+        Ok(())
+    }
+
     fn keep_reason(&self, _name: &str, _reason: String) {}
 }

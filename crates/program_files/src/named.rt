@@ -72,7 +72,8 @@ pub trait NamedFiles {
     fn put(&mut self, name: &str, bytes: &[u8]) -> Result<(), NamedFault>
         ensures { RecordsReplace (puts self.old) (puts self.new) (name.now, bytes.now) result };
 
-    /// Flushes to the device the files that were put into the folder of that name since it was made.
+    /// Flushes to the device the files that were put into the folder of that name since it was made, and the folder. The folders above
+    /// are flushed if the system allows it, since the folder may be new there.
     ///
     /// # Errors
     ///
@@ -80,6 +81,14 @@ pub trait NamedFiles {
     fn flush(&mut self, folder: &str) -> Result<(), NamedFault>
         ensures flushed { RecordsFolder (puts self.old) result }
         ensures same { puts self.new ≡ puts self.old };
+
+    /// Flushes to the device the file of that name, which was found. It need not have been put.
+    ///
+    /// # Errors
+    ///
+    /// `FileFault` if it cannot be flushed, `OutOfMemory` if memory was refused. The file remains.
+    fn flush_file(&self, name: &str) -> Result<(), NamedFault>
+        ensures { RecordsFolder (puts self.now) result };
 
     /// Says what is wrong with the bytes of the file of that name, which was read. The text is empty if no more is known. Files that
     /// report to people keep it. Contracts see nothing of it.

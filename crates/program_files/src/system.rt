@@ -5,6 +5,7 @@ ghost use Rattle.program_files.specs.Named.{ReadsFile, ReadsShort, RecordsFolder
 ghost use Rattle.program_files.specs.declared.named.TheConstants.{MAX_FILE_LEN};
 
 use crate::fault::NamedFault;
+use crate::flush::{flush_above, flush_name, folder_of};
 use crate::named::{MAX_FILE_LEN, NamedFiles};
 use byte_streams::{WatchedStream, read_all};
 use mirror_folders::{FolderFiles, replace_file};
@@ -191,8 +192,18 @@ impl<'a, R: Files> NamedFiles for SystemFiles<'a, R> {
             None => Ok(()),
         };
         match flushed {
-            Ok(()) => Ok(()),
+            Ok(()) => {
+                flush_above(self.files, folder_of(folder));
+                Ok(())
+            }
             Err(e) => Err(self.fault(folder, e)),
+        }
+    }
+
+    fn flush_file(&self, name: &str) -> Result<(), NamedFault> {
+        match flush_name(self.files, name) {
+            Ok(()) => Ok(()),
+            Err(e) => Err(self.fault(name, e)),
         }
     }
 

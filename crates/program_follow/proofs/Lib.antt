@@ -1,4 +1,5 @@
 mod Lines
 pub mod Noted
 mod Putting
+mod Serving
 mod Whys

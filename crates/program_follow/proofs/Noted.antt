@@ -21,9 +21,9 @@ use Rattle.mirror_follow.specs.declared.fault.FollowFault.{FollowFault}
 use Rattle.mirror_follow.specs.declared.fault.FollowFault.TheVariants as following
 use Rattle.mirror_follow.specs.declared.report.Followed.{Followed}
 use Rattle.program_files.specs.Named.{HasContents, NamedFile}
-use Rattle.program_follow.specs.Following.{AreRunCandidates, CopyFollowed, CountsRun, EndsFollowing, Follows, FollowsIn, IsNoteOf, HonestSuffices, PrintsSettled, ReachesIn, ReachesRun, ReadsNote, PrintsDone, SufficesForRun}
+use Rattle.program_follow.specs.Following.{AreRunCandidates, CopyFollowed, CountsRun, EndsFollowing, Follows, FollowsIn, IsNoteOf, HonestSuffices, PrintsSettled, ReachesIn, ReachesRun, ReadsNote, PrintsDone, SettlesRun, SufficesForRun}
 use Rattle.program_follow.specs.declared.fault.FollowRunFault.{FollowRunFault}
-use Rattle.program_follow.specs.declared.fault.FollowRunFault.TheVariants.{File, OutOfMemory, Follow, WriteFault, Evidence}
+use Rattle.program_follow.specs.declared.fault.FollowRunFault.TheVariants.{File, CopyInUse, OutOfMemory, Follow, WriteFault, Evidence, EvidenceAndOutput}
 
 -- the given note is that of the named file
 pub note_had : {S : Type 0} (may : S → Path → Option (List ℕ) → Type 0) (recorded : Option (List NamedFile))
@@ -54,24 +54,28 @@ module _ (digest : List ℕ → List ℕ) (origin : List ℕ) (keys : List Key) 
 
   -- the copy was followed, and then the result was written
   pub follows_recorded : (done : Followed) (r : Result ℕ FollowRunFault) → CopyFollowed digest origin keys so held put done →
-      PrintsDone forks done recorded left old new r →
+      PrintsDone origin keys forks done recorded left old new r →
       Follows digest origin keys other forks held before put recorded left old new r
   follows_recorded done (Ok status) copy tells = record { done = done; copy = copy_had done copy; tells = tells }
   follows_recorded done (Err (File fault)) copy tells = absurd tells
+  follows_recorded done (Err CopyInUse) copy tells = absurd tells
   follows_recorded done (Err OutOfMemory) copy tells = absurd tells
   follows_recorded done (Err (Follow fault)) copy tells =
       record { copy = follows_had copy.whole; text = tells.text; files = tells.files }
   follows_recorded done (Err WriteFault) copy tells = record { done = done; copy = copy_had done copy; tells = tells }
   follows_recorded done (Err (Evidence fault)) copy tells = record { done = done; copy = copy_had done copy; tells = tells }
+  follows_recorded done (Err (EvidenceAndOutput fault)) copy tells = record { done = done; copy = copy_had done copy; tells = tells }
 
   -- the copy was not followed, and nothing was written
   pub follows_ended : (fault : FollowRunFault) → FollowsIn digest origin keys so held before put (Err fault) →
       Keeps old new → left ≡ recorded → Follows digest origin keys other forks held before put recorded left old new (Err fault)
   follows_ended (File fault) copy text files = absurd copy
+  follows_ended CopyInUse copy text files = record { copy = copy; text = text; files = files }
   follows_ended OutOfMemory copy text files = record { copy = copy; text = text; files = files }
   follows_ended (Follow fault) copy text files = record { copy = follows_had copy; text = text; files = files }
   follows_ended WriteFault copy text files = absurd copy
   follows_ended (Evidence fault) copy text files = absurd copy
+  follows_ended (EvidenceAndOutput fault) copy text files = absurd copy
 
   -- a fact about a run with notes for which "so" holds is a fact for each weaker condition
   pub follows_weaker : (r : Result ℕ FollowRunFault) →
@@ -79,50 +83,80 @@ module _ (digest : List ℕ → List ℕ) (origin : List ℕ) (keys : List Key) 
       Follows digest origin keys other forks held before put recorded left old new r
   follows_weaker (Ok status) h = record { done = h.done; copy = copy_had h.done h.copy; tells = h.tells }
   follows_weaker (Err (File fault)) h = record { copy = h.copy; text = h.text; files = h.files }
+  follows_weaker (Err CopyInUse) h = record { copy = h.copy; text = h.text; files = h.files }
   follows_weaker (Err OutOfMemory) h = record { copy = h.copy; text = h.text; files = h.files }
   follows_weaker (Err (Follow fault)) h = record { copy = follows_had h.copy; text = h.text; files = h.files }
   follows_weaker (Err WriteFault) h = record { done = h.done; copy = copy_had h.done h.copy; tells = h.tells }
   follows_weaker (Err (Evidence fault)) h = record { done = h.done; copy = copy_had h.done h.copy; tells = h.tells }
+  follows_weaker (Err (EvidenceAndOutput fault)) h = record { done = h.done; copy = copy_had h.done h.copy; tells = h.tells }
 
-module _ (forks : Option (List ℕ)) (done : Followed) (recorded left : Option (List NamedFile)) (old new : Option (List ℕ)) where
+module _ (origin : List ℕ) (keys : List Key) (forks : Option (List ℕ)) (done : Followed)
+    (recorded left : Option (List NamedFile)) (old new : Option (List ℕ)) where
   -- the output after a run counts no failure
-  pub recorded_counts : (r : Result ℕ FollowRunFault) (count counted : ℕ) → PrintsDone forks done recorded left old new r →
+  pub recorded_counts : (r : Result ℕ FollowRunFault) (count counted : ℕ) → PrintsDone origin keys forks done recorded left old new r →
       counted ≡ count → CountsRun count counted r
   recorded_counts (Ok status) count counted tells same = same
   recorded_counts (Err (File fault)) count counted tells same = same
+  recorded_counts (Err CopyInUse) count counted tells same = same
   recorded_counts (Err OutOfMemory) count counted tells same = same
   recorded_counts (Err (Follow fault)) count counted tells same =
       subst (λ (f : FollowFault). CountsFollowFault count counted f) (sym tells.fault_is) same
   recorded_counts (Err WriteFault) count counted tells same = same
   recorded_counts (Err (Evidence fault)) count counted tells same = same
+  recorded_counts (Err (EvidenceAndOutput fault)) count counted tells same = same
 
 -- a fact about the gathered candidates holds for the candidates of the run, and for the printed result
-pub says_printed : {S : Type 0} (digest : List ℕ → List ℕ) (origin : List ℕ) (keys : List Key)
+module _ {S : Type 0} (digest : List ℕ → List ℕ) (origin : List ℕ) (keys : List Key)
     (may : S → Path → Option (List ℕ) → Type 0) (places left_places : Places S) (files : Option (List NamedFile))
     (name given : Option (List ℕ)) (held put : Option (List Put)) (forks : Option (List ℕ)) (done : Followed)
-    (recorded left : Option (List NamedFile)) (old new : Option (List ℕ)) (r : Result ℕ FollowRunFault) →
-    ReadsNote files name (Ok given) →
-    Says digest origin (AreCandidates may origin keys places left_places given) held put done →
-    PrintsDone forks done recorded left old new r →
-    IfOk r (λ _. PrintsSettled digest origin (AreRunCandidates may origin keys places left_places files name)
-    held put old new)
-says_printed digest origin keys may places left_places files name given held put forks done recorded left old new
-    (Ok status) reads says tells = record {
-      done = done;
-      says = record {
-        candidates = says.candidates;
-        gathered = record { given = given; reads = reads; are = says.gathered };
-        rising = says.rising;
-        settles = says.settles;
-        first = says.first;
-        found = says.found;
-        lines = says.lines;
-        noted = says.noted;
-      };
-      text = tells.whole.text;
-    }
-says_printed digest origin keys may places left_places files name given held put forks done recorded left old new
-    (Err fault) reads says tells = tt
+    (recorded left : Option (List NamedFile)) (old new : Option (List ℕ)) (reads : ReadsNote files name (Ok given))
+    (says : Says digest origin (AreCandidates may origin keys places left_places given) held put done) where
+  abbrev Settled : Result ℕ FollowRunFault → Type 0
+  Settled r =
+      PrintsSettled digest origin keys (AreRunCandidates may origin keys places left_places files name) held put forks
+      recorded left old new r
+
+  settled : (r : Result ℕ FollowRunFault) → PrintsDone origin keys forks done recorded left old new r → Settled r
+  settled r tells = record {
+    done = done;
+    says = record {
+      candidates = says.candidates;
+      gathered = record { given = given; reads = reads; are = says.gathered };
+      rising = says.rising;
+      settles = says.settles;
+      first = says.first;
+      found = says.found;
+      lines = says.lines;
+      noted = says.noted;
+    };
+    tells = tells;
+  }
+
+  pub says_printed : (r : Result ℕ FollowRunFault) → PrintsDone origin keys forks done recorded left old new r →
+      SettlesRun digest origin keys (AreRunCandidates may origin keys places left_places files name) held put forks
+      recorded left old new r
+  says_printed (Ok status) tells = settled (Ok status) tells
+  says_printed (Err (File fault)) tells = tt
+  says_printed (Err CopyInUse) tells = tt
+  says_printed (Err OutOfMemory) tells = tt
+  says_printed (Err (Follow fault)) tells = tt
+  says_printed (Err WriteFault) tells = settled (Err WriteFault) tells
+  says_printed (Err (Evidence fault)) tells = settled (Err (Evidence fault)) tells
+  says_printed (Err (EvidenceAndOutput fault)) tells = settled (Err (EvidenceAndOutput fault)) tells
+
+-- the copy was not followed
+pub says_ended : (digest : List ℕ → List ℕ) (origin : List ℕ) (keys : List Key) (so : List Candidate → Type 0)
+    (held put : Option (List Put)) (forks : Option (List ℕ)) (recorded left : Option (List NamedFile))
+    (old new : Option (List ℕ)) (before : Option (List Put)) (such : List ℕ → Type 0) (fault : FollowRunFault) →
+    FollowsIn digest origin keys such held before put (Err fault) →
+    SettlesRun digest origin keys so held put forks recorded left old new (Err fault)
+says_ended digest origin keys so held put forks recorded left old new before such (File fault) copy = tt
+says_ended digest origin keys so held put forks recorded left old new before such CopyInUse copy = tt
+says_ended digest origin keys so held put forks recorded left old new before such OutOfMemory copy = tt
+says_ended digest origin keys so held put forks recorded left old new before such (Follow fault) copy = tt
+says_ended digest origin keys so held put forks recorded left old new before such WriteFault copy = absurd copy
+says_ended digest origin keys so held put forks recorded left old new before such (Evidence fault) copy = absurd copy
+says_ended digest origin keys so held put forks recorded left old new before such (EvidenceAndOutput fault) copy = absurd copy
 
 -- ---- the reasons why `follow` ends
 
@@ -139,11 +173,12 @@ module _ (digest : List ℕ → List ℕ) {S : Type 0} (may : S → Path → Opt
 
   -- memory for the text was refused, after the copy was followed
   pub ends_recorded : (forks : Option (List ℕ)) (done : Followed) (from left : Option (List NamedFile)) (old new : Option (List ℕ))
-      (r : Result ℕ FollowRunFault) → PrintsDone forks done from left old new r →
+      (r : Result ℕ FollowRunFault) → PrintsDone origin keys forks done from left old new r →
       IfErr r (λ e. (fault : FollowFault) → e ≡ Follow fault →
       EndsFollowing digest may origin keys held x y recorded name fault)
   ends_recorded forks done from left old new (Ok status) tells = tt
   ends_recorded forks done from left old new (Err (File f)) tells = λ fault e. absurd tells
+  ends_recorded forks done from left old new (Err CopyInUse) tells = λ fault e. absurd tells
   ends_recorded forks done from left old new (Err OutOfMemory) tells = λ fault e. absurd tells
   ends_recorded forks done from left old new (Err (Follow f)) tells = λ fault e.
       let same : f ≡ fault = cc in
@@ -151,6 +186,7 @@ module _ (digest : List ℕ → List ℕ) {S : Type 0} (may : S → Path → Opt
       (subst (λ g. EndsFor digest may origin keys held x y given g) (sym tells.fault_is ∙ same) (memory_ends given))
   ends_recorded forks done from left old new (Err WriteFault) tells = λ fault e. absurd cc
   ends_recorded forks done from left old new (Err (Evidence f)) tells = λ fault e. absurd cc
+  ends_recorded forks done from left old new (Err (EvidenceAndOutput f)) tells = λ fault e. absurd cc
 
 -- ---- one honest place
 
@@ -170,31 +206,36 @@ module _ (digest : List ℕ → List ℕ) {S : Type 0} (may : S → Path → Opt
   -- the output after the copy was followed
   reaches_told : (so : Followed → Type 0) (forks : Option (List ℕ)) (done : Followed) (from left : Option (List NamedFile))
       (r : Result ℕ FollowRunFault) → IsFollowed digest origin held put done → so done →
-      PrintsDone forks done from left old new r → ReachesRun digest origin held put old new so r
+      PrintsDone origin keys forks done from left old new r → ReachesRun digest origin held put old new so r
   reaches_told so forks done from left (Ok status) brought is tells =
       record { done = done; brought = brought; is_so = is; written = tells.whole.text }
   reaches_told so forks done from left (Err (File f)) brought is tells = tt
+  reaches_told so forks done from left (Err CopyInUse) brought is tells = tt
   reaches_told so forks done from left (Err OutOfMemory) brought is tells = tt
   reaches_told so forks done from left (Err (Follow f)) brought is tells = inr tells.fault_is
   reaches_told so forks done from left (Err WriteFault) brought is tells =
       record { done = done; brought = brought; is_so = is; written = tells.text }
   reaches_told so forks done from left (Err (Evidence f)) brought is tells =
       record { done = done; brought = brought; is_so = is; written = tells.text }
+  reaches_told so forks done from left (Err (EvidenceAndOutput f)) brought is tells =
+      record { done = done; brought = brought; is_so = is; written = tells.text }
 
   for_run : (r : Result ℕ FollowRunFault) → HonestSuffices digest may origin keys held put x y recorded name old new r →
       Suffices r
   for_run (Ok status) h = h
   for_run (Err (File f)) h = tt
+  for_run (Err CopyInUse) h = h
   for_run (Err OutOfMemory) h = h
   for_run (Err (Follow f)) h = h
   for_run (Err WriteFault) h = h
   for_run (Err (Evidence f)) h = h
+  for_run (Err (EvidenceAndOutput f)) h = h
 
   -- the copy was followed, and then the result was written
   pub suffices_recorded : (forks : Option (List ℕ)) (done : Followed) (from left : Option (List NamedFile))
       (r : Result ℕ FollowRunFault) → IsFollowed digest origin held put done →
       ((h : Greatest) → ReachesLog digest h.entries h.size (Ok done)) → ((h : Among) → ReachesSize h.size (Ok done)) →
-      PrintsDone forks done from left old new r → Suffices r
+      PrintsDone origin keys forks done from left old new r → Suffices r
   suffices_recorded forks done from left r brought log size tells = for_run r (record {
     given = given;
     reads = reads;
@@ -205,10 +246,12 @@ module _ (digest : List ℕ → List ℕ) {S : Type 0} (may : S → Path → Opt
   ended_in : (so : Followed → Type 0) (fault : FollowRunFault) → ReachesIn so (Err fault) →
       ReachesRun digest origin held put old new so (Err fault)
   ended_in so (File f) h = tt
+  ended_in so CopyInUse h = tt
   ended_in so OutOfMemory h = tt
   ended_in so (Follow f) h = h
   ended_in so WriteFault h = absurd h
   ended_in so (Evidence f) h = absurd h
+  ended_in so (EvidenceAndOutput f) h = absurd h
 
   -- the copy was not followed, and nothing was written
   pub suffices_ended : (fault : FollowRunFault) →

@@ -1,5 +1,5 @@
 -- The files that a run of `follow` reads, its puts into the folder, its output, and the evidence.
-use Rattle.std.specs.Prelude.{◌≡◌, ℕ, All, List, Option, Some, None, Result, Ok, Err, ⊤}
+use Rattle.std.specs.Prelude.{◌≡◌, ◌⊎◌, ℕ, All, IfErr, IfOk, List, Option, Some, None, Result, Ok, Err, ⊤}
 use Rattle.std.specs.Io.KnownBytes.{Appends, Keeps}
 use Rattle.tlog_tiles.specs.declared.paths.Path.{Path}
 use Rattle.byte_streams.specs.Streams.{AppendsPrefix}
@@ -24,7 +24,7 @@ use Rattle.program_files.specs.declared.fault.NamedFault.{NamedFault}
 use Rattle.program_follow.specs.Evidence.{PutsFiles, evidence_of}
 use Rattle.program_follow.specs.Text.{followed_lines, followed_status_of}
 use Rattle.program_follow.specs.declared.fault.FollowRunFault.{FollowRunFault}
-use Rattle.program_follow.specs.declared.fault.FollowRunFault.TheVariants.{File, OutOfMemory, Follow, WriteFault, Evidence}
+use Rattle.program_follow.specs.declared.fault.FollowRunFault.TheVariants.{File, CopyInUse, OutOfMemory, Follow, WriteFault, Evidence, EvidenceAndOutput}
 
 -- ---- the given note
 
@@ -39,10 +39,12 @@ ReadsNote recorded (Some name) (Err fault) = ReadsShort recorded name (Err fault
 -- the named file was read, or its fault is the answer
 abbrev pub ReadsGiven : {T : Type 0} → Option (List NamedFile) → Option (List ℕ) → Result T FollowRunFault → Type 0
 ReadsGiven recorded name (Err (File fault)) = ReadsNote recorded name (Err fault)
+ReadsGiven recorded name (Err CopyInUse) = (note : Option (List ℕ)) × ReadsNote recorded name (Ok note)
 ReadsGiven recorded name (Err OutOfMemory) = (note : Option (List ℕ)) × ReadsNote recorded name (Ok note)
 ReadsGiven recorded name (Err (Follow fault)) = (note : Option (List ℕ)) × ReadsNote recorded name (Ok note)
 ReadsGiven recorded name (Err WriteFault) = (note : Option (List ℕ)) × ReadsNote recorded name (Ok note)
 ReadsGiven recorded name (Err (Evidence fault)) = (note : Option (List ℕ)) × ReadsNote recorded name (Ok note)
+ReadsGiven recorded name (Err (EvidenceAndOutput fault)) = (note : Option (List ℕ)) × ReadsNote recorded name (Ok note)
 ReadsGiven recorded name (Ok x) = (note : Option (List ℕ)) × ReadsNote recorded name (Ok note)
 
 -- the note is that of the named file. If none is named, it is one that a place may give for its checkpoint
@@ -69,13 +71,6 @@ pub record EndsFollowing (digest : List ℕ → List ℕ) {S : Type 0} (may : S 
   pub reads : ReadsNote recorded name (Ok given)
   pub ends : EndsFor digest may origin keys held old new given fault
 
--- the output states for each candidate how it was settled
-pub record PrintsSettled (digest : List ℕ → List ℕ) (origin : List ℕ) (so : List Candidate → Type 0)
-    (held put : Option (List Put)) (old new : Option (List ℕ)) : Type 0 where
-  pub done : Followed
-  pub says : Says digest origin so held put done
-  pub text : Appends old new (followed_lines done)
-
 -- ---- the copy
 
 module _ (digest : List ℕ → List ℕ) (origin : List ℕ) (keys : List Key) (so : List ℕ → Type 0)
@@ -87,23 +82,27 @@ module _ (digest : List ℕ → List ℕ) (origin : List ℕ) (keys : List Key) 
     pub brought : IsFollowed digest origin held put done
     pub forks : All (ShowsLine digest) done.forks.items
 
-  -- the puts into the folder. There are none if the folder was not opened
+  -- the puts into the folder. There are none if the folder was not held or not opened
   abbrev pub FollowsIn : Option (List Put) → Option (List Put) → Result Followed FollowRunFault → Type 0
   FollowsIn before put (Ok done) = CopyFollowed put done
   FollowsIn before put (Err (File fault)) = ⊥
+  FollowsIn before put (Err CopyInUse) = put ≡ before
   FollowsIn before put (Err OutOfMemory) = put ≡ before
   FollowsIn before put (Err (Follow fault)) = FollowsCandidates digest origin keys so held put
   FollowsIn before put (Err WriteFault) = ⊥
   FollowsIn before put (Err (Evidence fault)) = ⊥
+  FollowsIn before put (Err (EvidenceAndOutput fault)) = ⊥
 
 -- the folder's number of failures rises by one at its fault, and at no other
 abbrev pub CountsRun : {T : Type 0} → ℕ → ℕ → Result T FollowRunFault → Type 0
 CountsRun old new (Ok x) = new ≡ old
 CountsRun old new (Err (File fault)) = new ≡ old
+CountsRun old new (Err CopyInUse) = new ≡ old
 CountsRun old new (Err OutOfMemory) = new ≡ old
 CountsRun old new (Err (Follow fault)) = CountsFollowFault old new fault
 CountsRun old new (Err WriteFault) = new ≡ old
 CountsRun old new (Err (Evidence fault)) = new ≡ old
+CountsRun old new (Err (EvidenceAndOutput fault)) = new ≡ old
 
 -- ---- the output and the evidence
 
@@ -115,22 +114,22 @@ files_put = Ok tt
 abbrev pub files_failed : NamedFault → Result (Unit {0}) NamedFault
 files_failed fault = Err fault
 
-module _ (forks : Option (List ℕ)) (done : Followed) (recorded : Option (List NamedFile)) (left : Option (List NamedFile))
-    (old new : Option (List ℕ)) where
-  -- the text was written whole, and the evidence was put according to the answer
+module _ (origin : List ℕ) (keys : List Key) (forks : Option (List ℕ)) (done : Followed)
+    (recorded left : Option (List NamedFile)) (old new : Option (List ℕ)) where
+  -- the evidence was put according to the answer, and the text was written whole
   pub record PrintsAllText (answer : Result (Unit {0}) NamedFault) : Type 0 where
+    pub evidence : PutsFiles origin keys (evidence_of forks done.forks.items) recorded left answer
     pub text : Appends old new (followed_lines done)
-    pub evidence : PutsFiles (evidence_of forks done.forks.items) recorded left answer
 
-  -- the text was written whole, all of the evidence was put, and the status is that of the result
+  -- all of the evidence was put, the text was written whole, and the status is that of the result
   pub record PrintsAll (status : ℕ) : Type 0 where
     pub whole : PrintsAllText files_put
     pub status_is : status ≡ followed_status_of done
 
-  -- a prefix of the text was written, and no file
-  pub record PrintsFront : Type 0 where
+  -- the evidence was put according to the answer, and a prefix of the text was written
+  pub record PrintsFront (answer : Result (Unit {0}) NamedFault) : Type 0 where
+    pub evidence : PutsFiles origin keys (evidence_of forks done.forks.items) recorded left answer
     pub text : AppendsPrefix old new (followed_lines done)
-    pub files : left ≡ recorded
 
   -- memory for the text was refused, and nothing was written
   pub record PrintsNothing (fault : FollowFault) : Type 0 where
@@ -138,25 +137,52 @@ module _ (forks : Option (List ℕ)) (done : Followed) (recorded : Option (List 
     pub text : Keeps old new
     pub files : left ≡ recorded
 
-  -- the output at each answer: first the text, and then the evidence of the forks
+  -- the output at each answer: first the evidence of the forks is put, then the text is written, whether or not the evidence was put
   abbrev pub PrintsDone : Result ℕ FollowRunFault → Type 0
   PrintsDone (Ok status) = PrintsAll status
   PrintsDone (Err (File fault)) = ⊥
+  PrintsDone (Err CopyInUse) = ⊥
   PrintsDone (Err OutOfMemory) = ⊥
   PrintsDone (Err (Follow fault)) = PrintsNothing fault
-  PrintsDone (Err WriteFault) = PrintsFront
+  PrintsDone (Err WriteFault) = PrintsFront files_put
   PrintsDone (Err (Evidence fault)) = PrintsAllText (files_failed fault)
+  PrintsDone (Err (EvidenceAndOutput fault)) = PrintsFront (files_failed fault)
+
+-- ---- what is said
+
+module _ (digest : List ℕ → List ℕ) (origin : List ℕ) (keys : List Key) (so : List Candidate → Type 0)
+    (held put : Option (List Put)) (forks : Option (List ℕ)) (recorded left : Option (List NamedFile))
+    (old new : Option (List ℕ)) where
+  -- the output and the evidence are of a result that states for each candidate how it was settled. So each note of the evidence is that of
+  -- a candidate, or the copy's
+  pub record PrintsSettled (answer : Result ℕ FollowRunFault) : Type 0 where
+    pub done : Followed
+    pub says : Says digest origin so held put done
+    pub tells : PrintsDone origin keys forks done recorded left old new answer
+
+  -- this holds once the copy was followed
+  abbrev pub SettlesRun : Result ℕ FollowRunFault → Type 0
+  SettlesRun (Ok status) = PrintsSettled (Ok status)
+  SettlesRun (Err (File fault)) = ⊤
+  SettlesRun (Err CopyInUse) = ⊤
+  SettlesRun (Err OutOfMemory) = ⊤
+  SettlesRun (Err (Follow fault)) = ⊤
+  SettlesRun (Err WriteFault) = PrintsSettled (Err WriteFault)
+  SettlesRun (Err (Evidence fault)) = PrintsSettled (Err (Evidence fault))
+  SettlesRun (Err (EvidenceAndOutput fault)) = PrintsSettled (Err (EvidenceAndOutput fault))
 
 -- ---- one honest place
 
--- "so" holds for the answer. Or `follow` ended since the folder failed, or memory was refused
+-- "so" holds for the answer. Or `follow` ended since the folder failed or is in use, or memory was refused
 abbrev pub ReachesIn : (Followed → Type 0) → Result Followed FollowRunFault → Type 0
 ReachesIn so (Ok done) = so done
 ReachesIn so (Err (File fault)) = ⊥
+ReachesIn so (Err CopyInUse) = ⊤
 ReachesIn so (Err OutOfMemory) = ⊤
 ReachesIn so (Err (Follow fault)) = IsOfShelfOrMemory fault
 ReachesIn so (Err WriteFault) = ⊥
 ReachesIn so (Err (Evidence fault)) = ⊥
+ReachesIn so (Err (EvidenceAndOutput fault)) = ⊥
 
 module _ (digest : List ℕ → List ℕ) (origin : List ℕ) (held put : Option (List Put)) (old new : Option (List ℕ))
     (so : Followed → Type 0) where
@@ -168,14 +194,16 @@ module _ (digest : List ℕ → List ℕ) (origin : List ℕ) (held put : Option
     pub written : text done
 
   -- the copy was followed, and "so" holds for its answer, for all results of the output and the evidence. Or `follow` ended since the
-  -- folder failed, or memory was refused
+  -- folder failed or is in use, or memory was refused
   abbrev pub ReachesRun : Result ℕ FollowRunFault → Type 0
   ReachesRun (Ok status) = CopyReaches (λ done. Appends old new (followed_lines done))
   ReachesRun (Err (File fault)) = ⊤
+  ReachesRun (Err CopyInUse) = ⊤
   ReachesRun (Err OutOfMemory) = ⊤
   ReachesRun (Err (Follow fault)) = IsOfShelfOrMemory fault
   ReachesRun (Err WriteFault) = CopyReaches (λ done. AppendsPrefix old new (followed_lines done))
   ReachesRun (Err (Evidence fault)) = CopyReaches (λ done. Appends old new (followed_lines done))
+  ReachesRun (Err (EvidenceAndOutput fault)) = CopyReaches (λ done. AppendsPrefix old new (followed_lines done))
 
 module _ (digest : List ℕ → List ℕ) {S : Type 0} (may : S → Path → Option (List ℕ) → Type 0) (origin : List ℕ)
     (keys : List Key) (held put : Option (List Put)) (places left : Places S) (recorded : Option (List NamedFile))
@@ -196,10 +224,12 @@ module _ (digest : List ℕ → List ℕ) {S : Type 0} (may : S → Path → Opt
   abbrev pub SufficesForRun : Result ℕ FollowRunFault → Type 0
   SufficesForRun (Ok status) = HonestSuffices (Ok status)
   SufficesForRun (Err (File fault)) = ⊤
+  SufficesForRun (Err CopyInUse) = HonestSuffices (Err CopyInUse)
   SufficesForRun (Err OutOfMemory) = HonestSuffices (Err OutOfMemory)
   SufficesForRun (Err (Follow fault)) = HonestSuffices (Err (Follow fault))
   SufficesForRun (Err WriteFault) = HonestSuffices (Err WriteFault)
   SufficesForRun (Err (Evidence fault)) = HonestSuffices (Err (Evidence fault))
+  SufficesForRun (Err (EvidenceAndOutput fault)) = HonestSuffices (Err (EvidenceAndOutput fault))
 
 -- ---- the command
 
@@ -210,7 +240,7 @@ module _ (digest : List ℕ → List ℕ) (origin : List ℕ) (keys : List Key) 
   pub record FollowsAndTells (answer : Result ℕ FollowRunFault) : Type 0 where
     pub done : Followed
     pub copy : CopyFollowed digest origin keys so held put done
-    pub tells : PrintsDone forks done recorded left old new answer
+    pub tells : PrintsDone origin keys forks done recorded left old new answer
 
   -- nothing was put into the folder, and nothing was written
   pub record LeavesAll : Type 0 where
@@ -224,12 +254,35 @@ module _ (digest : List ℕ → List ℕ) (origin : List ℕ) (keys : List Key) 
     pub text : Keeps old new
     pub files : left ≡ recorded
 
-  -- the effects at each answer of the command. First the file of the note is read. Then the folder is opened and the copy is followed.
-  -- Then the text is written, and last the evidence
+  -- the effects at each answer of the command. First the file of the note is read. Then the folder is held and opened, and the copy is
+  -- followed. Then the evidence is put, and last the text is written
   abbrev pub Follows : Result ℕ FollowRunFault → Type 0
   Follows (Ok status) = FollowsAndTells (Ok status)
   Follows (Err (File fault)) = LeavesAll
+  Follows (Err CopyInUse) = LeavesAll
   Follows (Err OutOfMemory) = LeavesAll
   Follows (Err (Follow fault)) = FollowsOnly
   Follows (Err WriteFault) = FollowsAndTells (Err WriteFault)
   Follows (Err (Evidence fault)) = FollowsAndTells (Err (Evidence fault))
+  Follows (Err (EvidenceAndOutput fault)) = FollowsAndTells (Err (EvidenceAndOutput fault))
+
+-- ---- all that is said of a run
+
+module _ (digest : List ℕ → List ℕ) {S : Type 0} (may : S → Path → Option (List ℕ) → Type 0) (origin : List ℕ)
+    (keys : List Key) (places left_places : Places S) (name forks : Option (List ℕ)) (held before put : Option (List Put))
+    (failures more_failures : ℕ) (recorded left : Option (List NamedFile)) (old new : Option (List ℕ)) where
+  -- the candidates of the run
+  abbrev pub OfRun : List Candidate → Type 0
+  OfRun candidates = AreRunCandidates may origin keys places left_places recorded name candidates
+
+  -- what is said of each answer
+  pub record RunsFollow (answer : Result ℕ FollowRunFault) : Type 0 where
+    pub follows :
+        Follows digest origin keys (IsNoteOf may recorded name places) forks held before put recorded left old new answer
+    pub says : SettlesRun digest origin keys OfRun held put forks recorded left old new answer
+    pub ends : IfErr answer (λ e. (fault : FollowFault) → e ≡ Follow fault →
+        EndsFollowing digest may origin keys held places left_places recorded name fault)
+    pub given : ReadsGiven recorded name answer
+    pub counted : CountsRun failures more_failures answer
+    pub status : IfOk answer (λ status. (status ≡ 0) ⊎ (status ≡ 3))
+    pub suffices : SufficesForRun digest may origin keys held put places left_places recorded name old new answer

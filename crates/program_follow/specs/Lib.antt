@@ -2,3 +2,4 @@ pub mod Text
 pub mod Evidence
 pub mod Following
 pub mod Whys
+pub mod Places

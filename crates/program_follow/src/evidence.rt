@@ -1,11 +1,18 @@
 //! The evidence of forks, as files.
-ghost use Rattle.std.specs.Prelude.{◌≡◌, ◌∷◌, [], IfOk, option_map, string_bytes};
+ghost use Rattle.std.specs.Prelude.{◌≡◌, ◌≢◌, ◌↔◌, ◌∷◌, [], ℕ, IfOk, IsTrue, List, None, Option, false, map, option_map, string_bytes};
 ghost use Rattle.std.specs.List.{flat_map};
-ghost use Rattle.program_follow.specs.Evidence.{PutsFiles, evidence_of, fork_files, is_writable_fork, note_file, note_place, proof_file, proof_files, proof_place};
+ghost use Rattle.signed_note.specs.Keys.{Key};
+ghost use Rattle.mirror_model.specs.Forks.{Point};
+ghost use Rattle.mirror_model.specs.Heads.{IsOpenHead};
+ghost use Rattle.program_follow.specs.Evidence.{LooksFor, PutsFiles, Serves, evidence_of, fork_files, is_writable_fork, note_as, note_file, note_place, proof_file, proof_files, proof_place, wanted_file};
 
+use log_reader::open_head;
 use mirror_candidates::{Candidate, ForkLine};
+use mirror_model::TakeFault;
 use program_files::{NamedFault, NamedFiles};
+use signed_note::Verifier;
 use std::alloc::{AllocError, Global};
+use tlog_checkpoint::Checkpoint;
 use tlog_proof::{Proof, write_text};
 use tlog_shape::MAX_SIZE;
 
@@ -48,32 +55,162 @@ fn is_writable(proof: &Proof) -> bool
     }
 }
 
-// Puts a file if it is missing. An existing file keeps its bytes.
-fn put_missing<F: NamedFiles>(files: &mut F, place: &str, bytes: &[u8]) -> Result<(), NamedFault>
-    ensures { PutsFiles ((place.now, bytes.now) ∷ []) (F.puts files.old) (F.puts files.new)
-        result }
+fn is_same(there: &[u8], bytes: &[u8]) -> bool
+    ensures { IsTrue result ↔ (there.now ≡ bytes.now) }
+{
+    there == bytes
+}
+
+// Whether a checkpoint has the size and root of a candidate.
+fn is_at(checkpoint: &Checkpoint, note: &Candidate) -> bool
+    ensures { IsTrue result ↔ ((checkpoint.now.size ≡ note.now.size.0)
+        × (checkpoint.now.root ≡ note.now.root)) }
+{
+    checkpoint.size == note.size.0 && checkpoint.root == note.root
+}
+
+// The note does not open, unless memory was refused.
+fn refused(fault: TakeFault) -> Result<bool, AllocError>
+    ensures { IfOk result (λ opens. (opens ≡ false) × (fault ≢ TakeFault.OutOfMemory)) }
+{
+    match fault {
+        TakeFault::OutOfMemory => Err(AllocError),
+        _ => Ok(false),
+    }
+}
+
+// Whether bytes are a note that opens under the keys, with the size and root of a candidate.
+fn opens_as(
+    alloc: Global,
+    origin: &str,
+    keys: &[Box<dyn Verifier>],
+    note: &Candidate,
+    there: &[u8],
+) -> Result<bool, AllocError>
+    ensures { IfOk result (λ opens. IsTrue opens ↔ IsOpenHead there.now origin.now
+        (map (λ k. key k) keys.now) note.now.size.0 note.now.root) }
+{
+    match open_head(alloc, origin, keys, there) {
+        Ok(checkpoint) => {
+            let is_there = is_at(&checkpoint, note);
+            drop(checkpoint);
+            Ok(is_there)
+        }
+        Err(fault) => refused(fault),
+    }
+}
+
+// Whether bytes serve as the note of a candidate: they are that note, or one that opens with its size and root.
+fn serves(
+    alloc: Global,
+    origin: &str,
+    keys: &[Box<dyn Verifier>],
+    note: &Candidate,
+    there: &[u8],
+) -> Result<bool, AllocError>
+    ensures { (name : List ℕ) → IfOk result (λ serves. IsTrue serves ↔ Serves origin.now
+        (map (λ k. key k) keys.now) (note_as name note.now) there.now) }
+{
+    if is_same(there, &note.note) {
+        return Ok(true);
+    }
+    opens_as(alloc, origin, keys, note, there)
+}
+
+// Whether a file that serves as the note stands at the place.
+fn finds_note<F: NamedFiles>(
+    files: &F,
+    alloc: Global,
+    origin: &str,
+    keys: &[Box<dyn Verifier>],
+    place: &str,
+    note: &Candidate,
+) -> Result<bool, NamedFault>
+    ensures { LooksFor origin.now (map (λ k. key k) keys.now) (F.puts files.now)
+        (note_as place.now note.now) result }
 {
     match files.find(place) {
-        Ok(None) => files.put(place, bytes),
-        Ok(Some(_)) => Ok(()),
+        Ok(Some(there)) => match serves(alloc, origin, keys, note, &there) {
+            Ok(serves) => Ok(serves),
+            Err(_) => Err(NamedFault::OutOfMemory),
+        },
+        Ok(None) => Ok(false),
         Err(fault) => Err(fault),
     }
+}
+
+// Whether a file with these bytes stands at the place.
+fn finds_bytes<F: NamedFiles>(files: &F, place: &str, bytes: &[u8]) -> Result<bool, NamedFault>
+    ensures { (origin : List ℕ) (keys : List Key) → LooksFor origin keys (F.puts files.now)
+        (wanted_file place.now bytes.now None) result }
+{
+    match files.find(place) {
+        Ok(Some(there)) => Ok(is_same(&there, bytes)),
+        Ok(None) => Ok(false),
+        Err(fault) => Err(fault),
+    }
+}
+
+// Puts a file, unless one that serves stands at its place. That one is flushed to the device, as it may be of a run that was killed.
+fn put_unless<F: NamedFiles>(
+    files: &mut F,
+    place: &str,
+    bytes: &[u8],
+    serves: Result<bool, NamedFault>,
+) -> Result<(), NamedFault>
+    ensures { (origin : List ℕ) (keys : List Key) (point : Option Point) → LooksFor origin keys
+        (F.puts files.old) (wanted_file place.now bytes.now point) serves → PutsFiles origin keys
+        (wanted_file place.now bytes.now point ∷ []) (F.puts files.old) (F.puts files.new)
+        result }
+{
+    match serves {
+        Ok(true) => files.flush_file(place),
+        Ok(false) => files.replace(place, bytes),
+        Err(fault) => Err(fault),
+    }
+}
+
+// Puts the note of a checkpoint at the place.
+fn put_note_at<F: NamedFiles>(
+    files: &mut F,
+    alloc: Global,
+    origin: &str,
+    keys: &[Box<dyn Verifier>],
+    place: &str,
+    note: &Candidate,
+) -> Result<(), NamedFault>
+    ensures { PutsFiles origin.now (map (λ k. key k) keys.now) (note_as place.now note.now ∷ [])
+        (F.puts files.old) (F.puts files.new) result }
+{
+    let serves = finds_note(files, alloc, origin, keys, place, note);
+    put_unless(files, place, &note.note, serves)
 }
 
 // Puts the note of a checkpoint into the folder.
 fn put_note<F: NamedFiles>(
     files: &mut F,
     alloc: Global,
+    origin: &str,
+    keys: &[Box<dyn Verifier>],
     folder: &str,
     note: &Candidate,
 ) -> Result<(), NamedFault>
-    ensures { PutsFiles (note_file folder.now note.now ∷ []) (F.puts files.old)
-        (F.puts files.new) result }
+    ensures { PutsFiles origin.now (map (λ k. key k) keys.now) (note_file folder.now note.now ∷ [])
+        (F.puts files.old) (F.puts files.new) result }
 {
     let Ok(place) = place_of_note(alloc, folder, note) else {
         return Err(NamedFault::OutOfMemory);
     };
-    put_missing(files, &place, &note.note)
+    put_note_at(files, alloc, origin, keys, &place, note)
+}
+
+// Puts these bytes at the place.
+fn put_bytes<F: NamedFiles>(files: &mut F, place: &str, bytes: &[u8]) -> Result<(), NamedFault>
+    ensures { (origin : List ℕ) (keys : List Key) → PutsFiles origin keys
+        (wanted_file place.now bytes.now None ∷ []) (F.puts files.old) (F.puts files.new) result }
+{
+    let serves = finds_bytes(files, place, bytes);
+    put_unless(files, place, bytes, serves)
 }
 
 // Puts the text of a proof into the folder.
@@ -84,8 +221,8 @@ fn put_text<F: NamedFiles>(
     line: &ForkLine,
     proof: &Proof,
 ) -> Result<(), NamedFault>
-    ensures { PutsFiles (proof_file folder.now line.now proof.now) (F.puts files.old)
-        (F.puts files.new) result }
+    ensures { (origin : List ℕ) (keys : List Key) → PutsFiles origin keys
+        (proof_file folder.now line.now proof.now) (F.puts files.old) (F.puts files.new) result }
 {
     if !is_writable(proof) {
         return Ok(());
@@ -96,7 +233,7 @@ fn put_text<F: NamedFiles>(
     let Ok(text) = write_text(alloc, proof) else {
         return Err(NamedFault::OutOfMemory);
     };
-    put_missing(files, &place, text.as_bytes())
+    put_bytes(files, &place, text.as_bytes())
 }
 
 // Puts the proof of a fork into the folder, if the fork has one.
@@ -106,8 +243,9 @@ fn put_proof<F: NamedFiles>(
     folder: &str,
     line: &ForkLine,
 ) -> Result<(), NamedFault>
-    ensures { PutsFiles (proof_files folder.now line.now line.now.proof) (F.puts files.old)
-        (F.puts files.new) result }
+    ensures { (origin : List ℕ) (keys : List Key) → PutsFiles origin keys
+        (proof_files folder.now line.now line.now.proof) (F.puts files.old) (F.puts files.new)
+        result }
 {
     match &line.proof {
         Some(proof) => put_text(files, alloc, folder, line, proof),
@@ -119,14 +257,16 @@ fn put_proof<F: NamedFiles>(
 fn put_fork<F: NamedFiles>(
     files: &mut F,
     alloc: Global,
+    origin: &str,
+    keys: &[Box<dyn Verifier>],
     folder: &str,
     line: &ForkLine,
 ) -> Result<(), NamedFault>
-    ensures { PutsFiles (fork_files folder.now line.now) (F.puts files.old) (F.puts files.new)
-        result }
+    ensures { PutsFiles origin.now (map (λ k. key k) keys.now) (fork_files folder.now line.now)
+        (F.puts files.old) (F.puts files.new) result }
 {
-    put_note(files, alloc, folder, &line.small)?;
-    put_note(files, alloc, folder, &line.large)?;
+    put_note(files, alloc, origin, keys, folder, &line.small)?;
+    put_note(files, alloc, origin, keys, folder, &line.large)?;
     put_proof(files, alloc, folder, line)
 }
 
@@ -134,33 +274,39 @@ fn put_fork<F: NamedFiles>(
 fn put_forks<F: NamedFiles>(
     files: &mut F,
     alloc: Global,
+    origin: &str,
+    keys: &[Box<dyn Verifier>],
     folder: &str,
     lines: &[ForkLine],
 ) -> Result<(), NamedFault>
-    ensures { PutsFiles (flat_map (fork_files folder.now) lines.now) (F.puts files.old)
-        (F.puts files.new) result }
+    ensures { PutsFiles origin.now (map (λ k. key k) keys.now)
+        (flat_map (fork_files folder.now) lines.now) (F.puts files.old) (F.puts files.new)
+        result }
 {
     for line in lines {
-        put_fork(files, alloc, folder, line)?;
+        put_fork(files, alloc, origin, keys, folder, line)?;
     }
     Ok(())
 }
 
-// Makes the folder, and puts the evidence of each fork into it, flushed to the device.
+// Makes the folder, and puts the evidence of each fork into it. Then it flushes the folder, and those above it.
 fn put_into<F: NamedFiles>(
     files: &mut F,
     alloc: Global,
+    origin: &str,
+    keys: &[Box<dyn Verifier>],
     folder: &str,
     lines: &[ForkLine],
 ) -> Result<(), NamedFault>
-    ensures { PutsFiles (flat_map (fork_files folder.now) lines.now) (F.puts files.old)
-        (F.puts files.new) result }
+    ensures { PutsFiles origin.now (map (λ k. key k) keys.now)
+        (flat_map (fork_files folder.now) lines.now) (F.puts files.old) (F.puts files.new)
+        result }
 {
     match files.make_folder(folder) {
         Ok(()) => {}
         Err(fault) => return Err(fault),
     }
-    match put_forks(files, alloc, folder, lines) {
+    match put_forks(files, alloc, origin, keys, folder, lines) {
         Ok(()) => files.flush(folder),
         Err(fault) => {
             // The files that were put stay. The fault of the put is more important than one of this flush.
@@ -171,20 +317,24 @@ fn put_into<F: NamedFiles>(
 }
 
 /// Writes the evidence of forks into a folder. The folder is made if it is missing. For each fork it puts both notes as `SIZE-ROOT-0.note`,
-/// and a proof, if there is one, as `SMALL-ROOT-LARGE-ROOT.proof`. The roots are 64 hexadecimal digits in lower case. An existing file
-/// keeps its bytes. Without forks, or without a folder, nothing is changed.
+/// and a proof, if there is one, as `SMALL-ROOT-LARGE-ROOT.proof`. The roots are 64 hexadecimal digits in lower case. What stands there stays
+/// if it is the proof, the note, or another note that opens under the keys with that size and root; else it is replaced. Each file is flushed
+/// to the device, then the folder. Without forks, or without a folder, nothing is changed.
 ///
 /// # Errors
 ///
-/// `FileFault`: the folder could not be made, a file could not be written, a file's name belongs to something else than a plain file, or
-/// the files could not be flushed. `OutOfMemory`: memory was refused. Files that were put before stay.
+/// `FileFault`: the folder could not be made, a file could not be written, a file's name belongs to something else than a plain file or to
+/// a file of over 16,777,472 bytes, or one could not be flushed. `OutOfMemory`: memory was refused. Files that were put before stay.
 pub(crate) fn write_evidence<F: NamedFiles>(
     files: &mut F,
     alloc: Global,
+    origin: &str,
+    keys: &[Box<dyn Verifier>],
     folder: Option<&str>,
     lines: &[ForkLine],
 ) -> Result<(), NamedFault>
-    ensures { PutsFiles (evidence_of (option_map (λ name. name.now) folder.entry) lines.now)
+    ensures { PutsFiles origin.now (map (λ k. key k) keys.now)
+        (evidence_of (option_map (λ name. name.now) folder.entry) lines.now)
         (F.puts files.old) (F.puts files.new) result }
 {
     let Some(folder) = folder else {
@@ -193,5 +343,5 @@ pub(crate) fn write_evidence<F: NamedFiles>(
     if lines.is_empty() {
         return Ok(());
     }
-    put_into(files, alloc, folder, lines)
+    put_into(files, alloc, origin, keys, folder, lines)
 }

@@ -8,14 +8,18 @@ use std::fmt;
 pub enum FollowRunFault {
     /// The file of the given note was not read.
     File(NamedFault),
+    /// Another run holds the folder of the copy.
+    CopyInUse,
     /// Memory for the folder's name was refused.
     OutOfMemory,
     /// `follow` ended with this fault, or memory for the text was refused.
     Follow(FollowFault),
     /// The output could not be written.
     WriteFault,
-    /// The output was written, but then a file of a fork's evidence was not.
+    /// A file of a fork's evidence was not put or flushed. The output was written.
     Evidence(NamedFault),
+    /// A file of a fork's evidence was not put or flushed, and the output could not be written either.
+    EvidenceAndOutput(NamedFault),
 }
 
 /// Prints the name of the innermost variant. A derived one takes the checker seconds more.
@@ -25,6 +29,7 @@ impl fmt::Display for FollowRunFault {
             FollowRunFault::File(fault) => fmt::Display::fmt(fault, f),
             FollowRunFault::Follow(fault) => fmt::Display::fmt(fault, f),
             FollowRunFault::Evidence(fault) => fmt::Display::fmt(fault, f),
+            FollowRunFault::EvidenceAndOutput(fault) => fmt::Display::fmt(fault, f),
             _ => fmt::Debug::fmt(self, f),
         }
     }

@@ -11,10 +11,11 @@ ghost use Rattle.mirror_follow.specs.OneHonest.{IsHonestAmong, IsHonestRun, Reac
 ghost use Rattle.mirror_follow.specs.Runs.{FollowsCandidates};
 ghost use Rattle.mirror_follow.specs.Says.{Says};
 ghost use Rattle.mirror_follow.specs.Standing.{IsFollowed};
-ghost use Rattle.program_follow.specs.Following.{AreRunCandidates, CountsRun, EndsFollowing, Follows, FollowsIn, IsNoteOf, PrintsSettled, ReachesIn, SufficesForRun, ReadsGiven, ReadsNote, PrintsDone};
+ghost use Rattle.program_follow.specs.Following.{AreRunCandidates, CountsRun, EndsFollowing, Follows, FollowsIn, IsNoteOf, PrintsDone, ReachesIn, ReadsGiven, ReadsNote, RunsFollow, SettlesRun, SufficesForRun};
 
 use crate::evidence::write_evidence;
 use crate::fault::FollowRunFault;
+use crate::hold::{Hold, HoldFault};
 use crate::text::{followed_status, followed_text};
 use byte_streams::write_whole;
 use mirror_follow::{FollowFault, Followed, follow};
@@ -121,13 +122,34 @@ fn follow_reporting<H: TreeHash, D: CountedFolders, S: Source + Drop>(
     done
 }
 
-// Opens the folder, and follows the places into it.
-fn follow_into<H: TreeHash, D: CountedFolders, S: Source + Drop>(
+// Holds and opens the folder.
+fn open_held<D: CountedFolders, L: Hold>(
+    folders: &mut D,
+    folder: &str,
+    hold: &mut L,
+) -> Result<(), HoldFault>
+    ensures opened { IfOk result (λ _. D.puts folders.new ≡ D.held folders.old folder.now) }
+    ensures same { IfErr result (λ _. D.puts folders.new ≡ D.puts folders.old) }
+    ensures counted { D.failed folders.new ≡ D.failed folders.old }
+{
+    match hold.hold(folder) {
+        Ok(()) => {}
+        Err(fault) => return Err(fault),
+    }
+    match folders.open(folder) {
+        Ok(()) => Ok(()),
+        Err(_) => Err(HoldFault::OutOfMemory),
+    }
+}
+
+// Holds and opens the folder, and follows the places into it.
+fn follow_into<H: TreeHash, D: CountedFolders, S: Source + Drop, L: Hold>(
     folders: &mut D,
     alloc: Global,
     keys: &[Box<dyn Verifier>],
     following: &Following<'_>,
     places: &mut Places<S>,
+    hold: &mut L,
     given: Option<Vec<u8>>,
 ) -> Result<Followed, FollowRunFault>
     ensures follows { FollowsIn H.digest following.now.origin.now
@@ -155,9 +177,10 @@ fn follow_into<H: TreeHash, D: CountedFolders, S: Source + Drop>(
         places.old places.new (option_map (λ v. v.items) given)))
         → ReachesIn (λ done. ReachesSize h.size (Ok done)) result }
 {
-    match folders.open(following.folder) {
+    match open_held::<D, L>(folders, following.folder, hold) {
         Ok(()) => {}
-        Err(_) => return Err(FollowRunFault::OutOfMemory),
+        Err(HoldFault::CopyInUse) => return Err(FollowRunFault::CopyInUse),
+        Err(HoldFault::OutOfMemory) => return Err(FollowRunFault::OutOfMemory),
     }
     match follow_reporting::<H, D, S>(folders, alloc, keys, following, places, given) {
         Ok(done) => Ok(done),
@@ -165,15 +188,17 @@ fn follow_into<H: TreeHash, D: CountedFolders, S: Source + Drop>(
     }
 }
 
-// Writes the text of the result, and then the evidence of its forks. Returns the exit status.
+// Puts the evidence of the result's forks, and then writes its text, whether or not the evidence was put. Returns the exit status.
 fn report_done<F: NamedFiles, W: Write>(
     files: &mut F,
     alloc: Global,
-    forks: Option<&str>,
+    keys: &[Box<dyn Verifier>],
+    following: &Following<'_>,
     done: &Followed,
     output: &mut W,
 ) -> Result<u8, FollowRunFault>
-    ensures tells { PrintsDone (option_map (λ name. name.now) forks.entry) done.now
+    ensures tells { PrintsDone following.now.origin.now (map (λ k. key k) keys.now)
+        (option_map (λ name. name.now) following.now.forks) done.now
         (F.puts files.old) (F.puts files.new) (W.contents output.old) (W.contents output.new)
         result }
     ensures status { IfOk result (λ status. (status ≡ 0) ⊎ (status ≡ 3)) }
@@ -181,40 +206,41 @@ fn report_done<F: NamedFiles, W: Write>(
     let Ok(text) = followed_text(alloc, done) else {
         return Err(FollowRunFault::Follow(FollowFault::OutOfMemory));
     };
-    match write_whole(output, text.as_bytes()) {
-        Ok(()) => {}
-        Err(_) => return Err(FollowRunFault::WriteFault),
-    }
-    match write_evidence(files, alloc, forks, &done.forks) {
-        Ok(()) => Ok(followed_status(done)),
-        Err(fault) => Err(FollowRunFault::Evidence(fault)),
+    match write_evidence(
+        files,
+        alloc,
+        following.origin,
+        keys,
+        following.forks,
+        &done.forks,
+    ) {
+        Ok(()) => match write_whole(output, text.as_bytes()) {
+            Ok(()) => Ok(followed_status(done)),
+            Err(_) => Err(FollowRunFault::WriteFault),
+        },
+        Err(fault) => match write_whole(output, text.as_bytes()) {
+            Ok(()) => Err(FollowRunFault::Evidence(fault)),
+            Err(_) => Err(FollowRunFault::EvidenceAndOutput(fault)),
+        },
     }
 }
 
-/// Brings the copy in the folder to the newest checkpoint that the places give, as `mirror_follow::follow` does. Then writes the result to
-/// the output, in the form of `followed_text`. Last, if a folder for evidence is named, writes the evidence of each fork: both notes as
-/// `SIZE-ROOT-0.note`, and the proof, which the command `check` reads, as `SMALL-ROOT-LARGE-ROOT.proof`. An existing file keeps its bytes.
-/// Returns the exit status: 3 if there is a fork, or a larger candidate to which the copy could not be brought, else 0.
-///
-/// If the file of a note is named, that note is the only candidate, and no place is asked for its checkpoint.
-///
-/// ```text
-/// let following = Following { origin: "ex", folder: "log", checkpoint: None, forks: Some("forks"), progress: false };
-/// run_follow::<Sha256Tree, _, _, _, _>(&mut files, &mut folders, alloc, &keys, &following, &mut places, &mut output)? // 0
-/// ```
-///
-/// # Errors
-///
-/// In this order. `File`: the named file of a note could not be read. `OutOfMemory`: memory for the folder's name was refused. Nothing is
-/// put at these two. `Follow`, with the faults of `mirror_follow::follow`: files that were put before stay. `WriteFault`: the output could
-/// not be written. `Evidence`: the output was written, but not all of the evidence.
-pub fn run_follow<H: TreeHash, F: NamedFiles, D: CountedFolders, S: Source + Drop, W: Write>(
+// Reads the named note, follows the places, and reports the result.
+fn follow_and_report<
+    H: TreeHash,
+    F: NamedFiles,
+    D: CountedFolders,
+    S: Source + Drop,
+    L: Hold,
+    W: Write,
+>(
     files: &mut F,
     folders: &mut D,
     alloc: Global,
     keys: &[Box<dyn Verifier>],
     following: &Following<'_>,
     places: &mut Places<S>,
+    hold: &mut L,
     output: &mut W,
 ) -> Result<u8, FollowRunFault>
     ensures follows { Follows H.digest following.now.origin.now
@@ -225,12 +251,13 @@ pub fn run_follow<H: TreeHash, F: NamedFiles, D: CountedFolders, S: Source + Dro
         (D.held folders.old following.now.folder.now) (D.puts folders.old) (D.puts folders.new)
         (F.puts files.old) (F.puts files.new) (W.contents output.old) (W.contents output.new)
         result }
-    ensures says { IfOk result (λ _. PrintsSettled H.digest following.now.origin.now
+    ensures says { SettlesRun H.digest following.now.origin.now (map (λ k. key k) keys.now)
         (AreRunCandidates S.may_answer following.now.origin.now (map (λ k. key k) keys.now)
         places.old places.new (F.puts files.old)
         (option_map (λ name. name.now) following.now.checkpoint))
         (D.held folders.old following.now.folder.now) (D.puts folders.new)
-        (W.contents output.old) (W.contents output.new)) }
+        (option_map (λ name. name.now) following.now.forks) (F.puts files.old) (F.puts files.new)
+        (W.contents output.old) (W.contents output.new) result }
     ensures ends { IfErr result (λ e. (fault : FollowFault) → e ≡ FollowRunFault.Follow fault
         → EndsFollowing H.digest S.may_answer following.now.origin.now (map (λ k. key k) keys.now)
         (D.held folders.old following.now.folder.now) places.old places.new (F.puts files.old)
@@ -249,8 +276,59 @@ pub fn run_follow<H: TreeHash, F: NamedFiles, D: CountedFolders, S: Source + Dro
         Ok(given) => given,
         Err(fault) => return Err(FollowRunFault::File(fault)),
     };
-    match follow_into::<H, D, S>(folders, alloc, keys, following, places, given) {
-        Ok(done) => report_done(files, alloc, following.forks, &done, output),
+    match follow_into::<H, D, S, L>(folders, alloc, keys, following, places, hold, given) {
+        Ok(done) => report_done(files, alloc, keys, following, &done, output),
         Err(fault) => Err(fault),
     }
+}
+
+/// Brings the copy in the folder to the newest checkpoint that the places give, as `mirror_follow::follow` does. Then, if a folder for
+/// evidence is named, writes the evidence of each fork: both notes as `SIZE-ROOT-0.note`, and the proof, which the command `check` reads, as
+/// `SMALL-ROOT-LARGE-ROOT.proof`. A file that stands there stays if it serves: it is the proof, the note, or another note of that size and root
+/// that opens under the keys. Else it is replaced. Last writes the result to the output, in the form of `followed_text`, also if the evidence
+/// was not written. Returns the exit status: 3 if there is a fork, or a larger candidate to which the copy could not be brought, else 0.
+///
+/// If the file of a note is named, that note is the only candidate, and no place is asked for its checkpoint. Once it was read, the folder of
+/// the copy is held, before it is read.
+///
+/// ```text
+/// let following = Following { origin: "ex", folder: "log", checkpoint: None, forks: Some("forks"), progress: false };
+/// let mut hold = SystemHold::new(&rt, alloc);
+/// run_follow::<Sha256Tree, _, _, _, _, _>(&mut files, &mut folders, alloc, &keys, &following, &mut places, &mut hold, &mut output)? // 0
+/// ```
+///
+/// # Errors
+///
+/// In this order. `File`: the named file of a note could not be read. `CopyInUse`: another run holds the folder. `OutOfMemory`: memory for the
+/// folder's name was refused. Nothing is put at these three. `Follow`, with the faults of `mirror_follow::follow`: files that were put before stay; or memory for the text was
+/// refused, and no evidence is put. `Evidence`: not all of the evidence was put or flushed, but the output was written.
+/// `EvidenceAndOutput`: neither was. `WriteFault`: the output could not be written, but the evidence was.
+pub fn run_follow<
+    H: TreeHash,
+    F: NamedFiles,
+    D: CountedFolders,
+    S: Source + Drop,
+    L: Hold,
+    W: Write,
+>(
+    files: &mut F,
+    folders: &mut D,
+    alloc: Global,
+    keys: &[Box<dyn Verifier>],
+    following: &Following<'_>,
+    places: &mut Places<S>,
+    hold: &mut L,
+    output: &mut W,
+) -> Result<u8, FollowRunFault>
+    ensures { RunsFollow H.digest S.may_answer following.now.origin.now
+        (map (λ k. key k) keys.now) places.old places.new
+        (option_map (λ name. name.now) following.now.checkpoint)
+        (option_map (λ name. name.now) following.now.forks)
+        (D.held folders.old following.now.folder.now) (D.puts folders.old) (D.puts folders.new)
+        (D.failed folders.old) (D.failed folders.new) (F.puts files.old) (F.puts files.new)
+        (W.contents output.old) (W.contents output.new) result }
+{
+    follow_and_report::<H, F, D, S, L, W>(
+        files, folders, alloc, keys, following, places, hold, output,
+    )
 }

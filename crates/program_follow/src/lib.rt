@@ -3,7 +3,7 @@
 //!
 //! ```text
 //! let mut places = Places::new(alloc);   // then each source is added to it
-//! run_follow::<Sha256Tree, _, _, _, _>(&mut files, &mut folders, alloc, &keys, &following, &mut places, &mut output)?
+//! run_follow::<Sha256Tree, _, _, _, _, _>(&mut files, &mut folders, alloc, &keys, &following, &mut places, &mut hold, &mut output)?
 //! // 0, and the output is: followed 600 CtTvclx+BXrchsWIiLJB6woH1kdkUrIootoUMsQZBJA= from 257
 //! ```
 #![tactic(auto)]
@@ -11,12 +11,14 @@
 mod evidence;
 mod fault;
 mod following;
+mod hold;
 mod place;
 mod text;
 mod why;
 
 pub use fault::FollowRunFault;
 pub use following::{Following, run_follow};
+pub use hold::{Hold, HoldFault, NoHold, SystemHold};
 pub use place::{Answered, FailedAt, PlaceSource, WatchedPlace};
 pub use text::{followed_status, followed_text};
 pub use why::follow_why;

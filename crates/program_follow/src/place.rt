@@ -1,11 +1,12 @@
 //! The places of a run: folders and servers, with their names from the command line.
-ghost use Rattle.std.specs.Prelude.{◌≡◌, IfOk};
+ghost use Rattle.std.specs.Prelude.{◌≡◌, ◌++◌, IfOk, false, string_bytes, true};
 
-use mirror_client::{Dial, FailedGet, HttpSource};
+use mirror_client::{Dial, FailedGet, HttpSource, Pace, Site};
 use mirror_folders::{DirSource, FailedFile};
 use mirror_sources::{Source, SourceFault};
 use std::alloc::{AllocError, Global};
 use std::fs::Files;
+use std::marker::Model;
 use tlog_tiles::Path;
 
 // The files of a place.
@@ -52,65 +53,108 @@ pub trait WatchedPlace: Source {
 }
 
 /// A place of a run: a folder, or a server. It keeps its name, the reason why its first get failed, and its answer for the checkpoint.
-/// `follow_why` needs these to report what was wrong at the place. Contracts state nothing about its answers.
+/// `follow_why` needs these to report what was wrong at the place. Contracts see its name and its number of failures, and state nothing about
+/// its answers.
 ///
 /// ```text
-/// places.add(PlaceSource::of_folder(alloc, "log", DirSource::new(&rt, alloc, "log"))?)?;
-/// places.add(PlaceSource::of_server(alloc, "log.example:80/2026", HttpSource::new(alloc, site, dial, pace))?)?;
+/// places.add(PlaceSource::of_folder(&rt, alloc, "log")?)?;
+/// places.add(PlaceSource::of_server(alloc, Site::new(alloc, "log.example:80", "/2026")?, dial, pace)?)?;
 /// ```
 #[derive(Drop)]
 pub struct PlaceSource<'a, R: Files, D: Dial + Drop> {
     alloc: Global,
+    // That of the folder; of a server its host with its port, and the prefix.
     name: String,
+    is_server: bool,
     kind: Kind<'a, R, D>,
     failures: u64,
     first_failed: Option<FailedAt>,
     answered: Answered,
 }
 
+impl<'a, R: Files, D: Dial + Drop> Model for PlaceSource<'a, R, D> {
+    ghost use Rattle.std.specs.Prelude.{string_bytes};
+    ghost use Rattle.program_follow.specs.Places.{SeenPlace};
+
+    ghost Value = { SeenPlace };
+
+    ghost view = { λ a. record {
+      name = record { is_server = a.is_server; text = string_bytes a.name };
+      failures = a.failures;
+    } };
+}
+
+// The name of a server.
+fn server_name(alloc: Global, site: &Site) -> Result<String, AllocError>
+    ensures { IfOk result (λ name. string_bytes name ≡ site.now.host ++ site.now.prefix) }
+{
+    let host = site.host();
+    let prefix = site.prefix();
+    format!(in alloc; "{host}{prefix}")
+}
+
 impl<'a, R: Files, D: Dial + Drop> PlaceSource<'a, R, D> {
-    fn new(alloc: Global, name: &str, kind: Kind<'a, R, D>) -> Result<Self, AllocError>
-        ensures { IfOk result (λ place. place.failures ≡ 0) }
+    fn new(alloc: Global, name: String, is_server: bool, kind: Kind<'a, R, D>) -> Self
+        ensures { result ≡ record {
+          name = record {
+            is_server = is_server;
+            text = string_bytes name;
+          };
+          failures = 0;
+        } }
     {
-        Ok(PlaceSource {
+        PlaceSource {
             alloc,
-            name: String::from_str(alloc, name)?,
+            name,
+            is_server,
             kind,
             failures: 0,
             first_failed: None,
             answered: Answered::Nothing,
-        })
+        }
     }
 
-    /// A place over the folder of that name. No get failed yet.
+    /// The folder with that path as a place. No get failed yet.
     ///
     /// # Errors
     ///
     /// `AllocError`: memory was refused.
-    pub fn of_folder(
-        alloc: Global,
-        name: &str,
-        source: DirSource<'a, R>,
-    ) -> Result<Self, AllocError>
-        ensures { IfOk result (λ place. place.failures ≡ 0) }
+    pub fn of_folder(files: &'a R, alloc: Global, folder: &'a str) -> Result<Self, AllocError>
+        ensures { IfOk result (λ place. place ≡ record {
+          name = record {
+            is_server = false;
+            text = folder.now;
+          };
+          failures = 0;
+        }) }
     {
-        PlaceSource::new(alloc, name, Kind::Folder(source))
+        let name = String::from_str(alloc, folder)?;
+        let kind = Kind::Folder(DirSource::new(files, alloc, folder));
+        Ok(PlaceSource::new(alloc, name, false, kind))
     }
 
-    /// A place over the server of that name. No get failed yet.
+    /// The server of that site as a place, asked over connections that the dial opens, at that pace. No get failed yet.
     ///
     /// # Errors
     ///
     /// `AllocError`: memory was refused.
-    pub fn of_server(alloc: Global, name: &str, source: HttpSource<D>) -> Result<Self, AllocError>
-        ensures { IfOk result (λ place. place.failures ≡ 0) }
+    pub fn of_server(alloc: Global, site: Site, dial: D, pace: Pace) -> Result<Self, AllocError>
+        ensures { IfOk result (λ place. place ≡ record {
+          name = record {
+            is_server = true;
+            text = site.host ++ site.prefix;
+          };
+          failures = 0;
+        }) }
     {
-        PlaceSource::new(alloc, name, Kind::Server(source))
+        let name = server_name(alloc, &site)?;
+        let kind = Kind::Server(HttpSource::new(alloc, site, dial, pace));
+        Ok(PlaceSource::new(alloc, name, true, kind))
     }
 
     // Gets the file from the folder or the server.
     fn fetch(&mut self, path: &Path) -> Result<Option<Vec<u8>>, SourceFault>
-        ensures { self.new.failures ≡ self.old.failures }
+        ensures { self.new ≡ self.old }
     {
         match &mut self.kind {
             Kind::Folder(source) => source.get(path),
@@ -134,7 +178,7 @@ impl<'a, R: Files, D: Dial + Drop> PlaceSource<'a, R, D> {
 
     // Keeps the first answer for the checkpoint. If memory for it is refused, nothing is kept.
     fn keep_answer(&mut self, path: &Path, found: &Option<Vec<u8>>)
-        ensures { self.new.failures ≡ self.old.failures }
+        ensures { self.new ≡ self.old }
     {
         if *path != Path::Checkpoint {
             return;

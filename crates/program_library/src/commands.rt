@@ -10,7 +10,7 @@ use program_env::{Env, Failing, RunFiles, RunFolders};
 use program_words::Command;
 use signed_note::KeyLine;
 use std::alloc::Global;
-use std::fs::Files;
+use std::fs::{File, Files};
 use std::io::{Read, Write};
 use std::net::{Net, TcpListener, TcpStream};
 use std::rt::Clock;
@@ -18,7 +18,7 @@ use std::rt::Clock;
 impl<'r, 'i, 'o, 'e, R, F: RunFiles, D: RunFolders, I: Read, O: Write, E: Write> RunEnv
     for Env<'r, 'i, 'o, 'e, R, F, D, I, O, E>
 where
-    R: Files + Clock + Eprint + Net<Stream = TcpStream, Listener = TcpListener>,
+    R: Files<File = File> + Clock + Eprint + Net<Stream = TcpStream, Listener = TcpListener>,
 {
     ghost use Rattle.program_env.specs.Envs.{moment as moment_of};
 
