@@ -1,10 +1,15 @@
 -- The answers to clients from a copy. Only contracts of private functions cite these names.
-use Rattle.std.specs.Prelude.{ℕ, List, [], Some, Result}
+use Rattle.std.specs.Prelude.{ℕ, List, [], Option, Some, None, Result}
+use Rattle.signed_note.specs.declared.key_line.KeyLine.{KeyLine}
 use Rattle.mirror_folders.specs.Shelf.{Put}
 use Rattle.program_copies.specs.CopyAnswers.{AnswersFromCopy}
+use Rattle.program_copies.specs.CopyHeads.{IsLastOpened}
 use Rattle.program_copies.specs.declared.reply_fault.CopyAnswerFault.{CopyAnswerFault}
 use Rattle.program_env.specs.Exchanges.{Exchange}
 
--- the bytes written to the client are the answer from the copy or, after a fault, what that writes
-abbrev pub IsAnswer : (List ℕ → List ℕ) → List ℕ → List Put → Result (Unit {0}) CopyAnswerFault → Exchange → Type 0
-IsAnswer digest origin puts answer e = AnswersFromCopy digest origin puts e.given (Some []) (Some e.written) answer
+module _ (digest : List ℕ → List ℕ) (AreKeys : List KeyLine → Type 0) (origin : List ℕ) (held : Option (List Put)) where
+  -- the bytes written to the client are the answer from the copy or, after a fault, what that writes. The last note opened, if there is one
+  pub record IsAnswer (answer : Result (Unit {0}) CopyAnswerFault) (e : Exchange) : Type 0 where
+    pub last : Option (List ℕ)
+    pub opened : IsLastOpened AreKeys origin None last
+    pub answers : AnswersFromCopy digest AreKeys last origin held e.given (Some []) (Some e.written) answer

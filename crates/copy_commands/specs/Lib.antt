@@ -1,3 +1,4 @@
+pub mod KeyFiles
 pub mod Faults
 pub mod Clients
 pub mod Asks

@@ -1,9 +1,10 @@
 //! Clients that connect one after another and get an answer from a copy.
 ghost use Rattle.mirror_sources.specs.Recorded.{KeepsRecord};
+ghost use Rattle.program_copies.specs.CopyHeads.{IsLastOpened};
 
 use byte_streams::TimedStream;
 use mirror_server::HttpFault;
-use program_copies::{CopyAnswerFault, answer_from_copy};
+use program_copies::{CopyAnswerFault, CopyKeys, KeptCopy, answer_from_copy};
 use program_env::RunFolders;
 use std::alloc::Global;
 use std::io;
@@ -21,56 +22,66 @@ const ALL_SECONDS: u64 = 70;
 /// Clients that connect one after another. Each gets one answer.
 /// The clients of a port record nothing.
 pub(crate) trait Clients {
-    ghost use Rattle.std.specs.Prelude.{IfSome, List, Option, None};
+    ghost use Rattle.std.specs.Prelude.{List, Option, None};
     ghost use Rattle.sha2.specs.Sha256.{sha256};
     ghost use Rattle.mirror_sources.specs.Recorded.{KeepsRecord};
     ghost use Rattle.program_env.specs.Exchanges.{AnswersNext, Exchange};
+    ghost use Rattle.program_copies.specs.CopyHeads.{IsLastOpened};
     ghost use Rattle.copy_commands.specs.Clients.{IsAnswer};
 
     /// The bytes that each client gave and the bytes that were written to it, the oldest client first, if they are recorded.
     ghost exchanges: { Self → Option (List Exchange) } = { λ _. None };
 
-    /// Waits for the next client, and answers it from the copy in the open folder. A fault of this client is inside the `Ok`.
+    /// Waits for the next client, and answers it from the copy in the open folder. `kept` is what was kept since the last client. A fault of
+    /// this client is inside the `Ok`.
     ///
     /// # Errors
     ///
     /// No connection was accepted.
-    fn answer_next<D: RunFolders, C: Clock>(
+    fn answer_next<D: RunFolders, K: CopyKeys, C: Clock>(
         &mut self,
         clock: &C,
         alloc: Global,
         folders: &mut D,
+        keys: &K,
+        kept: &mut KeptCopy<Sha256Tree>,
         origin: &str,
     ) -> io::Result<Result<(), CopyAnswerFault>>
-        ensures answer { IfSome (D.puts folders.old) (λ puts.
-            AnswersNext (IsAnswer sha256 origin.now puts) (exchanges self.old)
-            (exchanges self.new) result) }
+        ensures answer { IsLastOpened (K.are_keys keys.now) origin.now None kept.old
+            → AnswersNext (IsAnswer sha256 (K.are_keys keys.now) origin.now (D.puts folders.old))
+            (exchanges self.old) (exchanges self.new) result }
+        ensures last { IsLastOpened (K.are_keys keys.now) origin.now kept.old kept.new }
         ensures same { KeepsRecord (D.puts folders.old) (D.puts folders.new) };
 }
 
 impl Clients for TcpListener {
-    fn answer_next<D: RunFolders, C: Clock>(
+    fn answer_next<D: RunFolders, K: CopyKeys, C: Clock>(
         &mut self,
         clock: &C,
         alloc: Global,
         folders: &mut D,
+        keys: &K,
+        kept: &mut KeptCopy<Sha256Tree>,
         origin: &str,
     ) -> io::Result<Result<(), CopyAnswerFault>> {
         let (stream, _) = self.accept()?;
-        Ok(answer_one(clock, alloc, folders, origin, &stream))
+        Ok(answer_one(clock, alloc, folders, keys, kept, origin, &stream))
     }
 }
 
 // Answers one connection, and ends it in time, whatever its client does. If the clock cannot be read, that is a
 // `ReadFault`.
-fn answer_one<D: RunFolders, C: Clock>(
+fn answer_one<D: RunFolders, K: CopyKeys, C: Clock>(
     clock: &C,
     alloc: Global,
     folders: &mut D,
+    keys: &K,
+    kept: &mut KeptCopy<Sha256Tree>,
     origin: &str,
     stream: &TcpStream,
 ) -> Result<(), CopyAnswerFault>
-    ensures { KeepsRecord (D.puts folders.old) (D.puts folders.new) }
+    ensures last { IsLastOpened (K.are_keys keys.now) origin.now kept.old kept.new }
+    ensures same { KeepsRecord (D.puts folders.old) (D.puts folders.new) }
 {
     let Ok(mut reader) = TimedStream::new(stream, clock, Duration::from_secs(HEAD_SECONDS)) else {
         return Err(CopyAnswerFault::Http(HttpFault::ReadFault));
@@ -78,5 +89,5 @@ fn answer_one<D: RunFolders, C: Clock>(
     let Ok(mut writer) = TimedStream::new(stream, clock, Duration::from_secs(ALL_SECONDS)) else {
         return Err(CopyAnswerFault::Http(HttpFault::ReadFault));
     };
-    answer_from_copy::<Sha256Tree, D, _, _>(alloc, folders, origin, &mut reader, &mut writer)
+    answer_from_copy(alloc, folders, keys, kept, origin, &mut reader, &mut writer)
 }

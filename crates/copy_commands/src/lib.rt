@@ -17,6 +17,7 @@ mod clients;
 mod compare;
 mod entries;
 mod fault;
+mod key_file;
 mod prove;
 mod serve;
 mod status;

@@ -1,5 +1,5 @@
 //! The command `serve --dir`: it answers over HTTP from a copy.
-ghost use Rattle.std.specs.Prelude.{◌≡◌, IfSome, map};
+ghost use Rattle.std.specs.Prelude.{◌≡◌, IfSome, Some, map};
 ghost use Rattle.std.specs.Result.{result_map_both};
 ghost use Rattle.sha2.specs.Sha256.{sha256};
 ghost use Rattle.mirror_sources.specs.Recorded.{KeepsRecord};
@@ -7,15 +7,17 @@ ghost use Rattle.program_env.specs.Envs.{IsSameEnv, moment};
 ghost use Rattle.program_env.specs.Exchanges.{AnswersClients};
 ghost use Rattle.program_env.specs.Performing.{KeepsFiles, Performs};
 ghost use Rattle.copy_commands.specs.Clients.{IsAnswer};
+ghost use Rattle.copy_commands.specs.KeyFiles.{AreFileKeys};
 ghost use Rattle.copy_commands.specs.Faults.{IsLate};
 ghost use Rattle.copy_commands.specs.Serve.{DoesCopyServe};
 ghost use Rattle.program_env.specs.Ports.{PrintsPort};
 
-use crate::asking::of_file;
+use crate::asking::{of_file, of_head};
 use crate::clients::Clients;
 use crate::fault::{CopyRunFault, Error};
-use program_copies::CopyAnswerFault;
-use program_env::why::{FailedStreams, of_folder, of_origin, print_why};
+use crate::key_file::KeyFile;
+use program_copies::{CopyAnswerFault, KeptCopy};
+use program_env::why::{FailedStreams, Why, of_folder, of_origin, print_why};
 use program_env::{
     Env, ListenFault, RunFiles, RunFolders, port_fault, print_fault, print_port, write_front,
 };
@@ -26,10 +28,12 @@ use std::alloc::Global;
 use std::io::{self, Read, Write};
 use std::net::{Ipv4Addr, Net, TcpListener, TcpStream};
 use std::rt::Clock;
+use tlog_hash::Sha256Tree;
 
 /// Answers the requested number of connections, one after another, from the copy in the folder. It reads the checkpoint for
-/// each, so the copy may grow meanwhile. A fault of one connection is written to standard error, and then the next is answered.
-/// With `--why`, a line before it names the file that is damaged or cannot be read.
+/// each, so the copy may grow meanwhile. A new checkpoint has to open under the keys of the key file, which is read again. A fault of one
+/// connection is written to standard error, and then the next is answered. With `--why`, a line before it names the file that is damaged,
+/// is refused or cannot be read.
 ///
 /// # Errors
 ///
@@ -65,6 +69,7 @@ where
     served(serve_copy(
         env.rt,
         env.alloc,
+        &env.files,
         &mut env.folders,
         serve,
         env.output,
@@ -86,9 +91,10 @@ fn served(answer: Result<(), program_env::Error<ListenFault>>) -> Result<u8, Err
 }
 
 // Listens at the port, prints it, and answers the requested number of connections.
-fn serve_copy<D: RunFolders, R, O: Write, E: Write>(
+fn serve_copy<F: RunFiles, D: RunFolders, R, O: Write, E: Write>(
     rt: &R,
     alloc: Global,
+    files: &F,
     folders: &mut D,
     serve: &CopyServe<'_>,
     output: &mut O,
@@ -105,41 +111,50 @@ where
         Err(error) => return Err(port_fault(alloc, serve.port, &error)),
     };
     print_port(alloc, serve.port, output)?;
-    match answer_all(rt, alloc, folders, serve, &mut listener, errors) {
+    match answer_all(rt, alloc, files, folders, serve, &mut listener, errors) {
         Ok(()) => Ok(()),
         Err(error) => Err(port_fault(alloc, serve.port, &error)),
     }
 }
 
 // Answers the requested number of clients, one after another, while connections are accepted.
-fn answer_all<D: RunFolders, C: Clock, S: Clients, E: Write>(
+fn answer_all<F: RunFiles, D: RunFolders, C: Clock, S: Clients, E: Write>(
     clock: &C,
     alloc: Global,
+    files: &F,
     folders: &mut D,
     serve: &CopyServe<'_>,
     clients: &mut S,
     errors: &mut E,
 ) -> io::Result<()>
-    ensures answers { IfSome (D.puts folders.old) (λ puts.
-        AnswersClients (IsAnswer sha256 serve.now.copy.log.origin.now puts) serve.now.requests
+    ensures answers { IfSome (D.puts folders.old) (λ puts. AnswersClients (IsAnswer sha256
+        (AreFileKeys (F.puts files.now) serve.now.copy.log.keys.now)
+        serve.now.copy.log.origin.now (Some puts)) serve.now.requests
         (S.exchanges clients.old) (S.exchanges clients.new) result) }
     ensures same { KeepsRecord (D.puts folders.old) (D.puts folders.new) }
 {
+    let keys = KeyFile {
+        files,
+        name: serve.copy.log.keys,
+    };
+    let mut kept = KeptCopy::<Sha256Tree>::new();
+    let origin = serve.copy.log.origin;
     for _ in 0..serve.requests {
-        match clients.answer_next(clock, alloc, folders, serve.copy.log.origin)? {
+        match clients.answer_next(clock, alloc, folders, &keys, &mut kept, origin)? {
             Ok(()) => {}
             Err(fault) => {
-                print_file(alloc, folders, serve, fault, errors);
-                print_answer_fault(errors, fault);
+                print_file(alloc, files, folders, serve, fault, errors);
+                print_answer_fault(alloc, errors, fault);
             }
         }
     }
     Ok(())
 }
 
-// Writes the line of `--why` if the words ask for it and a file of the folder is known, or a prefix of it if the stream fails.
-fn print_file<D: RunFolders, E: Write>(
+// Writes the line of `--why` if the words ask for it and a file is known, or a prefix of it if the stream fails.
+fn print_file<F: RunFiles, D: RunFolders, E: Write>(
     alloc: Global,
+    files: &F,
     folders: &D,
     serve: &CopyServe<'_>,
     fault: CopyAnswerFault,
@@ -149,15 +164,27 @@ fn print_file<D: RunFolders, E: Write>(
         CopyAnswerFault::Http(_) => None,
         CopyAnswerFault::CopyDamaged(path) => of_file(alloc, serve.copy.folder, &path),
         CopyAnswerFault::ShelfFault => of_folder(alloc, folders, serve.copy.folder),
+        CopyAnswerFault::Head(fault) => of_head(alloc, files, serve.copy.folder, fault),
+        CopyAnswerFault::KeyFile(_) => Why::of_thing(alloc, serve.copy.log.keys),
     };
     print_why(alloc, serve.why, why, FailedStreams::none(), errors);
 }
 
 // Writes the line of the fault of an answer, or a prefix of it if the stream fails.
-fn print_answer_fault<E: Write>(errors: &mut E, fault: CopyAnswerFault) {
+fn print_answer_fault<E: Write>(alloc: Global, errors: &mut E, fault: CopyAnswerFault) {
     match fault {
         CopyAnswerFault::Http(fault) => print_fault(errors, fault),
         CopyAnswerFault::CopyDamaged(_) => write_front(errors, b"tlogmirror: CopyDamaged\n"),
         CopyAnswerFault::ShelfFault => write_front(errors, b"tlogmirror: ShelfFault\n"),
+        CopyAnswerFault::Head(fault) => {
+            if let Ok(line) = format!(in alloc; "tlogmirror: {fault}\n") {
+                write_front(errors, line.as_bytes());
+            }
+        }
+        CopyAnswerFault::KeyFile(fault) => {
+            if let Ok(line) = format!(in alloc; "tlogmirror: {fault}\n") {
+                write_front(errors, line.as_bytes());
+            }
+        }
     }
 }

@@ -1,61 +1,64 @@
 -- The bytes of a copy for each resource are those of a mirror with its view.
-use Rattle.std.proofs.Common.{◌≡◌, ℕ, ◌≤◌, ◌^◌, List, [], length, Option, Some, None, refl, sym, subst, inl, inr, arith}
+use Rattle.std.proofs.Common.{◌≡◌, ℕ, ◌≤◌, ◌<◌, ◌^◌, ◌++◌, List, [], length, Option, Some, None, refl, sym, subst, arith}
 use Rattle.std.specs.FinSet as set
+use Rattle.std.proofs.lemmas.List.Elements.{Contains-append_left}
+use Rattle.signed_note.specs.declared.key_line.KeyLine.{KeyLine}
 use Rattle.tlog_hash.specs.Tree.{mth, strings}
-use Rattle.tlog_tiles.specs.declared.paths.Path.{Path}
 use Rattle.tlog_tiles.specs.declared.paths.Path.TheVariants.{Checkpoint, Tile, Entries}
-use Rattle.tlog_tiles.specs.Tiles.{bundle_bytes, IsTileWithin, tile_bytes}
+use Rattle.tlog_tiles.specs.Tiles.{IsTileWithin}
 use Rattle.tlog_proof.specs.declared.proof.Ask.{Ask}
 use Rattle.node_store.specs.Strings.{NoClash}
 use Rattle.mirror_model.specs.Heads.{IsHead}
 use Rattle.mirror_model.specs.Served.{IsServedBundle, IsServedTile, Served}
 use Rattle.mirror_model.specs.Strings.{IsDigest}
-use Rattle.mirror_model.specs.TrueLaws.{AreShort}
 use Rattle.mirror_model.specs.View.{nothing, View}
 use Rattle.mirror_model.proofs.HeadNotes.{head_once}
+use Rattle.mirror_model.proofs.StringSets.{has_from_listed, listed_from_has, no_clash_within}
 use Rattle.mirror_folders.specs.Shelf.{HasPut, Put, Stands}
-use Rattle.log_paths.specs.FileLaws.{IsFileOf}
-use Rattle.log_paths.specs.Files.{served_bytes}
-use Rattle.log_paths.specs.Since.{width_at}
-use Rattle.log_paths.specs.Holding.{HoldsLog}
-use Rattle.log_paths.proofs.AllFiles.{files_are_all}
+use Rattle.mirror_server.specs.Answered.{IsBodyFor}
 use Rattle.mirror_server.specs.Response.{IsBody, IsServedProofText}
+use Rattle.mirror_server.specs.declared.request.Request.{Request}
+use Rattle.mirror_server.specs.declared.request.Request.TheVariants.{Nothing, Unreadable, OtherMethod, Unknown, Get}
 use Rattle.mirror_server.specs.declared.resource.Resource.{Resource}
 use Rattle.mirror_server.specs.declared.resource.Resource.TheVariants.{File, Status, Forks, Missing, Proof}
+use Rattle.copy_reader.specs.WholeCopies.{HasFilesOf}
 use Rattle.copy_reader.specs.Proofs.{IsMadeOf}
-use Rattle.copy_reader.specs.Statuses.{copy_status}
-use Rattle.copy_reader.proofs.GivenProofs.{made_is_proof, made_within}
-use Rattle.copy_reader.proofs.OneLogs.{one_log}
-use Rattle.copy_reader.proofs.WholeLaws.{copies_are_whole, log_stands}
-use Rattle.program_copies.specs.Bodies.{head_point, IsBodyAt, IsCopyBody}
+use Rattle.copy_reader.proofs.GivenProofs.{made_within}
+use Rattle.program_copies.specs.Bodies.{AsksProof, body_strings, given_strings, HasResource, IsBodyAt, IsBodyGiven}
+use Rattle.program_copies.specs.CopyAnswers.{IsGivenFor, strings_for}
 use Rattle.program_copies.specs.CopyHeads.{copy_head, CopyHead, IsCopyHead}
-use Rattle.program_copies.specs.CopyLaws.{copy_view}
-use Rattle.program_copies.specs.GivenFiles.{IsFileGiven, IsFileRead, IsCutFrom, of_width}
+use Rattle.program_copies.specs.CopyLaws.{copy_view, IsNoteOf}
+use Rattle.program_copies.specs.GivenFiles.{IsFileGiven}
 use Rattle.program_copies.specs.GivenProofs.{HasLogOf, IsProofGiven}
 use Rattle.program_copies.proofs.OneViews.{no_file, no_head, none_forks, none_status, one_forks, one_head, one_list, one_missing}
 use Rattle.program_copies.proofs.OneViews.{no_list, only_list}
 use Rattle.program_copies.proofs.OneViews.{one_served, one_size, one_status}
 use Rattle.program_copies.proofs.ShelfFiles.{stands_has, stands_one}
-use Rattle.program_copies.proofs.TrueFiles.{bundle_taken, first_bundle, first_tile, tile_taken}
-use Rattle.program_copies.proofs.Widths.{widest_there, within_upto}
+use Rattle.program_copies.proofs.TrueFiles.{part_is_true, tile_is_true}
 
--- at most one checkpoint is at its path
-pub one_copy_head : (origin : List ℕ) (puts : List Put) (a b : Option CopyHead) → IsCopyHead origin (Some puts) a →
-    IsCopyHead origin (Some puts) b → a ≡ b
-one_copy_head origin puts None None p q = refl
-one_copy_head origin puts None (Some b) p q = absurd (p (stands_has puts Checkpoint b.note q.0))
-one_copy_head origin puts (Some a) None p q = absurd (q (stands_has puts Checkpoint a.note p.0))
-one_copy_head origin puts (Some a) (Some b) p q =
-    let notes : a.note ≡ b.note = stands_one puts Checkpoint a.note b.note p.0 q.0 in
-    let same = head_once b.note origin origin a.size b.size a.root b.root
-    (subst (λ x. IsHead x origin a.size a.root) notes p.1) q.1 in
+-- the checkpoint that is at its path is that of the note
+pub one_copy_head : (AreKeys : List KeyLine → Type 0) (last : Option (List ℕ)) (origin : List ℕ) (puts : List Put)
+    (note : List ℕ) (size : ℕ) (root : List ℕ) → Stands puts Checkpoint note → IsHead note origin size root →
+    (head : Option CopyHead) → IsCopyHead AreKeys origin last (Some puts) head → head ≡ Some (copy_head note size root)
+one_copy_head AreKeys last origin puts note size root stands is None p =
+    absurd (p (stands_has puts Checkpoint note stands))
+one_copy_head AreKeys last origin puts note size root stands is (Some a) p =
+    let notes : a.note ≡ note = stands_one puts Checkpoint a.note note p.0 stands in
+    let same = head_once note origin origin a.size size a.root root
+    (subst (λ x. IsHead x origin a.size a.root) notes p.1) is in
     λ i. Some (record { note = notes i; size = same.size_is i; root = same.root_is i })
+
+-- fewer strings do not clash either
+pub tree_clear : (digest : List ℕ → List ℕ) (tree more : List (List ℕ)) → NoClash digest (set.from_list (tree ++ more)) →
+    NoClash digest (set.from_list tree)
+tree_clear digest tree more clear =
+    no_clash_within digest (set.from_list tree) (set.from_list (tree ++ more))
+    (λ q has. has_from_listed (tree ++ more) q (Contains-append_left tree more q (listed_from_has tree q has))) clear
 
 -- ---- a copy
 
 module _ (digest : List ℕ → List ℕ) (hash : IsDigest digest) (origin note : List ℕ) (entries : List (List ℕ))
-    (puts : List Put) (short : AreShort entries) (is_head : IsHead note origin (length entries) (mth digest entries))
-    (holds : HoldsLog digest note entries puts) where
+    (puts : List Put) (of : IsNoteOf digest origin note entries) where
   abbrev n : ℕ
   n = length entries
 
@@ -65,184 +68,108 @@ module _ (digest : List ℕ → List ℕ) (hash : IsDigest digest) (origin note 
   abbrev head : CopyHead
   head = copy_head note n (mth digest entries)
 
-  stands_there : (path : Path) → IsFileOf n path → Stands puts path (served_bytes digest note entries path)
-  stands_there path is = holds path ((files_are_all n path).1 is)
+  small : n < 2 ^ 64
+  small = omega (arith, of.is_head.is_checkpoint.in_range)
 
-  pub copy_has_head : IsCopyHead origin (Some puts) (Some head)
-  copy_has_head = (stands_there Checkpoint tt, is_head)
-
-  -- the file that is read is the widest with its level and index, and has its true bytes
-  true_file : (path : Path) (widest width : ℕ) (file : List ℕ) → IsFileOf n (of_width path widest) →
-      IsFileRead (Some puts) path widest width file →
-      (width ≡ widest) × (file ≡ served_bytes digest note entries (of_width path widest))
-  true_file path widest width file is read =
-      let stands = stands_there (of_width path widest) is in
-      elim read.preferred [
-        | inl same ↦ (
-          same,
-          stands_one puts (of_width path widest) file (served_bytes digest note entries (of_width path widest))
-              (subst (λ k. Stands puts (of_width path k) file) same read.stands) stands,
-        )
-        | inr other ↦ absurd (other.0 (stands_has puts (of_width path widest) _ stands))
-      ]
-
-  given_tile : (level index width : ℕ) (body : List ℕ) → IsFileGiven (Some puts) n (Tile level index width) body →
-      IsServedTile digest v level index width body
-  given_tile level index width body is =
-      let wide = width_at n level index in
-      let le = within_upto n level index width is.within in
-      let file = true_file (Tile level index width) wide is.width is.file (widest_there n level index width is.within) is.read in
+  given_proof : (ask : Ask) (text : List ℕ) → HasFilesOf digest entries (Some puts) →
+      IsProofGiven digest (Some puts) n (mth digest entries) ask text → IsServedProofText digest v ask text
+  given_proof ask text files is =
+      let true_text = is.whole entries (record {
+        size_is = refl;
+        root_is = refl;
+        small = of.is_head.is_checkpoint.in_range;
+        files = files;
+      }) in
       record {
         entries = entries;
-        served = one_list digest origin note entries is_head;
-        within = is.within;
-        bytes_are = tile_taken digest hash entries short level index width wide body le
-            (subst (λ k. IsCutFrom (Tile level index width) k (tile_bytes digest entries level index wide) body) file.0
-            (subst (λ x. IsCutFrom (Tile level index width) is.width x body) file.1 is.taken));
-      }
-
-  given_bundle : (index width : ℕ) (body : List ℕ) → IsFileGiven (Some puts) n (Entries index width) body →
-      IsServedBundle digest v index width body
-  given_bundle index width body is =
-      let wide = width_at n 0 index in
-      let le = within_upto n 0 index width is.within in
-      let file = true_file (Entries index width) wide is.width is.file (widest_there n 0 index width is.within) is.read in
-      record {
-        entries = entries;
-        served = one_list digest origin note entries is_head;
-        within = is.within;
-        bytes_are = bundle_taken digest hash entries short index width wide body is.within le
-            (subst (λ k. IsCutFrom (Entries index width) k (bundle_bytes entries index wide) body) file.0
-            (subst (λ x. IsCutFrom (Entries index width) is.width x body) file.1 is.taken));
-      }
-
-  tile_is_given : (level index width : ℕ) → IsTileWithin n level index width →
-      IsFileGiven (Some puts) n (Tile level index width) (tile_bytes digest entries level index width)
-  tile_is_given level index width within =
-      let wide = width_at n level index in
-      let le = within_upto n level index width within in
-      record {
-        within = within;
-        width = wide;
-        file = tile_bytes digest entries level index wide;
-        read = record {
-          stands = stands_there (Tile level index wide) (widest_there n level index width within);
-          preferred = inl refl;
-        };
-        taken = inr (first_tile digest hash entries short level index width wide le);
-      }
-
-  bundle_is_given : (index width : ℕ) → IsTileWithin n 0 index width →
-      IsFileGiven (Some puts) n (Entries index width) (bundle_bytes entries index width)
-  bundle_is_given index width within =
-      let wide = width_at n 0 index in
-      let le = within_upto n 0 index width within in
-      record {
-        within = within;
-        width = wide;
-        file = bundle_bytes entries index wide;
-        read = record {
-          stands = stands_there (Entries index wide) (widest_there n 0 index width within);
-          preferred = inl refl;
-        };
-        taken = inr (first_bundle digest hash entries short index width wide within le);
-      }
-
-  -- ---- proofs
-
-  has_log : HasLogOf digest (Some puts) n (mth digest entries) entries
-  has_log = record {
-    size_is = refl;
-    root_is = refl;
-    small = is_head.is_checkpoint.in_range;
-    files = ((copies_are_whole digest origin note entries puts short is_head).all holds).files;
-  }
-
-  given_proof : (ask : Ask) (text : List ℕ) → IsProofGiven digest (Some puts) n (mth digest entries) ask text →
-      IsServedProofText digest v ask text
-  given_proof ask text is =
-      let true_text = is.whole entries has_log in
-      record {
-        entries = entries;
-        served = one_list digest origin note entries is_head;
+        served = one_list digest origin note entries of.is_head;
         proof = true_text.proof;
         made = true_text.made;
         text_is = true_text.text_is;
       }
 
-  -- each list whose files the shelf has is the copy's
-  same_log : (others : List (List ℕ)) → HasLogOf digest (Some puts) n (mth digest entries) others → entries ≡ others
-  same_log others log =
-      one_log digest hash entries others puts log.size_is short
-      (λ path file. inl (log_stands digest note entries puts holds path file)) log.files
-
-  proof_is_given : NoClash digest (set.from_list (strings digest entries)) → (ask : Ask) (text : List ℕ) →
-      IsServedProofText digest v ask text → IsProofGiven digest (Some puts) n (mth digest entries) ask text
-  proof_is_given clear ask text is =
-      let same = only_list digest origin note entries is_head hash clear is.entries is.served in
-      let made : IsMadeOf digest ask entries is.proof =
-      subst (λ es. IsMadeOf digest ask es is.proof) same is.made in
-      record {
-        within = made_within digest entries ask is.proof made;
-        is = made_is_proof digest entries hash is_head.is_checkpoint.in_range ask is.proof text made is.text_is;
-        whole = λ others log. record {
-          proof = is.proof;
-          made = subst (λ es. IsMadeOf digest ask es is.proof) (same_log others log) made;
-          text_is = is.text_is;
-        };
-      }
-
   -- the mirror has the bytes that the copy has
-  copy_has : (clear : NoClash digest (set.from_list (strings digest entries))) (r : Resource) (body : List ℕ) →
-      IsBodyAt digest origin (Some puts) (Some head) r body → IsBody digest v r body
-  copy_has clear (File Checkpoint) body is = record {
+  copy_has : (r : Resource) (body : List ℕ) (is : IsBodyAt digest origin (Some puts) (Some head) r body) →
+      NoClash digest (set.from_list
+      (strings digest entries ++ body_strings digest origin (Some puts) (Some head) r body is)) →
+      (AsksProof (Get r) → HasFilesOf digest entries (Some puts)) → IsBody digest v r body
+  copy_has (File Checkpoint) body is clear files = record {
     size = n;
     root = mth digest entries;
     entries = entries;
     served = subst (λ x. Served digest v x n (mth digest entries) entries) (sym is)
-        (one_served digest origin note entries is_head);
+        (one_served digest origin note entries of.is_head);
   }
-  copy_has clear (File (Tile level index width)) body is = given_tile level index width body is
-  copy_has clear (File (Entries index width)) body is = given_bundle index width body is
-  copy_has clear Status body is = one_status digest origin note entries is_head body is
-  copy_has clear Forks body is = one_forks digest origin note entries is_head body is
-  copy_has clear (Missing size root) body is =
-      let small : n ≤ 256 ^ 8 = omega (arith, is_head.is_checkpoint.in_range) in
-      one_missing digest origin note entries is_head hash clear small size root body is.0 is.1 is.2
-  copy_has clear (Proof ask) body is = given_proof ask body is
+  copy_has (File (Tile level index width)) body is clear files = record {
+    entries = entries;
+    served = one_list digest origin note entries of.is_head;
+    within = is.within;
+    bytes_are = tile_is_true digest hash entries of.short is.edge is.is_edge small level index width body is.shown clear;
+  }
+  copy_has (File (Entries index width)) body is clear files = record {
+    entries = entries;
+    served = one_list digest origin note entries of.is_head;
+    within = is.within;
+    bytes_are = part_is_true digest hash entries of.short is.edge is.is_edge small index width body is.within is.shown clear;
+  }
+  copy_has Status body is clear files = one_status digest origin note entries of.is_head body is
+  copy_has Forks body is clear files = one_forks digest origin note entries of.is_head body is
+  copy_has (Missing size root) body is clear files =
+      let few : n ≤ 256 ^ 8 = omega (arith, of.is_head.is_checkpoint.in_range) in
+      one_missing digest origin note entries of.is_head hash (tree_clear digest (strings digest entries) [] clear) few size root body
+      is.0 is.1 is.2
+  copy_has (Proof ask) body is clear files = given_proof ask body (files tt) is
 
-  -- the copy has the bytes that the mirror has
-  mirror_has : (clear : NoClash digest (set.from_list (strings digest entries))) (r : Resource) (body : List ℕ) → IsBody digest v r body →
-      (b : List ℕ) × IsBodyAt digest origin (Some puts) (Some head) r b
-  mirror_has clear (File Checkpoint) body is = (note, refl)
+  -- the copy has each resource that the mirror has
+  mirror_has : NoClash digest (set.from_list (strings digest entries)) → (r : Resource) (body : List ℕ) → IsBody digest v r body →
+      HasResource (Some head) r
+  mirror_has clear (File Checkpoint) body is = tt
   mirror_has clear (File (Tile level index width)) body is =
-      let size = one_size digest origin note entries is_head is.entries is.served in (
-        tile_bytes digest entries level index width,
-        tile_is_given level index width (subst (λ k. IsTileWithin k level index width) size is.within),
-      )
+      subst (λ k. IsTileWithin k level index width) (one_size digest origin note entries of.is_head is.entries is.served) is.within
   mirror_has clear (File (Entries index width)) body is =
-      let size = one_size digest origin note entries is_head is.entries is.served in (
-        bundle_bytes entries index width,
-        bundle_is_given index width (subst (λ k. IsTileWithin k 0 index width) size is.within),
-      )
-  mirror_has clear Status body is = (copy_status origin (Some (head_point head)), refl)
-  mirror_has clear Forks body is = ([], refl)
-  mirror_has clear (Missing size root) body is =
-      let s = one_head digest origin note entries is_head size root is.head in ([], (s.0, s.1, refl))
-  mirror_has clear (Proof ask) body is = (body, proof_is_given clear ask body is)
+      subst (λ k. IsTileWithin k 0 index width) (one_size digest origin note entries of.is_head is.entries is.served) is.within
+  mirror_has clear Status body is = tt
+  mirror_has clear Forks body is = tt
+  mirror_has clear (Missing size root) body is = one_head digest origin note entries of.is_head size root is.head
+  mirror_has clear (Proof ask) body is =
+      let same = only_list digest origin note entries of.is_head hash clear is.entries is.served in
+      made_within digest entries ask is.proof (subst (λ es. IsMadeOf digest ask es is.proof) same is.made)
 
-  pub from_copy : NoClash digest (set.from_list (strings digest entries)) → (r : Resource) (body : List ℕ) →
-      IsCopyBody digest origin (Some puts) r body → IsBody digest v r body
-  from_copy clear r body is =
-      copy_has clear r body
-      (subst (λ h. IsBodyAt digest origin (Some puts) h r body)
-      (one_copy_head origin puts is.head (Some head) is.is_head copy_has_head) is.is_body)
+  -- the body for a resource is that of the mirror
+  given_is : (r : Resource) (body : Option (List ℕ)) (is : IsBodyGiven digest origin (Some puts) (Some head) r body) →
+      NoClash digest (set.from_list
+      (strings digest entries ++ given_strings digest origin (Some puts) (Some head) r body is)) →
+      (AsksProof (Get r) → HasFilesOf digest entries (Some puts)) → IsBodyFor (IsBody digest v) (Get r) body
+  given_is r (Some body) is clear files = copy_has r body is clear files
+  given_is r None is clear files =
+      λ body has. is (mirror_has (tree_clear digest (strings digest entries) [] clear) r body has)
 
-  pub to_copy : NoClash digest (set.from_list (strings digest entries)) → (r : Resource) (body : List ℕ) →
-      IsBody digest v r body → (b : List ℕ) × IsCopyBody digest origin (Some puts) r b
-  to_copy clear r body is =
-      let there = mirror_has clear r body is in
-      (there.0, record { head = Some head; is_head = copy_has_head; is_body = there.1 })
+  given_at : (r : Resource) (body : Option (List ℕ)) (own : Option CopyHead) → own ≡ Some head →
+      (is : IsBodyGiven digest origin (Some puts) own r body) →
+      NoClash digest (set.from_list (strings digest entries ++ given_strings digest origin (Some puts) own r body is)) →
+      (AsksProof (Get r) → HasFilesOf digest entries (Some puts)) → IsBodyFor (IsBody digest v) (Get r) body
+  given_at r body None e is clear files = absurd cc
+  given_at r body (Some own) e is clear files =
+      let Claim : CopyHead → Type 0 = (λ h. (is : IsBodyGiven digest origin (Some puts) (Some h) r body) →
+      NoClash digest (set.from_list (strings digest entries ++ given_strings digest origin (Some puts) (Some h) r body is)) →
+      IsBodyFor (IsBody digest v) (Get r) body) in
+      let same : head ≡ own = cc in
+      subst Claim same (λ is clear. given_is r body is clear files) is clear
+
+  -- the body for a request is that of the mirror
+  pub body_of_copy : (AreKeys : List KeyLine → Type 0) (last : Option (List ℕ)) → Stands puts Checkpoint note →
+      (request : Request) (body : Option (List ℕ)) (is : IsGivenFor digest AreKeys last origin (Some puts) request body) →
+      NoClash digest (set.from_list
+      (strings digest entries ++ strings_for digest AreKeys last origin (Some puts) request body is)) →
+      (AsksProof request → HasFilesOf digest entries (Some puts)) → IsBodyFor (IsBody digest v) request body
+  body_of_copy AreKeys last stands Nothing body is clear files = tt
+  body_of_copy AreKeys last stands Unreadable body is clear files = tt
+  body_of_copy AreKeys last stands OtherMethod body is clear files = tt
+  body_of_copy AreKeys last stands Unknown body is clear files = tt
+  body_of_copy AreKeys last stands (Get r) body is clear files =
+      given_at r body is.head
+      (one_copy_head AreKeys last origin puts note n (mth digest entries) stands of.is_head is.head is.is_head)
+      is.is_body clear files
 
 -- ---- an empty copy
 
@@ -255,21 +182,28 @@ module _ (digest : List ℕ → List ℕ) (origin : List ℕ) (puts : List Put) 
   empty_has (Missing size root) body is = absurd is
   empty_has (Proof ask) body is = absurd is
 
-  nothing_has : (r : Resource) (body : List ℕ) → IsBody digest (nothing origin) r body →
-      (b : List ℕ) × IsBodyAt digest origin (Some puts) None r b
-  nothing_has (File path) body is = absurd (no_file digest origin path body is)
-  nothing_has Status body is = (copy_status origin None, refl)
-  nothing_has Forks body is = ([], refl)
-  nothing_has (Missing size root) body is = absurd (no_head digest origin size root is.head)
-  nothing_has (Proof ask) body is = absurd (no_list digest origin is.entries is.served)
+  nothing_has : (r : Resource) (body : List ℕ) → IsBody digest (nothing origin) r body → HasResource None r
+  nothing_has (File path) body is = no_file digest origin path body is
+  nothing_has Status body is = tt
+  nothing_has Forks body is = tt
+  nothing_has (Missing size root) body is = no_head digest origin size root is.head
+  nothing_has (Proof ask) body is = no_list digest origin is.entries is.served
 
-  pub from_empty : (r : Resource) (body : List ℕ) → IsCopyBody digest origin (Some puts) r body →
-      IsBody digest (nothing origin) r body
-  from_empty r body is =
-      empty_has r body
-      (subst (λ h. IsBodyAt digest origin (Some puts) h r body) (one_copy_head origin puts is.head None is.is_head none) is.is_body)
+  empty_is : (r : Resource) (body : Option (List ℕ)) → IsBodyGiven digest origin (Some puts) None r body →
+      IsBodyFor (IsBody digest (nothing origin)) (Get r) body
+  empty_is r (Some body) is = empty_has r body is
+  empty_is r None is = λ body has. is (nothing_has r body has)
 
-  pub to_empty : (r : Resource) (body : List ℕ) → IsBody digest (nothing origin) r body →
-      (b : List ℕ) × IsCopyBody digest origin (Some puts) r b
-  to_empty r body is =
-      let there = nothing_has r body is in (there.0, record { head = None; is_head = none; is_body = there.1 })
+  empty_at : (AreKeys : List KeyLine → Type 0) (last : Option (List ℕ)) (head : Option CopyHead) →
+      IsCopyHead AreKeys origin last (Some puts) head → (r : Resource) (body : Option (List ℕ)) →
+      IsBodyGiven digest origin (Some puts) head r body → IsBodyFor (IsBody digest (nothing origin)) (Get r) body
+  empty_at AreKeys last None is_head r body is = empty_is r body is
+  empty_at AreKeys last (Some head) is_head r body is = absurd (none (stands_has puts Checkpoint head.note is_head.0))
+
+  pub body_of_empty : (AreKeys : List KeyLine → Type 0) (last : Option (List ℕ)) (request : Request) (body : Option (List ℕ)) →
+      IsGivenFor digest AreKeys last origin (Some puts) request body → IsBodyFor (IsBody digest (nothing origin)) request body
+  body_of_empty AreKeys last Nothing body is = tt
+  body_of_empty AreKeys last Unreadable body is = tt
+  body_of_empty AreKeys last OtherMethod body is = tt
+  body_of_empty AreKeys last Unknown body is = tt
+  body_of_empty AreKeys last (Get r) body is = empty_at AreKeys last is.head is.is_head r body is.is_body

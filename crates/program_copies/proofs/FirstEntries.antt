@@ -7,7 +7,7 @@ use Rattle.tlog_tiles.specs.Bundle.{bundle_text, entry_text}
 use Rattle.mirror_model.specs.TrueLaws.{AreShort}
 use Rattle.log_reader.proofs.TrueBundles.{none_split, one_split}
 use Rattle.tlog_tiles.proofs.BundleLemmas.{joined_push}
-use Rattle.program_copies.specs.GivenFiles.{IsFirstEntries, IsFirstHashes}
+use Rattle.program_copies.specs.GivenFiles.{IsFirstEntries}
 
 -- "count" entries were read, and the rest is left
 pub record HasRead (count : ℕ) (file rest : List ℕ) : Type 0 where
@@ -46,10 +46,6 @@ first_read count file rest part h is =
     }
 
 -- ---- files that are too short
-
-pub no_hashes : (width : ℕ) (file : List ℕ) → length file < 32 * width → (part : List ℕ) → IsFirstHashes width file part → ⊥
-no_hashes width file less part h =
-    omega (arith, less, ap length h.parts, length-append part h.rest, h.size)
 
 -- if the file begins with "width" entries, those after the entries that were read are left
 pub record LeavesOthers (width count : ℕ) (file rest : List ℕ) : Type 0 where

@@ -15,7 +15,7 @@ use Rattle.mirror_model.proofs.ItemStrings.{AreHashes, is_short, IsItemString, j
 use Rattle.mirror_model.proofs.StringSets.{has_from_listed, held_from_holds, listed_from_has, only_listed}
 use Rattle.mirror_model.proofs.TrueItems.{edges_are_true}
 use Rattle.mirror_model.proofs.Views.{nothing_is_lawful}
-use Rattle.program_copies.specs.CopyLaws.{copy_view, CopyViewsAreLawful, empty, whole}
+use Rattle.program_copies.specs.CopyLaws.{copy_view, CopyViewsAreLawful}
 
 is_tagged : (s : List ℕ) → IsItemString s → IsTagged s
 is_tagged s (inl leaf) = subst IsTagged (sym leaf.is) (OfEntry leaf.entry)
@@ -73,6 +73,7 @@ module _ (digest : List ℕ → List ℕ) (hash : IsDigest digest) where
       }
 
 pub copy_views_are_lawful : CopyViewsAreLawful
-copy_views_are_lawful digest hash origin puts v (empty none) = nothing_is_lawful digest origin
-copy_views_are_lawful digest hash origin puts v (whole {note = note} {entries = entries} short head holds clear) =
-    is_lawful digest hash entries short origin note head clear
+copy_views_are_lawful digest hash origin = record {
+  empty = nothing_is_lawful digest origin;
+  one = λ note entries of clear. is_lawful digest hash entries of.short origin note of.is_head clear;
+}

@@ -8,9 +8,9 @@ use Rattle.tlog_shape.specs.Edge.{width_of, edge_index_of, IsTile}
 use Rattle.tlog_tiles.specs.Tiles.{IsTileWithin}
 use Rattle.tlog_tiles.proofs.EdgeLemmas.{hashes_of}
 use Rattle.log_paths.specs.Since.{width_at}
-use Rattle.log_paths.specs.FileLaws.{IsWidestIn}
 use Rattle.log_paths.proofs.AllFiles.{upto_hashes}
 use Rattle.log_paths.proofs.FilePaths.{tile_within}
+use Rattle.log_reader.specs.Holding.{row_width}
 use Rattle.log_paths.proofs.PlaceWidths.{width_edge, width_found, width_full, width_none}
 
 pub within_upto : (n level index width : ℕ) → IsTileWithin n level index width → width ≤ width_at n level index
@@ -51,15 +51,20 @@ within_from n level index width fits some upto =
       ]
     ]
 
--- the widest width of a level and index that has a tile
-pub widest_there : (n level index width : ℕ) → IsTileWithin n level index width →
-    IsWidestIn n level index (width_at n level index)
-widest_there n level index width h =
-    let le = within_upto n level index width h in
-    record {
-      within = within_from n level index (width_at n level index) h.level_fits (omega (arith, le, h.some)) (omega arith);
-      widest = λ wider more is. absurd (omega (arith, within_upto n level index wider is, more));
-    }
+-- the tile is at most at the edge
+pub index_within : (n level index width : ℕ) → IsTileWithin n level index width → index ≤ edge_index_of n level
+index_within n level index width h =
+    let top = upto_hashes n level index width h in
+    let hashes = hashes_of n level in
+    let few : width_of n level < 256 = omega arith in
+    omega (arith, top, hashes, few, h.some)
+
+-- the tile's row has its hashes
+pub row_reaches : (n level index width : ℕ) → IsTileWithin n level index width → width ≤ row_width n level index
+row_reaches n level index width h =
+    let top = upto_hashes n level index width h in
+    let upto = h.upto in
+    omega (arith, top, upto)
 
 -- the answer of the search for a width
 pub widest_found : (n level index : ℕ) (found : Option ℕ) → IfSome found (λ width. IsTile n level index width) →

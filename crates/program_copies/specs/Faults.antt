@@ -3,9 +3,6 @@ use Rattle.mirror_server.specs.declared.fault.HttpFault.TheVariants as http
 use Rattle.tlog_tiles.specs.declared.paths.Path.TheVariants.{Checkpoint}
 use Rattle.copy_reader.specs.declared.fault.CopyFault.{CopyFault}
 use Rattle.copy_reader.specs.declared.fault.CopyFault.TheVariants.{BadOrigin, Head, CopyDamaged, ShelfFault, OutOfMemory}
-use Rattle.std.specs.Prelude.{ℕ, List, Option, ⊤}
-use Rattle.mirror_folders.specs.Shelf.{Put}
-use Rattle.copy_reader.specs.WholeCopies.{IsDamaged}
 use Rattle.program_copies.specs.declared.reply_fault.CopyAnswerFault.{CopyAnswerFault}
 use Rattle.program_copies.specs.declared.reply_fault.CopyAnswerFault.TheVariants as answering
 
@@ -15,11 +12,3 @@ by_body (Head fault) = answering.CopyDamaged Checkpoint
 by_body (CopyDamaged path) = answering.CopyDamaged path
 by_body ShelfFault = answering.ShelfFault
 by_body OutOfMemory = answering.Http http.OutOfMemory
-
--- the fault is one of reading files. At CopyDamaged there is no whole copy
-abbrev pub BlamesCopy : (List ℕ → List ℕ) → List ℕ → Option (List Put) → CopyFault → Type 0
-BlamesCopy digest origin held BadOrigin = ⊥
-BlamesCopy digest origin held (Head fault) = ⊥
-BlamesCopy digest origin held (CopyDamaged path) = IsDamaged digest origin held
-BlamesCopy digest origin held ShelfFault = ⊤
-BlamesCopy digest origin held OutOfMemory = ⊤

@@ -1,65 +1,68 @@
--- The bytes of a copy for a tile or a bundle: those of its file, or from the start of a wider file.
-use Rattle.std.specs.Prelude.{◌≡◌, ◌⊎◌, ℕ, ◌*◌, List, ◌++◌, length, Option, Some, None}
+-- The bytes of a copy for a tile or a bundle. They lead to the root of its checkpoint: they are the first hashes of a shown row, or the first
+-- entries of a shown bundle.
+use Rattle.std.specs.Prelude.{◌≡◌, ◌⊎◌, ℕ, ◌≤◌, List, [], ◌++◌, length, take}
+use Rattle.std.proofs.Common.{inl, inr}
+use Rattle.tlog_hash.specs.Tree.{strings}
 use Rattle.tlog_tiles.specs.Bundle.{IsBundle}
+use Rattle.tlog_tiles.specs.Row.{row_text}
 use Rattle.tlog_tiles.specs.Tiles.{IsWithin}
 use Rattle.tlog_tiles.specs.declared.paths.Path.{Path}
 use Rattle.tlog_tiles.specs.declared.paths.Path.TheVariants.{Checkpoint, Tile, Entries}
-use Rattle.log_paths.specs.Since.{width_at}
-use Rattle.mirror_folders.specs.Shelf.{Put, RecordsRead}
+use Rattle.log_reader.specs.EdgeRows.{Edge, hash_of_edge}
+use Rattle.log_reader.specs.Truth.{read_strings}
+use Rattle.log_reader.specs.Ways.{HasEdgeHashes, IsShownBundle, IsShownRow}
 
--- the number of hashes or entries in the file at a path
-abbrev pub path_width : Path → ℕ
-path_width Checkpoint = 0
-path_width (Tile level index width) = width
-path_width (Entries index width) = width
-
--- the path of the file of that width, with the same level and index
-abbrev pub of_width : Path → ℕ → Path
-of_width Checkpoint width = Checkpoint
-of_width (Tile level index own) width = Tile level index width
-of_width (Entries index own) width = Entries index width
-
--- the width of the widest file with the path's level and index in a log of n entries. 0 if there is none
-abbrev pub widest_of : ℕ → Path → ℕ
-widest_of n Checkpoint = 0
-widest_of n (Tile level index width) = width_at n level index
-widest_of n (Entries index width) = width_at n 0 index
-
--- the tile's file begins with the bytes: that number of hashes
-pub record IsFirstHashes (width : ℕ) (file bytes : List ℕ) : Type 0 where
-  pub rest : List ℕ
-  pub parts : file ≡ bytes ++ rest
-  pub size : length bytes ≡ 32 * width
-
--- the bundle's file begins with the bytes: that number of entries
+-- the bundle begins with the bytes: that number of entries
 pub record IsFirstEntries (width : ℕ) (file bytes : List ℕ) : Type 0 where
   pub rest : List ℕ
   pub parts : file ≡ bytes ++ rest
   pub entries : List (List ℕ)
   pub is_bundle : IsBundle width bytes entries
 
--- the wider file begins with the bytes, with the path's number of hashes or entries
-abbrev pub IsFirstOf : Path → List ℕ → List ℕ → Type 0
-IsFirstOf Checkpoint file bytes = ⊥
-IsFirstOf (Tile level index width) file bytes = IsFirstHashes width file bytes
-IsFirstOf (Entries index width) file bytes = IsFirstEntries width file bytes
+module _ (digest : List ℕ → List ℕ) where
+  -- the edge has that size, and its rows lead to the root
+  pub record IsEdgeTo (size : ℕ) (root : List ℕ) (edge : Edge) : Type 0 where
+    pub hashes : HasEdgeHashes edge
+    pub size_is : edge.size ≡ size
+    pub leads : hash_of_edge digest edge ≡ root
 
--- the bytes from a file of that width: all if the width is the path's, else from its start
-abbrev pub IsCutFrom : Path → ℕ → List ℕ → List ℕ → Type 0
-IsCutFrom path width file bytes = ((width ≡ path_width path) × (bytes ≡ file)) ⊎ IsFirstOf path file bytes
+  -- the bytes are the first hashes of a row that leads up to the edge
+  pub record IsShownTile (edge : Edge) (level index width : ℕ) (bytes : List ℕ) : Type 0 where
+    pub row : List (List ℕ)
+    pub shown : IsShownRow digest edge level index row
+    pub long : width ≤ length row
+    pub bytes_are : bytes ≡ row_text (take width row)
 
--- the shelf has the file of that width. It is the widest that the log has there. If the shelf lacks that, it is the path's own file, or
--- the full one
-pub record IsFileRead (held : Option (List Put)) (path : Path) (widest width : ℕ) (file : List ℕ) : Type 0 where
-  pub stands : RecordsRead held (of_width path width) (Some file)
-  pub preferred :
-      (width ≡ widest)
-      ⊎ (RecordsRead held (of_width path widest) None × ((width ≡ path_width path) ⊎ (width ≡ 256)))
+  -- the bytes are the first entries of a bundle that leads up to the edge
+  pub record IsShownPart (edge : Edge) (index width : ℕ) (bytes : List ℕ) : Type 0 where
+    pub bundle : List ℕ
+    pub shown : IsShownBundle digest edge index bundle
+    pub first : IsFirstEntries width bundle bytes
 
--- the bytes of a copy of n entries for a path
-pub record IsFileGiven (held : Option (List Put)) (n : ℕ) (path : Path) (bytes : List ℕ) : Type 0 where
-  pub within : IsWithin n path
-  pub width : ℕ
-  pub file : List ℕ
-  pub read : IsFileRead held path (widest_of n path) width file
-  pub taken : IsCutFrom path width file bytes
+  -- the bytes of that path lead up to the edge
+  abbrev pub IsShownFile : Edge → Path → List ℕ → Type 0
+  IsShownFile edge Checkpoint bytes = ⊥
+  IsShownFile edge (Tile level index width) bytes = IsShownTile edge level index width bytes
+  IsShownFile edge (Entries index width) bytes = IsShownPart edge index width bytes
+
+  -- the bytes of a copy of that size and root for a path: the log has the file, and they lead up to the root
+  pub record IsFileGiven (size : ℕ) (root : List ℕ) (path : Path) (bytes : List ℕ) : Type 0 where
+    pub within : IsWithin size path
+    pub edge : Edge
+    pub is_edge : IsEdgeTo size root edge
+    pub shown : IsShownFile edge path bytes
+
+  -- the strings that are hashed on the way from a shown bundle to the root
+  abbrev pub bundle_strings : (edge : Edge) (index : ℕ) (bytes : List ℕ) → IsShownBundle digest edge index bytes →
+      List (List ℕ)
+  bundle_strings edge index bytes (inl end) = read_strings digest edge [] ++ strings digest end.has_leaves.entries
+  bundle_strings edge index bytes (inr full) =
+      read_strings digest edge full.shown.way ++ strings digest full.has_leaves.entries
+
+  -- the strings that are hashed on the way from the bytes to the root
+  abbrev pub file_strings : (size : ℕ) (root : List ℕ) (path : Path) (bytes : List ℕ) →
+      IsFileGiven size root path bytes → List (List ℕ)
+  file_strings size root Checkpoint bytes is = []
+  file_strings size root (Tile level index width) bytes is = read_strings digest is.edge is.shown.shown.way
+  file_strings size root (Entries index width) bytes is =
+      bundle_strings is.edge index is.shown.bundle is.shown.shown

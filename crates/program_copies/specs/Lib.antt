@@ -5,7 +5,9 @@ pub mod Statuses
 pub mod Laws
 pub mod Faults
 pub mod CopyHeads
+pub mod NewHeads
 pub mod GivenFiles
+pub mod Damages
 pub mod GivenProofs
 pub mod Bodies
 pub mod CopyAnswers

@@ -1,110 +1,143 @@
 //! A tile or a bundle of a copy.
-ghost use Rattle.std.specs.Prelude.{◌≡◌, ◌⊎◌, IfErr, IfNone, IfOk, IfSome, List, None, Some, length, option_map, ℕ};
+ghost use Rattle.std.specs.Prelude.{◌≡◌, ◌↔◌, IfErr, IfNone, IfOk, IfSome, IsTrue, List, ℕ};
 ghost use Rattle.tlog_tiles.specs.Tiles.{IsWithin};
-ghost use Rattle.mirror_folders.specs.Shelf.{RecordsRead};
 ghost use Rattle.mirror_sources.specs.Recorded.{KeepsRecord};
 ghost use Rattle.copy_reader.specs.Faults.{CountsRead};
-ghost use Rattle.copy_reader.specs.WholeCopies.{HasFilesOf, IsShelfFailure};
-ghost use Rattle.program_copies.specs.GivenFiles.{IsFileGiven, IsFileRead, of_width, path_width};
+ghost use Rattle.copy_reader.specs.WholeCopies.{IsShelfFailure};
+ghost use Rattle.program_copies.specs.Damages.{NamesFile};
+ghost use Rattle.program_copies.specs.GivenFiles.{IsEdgeTo, IsFileGiven};
+ghost use Rattle.program_copies.specs.GivenProofs.{HasLogOf};
 
-use crate::cut::take_part;
-use crate::width::{own_width, widest_if_within, with_width};
-use copy_reader::CopyFault;
+use crate::shown::read_path;
+use crate::width::is_within;
+use copy_reader::{CopyFault, open_reader};
+use log_reader::LogReader;
 use mirror_folders::ReadableShelf;
 use std::alloc::Global;
-use tlog_hash::TreeHash;
+use tlog_hash::{Hash, TreeHash};
 use tlog_tiles::Path;
 
-// The file of that width, with the path's level and index.
-fn read_width<D: ReadableShelf>(
+/// Whether two hashes are equal.
+pub(crate) fn is_same(first: &Hash, second: &Hash) -> bool
+    ensures { IsTrue result ↔ (first.now ≡ second.now) }
+{
+    first == second
+}
+
+// The reader that was kept, if it reads the log of that size and root.
+fn take_reader<H: TreeHash>(
+    kept: &mut Option<LogReader<H>>,
+    size: u64,
+    root: &Hash,
+) -> Option<LogReader<H>>
+    ensures { IfSome result (λ reader. IsEdgeTo H.digest size root.now reader.edge) }
+{
+    let Some(reader) = kept.take() else {
+        return None;
+    };
+    let own = reader.root();
+    if reader.size() == size && is_same(&own, root) {
+        Some(reader)
+    } else {
+        None
+    }
+}
+
+// The bytes of the path by the reader that was kept. None: there is none, or it finds a file damaged.
+fn read_again<H: TreeHash, D: ReadableShelf>(
+    alloc: Global,
     shelf: &mut D,
+    kept: &mut Option<LogReader<H>>,
+    size: u64,
+    root: &Hash,
     path: &Path,
-    width: u32,
-) -> Result<Option<(u32, Vec<u8>)>, CopyFault>
-    ensures recorded { IfOk result (λ o. RecordsRead (D.puts shelf.old) (of_width path.now width)
-        (option_map (λ found. found.1.items) o)) }
-    ensures width { IfOk result (λ o. IfSome o (λ found. found.0 ≡ width)) }
+) -> Result<Option<Vec<u8>>, CopyFault>
+    requires { IsWithin size path.now }
+    ensures given { IfOk result (λ o. IfSome o
+        (λ bytes. IsFileGiven H.digest size root.now path.now bytes.items)) }
     ensures fault { IfErr result IsShelfFailure }
     ensures same { KeepsRecord (D.puts shelf.old) (D.puts shelf.new) }
     ensures counted { CountsRead (D.failed shelf.old) (D.failed shelf.new) result }
 {
-    match shelf.read(&with_width(path, width))? {
-        Some(bytes) => Ok(Some((width, bytes))),
-        None => Ok(None),
+    let Some(taken) = take_reader::<H>(kept, size, root) else {
+        return Ok(None);
+    };
+    let mut reader = taken;
+    match read_path::<H, D>(alloc, shelf, &mut reader, path) {
+        Ok(bytes) => {
+            *kept = Some(reader);
+            Ok(Some(bytes))
+        }
+        Err(CopyFault::ShelfFault) => Err(CopyFault::ShelfFault),
+        Err(CopyFault::OutOfMemory) => Err(CopyFault::OutOfMemory),
+        Err(CopyFault::CopyDamaged(_)) => Ok(None),
+        Err(CopyFault::Head(_)) => Ok(None),
+        Err(CopyFault::BadOrigin) => Ok(None),
     }
 }
 
-// The path's own file, or else the full file with its level and index.
-#[tactic(auto, using(log_reader::proofs::Kept::kept_twice, crate::proofs::Kept::read_before))]
-fn read_other<D: ReadableShelf>(
+// The bytes of the path by a new reader, which is kept.
+fn read_anew<H: TreeHash, D: ReadableShelf>(
+    alloc: Global,
     shelf: &mut D,
+    kept: &mut Option<LogReader<H>>,
+    size: u64,
+    root: &Hash,
     path: &Path,
-) -> Result<Option<(u32, Vec<u8>)>, CopyFault>
-    ensures recorded { IfOk result (λ o. IfSome o (λ found. RecordsRead (D.puts shelf.old)
-        (of_width path.now found.0) (Some found.1.items))) }
-    ensures width { IfOk result (λ o. IfSome o
-        (λ found. (found.0 ≡ path_width path.now) ⊎ (found.0 ≡ 256))) }
-    ensures none { IfOk result
-        (λ o. IfNone o (RecordsRead (D.puts shelf.old) (of_width path.now 256) None)) }
-    ensures fault { IfErr result IsShelfFailure }
+) -> Result<Vec<u8>, CopyFault>
+    requires { IsWithin size path.now }
+    ensures given { IfOk result
+        (λ bytes. IsFileGiven H.digest size root.now path.now bytes.items) }
     ensures same { KeepsRecord (D.puts shelf.old) (D.puts shelf.new) }
     ensures counted { CountsRead (D.failed shelf.old) (D.failed shelf.new) result }
+    ensures damage { IfErr result (NamesFile H.digest (D.puts shelf.old) size root.now) }
+    ensures honest { (entries : List (List ℕ))
+        → HasLogOf H.digest (D.puts shelf.old) size root.now entries
+        → IfErr result IsShelfFailure }
 {
-    match read_width::<D>(shelf, path, own_width(path))? {
-        Some(found) => Ok(Some(found)),
-        None => read_width::<D>(shelf, path, 256),
-    }
+    let opened = open_reader::<H, D>(alloc, shelf, size, root)?;
+    let mut reader = opened;
+    let _root = reader.root();
+    let bytes = read_path::<H, D>(alloc, shelf, &mut reader, path)?;
+    *kept = Some(reader);
+    Ok(bytes)
 }
 
-// The widest file that a log has with the path's level and index. If the shelf lacks it, the path's own file or the full one.
-fn read_widest<D: ReadableShelf>(
-    shelf: &mut D,
-    path: &Path,
-    widest: u32,
-) -> Result<Option<(u32, Vec<u8>)>, CopyFault>
-    ensures read { IfOk result (λ o. IfSome o (λ found. IsFileRead (D.puts shelf.old)
-        path.now widest found.0 found.1.items)) }
-    ensures none { IfOk result
-        (λ o. IfNone o (RecordsRead (D.puts shelf.old) (of_width path.now widest) None
-        × RecordsRead (D.puts shelf.old) (of_width path.now 256) None)) }
-    ensures fault { IfErr result IsShelfFailure }
-    ensures same { KeepsRecord (D.puts shelf.old) (D.puts shelf.new) }
-    ensures counted { CountsRead (D.failed shelf.old) (D.failed shelf.new) result }
-{
-    match read_width::<D>(shelf, path, widest)? {
-        Some(found) => Ok(Some(found)),
-        None => read_other::<D>(shelf, path),
-    }
-}
-
-/// The bytes of a tile or of a bundle, in a copy of that size. They are those of its file, or come from the start of a wider file. None:
-/// the copy does not have the path.
+/// The bytes of a tile or of a bundle, in a copy of that size and root. They lead to the root. None: the log does not have the path.
+///
+/// The rows that were read last are kept. Files that they find damaged are read anew, from the edge down.
 ///
 /// # Errors
 ///
-/// `CopyDamaged`: the shelf has neither the file nor a wider one, or the wider one has too few hashes or entries.
+/// `CopyDamaged`: the file, or a tile between it and the root, is missing or false.
+#[tactic(auto, using(log_reader::proofs::Kept::kept_twice))]
 pub(crate) fn read_file<H: TreeHash, D: ReadableShelf>(
     alloc: Global,
     shelf: &mut D,
+    kept: &mut Option<LogReader<H>>,
     size: u64,
+    root: &Hash,
     path: &Path,
 ) -> Result<Option<Vec<u8>>, CopyFault>
     ensures given { IfOk result (λ o. IfSome o
-        (λ bytes. IsFileGiven (D.puts shelf.old) size path.now bytes.items)) }
+        (λ bytes. IsFileGiven H.digest size root.now path.now bytes.items)) }
     ensures none { IfOk result (λ o. IfNone o (¬ IsWithin size path.now)) }
     ensures same { KeepsRecord (D.puts shelf.old) (D.puts shelf.new) }
     ensures counted { CountsRead (D.failed shelf.old) (D.failed shelf.new) result }
-    ensures honest { (entries : List (List ℕ)) → length entries ≡ size
-        → HasFilesOf H.digest entries (D.puts shelf.old) → IfErr result IsShelfFailure }
+    ensures damage { IfErr result (NamesFile H.digest (D.puts shelf.old) size root.now) }
+    ensures honest { (entries : List (List ℕ))
+        → HasLogOf H.digest (D.puts shelf.old) size root.now entries
+        → IfErr result IsShelfFailure }
 {
-    let Some(widest) = widest_if_within(size, path) else {
+    if !is_within(size, path) {
         return Ok(None);
-    };
-    let Some((width, file)) = read_widest::<D>(shelf, path, widest)? else {
-        return Err(CopyFault::CopyDamaged(*path));
-    };
-    match take_part(alloc, path, width, file)? {
-        Some(bytes) => Ok(Some(bytes)),
-        None => Err(CopyFault::CopyDamaged(*path)),
+    }
+    match read_again::<H, D>(alloc, shelf, kept, size, root, path) {
+        Ok(Some(bytes)) => Ok(Some(bytes)),
+        Ok(None) => match read_anew::<H, D>(alloc, shelf, kept, size, root, path) {
+            Ok(bytes) => Ok(Some(bytes)),
+            Err(fault) => Err(fault),
+        },
+        Err(fault) => Err(fault),
     }
 }

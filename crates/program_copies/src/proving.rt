@@ -3,6 +3,7 @@ ghost use Rattle.std.specs.Prelude.{◌↔◌, List, ℕ, IfErr, IfNone, IfOk, I
 ghost use Rattle.mirror_sources.specs.Recorded.{KeepsRecord};
 ghost use Rattle.copy_reader.specs.Faults.{CountsRead};
 ghost use Rattle.copy_reader.specs.Proofs.{IsWithin};
+ghost use Rattle.program_copies.specs.Damages.{NamesProof};
 ghost use Rattle.copy_reader.specs.WholeCopies.{IsShelfFailure};
 ghost use Rattle.program_copies.specs.GivenProofs.{HasLogOf, IsProofGiven};
 
@@ -38,10 +39,10 @@ pub(crate) fn asked_proof<H: TreeHash, D: ReadableShelf>(
 ) -> Result<Option<Vec<u8>>, CopyFault>
     ensures given { IfOk result (λ o. IfSome o
         (λ text. IsProofGiven H.digest (D.puts shelf.old) size root.now ask text.items)) }
-    ensures none { IfOk result (λ o. IfNone o ((text : List ℕ)
-        → ¬ IsProofGiven H.digest (D.puts shelf.old) size root.now ask text)) }
+    ensures none { IfOk result (λ o. IfNone o (¬ IsWithin ask size)) }
     ensures same { KeepsRecord (D.puts shelf.old) (D.puts shelf.new) }
     ensures counted { CountsRead (D.failed shelf.old) (D.failed shelf.new) result }
+    ensures damage { IfErr result (NamesProof H.digest (D.puts shelf.old) size root.now) }
     ensures honest { (entries : List (List ℕ))
         → HasLogOf H.digest (D.puts shelf.old) size root.now entries
         → IfErr result IsShelfFailure }
@@ -49,7 +50,9 @@ pub(crate) fn asked_proof<H: TreeHash, D: ReadableShelf>(
     if !is_within(ask, size) {
         return Ok(None);
     }
-    let mut reader = open_reader::<H, D>(alloc, shelf, size, root)?;
+    let opened = open_reader::<H, D>(alloc, shelf, size, root)?;
+    let mut reader = opened;
+    let _root = reader.root();
     let text = read_proof_text::<H, D>(alloc, shelf, &mut reader, ask)?;
     Ok(Some(text.into_bytes()))
 }

@@ -2,7 +2,9 @@
 ghost use Rattle.std.specs.Prelude.{◌≡◌};
 ghost use Rattle.program_copies.specs.Faults.{by_body};
 
+use crate::keys::KeysFault;
 use copy_reader::CopyFault;
+use mirror_model::TakeFault;
 use mirror_server::HttpFault;
 use tlog_tiles::Path;
 
@@ -16,6 +18,10 @@ pub enum CopyAnswerFault {
     CopyDamaged(Path),
     /// A file of the copy cannot be read. The client got the reply 500.
     ShelfFault,
+    /// The copy's checkpoint does not open under the keys, or is not one of the origin. The client got the reply 500.
+    Head(TakeFault),
+    /// The keys cannot be read for a new checkpoint. The client got the reply 500.
+    KeyFile(KeysFault),
 }
 
 /// The client's fault for a fault of a body. The body itself never has `BadOrigin` or `Head`.

@@ -1,17 +1,20 @@
 //! The status of a copy.
-ghost use Rattle.std.specs.Prelude.{◌≡◌, IfErr, IfOk, map, option_map};
+ghost use Rattle.std.specs.Prelude.{◌≡◌, ⊤, IfErr, IfOk, OnOk, map, option_map};
 ghost use Rattle.mirror_trees.specs.Marked.{point_of};
 ghost use Rattle.std.specs.Io.KnownBytes.{Keeps};
+ghost use Rattle.mirror_sources.specs.Recorded.{KeepsRecord};
 ghost use Rattle.copy_reader.specs.Copies.{LeavesPuts};
+ghost use Rattle.copy_reader.specs.Faults.{CountsRead};
+ghost use Rattle.copy_reader.specs.WholeCopies.{IsShelfFailure, ReadsCopyOf};
 ghost use Rattle.program_copies.specs.Printed.{CountsAsk, HasStatus, IsStatus, IsWriteFault, Prints};
-ghost use Rattle.program_copies.specs.Statuses.{IsStatusOf, ReportsStatus, reader_point};
+ghost use Rattle.program_copies.specs.Statuses.{IsEndShown, IsStatusOf, ReportsStatus};
 
 use crate::fault::CopyAskFault;
 use crate::opened::open_copy;
 use crate::printing::print_text;
-use copy_reader::{CopyFault, status_text};
+use copy_reader::{CopyFault, read_bundle, status_text};
 use log_reader::LogReader;
-use mirror_folders::NamedFolders;
+use mirror_folders::{NamedFolders, ReadableShelf};
 use program_reports::Report;
 use signed_note::Verifier;
 use std::alloc::{AllocError, Global};
@@ -34,18 +37,48 @@ fn status_report(
     Ok(Report { text, status })
 }
 
-// The size and root of the opened log, if there is one.
-fn opened_point<H: TreeHash>(opened: Option<LogReader<H>>) -> Option<(u64, Hash)>
-    ensures { option_map point_of result ≡ option_map reader_point opened }
+// Reads the bundle at the end of the log, if it is partial.
+fn read_end<H: TreeHash, D: ReadableShelf>(
+    alloc: Global,
+    shelf: &mut D,
+    reader: &mut LogReader<H>,
+) -> Result<(), CopyFault>
+    ensures edge { reader.new.edge ≡ reader.old.edge }
+    ensures root { reader.new.root ≡ reader.old.root }
+    ensures end { OnOk result (IsEndShown H.digest reader.old.edge) }
+    ensures same { KeepsRecord (D.puts shelf.old) (D.puts shelf.new) }
+    ensures counted { CountsRead (D.failed shelf.old) (D.failed shelf.new) result }
+    ensures honest { ReadsCopyOf IsShelfFailure H.digest reader.old reader.new
+        (D.puts shelf.old) result (λ entries _. ⊤) }
 {
-    match opened {
-        Some(reader) => Some((reader.size(), reader.root())),
-        None => None,
+    let size = reader.size();
+    if size % 256 == 0 {
+        return Ok(());
+    }
+    match read_bundle::<H, D>(alloc, shelf, reader, size / 256) {
+        Ok(_bundle) => Ok(()),
+        Err(fault) => Err(fault),
+    }
+}
+
+// The report on a log of that size and root, or on an empty copy.
+fn report_of(
+    alloc: Global,
+    origin: &str,
+    point: Option<(u64, Hash)>,
+) -> Result<Report, CopyAskFault>
+    ensures report { IfOk result (IsStatusOf origin.now (option_map point_of point)) }
+    ensures status { IfOk result HasStatus }
+    ensures fault { IfErr result (λ fault. fault ≡ CopyAskFault.Copy CopyFault.OutOfMemory) }
+{
+    match status_report(alloc, origin, &point) {
+        Ok(report) => Ok(report),
+        Err(_) => Err(CopyAskFault::Copy(CopyFault::OutOfMemory)),
     }
 }
 
 // The report on the copy in the folder.
-#[tactic(auto, using(crate::proofs::Reading::opened_has))]
+#[tactic(auto, using(crate::proofs::Reading::opened_has, log_reader::proofs::Kept::kept_twice))]
 fn status_of_copy<H: TreeHash, D: NamedFolders>(
     folders: &mut D,
     alloc: Global,
@@ -60,20 +93,24 @@ fn status_of_copy<H: TreeHash, D: NamedFolders>(
         (D.puts folders.new) }
     ensures counted { CountsAsk (D.failed folders.old) (D.failed folders.new) result }
 {
-    match open_copy::<H, D>(folders, alloc, origin, keys, folder) {
-        Ok(opened) => {
-            let point = opened_point::<H>(opened);
-            match status_report(alloc, origin, &point) {
-                Ok(report) => Ok(report),
-                Err(_) => Err(CopyAskFault::Copy(CopyFault::OutOfMemory)),
-            }
-        }
+    let opened = match open_copy::<H, D>(folders, alloc, origin, keys, folder) {
+        Ok(opened) => opened,
+        Err(fault) => return Err(CopyAskFault::Copy(fault)),
+    };
+    let Some(reader) = opened else {
+        return report_of(alloc, origin, None);
+    };
+    let mut reader = reader;
+    let point = (reader.size(), reader.root());
+    match read_end::<H, D>(alloc, folders, &mut reader) {
+        Ok(()) => report_of(alloc, origin, Some(point)),
         Err(fault) => Err(CopyAskFault::Copy(fault)),
     }
 }
 
-/// Prints the origin and the copy's checkpoint, as `status` does for a state with only its tree head, which is complete. For an empty
-/// copy it prints `served none`. Returns the exit status: 0, or 3 if the copy is empty.
+/// Prints the origin and the copy's checkpoint, as `status` does for a state with only its tree head, which is complete. It reads the
+/// edge of the log, and the bundle at its end if that is partial: they have to lead to the checkpoint's root. No other file is read. For an
+/// empty copy it prints `served none`. Returns the exit status: 0, or 3 if the copy is empty.
 ///
 /// ```text
 /// status_copy::<Sha256Tree, _, _>(&mut folders, alloc, "example.com/log", &keys, "log", &mut output)?;
@@ -84,8 +121,8 @@ fn status_of_copy<H: TreeHash, D: NamedFolders>(
 ///
 /// # Errors
 ///
-/// In this order: `Copy`, with the faults of `open_copy`; `Ask` with `WriteFault`, after a prefix of the text was written. At each other
-/// fault nothing is written.
+/// In this order: `Copy`, with the faults of `open_copy`, and with `CopyDamaged` or `ShelfFault` if the bundle at the end is missing, false or
+/// unreadable; `Ask` with `WriteFault`, after a prefix of the text was written. At each other fault nothing is written.
 pub fn status_copy<H: TreeHash, D: NamedFolders, W: Write>(
     folders: &mut D,
     alloc: Global,

@@ -1,15 +1,18 @@
-use Rattle.program_copies.proofs.WholeFiles.{not_gone, not_short}
+use Rattle.copy_reader.proofs.WholeCopies.{files_later}
+use Rattle.program_copies.proofs.Damages.{names_before}
 use Rattle.program_copies.proofs.file.read_file.Goals as goal
 
-pub returns-in_default-2-clause-honest : goal.returns-in_default-2-clause-honest
-returns-in_default-2-clause-honest g c = λ entries len files.
-    not_gone g.H.TreeHash.digest g.met.H.TreeHash.digest_length entries (g.D.Shelf.puts c.args.shelf.now) files c.args.size len
-    c.args.path.now c.in-Some.widest c.in-Some.ensures.some c.in-Some.ensures.widest
-    (rw c.in_default-2.is at c.in_ok-width.ensures.none)
+pub returns-in-Err-read_anew-clause-honest : goal.returns-in-Err-read_anew-clause-honest
+returns-in-Err-read_anew-clause-honest g c = λ entries log.
+    c.in-Err-read_anew.ensures.honest entries (record {
+      size_is = log.size_is;
+      root_is = log.root_is;
+      small = log.small;
+      files = files_later g.H.TreeHash.digest (g.D.Shelf.puts c.args.shelf.now) (g.D.Shelf.puts c.read_again.new.shelf)
+          c.in-Ok-None.ensures.same entries log.files;
+    })
 
-pub returns-in-None-clause-honest : goal.returns-in-None-clause-honest
-returns-in-None-clause-honest g c = λ entries len files.
-    let short = rw c.in-None.is at c.in_ok-bytes.ensures.none in
-    not_short g.H.TreeHash.digest g.met.H.TreeHash.digest_length entries (g.D.Shelf.puts c.args.shelf.now) files c.args.size len
-    c.args.path.now c.in-Some.widest c.in-Some.ensures.some c.in-Some.ensures.widest c.in-Some-2.width c.in-Some-2.file.items
-    (rw c.in-Some-2.is at c.in_ok-width.ensures.read) short.0 short.1
+pub returns-in-Err-read_anew-clause-damage : goal.returns-in-Err-read_anew-clause-damage
+returns-in-Err-read_anew-clause-damage g c =
+    names_before g.H.TreeHash.digest c.args.size c.args.root.now (g.D.Shelf.puts c.args.shelf.now)
+    (g.D.Shelf.puts c.read_again.new.shelf) c.in-Ok-None.ensures.same c.in-Err-read_anew.fault c.in-Err-read_anew.ensures.damage

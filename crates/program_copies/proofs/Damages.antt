@@ -1,0 +1,96 @@
+-- The file that CopyDamaged names, from the reads of a shelf whose puts were kept.
+use Rattle.std.proofs.Common.{◌≡◌, ◌≢◌, ℕ, List, Option, inl, inr}
+use Rattle.tlog_tiles.specs.declared.paths.Path.{Path}
+use Rattle.tlog_tiles.specs.declared.paths.Path.TheVariants.{Tile}
+use Rattle.mirror_folders.specs.Shelf.{Put, RecordsRead}
+use Rattle.mirror_sources.specs.Recorded.{KeepsRecord}
+use Rattle.mirror_server.specs.declared.resource.Resource.{Resource}
+use Rattle.mirror_server.specs.declared.resource.Resource.TheVariants.{File, Status, Forks, Missing, Proof}
+use Rattle.log_reader.specs.EdgeRows.{Edge}
+use Rattle.log_reader.proofs.FalseEdges.{edge_given}
+use Rattle.log_reader.proofs.FalseFiles.{false_given}
+use Rattle.copy_reader.specs.Damage.{IsFalseWithin, NamesDamage, NamesEdgeDamage, NamesProofDamage}
+use Rattle.copy_reader.specs.declared.fault.CopyFault.{CopyFault}
+use Rattle.copy_reader.specs.declared.fault.CopyFault.TheVariants.{BadOrigin, Head, CopyDamaged, ShelfFault, OutOfMemory}
+use Rattle.copy_reader.proofs.ShelfSources.{recorded_before}
+use Rattle.program_copies.specs.Damages.{IsDamagedFile, IsDamagedFor, IsDamagedProof, NamesFile, NamesProof}
+use Rattle.program_copies.specs.GivenFiles.{IsEdgeTo}
+
+module _ (digest : List ℕ → List ℕ) (size : ℕ) (root : List ℕ) where
+  module _ (held after : Option (List Put)) (kept : KeepsRecord held after) where
+    earlier : (path : Path) → path ≢ Tile 0 0 0 → (answer : Option (List ℕ)) → RecordsRead after path answer →
+        RecordsRead held path answer
+    earlier path some answer h = recorded_before held after path answer kept h
+
+    file_before : (path : Path) → IsDamagedFile digest after size root path → IsDamagedFile digest held size root path
+    file_before path (inl h) = inl (edge_given (RecordsRead held) (RecordsRead after) size earlier digest root path h)
+    file_before path (inr h) = inr (h.0, h.1, false_given digest (RecordsRead held) (RecordsRead after) earlier h.0 path h.2)
+
+    within_before : (edge : Edge) (path : Path) → IsFalseWithin digest (RecordsRead after) edge path →
+        IsFalseWithin digest (RecordsRead held) edge path
+    within_before edge path (inl h) = inl (false_given digest (RecordsRead held) (RecordsRead after) earlier edge path h)
+    within_before edge path (inr h) =
+        inr (h.0, h.1, false_given digest (RecordsRead held) (RecordsRead after) earlier h.0 path h.2)
+
+    proof_before : (path : Path) → IsDamagedProof digest after size root path → IsDamagedProof digest held size root path
+    proof_before path (inl h) = inl (edge_given (RecordsRead held) (RecordsRead after) size earlier digest root path h)
+    proof_before path (inr h) = elim h.2 [
+      | inl same ↦ inr (h.0, h.1, inl same)
+      | inr wrong ↦ inr (h.0, h.1, inr (within_before h.0 path wrong))
+    ]
+
+    pub for_before : (r : Resource) (path : Path) → IsDamagedFor digest after size root r path →
+        IsDamagedFor digest held size root r path
+    for_before (File wanted) path h = file_before path h
+    for_before Status path h = h
+    for_before Forks path h = h
+    for_before (Missing n q) path h = h
+    for_before (Proof ask) path h = proof_before path h
+
+    -- what was named after the puts were kept is named before
+    pub proof_names_before : (fault : CopyFault) → NamesProof digest after size root fault → NamesProof digest held size root fault
+    proof_names_before BadOrigin h = tt
+    proof_names_before (Head fault) h = tt
+    proof_names_before (CopyDamaged path) h = proof_before path h
+    proof_names_before ShelfFault h = tt
+    proof_names_before OutOfMemory h = tt
+
+    pub names_before : (fault : CopyFault) → NamesFile digest after size root fault → NamesFile digest held size root fault
+    names_before BadOrigin h = tt
+    names_before (Head fault) h = tt
+    names_before (CopyDamaged path) h = file_before path h
+    names_before ShelfFault h = tt
+    names_before OutOfMemory h = tt
+
+  module _ (held : Option (List Put)) where
+    -- the file that an opening names
+    pub opened_names : (fault : CopyFault) → NamesEdgeDamage digest held size root fault → NamesFile digest held size root fault
+    opened_names BadOrigin h = tt
+    opened_names (Head fault) h = tt
+    opened_names (CopyDamaged path) h = inl h
+    opened_names ShelfFault h = tt
+    opened_names OutOfMemory h = tt
+
+    pub opened_names_proof : (fault : CopyFault) → NamesEdgeDamage digest held size root fault → NamesProof digest held size root fault
+    opened_names_proof BadOrigin h = tt
+    opened_names_proof (Head fault) h = tt
+    opened_names_proof (CopyDamaged path) h = inl h
+    opened_names_proof ShelfFault h = tt
+    opened_names_proof OutOfMemory h = tt
+
+    pub proof_names : (edge : Edge) → IsEdgeTo digest size root edge → (fault : CopyFault) →
+        NamesProofDamage digest held edge fault → NamesProof digest held size root fault
+    proof_names edge to BadOrigin h = tt
+    proof_names edge to (Head fault) h = tt
+    proof_names edge to (CopyDamaged path) h = inr (edge, to, h)
+    proof_names edge to ShelfFault h = tt
+    proof_names edge to OutOfMemory h = tt
+
+    -- the file that a read names
+    pub read_names : (edge : Edge) → IsEdgeTo digest size root edge → (fault : CopyFault) → NamesDamage digest held edge fault →
+        NamesFile digest held size root fault
+    read_names edge to BadOrigin h = tt
+    read_names edge to (Head fault) h = tt
+    read_names edge to (CopyDamaged path) h = inr (edge, to, h)
+    read_names edge to ShelfFault h = tt
+    read_names edge to OutOfMemory h = tt

@@ -1,0 +1,99 @@
+-- The file that CopyDamaged names: what the shelf has at its path, also if that is nothing, is not what the tree over it says.
+use Rattle.std.specs.Prelude.{◌≡◌, ◌⊎◌, ℕ, List, Option, Some, None, ⊤}
+use Rattle.tlog_tiles.specs.declared.paths.Path.{Path}
+use Rattle.tlog_tiles.specs.declared.paths.Path.TheVariants.{Checkpoint}
+use Rattle.mirror_folders.specs.Shelf.{Put, RecordsRead}
+use Rattle.mirror_model.specs.Heads.{IsHead}
+use Rattle.mirror_server.specs.declared.request.Request.{Request}
+use Rattle.mirror_server.specs.declared.request.Request.TheVariants.{Nothing, Unreadable, OtherMethod, Unknown, Get}
+use Rattle.mirror_server.specs.declared.resource.Resource.{Resource}
+use Rattle.mirror_server.specs.declared.resource.Resource.TheVariants.{File, Status, Forks, Missing, Proof}
+use Rattle.log_reader.specs.EdgeRows.{Edge}
+use Rattle.log_reader.specs.FalseFiles.{IsFalseFile}
+use Rattle.copy_reader.specs.Damage.{IsDamagedEdge, IsFalseWithin}
+use Rattle.copy_reader.specs.declared.fault.CopyFault.{CopyFault}
+use Rattle.copy_reader.specs.declared.fault.CopyFault.TheVariants.{BadOrigin, Head, CopyDamaged, ShelfFault, OutOfMemory}
+use Rattle.program_copies.specs.CopyHeads.{CopyHead}
+use Rattle.program_copies.specs.GivenFiles.{IsEdgeTo}
+
+module _ (digest : List ℕ → List ℕ) (held : Option (List Put)) (size : ℕ) (root : List ℕ) where
+  -- the file is one of the edge, or false in the tree of an edge that leads to the root
+  abbrev pub IsDamagedFile : Path → Type 0
+  IsDamagedFile path =
+      IsDamagedEdge digest held size root path
+      ⊎ ((edge : Edge) × IsEdgeTo digest size root edge × IsFalseFile digest (RecordsRead held) edge path)
+
+  -- the file is one of the edge, or false in that tree, or in that of its first entries. It is the checkpoint if rows that lead to the root
+  -- make no proof that holds
+  abbrev pub IsDamagedProof : Path → Type 0
+  IsDamagedProof path =
+      IsDamagedEdge digest held size root path
+      ⊎ ((edge : Edge) × IsEdgeTo digest size root edge
+      × ((path ≡ Checkpoint) ⊎ IsFalseWithin digest (RecordsRead held) edge path))
+
+  -- the file is damaged, and the resource needs it
+  abbrev pub IsDamagedFor : Resource → Path → Type 0
+  IsDamagedFor (File wanted) path = IsDamagedFile path
+  IsDamagedFor Status path = ⊥
+  IsDamagedFor Forks path = ⊥
+  IsDamagedFor (Missing n r) path = ⊥
+  IsDamagedFor (Proof ask) path = IsDamagedProof path
+
+  -- CopyDamaged names such a file
+  abbrev pub NamesFor : Resource → CopyFault → Type 0
+  NamesFor resource BadOrigin = ⊤
+  NamesFor resource (Head fault) = ⊤
+  NamesFor resource (CopyDamaged path) = IsDamagedFor resource path
+  NamesFor resource ShelfFault = ⊤
+  NamesFor resource OutOfMemory = ⊤
+
+  -- CopyDamaged names such a file of a proof
+  abbrev pub NamesProof : CopyFault → Type 0
+  NamesProof BadOrigin = ⊤
+  NamesProof (Head fault) = ⊤
+  NamesProof (CopyDamaged path) = IsDamagedProof path
+  NamesProof ShelfFault = ⊤
+  NamesProof OutOfMemory = ⊤
+
+  -- CopyDamaged names such a file of a tile or a bundle
+  abbrev pub NamesFile : CopyFault → Type 0
+  NamesFile BadOrigin = ⊤
+  NamesFile (Head fault) = ⊤
+  NamesFile (CopyDamaged path) = IsDamagedFile path
+  NamesFile ShelfFault = ⊤
+  NamesFile OutOfMemory = ⊤
+
+-- the same under that checkpoint, if there is one
+abbrev pub IsDamagedAt : (List ℕ → List ℕ) → Option (List Put) → Option CopyHead → Resource → Path → Type 0
+IsDamagedAt digest held None resource path = ⊥
+IsDamagedAt digest held (Some head) resource path = IsDamagedFor digest held head.size head.root resource path
+
+abbrev pub NamesAt : (List ℕ → List ℕ) → Option (List Put) → Option CopyHead → Resource → CopyFault → Type 0
+NamesAt digest held head resource BadOrigin = ⊤
+NamesAt digest held head resource (Head fault) = ⊤
+NamesAt digest held head resource (CopyDamaged path) = IsDamagedAt digest held head resource path
+NamesAt digest held head resource ShelfFault = ⊤
+NamesAt digest held head resource OutOfMemory = ⊤
+
+module _ (digest : List ℕ → List ℕ) (origin : List ℕ) (held : Option (List Put)) where
+  -- the checkpoint on the shelf is none of the origin
+  pub record IsBadHead (path : Path) : Type 0 where
+    pub path_is : path ≡ Checkpoint
+    pub note : List ℕ
+    pub stands : RecordsRead held Checkpoint (Some note)
+    pub bad : (size : ℕ) (root : List ℕ) → ¬ IsHead note origin size root
+
+  -- the file is damaged under the checkpoint on the shelf, and the resource needs it
+  pub record IsBadFile (resource : Resource) (path : Path) : Type 0 where
+    pub head : CopyHead
+    pub stands : RecordsRead held Checkpoint (Some head.note)
+    pub is_head : IsHead head.note origin head.size head.root
+    pub damaged : IsDamagedFor digest held head.size head.root resource path
+
+  -- the file of that path is damaged, and the request needs it
+  abbrev pub IsDamagedBy : Request → Path → Type 0
+  IsDamagedBy Nothing path = ⊥
+  IsDamagedBy Unreadable path = ⊥
+  IsDamagedBy OtherMethod path = ⊥
+  IsDamagedBy Unknown path = ⊥
+  IsDamagedBy (Get resource) path = IsBadHead path ⊎ IsBadFile resource path
