@@ -8,6 +8,7 @@ mod fault;
 mod first;
 mod following;
 mod laws;
+mod lines;
 mod renote;
 mod report;
 mod run;

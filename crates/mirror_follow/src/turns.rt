@@ -23,8 +23,8 @@ use mirror_sources::Source;
 use std::alloc::Global;
 use tlog_hash::TreeHash;
 
-// Whether a candidate of a list has the size and root of the one before it.
-fn is_repeated(candidates: &[Candidate], i: usize) -> bool
+/// Whether a candidate of a list has the size and root of the one before it.
+pub(crate) fn is_repeated(candidates: &[Candidate], i: usize) -> bool
     requires { i < length candidates.now }
     ensures some { IsTrue result → 0 < i }
     ensures is { IsTrue result ↔ IsRepeat candidates.now i }

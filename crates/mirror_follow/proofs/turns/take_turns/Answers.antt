@@ -26,7 +26,7 @@ loop-i-init g c =
       reaching = reach_begin g.H.TreeHash.digest g.S.Source.may_answer g.S.Source.failed g.S.Source.asked c.args.origin.now x
           c.args.places.now c.args.copy c.args.candidates.now c.new-run.result.copy c.new-run.ensures.copy;
       taken = λ rises. taken_begin g.H.TreeHash.digest c.args.copy c.new-run.result c.new-run.ensures.copy
-          c.new-run.ensures.forks c.new-run.ensures.not_had c.new-run.ensures.behind c.new-run.ensures.reached;
+          c.new-run.ensures.forks c.new-run.ensures.not_had;
     }
 
 pub returns-in_err-take_turn_at-clause-keeps : goal.returns-in_err-take_turn_at-clause-keeps
