@@ -12,6 +12,7 @@ pub mod Taken
 pub mod Settled
 pub mod Noted
 pub mod Lining
+pub mod Looking
 pub mod OneHonest
 pub mod HonestRuns
 pub mod Adding

@@ -41,7 +41,7 @@ agree_now : (digest : List ℕ → List ℕ) (a b : Candidate) → IsOnePoint a 
 agree_now digest a b p = record { proof = None; shown = inl (p.0, p.1) }
 
 -- a candidate that is a fork with the copy does not have its size and root
-fork_apart : (digest : List ℕ → List ℕ) (held c : Candidate) (proof : Option Proof) → AreFork digest held c proof →
+pub fork_apart : (digest : List ℕ → List ℕ) (held c : Candidate) (proof : Option Proof) → AreFork digest held c proof →
     IsOnePoint c held → ⊥
 fork_apart digest held c proof (inl shown) p = omega (arith, shown.0, p.0)
 fork_apart digest held c proof (inr (inl shown)) p = omega (arith, shown.0, p.0)

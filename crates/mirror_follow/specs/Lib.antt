@@ -8,4 +8,5 @@ pub mod Rule
 pub mod Says
 pub mod Taken
 pub mod Lining
+pub mod Looking
 pub mod OneHonest

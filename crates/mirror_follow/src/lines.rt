@@ -12,8 +12,8 @@ use mirror_candidates::{Candidate, ForkLine, add_fork};
 use std::alloc::{AllocError, Global};
 use tlog_hash::Hash;
 
-// Whether a candidate has more entries than the copy. Without a copy, each one has.
-fn exceeds(copy: &Option<Candidate>, candidate: &Candidate) -> bool
+/// Whether a candidate has more entries than the copy. Without a copy, each one has.
+pub(crate) fn exceeds(copy: &Option<Candidate>, candidate: &Candidate) -> bool
     ensures { IsTrue result ↔ IsLargerThan copy.now candidate.now }
 {
     match copy {

@@ -101,6 +101,7 @@ pub(crate) fn report(
         had,
         mut forks,
         not_had,
+        again: _,
         first_fault,
     } = run;
     drop(not_had);

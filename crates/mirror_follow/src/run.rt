@@ -1,14 +1,15 @@
 //! The state of a run of turns: the forks, and the candidates to which the copy could not be brought.
-ghost use Rattle.std.specs.Prelude.{◌≡◌, ◌≢◌, [], ℕ, IfSome, List, None, OnOk};
+ghost use Rattle.std.specs.Prelude.{◌≡◌, ◌≢◌, [], ℕ, IfSome, List, None, OnOk, length};
 ghost use Rattle.mirror_candidates.specs.Adding.{AddsFork};
 ghost use Rattle.mirror_candidates.specs.Lines.{IsInSomeLine, KeepsLines};
 ghost use Rattle.mirror_candidates.specs.Shown.{AreFork, ShowsEach};
 ghost use Rattle.mirror_follow.specs.Ending.{fault_after, or_fault};
 ghost use Rattle.mirror_follow.specs.Turning.{ShowsTurn};
 ghost use Rattle.mirror_follow.specs.Standing.{KnowsAfter, size_of_copy};
-ghost use Rattle.mirror_follow.specs.Taken.{AddsLacked, IsAdded};
+ghost use Rattle.mirror_follow.specs.Taken.{AddsLacked, IsAdded, IsLargerThan};
 
 use crate::fault::FollowFault;
+use crate::lines::exceeds;
 use mirror_candidates::{Candidate, ForkLine, add_fork};
 use std::alloc::{AllocError, Global};
 use tlog_proof::Proof;
@@ -35,6 +36,8 @@ pub(crate) struct Run {
     pub(crate) had: u64,
     pub(crate) forks: Vec<ForkLine>,
     pub(crate) not_had: Vec<Candidate>,
+    // How many of them there were when the copy grew last.
+    pub(crate) again: usize,
     pub(crate) first_fault: Option<FollowFault>,
 }
 
@@ -56,6 +59,7 @@ impl Run {
             had,
             forks: Vec::new(alloc),
             not_had: Vec::new(alloc),
+            again: 0,
             first_fault: None,
         }
     }
@@ -107,6 +111,21 @@ impl Run {
         }
     }
 
+    // Notes how many candidates were not had when the copy grows.
+    fn grow(&mut self, candidate: &Candidate)
+        ensures copy { self.new.copy ≡ self.old.copy }
+        ensures had { self.new.had ≡ self.old.had }
+        ensures fault { self.new.first_fault ≡ self.old.first_fault }
+        ensures forks { self.new.forks ≡ self.old.forks }
+        ensures not_had { self.new.not_had ≡ self.old.not_had }
+        ensures again { IsLargerThan self.old.copy candidate.now
+            → self.new.again ≡ length self.old.not_had.items }
+    {
+        if exceeds(&self.copy, candidate) {
+            self.again = self.not_had.len();
+        }
+    }
+
     /// Adds the outcome of a candidate's turn.
     pub(crate) fn add(
         &mut self,
@@ -125,7 +144,10 @@ impl Run {
     {
         match turn {
             Outcome::Agrees => {}
-            Outcome::Brought => self.copy = Some(candidate.copy(alloc)?),
+            Outcome::Brought => {
+                self.grow(candidate);
+                self.copy = Some(candidate.copy(alloc)?);
+            }
             Outcome::Forks(proof) => self.fork(alloc, candidate, proof)?,
             Outcome::Contradicts => self.lack(alloc, candidate, FollowFault::Contradiction)?,
             Outcome::NotHad(fault) => self.lack(alloc, candidate, fault)?,
