@@ -30,6 +30,7 @@ use Rattle.mirror_candidates.specs.declared.fault.CandidateFault.TheVariants as 
 use Rattle.mirror_candidates.proofs.Requests.{fails_later, fails_then}
 use Rattle.mirror_follow.specs.Blame.{CountsFollow, CountsFollowFault, of_candidates}
 use Rattle.mirror_follow.specs.Ending.{BlamesPlace, EndsAt, EndsFor, EndsRun, HadNone, HasFalseRoot, IsFaultOf, IsFirstFault, IsOfConflict, IsOfEmpty, IsOfOtherRun, KeepsFault, NoPlaceFails, fault_after, or_fault}
+use Rattle.mirror_follow.specs.Rule.{HasOneRoot}
 use Rattle.mirror_follow.specs.Turning.{ShowsTurn}
 use Rattle.mirror_follow.specs.Standing.{HasStanding, HoldsNoCopy, HoldsNoSmaller, IsCopyNow, IsCopyOfRun, IsFoundCopy, IsHeadOf, KnowsAfter, RecordsNone}
 use Rattle.mirror_follow.specs.Taken.{HasTakenRun, IsGrown, SaysTurn}
@@ -329,8 +330,10 @@ module _ (digest : List ℕ → List ℕ) (origin : List ℕ) where
 -- ---- faults of a report
 
 -- a report ends with the fault of the first candidate, or by OutOfMemory
-abbrev Reported : Run → FollowFault → Type 0
-Reported run e = (e ≡ fault.OutOfMemory) ⊎ ((run.copy ≡ None) × (e ≡ option_or run.first_fault fault.NoCheckpoint))
+abbrev pub Reported : List Candidate → Run → FollowFault → Type 0
+Reported cs run e =
+    (e ≡ fault.OutOfMemory)
+    ⊎ ((run.copy ≡ None) × HasOneRoot cs × (e ≡ option_or run.first_fault fault.NoCheckpoint))
 
 -- the fault of the first candidate
 first_fault_of : (digest : List ℕ → List ℕ) (c : Candidate) (cs : List Candidate) (first : Option FollowFault)
@@ -356,7 +359,7 @@ fault_counts digest c n fault.Source is = refl
 fault_counts digest c n fault.OutOfMemory is = refl
 
 pub report_counts : (digest : List ℕ → List ℕ) (n m : ℕ) (cs : List Candidate) (run : Run) {T : Type 0}
-    (r : Result T FollowFault) → m ≡ n → 0 < length cs → KeepsFault digest cs run → IfErr r (λ e. Reported run e) →
+    (r : Result T FollowFault) → m ≡ n → 0 < length cs → KeepsFault digest cs run → IfErr r (Reported cs run) →
     CountsFollow n m r
 report_counts digest n m cs run (Ok x) same some keeps h = same
 report_counts digest n m cs run (Err e) same some keeps (inl memory) =
@@ -364,7 +367,7 @@ report_counts digest n m cs run (Err e) same some keeps (inl memory) =
 report_counts digest n m [] run (Err e) same some keeps (inr first) = absurd (omega (arith, some))
 report_counts digest n m (c ∷ cs) run (Err e) same some keeps (inr first) =
     subst (λ k. CountsFollowFault n k e) (sym same)
-    (fault_counts digest c n e (first_fault_of digest c cs run.first_fault e (keeps first.0) first.1))
+    (fault_counts digest c n e (first_fault_of digest c cs run.first_fault e (keeps first.0) first.2))
 
 module _ (digest : List ℕ → List ℕ) {S : Type 0} (may : S → Path → Option (List ℕ) → Type 0) (origin : List ℕ)
     (keys : List Key) (puts : Option (List Put)) (x y : Places S) where
@@ -408,13 +411,14 @@ module _ (digest : List ℕ → List ℕ) {S : Type 0} (may : S → Path → Opt
   -- the copy was brought to no candidate
   module _ (given : Option (List ℕ)) (c : Candidate) (cs : List Candidate)
       (gathered : AreCandidates may origin keys x y given (c ∷ cs)) (rising : IsSorted turn_cmp (c ∷ cs))
-      (empty : RecordsRead puts Checkpoint None) where
+      (empty : RecordsRead puts Checkpoint None) (one : HasOneRoot (c ∷ cs)) where
     none_had : (so : Candidate → Type 0) → so c → HadNone digest may origin keys puts x y given so
     none_had so is = record {
       first = c;
       others = cs;
       gathered = gathered;
       rising = rising;
+      one_root = one;
       is_so = is;
       empty = empty;
     }
@@ -449,15 +453,15 @@ module _ (digest : List ℕ → List ℕ) {S : Type 0} (may : S → Path → Opt
   pub ends_report : (given : Option (List ℕ)) (cs : List Candidate) (run : Run) {T : Type 0} (r : Result T FollowFault) →
       0 < length cs → AreCandidates may origin keys x y given cs → IsSorted turn_cmp cs →
       (run.copy ≡ None → RecordsRead puts Checkpoint None) → KeepsFault digest cs run →
-      (run.first_fault ≡ Some fault.Source → PlaceFails x y) → IfErr r (λ e. Reported run e) → IfErr r (Ends given)
+      (run.first_fault ≡ Some fault.Source → PlaceFails x y) → IfErr r (Reported cs run) → IfErr r (Ends given)
   ends_report given cs run (Ok x) some gathered rising empty keeps fails h = tt
   ends_report given cs run (Err e) some gathered rising empty keeps fails (inl memory) =
       subst (Ends given) (sym memory) (ends_run given fault.OutOfMemory tt)
   ends_report given [] run (Err e) some gathered rising empty keeps fails (inr first) = absurd (omega (arith, some))
   ends_report given (c ∷ cs) run (Err e) some gathered rising empty keeps fails (inr first) =
-      ends_first given c cs gathered rising (empty first.0) e
-      (first_fault_of digest c cs run.first_fault e (keeps first.0) first.1)
-      (λ is. fails (first_is_source run.first_fault (sym first.1 ∙ is)))
+      ends_first given c cs gathered rising (empty first.0) first.1 e
+      (first_fault_of digest c cs run.first_fault e (keeps first.0) first.2)
+      (λ is. fails (first_is_source run.first_fault (sym first.2 ∙ is)))
 
 -- the copy was empty at the start if it is empty at the end of the run
 pub was_empty : (digest : List ℕ → List ℕ) (origin : List ℕ) (x : Option (List Put)) (first : Option Candidate)

@@ -1,5 +1,5 @@
 -- One honest place suffices for a whole run.
-use Rattle.std.proofs.Common.{◌≡◌, ◌⊎◌, inl, inr, ℕ, ◌<◌, ◌≤◌, List, [], ◌∷◌, ◌++◌, length, take, Option, Some, None, Result, Ok, Err, IfErr, IfOk, refl, sym, ap, subst, ◌∙◌, arith, length-append}
+use Rattle.std.proofs.Common.{◌≡◌, ◌⊎◌, inl, inr, ℕ, ◌<◌, ◌≤◌, max, List, [], ◌∷◌, ◌++◌, length, take, Option, Some, None, Result, Ok, Err, IfErr, IfOk, refl, sym, ap, subst, ◌∙◌, arith, length-append}
 use Rattle.std.proofs.lemmas.List.{append-nil, nil_from_length}
 use Rattle.std.proofs.Math.Seq.{take-append_seam}
 use Rattle.std.specs.List.{Contains}
@@ -12,7 +12,6 @@ use Rattle.mirror_folders.specs.Shelf.{Put}
 use Rattle.mirror_places.specs.declared.places.Places.{Places}
 use Rattle.mirror_copy.specs.Moments.{InTheEnd}
 use Rattle.mirror_copy.specs.OneHonest.{IsHonestFor}
-use Rattle.mirror_candidates.specs.Gathering.{option_or}
 use Rattle.mirror_candidates.specs.Requests.{AsksAny}
 use Rattle.mirror_candidates.specs.Candidates.{IsOnePoint, turn_cmp}
 use Rattle.mirror_candidates.specs.GatheredFrom.{AreCandidates, GiveCandidates, GiveNone, GiveNoneFor, LacksCandidates, RefusesGiven}
@@ -21,7 +20,8 @@ use Rattle.mirror_candidates.specs.declared.fault.CandidateFault.{CandidateFault
 use Rattle.mirror_candidates.specs.declared.fault.CandidateFault.TheVariants as none
 use Rattle.mirror_candidates.proofs.Requests.{any_same}
 use Rattle.mirror_follow.specs.Ending.{EndsAt}
-use Rattle.mirror_follow.specs.OneHonest.{HasNone, HasPart, HasReached, HasSize, HoldsPartOrNone, IsFirstPoint, IsHonestAmong, IsHonestFirst, IsHonestListed, IsHonestRun, IsOfShelfOrMemory, KeepsPoint, ReachesLog, ReachesSize}
+use Rattle.mirror_follow.specs.OneHonest.{HasNone, HasPart, HasReached, HasSize, HoldsPartOrNone, IsCopyFrom, IsFirstPoint, IsHonestAmong, IsHonestFirst, IsHonestListed, IsHonestRun, IsOfShelfOrMemory, KeepsPoint, ReachesLog, ReachesSize}
+use Rattle.mirror_follow.specs.Rule.{copy_point}
 use Rattle.mirror_follow.specs.Standing.{HadCopy, HoldsNoCopy, IsCopyOfRun, IsCopyRead, PrunedAs, PrunedUnder, size_of_copy}
 use Rattle.mirror_follow.specs.Taken.{IsLargerThan}
 use Rattle.mirror_follow.specs.Blame.{of_candidates}
@@ -29,7 +29,7 @@ use Rattle.mirror_follow.specs.declared.fault.FollowFault.{FollowFault}
 use Rattle.mirror_follow.specs.declared.fault.FollowFault.TheVariants as fault
 use Rattle.mirror_follow.specs.declared.report.Followed.{Followed}
 use Rattle.mirror_follow.specs.declared.run.Run.{Run}
-use Rattle.mirror_follow.proofs.Ending.{ends_so}
+use Rattle.mirror_follow.proofs.Ending.{Reported, ends_so}
 use Rattle.mirror_follow.proofs.OneHonest.{honest_part, never_ends, not_refused}
 
 none_sorted : IsSorted turn_cmp []
@@ -158,33 +158,30 @@ module _ (digest : List ℕ → List ℕ) {S : Type 0} (may : S → Path → Opt
     under_size None larger = omega arith
     under_size (Some c) larger = omega (arith, larger)
 
-    reached : (f : Followed) (now : Candidate) → f.size ≡ now.size.0 → f.root ≡ now.root → f.old ≡ size_of_copy copy →
+    reached : (f : Followed) (now : Candidate) → f.copy ≡ copy_point (Some now) → f.old ≡ size_of_copy copy →
         (IsLargerThan copy first × IsOnePoint first now) ⊎ KeepsPoint copy first now →
         ReachesLog digest h.entries h.size (Ok f)
-    reached f now size root old (inl (larger, one)) =
+    reached f now is old (inl (larger, one)) =
         let less = under_size copy larger in
-        let n : f.size ≡ h.size = size ∙ (sym one.0 ∙ size_is) in (
-          omega (arith, n, old, less, size_is),
-          root ∙ (sym one.1 ∙ (root_is ∙ (h.honest.root_is ∙ ap (λ k. mth digest (take k h.entries)) (sym n)))),
-        )
-    reached f now size root old (inr k) =
-        let n : f.size ≡ k.copy.size.0 = size ∙ sym k.same.0 in
+        let most : max h.size f.old ≡ h.size = omega (arith, old, less, size_is) in
+        let size : now.size.0 ≡ max h.size f.old = sym one.0 ∙ size_is ∙ sym most in
+        let root : now.root ≡ mth digest (take (max h.size f.old) h.entries) =
+        sym one.1 ∙ (root_is ∙ (h.honest.root_is ∙ ap (λ k. mth digest (take k h.entries)) (sym most))) in
+        is ∙ (λ i. Some (size i, root i))
+    reached f now is old (inr k) =
         let before : f.old ≡ k.copy.size.0 = old ∙ ap size_of_copy k.is in
-        let upto = k.upto in (
-          omega (arith, n, before, upto, size_is),
-          root ∙ (sym k.same.1 ∙ (root_kept y copy k.copy k.is had known
-              ∙ ap (λ m. mth digest (take m h.entries)) (sym n))),
-        )
+        let upto = k.upto in
+        let most : max h.size f.old ≡ k.copy.size.0 = omega (arith, before, upto, size_is) in
+        let size : now.size.0 ≡ max h.size f.old = sym k.same.0 ∙ sym most in
+        let root : now.root ≡ mth digest (take (max h.size f.old) h.entries) =
+        sym k.same.1 ∙ (root_kept y copy k.copy k.is had known ∙ ap (λ m. mth digest (take m h.entries)) (sym most)) in
+        is ∙ (λ i. Some (size i, root i))
 
     pub report_reaches : (run : Run) (r : Result Followed FollowFault) → run.had ≡ size_of_copy copy →
-        HasReached copy first run.copy →
-        IfOk r (λ f. (c : Candidate) × (run.copy ≡ Some c) × (f.size ≡ c.size.0) × (f.root ≡ c.root)) →
-        IfOk r (λ f. f.old ≡ run.had) →
-        IfErr r (λ e. (e ≡ fault.OutOfMemory) ⊎ ((run.copy ≡ None) × (e ≡ option_or run.first_fault fault.NoCheckpoint))) →
-        ReachesLog digest h.entries h.size r
+        HasReached copy first run.copy → IfOk r (λ f. f.copy ≡ copy_point run.copy) → IfOk r (λ f. f.old ≡ run.had) →
+        IfErr r (Reported candidates run) → ReachesLog digest h.entries h.size r
     report_reaches run (Ok f) had_is reaches is old ends =
-        let same : is.0 ≡ reaches.now = cc (is.1, reaches.is) in
-        reached f reaches.now (is.2 ∙ ap (λ c. c.size.0) same) (is.3 ∙ ap (λ c. c.root) same) (old ∙ had_is) reaches.at
+        reached f reaches.now (is ∙ ap copy_point reaches.is) (old ∙ had_is) reaches.at
     report_reaches run (Err e) had_is reaches is old (inl memory) = inr memory
     report_reaches run (Err e) had_is reaches is old (inr none) = absurd (cc (none.0, reaches.is))
 
@@ -217,13 +214,11 @@ module _ (digest : List ℕ → List ℕ) {S : Type 0} (may : S → Path → Opt
       (k, o.size_is)
 
   pub report_passes : (run : Run) (n : ℕ) (r : Result Followed FollowFault) → n ≡ h.size → HasSize n run.copy →
-      IfOk r (λ f. (c : Candidate) × (run.copy ≡ Some c) × (f.size ≡ c.size.0) × (f.root ≡ c.root)) →
-      IfErr r (λ e. (e ≡ fault.OutOfMemory) ⊎ ((run.copy ≡ None) × (e ≡ option_or run.first_fault fault.NoCheckpoint))) →
-      ReachesSize h.size r
+      IfOk r (λ f. f.copy ≡ copy_point run.copy) → IfErr r (Reported candidates run) → ReachesSize h.size r
   report_passes run n (Ok f) n_is s is ends =
-      let same : is.0 ≡ s.now = cc (is.1, s.is) in
-      let size : f.size ≡ s.now.size.0 = is.2 ∙ ap (λ c. c.size.0) same in
-      let upto = s.upto in omega (arith, size, upto, n_is)
+      let upto = s.upto in
+      let least : h.size ≤ s.now.size.0 = omega (arith, upto, n_is) in
+      subst (IsCopyFrom h.size) (sym (is ∙ ap copy_point s.is)) least
   report_passes run n (Err e) n_is s is (inl memory) = inr memory
   report_passes run n (Err e) n_is s is (inr none) = absurd (cc (none.0, s.is))
 

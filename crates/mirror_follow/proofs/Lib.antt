@@ -11,7 +11,8 @@ pub mod TurnOrder
 pub mod Taken
 pub mod Settled
 pub mod Noted
-pub mod Split
+pub mod Lining
+pub mod Looking
 pub mod OneHonest
 pub mod HonestRuns
 pub mod Adding

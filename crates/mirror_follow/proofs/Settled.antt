@@ -1,143 +1,257 @@
 -- The facts that a report states about each candidate.
-use Rattle.std.proofs.Common.{◌≡◌, ◌⊎◌, inl, inr, ℕ, ◌<◌, ◌≤◌, Bool, true, false, cond, List, [], ◌∷◌, length, All, Contains, Option, Some, None, refl, sym, ap, subst, ◌∙◌, arith, true≢false}
-use Rattle.std.specs.List.Sorted.{IsPermutation, IsSorted}
-use Rattle.std.proofs.lemmas.List.Elements.{All-contains}
-use Rattle.std.proofs.lemmas.List.Sorted.{All-permutation, Contains-permutation}
-use Rattle.mirror_candidates.specs.Agreeing.{Agrees}
-use Rattle.mirror_candidates.specs.Lines.{IsInSomeLine}
-use Rattle.mirror_candidates.specs.Candidates.{IsOnePoint, point_of}
+use Rattle.std.proofs.Common.{◌≡◌, ◌≢◌, ◌⊎◌, ◌↔◌, inl, inr, ℕ, ◌<◌, ◌≤◌, Bool, true, eqb-true, ◌==◌, List, [], ◌∷◌, ◌++◌, length, get_or, take, All, Contains, IfSome, Option, Some, None, refl, sym, ap, subst, ◌∙◌, arith}
+use Rattle.std.specs.List.Sorted.{IsSorted}
+use Rattle.std.proofs.lemmas.Bool.{cases_lt}
+use Rattle.std.proofs.lemmas.List.{nil_from_length, take_all}
+use Rattle.std.proofs.lemmas.List.Elements.{All-append, All-contains, All-weaker, Contains-append_left, Contains-append_right, Contains-get_or}
+use Rattle.mirror_candidates.specs.Lines.{AreLines, HasCandidate, HasSmallFirst, IsFirstOrListed, IsInLine, IsInSomeLine, KeepsLines}
+use Rattle.mirror_candidates.specs.Candidates.{IsOnePoint, turn_cmp}
+use Rattle.mirror_candidates.specs.Shown.{ShowsEach, ShowsLine}
 use Rattle.mirror_candidates.specs.declared.candidate.Candidate.{Candidate}
 use Rattle.mirror_candidates.specs.declared.fork_line.ForkLine.{ForkLine}
 use Rattle.mirror_candidates.proofs.LineLists.{lines_kept}
-use Rattle.mirror_follow.specs.Says.{IsBehind, IsLarger, IsSettled, SettlesEach, larger_cmp, point_of_copy}
-use Rattle.mirror_follow.specs.Taken.{HasTaken, IsAgreed, IsBehindTest, IsBeyond, IsLacked, IsUnreached, IsReached, IsReported, IsSplit, KeepsFirst, SplitsLacked}
+use Rattle.mirror_candidates.proofs.Points.{one_back, one_of_same, one_then}
+use Rattle.mirror_follow.specs.Lining.{AddsToCopy, AloneAreOne, HasEqual, HasLeft, IsBeside, IsEqualAbove, IsLeastOrIn}
+use Rattle.mirror_follow.specs.Rule.{ExceedsCopy, FollowsRule, HasLine, HasOneRoot, IsEqualLine, IsLeastOf, IsLeft, copy_point}
+use Rattle.mirror_follow.specs.Says.{AgreesWithCopy, IsBehind, IsUnderCopy, SettlesEach}
+use Rattle.mirror_follow.specs.Taken.{HasTaken, IsAgreed, IsBeyond, IsLargerThan, IsLineUpTo, IsOneOf, IsReported}
 use Rattle.mirror_follow.specs.declared.report.Followed.{Followed}
-use Rattle.mirror_follow.proofs.Taken.{in_some_line}
+use Rattle.mirror_follow.proofs.Lining.{larger_than, lines_join, one_least}
+use Rattle.mirror_follow.proofs.TurnOrder.{none_above}
 
-pair_same : (a b : Candidate) → IsOnePoint a b → ◌≡◌ {A = ℕ × List ℕ} (a.size.0, a.root) (b.size.0, b.root)
-pair_same a b p = λ i. (p.0 i, p.1 i)
+none_contained : {X : Type 0} (x : X) → Contains [] x → ⊥
+none_contained x (k, lt, e) = absurd (omega (arith, lt))
 
-none_contained : {X : Type 0} (xs : List X) (x : X) → xs ≡ [] → Contains xs x → ⊥
-none_contained xs x e among =
-    let lt : among.0 < length xs = among.1 in
-    let none : length xs ≡ 0 = ap length e in omega (arith, lt, none)
+-- if there is no line above an empty copy, no size has two roots
+pub has_one_root : (copy : Option Candidate) (cs : List Candidate) (lines : List ForkLine) → copy ≡ None → lines ≡ [] →
+    HasEqual copy cs lines → HasOneRoot cs
+has_one_root copy cs lines none empty h least other l listed = elim k.so [
+  | inl e ↦ one_least cs other.size.0 least k.least l k.is_least ∙ e
+  | inr line ↦ absurd (none_contained line.line (subst (λ x. Contains x line.line) empty line.listed))
+]
+  where
+    above : (o : Option Candidate) → o ≡ None → IsLargerThan o other
+    above None e = tt
+    above (Some held) e = absurd (cc e)
 
-module _ (digest : List ℕ → List ℕ) (first : Option Candidate) (candidates : List Candidate) (copy : Candidate)
-    (forks : List ForkLine) (lacked : List Candidate) (behind : Option (ℕ × List ℕ)) (reached : Bool)
-    (h : HasTaken digest first candidates (Some copy) forks lacked behind reached) (f : Followed)
-    (larger : List (ℕ × List ℕ)) (split : SplitsLacked copy forks lacked f.forks.items larger)
-    (sorted : IsPermutation larger f.larger.items) (size_is : f.size ≡ copy.size.0) (root_is : f.root ≡ copy.root) where
-  point_is : point_of copy ≡ point_of_copy f
-  point_is = λ i. record { size = sym size_is i; root = sym root_is i }
+    k : IsLeastOrIn copy cs lines other
+    k = All-contains (λ c. IsLargerThan copy c → IsLeastOrIn copy cs lines c) cs other h.each listed (above copy none)
 
-  -- a candidate to which the copy could not be brought, and one of its size and root
-  lacked_settled : (x : Candidate) → IsLacked lacked x →
-      IsInSomeLine f.forks.items x ⊎ Contains f.larger.items (x.size.0, x.root)
-  lacked_settled x l = elim (All-contains (IsSplit f.forks.items larger) lacked l.other split.each l.listed) [
-    | inl line ↦ inl (in_some_line f.forks.items x l.other l.same line)
-    | inr among ↦ inr
-        (Contains-permutation larger f.larger.items (x.size.0, x.root) sorted
-        (subst (Contains larger) (sym (pair_same x l.other l.same)) among))
-  ]
+-- ---- behind
 
-  reported_settled : (x : Candidate) → IsReported forks lacked x →
-      IsInSomeLine f.forks.items x ⊎ Contains f.larger.items (x.size.0, x.root)
-  reported_settled x (inl line) = inl (lines_kept forks f.forks.items x split.kept line)
-  reported_settled x (inr l) = lacked_settled x l
+first_of : (cs : List Candidate) (first : Candidate) → 0 < length cs → first ≡ get_or cs 0 first →
+    (others : List Candidate) × (cs ≡ first ∷ others)
+first_of [] first lt e = absurd (omega (arith, lt))
+first_of (x ∷ xs) first lt e = (xs, ap (λ (y : Candidate). y ∷ xs) (sym e))
 
-  settled : (x : Candidate) → IsAgreed digest (Some copy) x ⊎ IsReported forks lacked x → IsSettled digest f x
-  settled x (inl a) = inl (omega (arith, a.0, size_is), subst (λ p. Agrees digest (point_of x) p) point_is a.1)
-  settled x (inr r) = inr (reported_settled x r)
+pub empty_by : {X : Type 0} (xs : List X) (r : Bool) → r ≡ (length xs == 0) → r ≡ true → xs ≡ []
+empty_by xs r e t =
+    let none : length xs ≡ 0 = eqb-true (length xs) 0 (sym e ∙ t) in nil_from_length xs none
 
-  -- a larger candidate
-  left_larger : (p : ℕ × List ℕ) → IsUnreached copy lacked p → IsLarger candidates f p
-  left_larger p l =
-      let both = All-contains (λ c. IsBeyond (Some copy) c × IsLacked candidates c) lacked l.candidate h.lacks l.listed in
-      let le : copy.size.0 ≤ l.candidate.size.0 = both.0.0 in
-      let ne : copy.size.0 ≡ l.candidate.size.0 → ⊥ = λ e. both.0.1 (sym e, sym (l.same e)) in
-      let lt : copy.size.0 < l.candidate.size.0 = omega (arith, le, ne) in
-      record {
-        candidate = both.1.other;
-        listed = both.1.listed;
-        is = l.is ∙ pair_same l.candidate both.1.other both.1.same;
-        more = omega (arith, lt, size_is, both.1.same.0);
-      }
+some_same : (p q : ℕ × List ℕ) → Some p ≡ Some q → p ≡ q
+some_same p q e = cc
 
-  none_reported : f.forks.items ≡ [] → f.larger.items ≡ [] → (x : Candidate) → IsReported forks lacked x → ⊥
-  none_reported no_forks no_larger x r = elim (reported_settled x r) [
-    | inl line ↦ none_contained f.forks.items line.line no_forks line.listed
-    | inr among ↦ none_contained f.larger.items (x.size.0, x.root) no_larger among
-  ]
+same_first : (a b : Candidate) (xs ys : List Candidate) → a ∷ xs ≡ b ∷ ys → a ≡ b
+same_first a b xs ys e = cc
 
-  -- ---- behind
+-- the first candidate is smaller than the copy, and there is no other line
+pub behind_first : (cs : List Candidate) → IsSorted turn_cmp cs → (copy : Option (ℕ × List ℕ)) (held : ℕ × List ℕ)
+    (forks : List ForkLine) (larger : List (ℕ × List ℕ)) → copy ≡ Some held → forks ≡ [] → larger ≡ [] → (first : Candidate) →
+    0 < length cs → first ≡ get_or cs 0 first → first.size.0 < held.0 → (point : ℕ × List ℕ) →
+    (Some (first.size.0, first.root) ≡ Some point) ↔ IsBehind cs copy forks larger point
+behind_first cs rises copy held forks larger is no_forks no_larger first some at less point =
+    let o = first_of cs first some at in (
+      λ e. record {
+        no_forks = no_forks;
+        no_larger = no_larger;
+        smaller = λ k d lt. subst (λ c. IsUnderCopy c (get_or cs k d).size.0) (sym is)
+            (let up : (get_or cs k d).size.0 ≤ first.size.0 =
+            none_above cs rises first o.0 o.1 (get_or cs k d) (Contains-get_or cs k d lt) in
+            let under : (get_or cs k d).size.0 < held.0 = omega (arith, up, less) in under);
+        first = first;
+        others = o.0;
+        candidates_are = o.1;
+        is = sym (some_same (first.size.0, first.root) point e);
+      },
+      λ b. ap (λ (x : Candidate). Some (x.size.0, x.root)) (same_first first b.first o.0 b.others (sym o.1 ∙ b.candidates_are))
+          ∙ ap Some (sym b.is),
+    )
 
-  unreached : All (λ c. c.size.0 < f.size) candidates → IsReached candidates (Some copy) → ⊥
-  unreached smaller (c, among, same) =
-      let lt : c.size.0 < f.size = All-contains (λ x. x.size.0 < f.size) candidates c smaller among in
-      omega (arith, lt, same, size_is)
+-- ---- the lines
 
-  is_false : (b : Bool) → (b ≡ true → ⊥) → b ≡ false
-  is_false true g = absurd (g refl)
-  is_false false g = refl
+module _ (copy : Option Candidate) (cs : List Candidate) (forks turns equal : List ForkLine)
+    (a : AddsToCopy copy cs forks turns) (e : HasEqual copy cs equal) where
+  abbrev New : List ForkLine
+  New = turns ++ equal
 
-  -- the first candidate
-  first_behind : (cs : List Candidate) → KeepsFirst cs forks lacked behind reached → f.forks.items ≡ [] →
-      f.larger.items ≡ [] → reached ≡ false → (p : ℕ × List ℕ) → behind ≡ Some p → cs ≡ candidates →
-      All (λ c. c.size.0 < f.size) candidates → IsBehind candidates f p
-  first_behind [] k no_forks no_larger not_yet p e same smaller = absurd (cc (k, e))
-  first_behind (c ∷ cs) (inl k) no_forks no_larger not_yet p e same smaller = record {
-    no_forks = no_forks;
-    no_larger = no_larger;
-    smaller = smaller;
-    first = c;
-    others = cs;
-    candidates_are = sym same;
-    is = some_same p (c.size.0, c.root) (sym e ∙ k);
-  }
+  kept_new : KeepsLines forks New
+  kept_new line among = Contains-append_left turns equal line (a.kept line among)
+
+  equal_new : KeepsLines equal New
+  equal_new line among = Contains-append_right turns equal line among
+
+  pub shows_new : (digest : List ℕ → List ℕ) → ShowsEach digest forks → ShowsEach digest New
+  shows_new digest each = All-append (ShowsLine digest) turns equal (a.shows digest each) (e.shows digest)
+
+  all_above : All (λ line. ExceedsCopy (copy_point copy) line.small.size.0) equal
+  all_above = All-weaker (IsEqualAbove copy cs) (λ line. ExceedsCopy (copy_point copy) line.small.size.0) (λ line x. x.1) equal e.only
+
+  -- a candidate above the copy that does not have the least root of its size is in a line
+  pub in_new : (least c : Candidate) → IsLeastOf cs c.size.0 least → Contains cs c → IsLargerThan copy c →
+      (least.root ≡ c.root) ⊎ IsInSomeLine equal c
+  in_new least c l listed above =
+      let k = All-contains (λ c. IsLargerThan copy c → IsLeastOrIn copy cs equal c) cs c e.each listed above in
+      elim k.so [ inl same ↦ inl (one_least cs c.size.0 least k.least l k.is_least ∙ same) | inr line ↦ inr line ]
+
+  -- so its line is that of the rule
+  has_line : (least c : Candidate) → IsLeastOf cs c.size.0 least → least.root ≢ c.root → IsInSomeLine equal c →
+      HasLine New least c
+  has_line least c l apart q = elim q.is_in [ inl at ↦ absurd (not_small at) | inr at ↦ as_large at ]
     where
-      some_same : (p q : ℕ × List ℕ) → Some p ≡ Some q → p ≡ q
-      some_same p q e = cc
-  first_behind (c ∷ cs) (inr (inl k)) no_forks no_larger not_yet p e same smaller = absurd (true≢false (sym k ∙ not_yet))
-  first_behind (c ∷ cs) (inr (inr r)) no_forks no_larger not_yet p e same smaller =
-      absurd (none_reported no_forks no_larger c r)
+      is : IsEqualLine cs q.line
+      is = (All-contains (IsEqualAbove copy cs) equal q.line e.only q.listed).0
 
-  behind_first : (cs : List Candidate) → KeepsFirst cs forks lacked behind reached → reached ≡ false →
-      (p : ℕ × List ℕ) (b : IsBehind candidates f p) → cs ≡ b.first ∷ b.others → behind ≡ Some p
-  behind_first [] k not_yet p b same = absurd (cc same)
-  behind_first (c ∷ cs) (inl k) not_yet p b same =
-      let e : c ≡ b.first = cc in
-      k ∙ ap (λ (x : Candidate). Some (x.size.0, x.root)) e ∙ ap Some (sym b.is)
-  behind_first (c ∷ cs) (inr (inl k)) not_yet p b same = absurd (true≢false (sym k ∙ not_yet))
-  behind_first (c ∷ cs) (inr (inr r)) not_yet p b same = absurd (none_reported b.no_forks b.no_larger c r)
+      same_least : is.other.size.0 ≡ c.size.0 → least.root ≡ is.least.root
+      same_least n = one_least cs c.size.0 least is.least l (subst (λ k. IsLeastOf cs k is.least) n is.is_least)
 
-  module _ (test : Bool) (is : IsBehindTest test reached f.forks.items f.larger.items)
-      (answer : f.behind ≡ cond test behind None) (rises : IsSorted larger_cmp f.larger.items) where
-    all_under : reached ≡ false → f.forks.items ≡ [] → f.larger.items ≡ [] → All (λ c. c.size.0 < f.size) candidates
-    all_under not_yet no_forks no_larger k d lt = elim (h.under not_yet k d lt) [
-      | inl u ↦ let less : _ < copy.size.0 = u in omega (arith, less, size_is)
-      | inr r ↦ absurd (none_reported no_forks no_larger _ r)
-    ]
+      not_small : IsOnePoint c q.line.small → ⊥
+      not_small at =
+          apart (same_least (sym is.is_least.size_is ∙ sym is.small_is.size_is ∙ sym at.0) ∙ sym is.small_is.root_is ∙ sym at.1)
 
-    to_behind : (b : Bool) → test ≡ b → (p : ℕ × List ℕ) → f.behind ≡ Some p → IsBehind candidates f p
-    to_behind true t p e =
-        let y = is.yes t in
-        first_behind candidates h.keeps y.1 y.2 y.0 p (ap (λ b. cond b behind None) (sym t) ∙ sym answer ∙ e) refl
-        (all_under y.0 y.1 y.2)
-    to_behind false t p e =
-        let none : f.behind ≡ None = answer ∙ ap (λ b. cond b behind None) t in absurd (cc (none, e))
+      as_large : IsOnePoint c q.line.large → HasLine New least c
+      as_large at =
+          let n : is.other.size.0 ≡ c.size.0 = sym is.large_is.size_is ∙ sym at.0 in record {
+            line = q.line;
+            listed = equal_new q.line q.listed;
+            small_is = (
+              l.size_is ∙ sym n ∙ sym is.is_least.size_is ∙ sym is.small_is.size_is,
+              same_least n ∙ sym is.small_is.root_is,
+            );
+            large_is = at;
+          }
 
-    from_behind : (b : Bool) → test ≡ b → (p : ℕ × List ℕ) → IsBehind candidates f p → f.behind ≡ Some p
-    from_behind true t p b =
-        answer ∙ ap (λ b. cond b behind None) t
-        ∙ behind_first candidates h.keeps (is.yes t).0 p b b.candidates_are
-    from_behind false t p b =
-        absurd (is.no t (is_false reached (λ r. unreached b.smaller (h.reaches r))) b.no_forks b.no_larger)
+  -- two candidates of one size above the copy that are in no line have one root
+  alone_one : AloneAreOne copy cs New
+  alone_one x y listed_x listed_y above_x above_y size alone_x alone_y =
+      let p = All-contains (λ c. IsLargerThan copy c → IsLeastOrIn copy cs equal c) cs x e.each listed_x above_x in
+      let q = All-contains (λ c. IsLargerThan copy c → IsLeastOrIn copy cs equal c) cs y e.each listed_y above_y in
+      let same : p.least.root ≡ q.least.root =
+      one_least cs y.size.0 p.least q.least (subst (λ n. IsLeastOf cs n p.least) size p.is_least) q.is_least in
+      sym (has_least x p alone_x) ∙ same ∙ has_least y q alone_y
+    where
+      has_least : (c : Candidate) (k : IsLeastOrIn copy cs equal c) → (IsInSomeLine New c → ⊥) → k.least.root ≡ c.root
+      has_least c k alone = elim k.so [
+        | inl same ↦ same
+        | inr line ↦ absurd (alone (lines_kept equal New c equal_new line))
+      ]
 
-    pub settles : SettlesEach digest candidates f
-    settles = record {
-      each = λ k d lt. settled _ (h.each k d lt);
-      larger = All-permutation (IsLarger candidates f) larger f.larger.items sorted
-          (λ k d lt. left_larger _ (split.left k d lt));
-      rising = rises;
-      behind = λ p. (to_behind test refl p, from_behind test refl p);
+  module _ (larger : List (ℕ × List ℕ)) (left : HasLeft copy cs New (length cs) larger) where
+    abbrev All_cs : List Candidate
+    All_cs = take (length cs) cs
+
+    all_cs : All_cs ≡ cs
+    all_cs = take_all (length cs) cs (omega arith)
+
+    told : (c : Candidate) → Contains cs c → IsLargerThan copy c →
+        IsInSomeLine New c ⊎ Contains larger (c.size.0, c.root)
+    told c listed above =
+        All-contains (λ c. IsLargerThan copy c → IsInSomeLine New c ⊎ Contains larger (c.size.0, c.root)) All_cs c left.each
+        (subst (λ l. Contains l c) (sym all_cs) listed) above
+
+    only_turns : (o : Option Candidate) (line : ForkLine) → IsLineUpTo o line → ExceedsCopy (copy_point o) line.small.size.0 → ⊥
+    only_turns None line w x = w
+    only_turns (Some held) line w x = omega (arith, w, x)
+
+    pub rule : All (IsLineUpTo copy) forks → FollowsRule (copy_point copy) cs New larger
+    rule within = record {
+      equal = λ least other l listed above apart. elim (in_new least other l listed (larger_than copy other above)) [
+        | inl same ↦ absurd (apart same)
+        | inr q ↦ has_line least other l apart q
+      ];
+      only = All-append (λ line. ExceedsCopy (copy_point copy) line.small.size.0 → IsEqualLine cs line) turns equal
+          (All-weaker (IsLineUpTo copy) (λ line. ExceedsCopy (copy_point copy) line.small.size.0 → IsEqualLine cs line)
+          (λ line w x. absurd (only_turns copy line w x)) turns (a.within within))
+          (All-weaker (IsEqualAbove copy cs) (λ line. ExceedsCopy (copy_point copy) line.small.size.0 → IsEqualLine cs line)
+          (λ line is x. is.0) equal e.only);
+      left = λ point. (
+        λ among. subst (λ l. IsLeft (copy_point copy) l New point) all_cs
+            (All-contains (IsLeft (copy_point copy) All_cs New) larger point left.left among),
+        λ l. elim (told l.candidate l.listed (larger_than copy l.candidate l.more)) [
+          | inl line ↦ absurd (l.alone line)
+          | inr among ↦ subst (Contains larger) (sym l.is) among
+        ],
+      );
+      rising = left.rising alone_one;
     }
+
+    -- ---- each candidate
+
+    module _ (digest : List ℕ → List ℕ) (first : Option Candidate) (h : HasTaken digest first cs copy forks) where
+      pub lines_new : AreLines first cs forks → AreLines first cs New
+      lines_new l =
+          let t = a.lines first (known copy h.one_of) l in
+          let q = e.are first in record {
+            each = All-append (HasCandidate first cs) turns equal t.each q.each;
+            small_first = All-append HasSmallFirst turns equal t.small_first q.small_first;
+            sorted = lines_join copy turns equal (a.within h.within) all_above t.sorted q.sorted;
+          }
+        where
+          known : (o : Option Candidate) → IsOneOf first cs o → IfSome o (IsFirstOrListed first cs)
+          known None k = tt
+          known (Some held) k = k
+
+      abbrev Settled : Candidate → Type 0
+      Settled c =
+          AgreesWithCopy digest (copy_point copy) c ⊎ (IsInSomeLine New c ⊎ Contains larger (c.size.0, c.root))
+
+      agreed : (o : Option Candidate) (c : Candidate) → IsAgreed digest o c → AgreesWithCopy digest (copy_point o) c
+      agreed None c x = x
+      agreed (Some held) c x = x
+
+      beyond : (o : Option Candidate) (c : Candidate) → IsBeyond o c → IfSome o (λ held. IsBeside held turns c) →
+          (IsLargerThan o c → IsInSomeLine New c ⊎ Contains larger (c.size.0, c.root)) →
+          IsInSomeLine New c ⊎ Contains larger (c.size.0, c.root)
+      beyond None c b beside more = more tt
+      beyond (Some held) c b beside more = elim (cases_lt held.size.0 c.size.0) [
+        | inl lt ↦ more lt
+        | inr ge ↦
+            let size : c.size.0 ≡ held.size.0 = omega (arith, b.0, ge) in
+            inl (lines_kept turns New c (λ line among. Contains-append_left turns equal line among)
+            (beside size (λ root. b.1 (size, sym root))))
+      ]
+
+      settled : (k : ℕ) (d : Candidate) (lt : k < length cs) → Settled (get_or cs k d)
+      settled k d lt = elim (h.each k d lt) [
+        | inl x ↦ inl (agreed copy (get_or cs k d) x)
+        | inr (inl line) ↦ inr (inl (lines_kept forks New (get_or cs k d) kept_new line))
+        | inr (inr b) ↦ inr (beyond copy (get_or cs k d) b (a.each k d lt)
+            (told (get_or cs k d) (Contains-get_or cs k d lt)))
+      ]
+
+      pub settles : (f : Followed) → f.copy ≡ copy_point copy → f.forks.items ≡ New → f.larger.items ≡ larger →
+          ((point : ℕ × List ℕ) → (f.behind ≡ Some point) ↔ IsBehind cs f.copy f.forks.items f.larger.items point) →
+          (copy ≡ None → equal ≢ []) → SettlesEach digest cs f
+      settles f copy_is forks_are larger_are behind some = record {
+        each = λ k d lt.
+            subst (λ o. AgreesWithCopy digest o (get_or cs k d)
+            ⊎ (IsInSomeLine f.forks.items (get_or cs k d) ⊎ Contains f.larger.items ((get_or cs k d).size.0, (get_or cs k d).root))) (sym copy_is)
+            (subst (λ x. AgreesWithCopy digest (copy_point copy) (get_or cs k d)
+            ⊎ (IsInSomeLine x (get_or cs k d) ⊎ Contains f.larger.items ((get_or cs k d).size.0, (get_or cs k d).root))) (sym forks_are)
+            (subst (λ x. AgreesWithCopy digest (copy_point copy) (get_or cs k d)
+            ⊎ (IsInSomeLine New (get_or cs k d) ⊎ Contains x ((get_or cs k d).size.0, (get_or cs k d).root))) (sym larger_are)
+            (settled k d lt)));
+        rule =
+            subst (λ o. FollowsRule o cs f.forks.items f.larger.items) (sym copy_is)
+            (subst (λ x. FollowsRule (copy_point copy) cs x f.larger.items) (sym forks_are)
+            (subst (λ x. FollowsRule (copy_point copy) cs New x) (sym larger_are) (rule h.within)));
+        behind = behind;
+        some = λ none no_lines. some (none_back copy (sym copy_is ∙ none)) (empty_back turns (sym forks_are ∙ no_lines));
+      }
+        where
+          none_back : (o : Option Candidate) → copy_point o ≡ None → o ≡ None
+          none_back None x = refl
+          none_back (Some held) x = absurd (cc x)
+
+          empty_back : (xs : List ForkLine) → xs ++ equal ≡ [] → equal ≡ []
+          empty_back [] x = x
+          empty_back (y ∷ ys) x = absurd (cc x)

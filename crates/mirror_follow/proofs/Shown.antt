@@ -46,11 +46,3 @@ pub fork_added : {T E : Type 0} (r : Result T E) (old new : List ForkLine) (copy
 fork_added (Ok x) old new copy held candidate proof is shows =
     λ digest fork. shows digest (subst (λ o. IfSome o (λ c. AreFork digest c candidate proof)) is fork)
 fork_added (Err e) old new copy held candidate proof is shows = tt
-
--- the fork of two candidates of one size was added
-pub equal_added : {T E : Type 0} (r : Result T E) (old new : List ForkLine) (first second : Candidate) →
-    first.size.0 ≡ second.size.0 → first.root ≢ second.root →
-    OnOk r ((digest : List ℕ → List ℕ) → AreFork digest first second None → ShowsEach digest old → ShowsEach digest new) →
-    OnOk r ((digest : List ℕ → List ℕ) → ShowsEach digest old → ShowsEach digest new)
-equal_added (Ok x) old new first second sizes roots shows = λ digest. shows digest (inr (inr (refl, sizes, roots)))
-equal_added (Err e) old new first second sizes roots shows = tt

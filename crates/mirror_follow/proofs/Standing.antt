@@ -18,7 +18,8 @@ use Rattle.mirror_copy.proofs.TipReads.{stands_has, stands_one}
 use Rattle.mirror_copy.proofs.WholeMoments.{copy_found, none_found}
 use Rattle.mirror_candidates.specs.Candidates.{IsSame, note_of}
 use Rattle.mirror_candidates.specs.declared.candidate.Candidate.{Candidate}
-use Rattle.mirror_follow.specs.Standing.{EachIsBrought, EachStays, HadCopy, HasCopy, HasPruned, HasStanding, IsCopyNow, IsCopyOfRun, IsFollowed, IsFoundCopy, IsHeadOf, KnowsAfter, PrunedAs, PrunedUnder, StandsAfter, StandsAs, StandsOrNone, StandsUnder, size_of_copy}
+use Rattle.mirror_follow.specs.Rule.{copy_point}
+use Rattle.mirror_follow.specs.Standing.{EachIsBrought, EachStays, HadCopy, HasCopy, HasCopyOrNone, HasPruned, HasStanding, IsCopyNow, IsCopyOfRun, IsFollowed, IsFoundCopy, IsHeadOf, KnowsAfter, PrunedAs, PrunedUnder, StandsAfter, StandsAs, StandsOrNone, StandsUnder, size_of_copy}
 use Rattle.mirror_follow.specs.declared.report.Followed.{Followed}
 use Rattle.mirror_follow.specs.declared.run.Outcome.{Outcome}
 use Rattle.mirror_follow.specs.declared.run.Outcome.TheVariants as turn
@@ -356,39 +357,48 @@ module _ (digest : List ℕ → List ℕ) (origin : List ℕ) where
 
   -- ---- the answer
 
-  has_copy : (c : Candidate) (size : ℕ) (root : List ℕ) (entries : List (List ℕ)) (now : List Put) → size ≡ c.size.0 →
-      root ≡ c.root → Under c entries now → HasCopy digest origin size root entries now
-  has_copy c size root entries now size_is root_is u = record {
+  point_for : (c : Candidate) (point : Option (ℕ × List ℕ)) (n : ℕ) (root : List ℕ) → point ≡ copy_point (Some c) →
+      c.size.0 ≡ n → c.root ≡ root → point ≡ Some (n, root)
+  point_for c point n root is size root_is = is ∙ (λ i. Some (size i, root_is i))
+
+  has_copy : (c : Candidate) (point : Option (ℕ × List ℕ)) (entries : List (List ℕ)) (now : List Put) →
+      point ≡ copy_point (Some c) → Under c entries now → HasCopy digest origin point entries now
+  has_copy c point entries now is u = record {
     note = note_of c;
     more = u.more;
     copy = u.copy;
-    size_is = size_is ∙ u.size_is;
-    root_is = root_is ∙ u.root_is;
+    point_is = point_for c point (length (entries ++ u.more)) (mth digest (entries ++ u.more)) is u.size_is u.root_is;
   }
 
-  pub followed : (x w : Option (List Put)) (copy : Option Candidate) (c : Candidate) (f : Followed) → copy ≡ Some c →
-      f.size ≡ c.size.0 → f.root ≡ c.root → HadSize digest origin x f.old → Known x w copy → IsFollowed digest origin x w f
-  followed x w copy c f is size_is root_is had k =
-      let k' = subst (λ o. Known x w o) is k in
-      record {
-        had = had;
-        some = λ held e note entries h.
-            end_weaker w (Under c entries) (HasCopy digest origin f.size f.root entries)
-            (λ now u. has_copy c f.size f.root entries now size_is root_is u) (k'.some held e note entries h);
-        pruned = λ held e note entries h.
-            end_weaker w (PrunedUnder digest origin c entries) (HasPruned digest origin f.size f.root entries)
-            (λ now u. record {
-              note = note_of c;
-              more = u.more;
-              copy = u.copy;
-              size_is = size_is ∙ u.size_is;
-              root_is = root_is ∙ u.root_is;
-            })
-            (k'.pruned held e note entries h);
-        none = λ held e none.
-            end_weaker w (Under c []) (HasCopy digest origin f.size f.root [])
-            (λ now u. has_copy c f.size f.root [] now size_is root_is u) (k'.none held e none);
-      }
+  pub followed : (x w : Option (List Put)) (copy : Option Candidate) (f : Followed) → f.copy ≡ copy_point copy →
+      HadSize digest origin x f.old → Known x w copy → IsFollowed digest origin x w f
+  followed x w None f is had k = record {
+    had = had;
+    some = λ held e note entries h. absurd (k.some held e note entries h);
+    pruned = λ held e note entries h. absurd (k.pruned held e note entries h);
+    none = λ held e none.
+        end_weaker w (λ now. HasPut now Checkpoint → ⊥) (HasCopyOrNone digest origin f.copy)
+        (λ now no. subst (λ o. HasCopyOrNone digest origin o now) (sym is) no) (k.none held e none);
+  }
+  followed x w (Some c) f is had k = record {
+    had = had;
+    some = λ held e note entries h.
+        end_weaker w (Under c entries) (HasCopy digest origin f.copy entries)
+        (λ now u. has_copy c f.copy entries now is u) (k.some held e note entries h);
+    pruned = λ held e note entries h.
+        end_weaker w (PrunedUnder digest origin c entries) (HasPruned digest origin f.copy entries)
+        (λ now u. record {
+          note = note_of c;
+          more = u.more;
+          copy = u.copy;
+          point_is = point_for c f.copy (length (entries ++ u.more)) (mth digest (entries ++ u.more)) is u.size_is u.root_is;
+        })
+        (k.pruned held e note entries h);
+    none = λ held e none.
+        end_weaker w (Under c []) (HasCopyOrNone digest origin f.copy)
+        (λ now u. subst (λ o. HasCopyOrNone digest origin o now) (sym is) (has_copy c (copy_point (Some c)) [] now refl u))
+        (k.none held e none);
+  }
 
 same_head_of : (origin : List ℕ) (c d : Candidate) → IsSame c d → IsHeadOf origin c → IsHeadOf origin d
 same_head_of origin c d s head =
@@ -422,12 +432,11 @@ after_same digest origin c x y (Err e) kept h = tt
 -- the answer of a report
 pub followed_by : (digest : List ℕ → List ℕ) (origin : List ℕ) (x w : Option (List Put)) (copy : Option Candidate) (had : ℕ)
     {E : Type 0} (r : Result Followed E) →
-    IfOk r (λ f. (c : Candidate) × (copy ≡ Some c) × (f.size ≡ c.size.0) × (f.root ≡ c.root)) →
-    IfOk r (λ f. f.old ≡ had) → HadSize digest origin x had → IsCopyOfRun digest origin x w copy →
-    IfOk r (IsFollowed digest origin x w)
+    IfOk r (λ f. f.copy ≡ copy_point copy) → IfOk r (λ f. f.old ≡ had) → HadSize digest origin x had →
+    IsCopyOfRun digest origin x w copy → IfOk r (IsFollowed digest origin x w)
 followed_by digest origin x w copy had (Err e) is old h k = tt
 followed_by digest origin x w copy had (Ok f) is old h k =
-    followed digest origin x w copy is.0 f is.1 is.2 is.3 (subst (λ n. HadSize digest origin x n) (sym old) h) k
+    followed digest origin x w copy f is (subst (λ n. HadSize digest origin x n) (sym old) h) k
 
 -- a call of bring_copy that ended by a fault
 pub turned_after : (digest : List ℕ → List ℕ) (origin : List ℕ) (c : Candidate) (x y : Option (List Put)) {E : Type 0}

@@ -1,17 +1,19 @@
 -- The order of the candidates' turns.
-use Rattle.std.proofs.Common.{◌≡◌, ℕ, ◌-◌, ◌<◌, ◌≤◌, Bool, true, false, List, [], ◌∷◌, length, get_or, take, Some, refl, sym, ap, subst, ◌∙◌, arith, true≢false, length-take, Ordering, Less, Equal, Greater, nat_cmp, is_lt, is_gt}
+use Rattle.std.proofs.Common.{◌≡◌, ◌≢◌, inl, inr, ℕ, ◌-◌, ◌<◌, ◌≤◌, Bool, true, false, List, [], ◌∷◌, length, get_or, take, Some, refl, sym, ap, subst, ◌∙◌, arith, true≢false, length-take, Ordering, Less, Equal, Greater, nat_cmp, is_lt, is_gt}
 use Rattle.std.specs.Cmp.{IsTotalOrder, then_total, on_total, back_total, nat_cmp_total, tied_itself}
 use Rattle.std.specs.Cmp.Lexicographic.{slice_cmp, slice_partial_cmp, lists_agrees, nat_list_cmp_total}
 use Rattle.std.specs.FinSet.{nat_cmp-IsAntisymmetric, slice_cmp-IsAntisymmetric}
 use Rattle.std.specs.List.Sorted.{IsSorted}
 use Rattle.std.specs.List.{Contains}
 use Rattle.std.specs.Ordering.{is_some_and, ordering_reverse, ordering_then}
+use Rattle.std.proofs.lemmas.Bool.{cases_lt}
 use Rattle.std.proofs.lemmas.Cmp.{by_ranked, ranked, upto}
 use Rattle.std.proofs.lemmas.List.{get_or_default, get_or-take}
 use Rattle.std.proofs.lemmas.List.Elements.{Contains-get_or}
 use Rattle.std.proofs.lemmas.List.Sorted.{ranks_by, sorted_far}
 use Rattle.mirror_candidates.specs.Candidates.{IsOnePoint, note_of, turn_cmp}
 use Rattle.mirror_candidates.specs.declared.candidate.Candidate.{Candidate}
+use Rattle.mirror_follow.specs.Rule.{IsLeastOf}
 use Rattle.mirror_follow.specs.Says.{IsNoteUpTo}
 use Rattle.mirror_follow.specs.Taken.{IsNextOf, IsRepeat}
 
@@ -73,7 +75,7 @@ size_upto n m h =
     by_ranked (n < m) (n ≡ m) (m < n) (nat_cmp n m) (ranked n m (nat_cmp n m) refl)
     (λ e lt. absurd (true≢false (ap is_lt (sym e) ∙ h))) (λ e s. omega (arith, s)) (λ e gt. omega (arith, gt))
 
-tied_size : (n m : ℕ) → n ≡ m → nat_cmp n m ≡ Equal
+pub tied_size : (n m : ℕ) → n ≡ m → nat_cmp n m ≡ Equal
 tied_size n m e = subst (λ k. nat_cmp n k ≡ Equal) e (tied_itself nat_cmp_total n)
 
 tied_list : (a b : List ℕ) → a ≡ b → slice_cmp nat_cmp b a ≡ Equal
@@ -102,6 +104,17 @@ tied : (o : Ordering) → is_gt o ≡ false → is_gt (ordering_reverse o) ≡ f
 tied Less h g = absurd (true≢false g)
 tied Equal h g = refl
 tied Greater h g = absurd (true≢false h)
+
+-- two roots, none of which is greater
+pub root_tied : (a b : List ℕ) → is_gt (slice_cmp nat_cmp a b) ≡ false → is_gt (slice_cmp nat_cmp b a) ≡ false → a ≡ b
+root_tied a b h g =
+    slice_cmp-IsAntisymmetric nat_cmp-IsAntisymmetric a b
+    (tied (slice_cmp nat_cmp a b) h (ap is_gt (sym (nat_list_cmp_total.antisymm b a)) ∙ g))
+
+-- a root that comes before another one is not greater
+pub root_first : (a b : List ℕ) → slice_cmp nat_cmp b a ≡ Less → is_gt (slice_cmp nat_cmp a b) ≡ false → ⊥
+root_first a b less h =
+    true≢false (sym (ap is_gt (nat_list_cmp_total.antisymm a b ∙ ap ordering_reverse less)) ∙ h)
 
 -- a candidate between two of one size and root has this size and root
 between : (a b c : Candidate) → IsBefore a b → IsBefore b c → IsOnePoint a c → IsOnePoint b c
@@ -204,3 +217,19 @@ falls cs rises i c lt is j d le within there =
     let head : get_or cs i d ≡ c = get_or_default cs i d c lt ∙ sym is in
     let upto : (get_or cs j d).size.0 ≤ (get_or cs i d).size.0 = f.upto in
     subst (λ x. x.size.0 ≤ c.size.0) (sym there) (subst (λ x. (get_or cs j d).size.0 ≤ x.size.0) head upto)
+
+-- the first candidate of a size has the least root of it
+pub least_at : (cs : List Candidate) → IsSorted turn_cmp cs → (j : ℕ) (x : Candidate) → j < length cs → x ≡ get_or cs j x →
+    ((k : ℕ) (d : Candidate) → k < j → (get_or cs k d).size.0 ≢ x.size.0) → IsLeastOf cs x.size.0 x
+least_at cs rises j x lt is none = record { listed = (j, lt, sym is); size_is = refl; upto = upto_each }
+  where
+    upto_each : (k : ℕ) (d : Candidate) → k < length cs → (get_or cs k d).size.0 ≡ x.size.0 →
+        is_gt (slice_cmp nat_cmp x.root (get_or cs k d).root) ≡ false
+    upto_each k d inside same = elim (cases_lt k j) [
+      | inl less ↦ absurd (none k d less same)
+      | inr ge ↦
+          let f = far cs rises j x lt is j k d ge inside in
+          let there : get_or cs j d ≡ x = get_or_default cs j d x lt ∙ sym is in
+          subst (λ y. is_gt (slice_cmp nat_cmp y.root (get_or cs k d).root) ≡ false) there
+          (f.root (ap (λ (y : Candidate). y.size.0) there ∙ sym same))
+    ]

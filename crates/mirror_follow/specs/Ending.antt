@@ -14,6 +14,7 @@ use Rattle.mirror_candidates.specs.Candidates.{turn_cmp}
 use Rattle.mirror_candidates.specs.GatheredFrom.{AreCandidates, GiveNone, IsRefused}
 use Rattle.mirror_candidates.specs.declared.candidate.Candidate.{Candidate}
 use Rattle.mirror_candidates.specs.declared.fault.CandidateFault.TheVariants as candidate
+use Rattle.mirror_follow.specs.Rule.{HasOneRoot}
 use Rattle.mirror_follow.specs.Standing.{HoldsNoCopy}
 use Rattle.mirror_follow.specs.declared.fault.FollowFault.{FollowFault}
 use Rattle.mirror_follow.specs.declared.fault.FollowFault.TheVariants.{NoCheckpoint, Head, CopyDamaged, CopyInUse, ShelfFault, Contradiction, Collision, NoFile, Source, OutOfMemory}
@@ -135,12 +136,13 @@ KeepsFault digest done run = run.copy ≡ None → IsFirstFault digest done run.
 
 module _ (digest : List ℕ → List ℕ) {S : Type 0} (may : S → Path → Option (List ℕ) → Type 0) (origin : List ℕ)
     (keys : List Key) (puts : Option (List Put)) (old new : Places S) where
-  -- there are candidates, and "so" holds for the first. The shelf had no checkpoint
+  -- there are candidates, no two of one size with different roots, and "so" holds for the first. The shelf had no checkpoint
   pub record HadNone (given : Option (List ℕ)) (so : Candidate → Type 0) : Type 0 where
     pub first : Candidate
     pub others : List Candidate
     pub gathered : AreCandidates may origin keys old new given (first ∷ others)
     pub rising : IsSorted turn_cmp (first ∷ others)
+    pub one_root : HasOneRoot (first ∷ others)
     pub is_so : so first
     pub empty : RecordsRead puts Checkpoint None
 

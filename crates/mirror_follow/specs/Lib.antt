@@ -4,7 +4,9 @@ pub mod Blame
 pub mod Renoting
 pub mod Turning
 pub mod Ending
+pub mod Rule
 pub mod Says
-pub mod Adding
 pub mod Taken
+pub mod Lining
+pub mod Looking
 pub mod OneHonest

@@ -1,6 +1,6 @@
 -- One honest place suffices for a run, for all answers of the others. Only the contracts of private functions cite the definitions
 -- for turns.
-use Rattle.std.specs.Prelude.{◌≡◌, ◌⊎◌, ℕ, ◌≤◌, max, List, [], ◌∷◌, ◌++◌, take, Contains, Option, Some, Result, Ok, Err}
+use Rattle.std.specs.Prelude.{◌≡◌, ◌⊎◌, ℕ, ◌≤◌, max, List, [], ◌∷◌, ◌++◌, take, Contains, Option, None, Some, Result, Ok, Err}
 use Rattle.std.specs.List.Sorted.{IsSorted}
 use Rattle.tlog_hash.specs.Tree.{mth}
 use Rattle.tlog_tiles.specs.declared.paths.Path.{Path}
@@ -64,12 +64,17 @@ pub record HasPointOf (candidates : List Candidate) (size : ℕ) (root : List �
 -- the copy has the size of the greatest candidate, or its old size if that is larger, and the root of the first of these entries.
 -- Or the shelf failed, or memory was refused
 abbrev pub ReachesLog : (List ℕ → List ℕ) → List (List ℕ) → ℕ → Result Followed FollowFault → Type 0
-ReachesLog digest entries size (Ok f) = (f.size ≡ max size f.old) × (f.root ≡ mth digest (take f.size entries))
+ReachesLog digest entries size (Ok f) = f.copy ≡ Some (max size f.old, mth digest (take (max size f.old) entries))
 ReachesLog digest entries size (Err e) = IsOfShelfOrMemory e
+
+-- there is a copy of at least that size
+abbrev pub IsCopyFrom : ℕ → Option (ℕ × List ℕ) → Type 0
+IsCopyFrom size None = ⊥
+IsCopyFrom size (Some copy) = size ≤ copy.0
 
 -- the copy has at least that size. Or the shelf failed, or memory was refused
 abbrev pub ReachesSize : ℕ → Result Followed FollowFault → Type 0
-ReachesSize size (Ok f) = size ≤ f.size
+ReachesSize size (Ok f) = IsCopyFrom size f.copy
 ReachesSize size (Err e) = IsOfShelfOrMemory e
 
 module _ (digest : List ℕ → List ℕ) {S : Type 0} (may : S → Path → Option (List ℕ) → Type 0) (puts : Option (List Put))

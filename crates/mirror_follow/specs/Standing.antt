@@ -139,32 +139,36 @@ module _ (digest : List ℕ → List ℕ) (origin : List ℕ) where
   StandsAfter candidate old new turn.Contradicts = EachStays old new
   StandsAfter candidate old new (turn.NotHad fault) = EachStays old new
 
-  -- the shelf has a copy of that size and root, of entries that begin with these
-  pub record HasCopy (size : ℕ) (root : List ℕ) (entries : List (List ℕ)) (puts : List Put) : Type 0 where
+  -- the shelf has a copy, of entries that begin with these, and this is its size and root
+  pub record HasCopy (point : Option (ℕ × List ℕ)) (entries : List (List ℕ)) (puts : List Put) : Type 0 where
     pub note : List ℕ
     pub more : List (List ℕ)
     pub copy : IsCopy digest origin note (entries ++ more) puts
-    pub size_is : size ≡ length (entries ++ more)
-    pub root_is : root ≡ mth digest (entries ++ more)
+    pub point_is : point ≡ Some (length (entries ++ more), mth digest (entries ++ more))
 
   -- the same for a copy whose partial files may be replaced by full ones
-  pub record HasPruned (size : ℕ) (root : List ℕ) (entries : List (List ℕ)) (puts : List Put) : Type 0 where
+  pub record HasPruned (point : Option (ℕ × List ℕ)) (entries : List (List ℕ)) (puts : List Put) : Type 0 where
     pub note : List ℕ
     pub more : List (List ℕ)
     pub copy : IsPrunedCopy digest origin note (entries ++ more) puts
-    pub size_is : size ≡ length (entries ++ more)
-    pub root_is : root ≡ mth digest (entries ++ more)
+    pub point_is : point ≡ Some (length (entries ++ more), mth digest (entries ++ more))
+
+  -- the shelf has such a copy, or no checkpoint if there is no size and root
+  abbrev pub HasCopyOrNone : Option (ℕ × List ℕ) → List Put → Type 0
+  HasCopyOrNone None puts = ¬ HasPut puts Checkpoint
+  HasCopyOrNone (Some point) puts = HasCopy (Some point) [] puts
 
   -- at the end the shelf has a copy with the size and root of the answer: the old copy, or one grown from it. The answer has the
-  -- old number of entries. Partial files of the old copy may be replaced by full ones
+  -- old number of entries. Partial files of the old copy may be replaced by full ones. If there was no checkpoint, and the answer has
+  -- no copy, there is none
   pub record IsFollowed (old new : Option (List Put)) (followed : Followed) : Type 0 where
     pub had : HadSize digest origin old followed.old
     pub some : (held : List Put) → old ≡ Some held → (note : List ℕ) (entries : List (List ℕ)) →
-        IsCopy digest origin note entries held → InTheEnd new (HasCopy followed.size followed.root entries)
+        IsCopy digest origin note entries held → InTheEnd new (HasCopy followed.copy entries)
     pub pruned : OfPrunedCopies digest origin old
-        (λ held note entries. InTheEnd new (HasPruned followed.size followed.root entries))
+        (λ held note entries. InTheEnd new (HasPruned followed.copy entries))
     pub none : (held : List Put) → old ≡ Some held → ¬ HasPut held Checkpoint →
-        InTheEnd new (HasCopy followed.size followed.root [])
+        InTheEnd new (HasCopyOrNone followed.copy)
 
 -- the copy is that candidate
 pub record IsCopyNow (candidate : Candidate) (copy : Option Candidate) : Type 0 where

@@ -106,8 +106,8 @@ pub(crate) fn bring<H: TreeHash, D: ReadableShelf, S: Source + Drop>(
     }
 }
 
-// The turn of a candidate that contradicts the copy. It is a fork if one of the places has the files of the proof.
-fn contradict<H: TreeHash, S: Source + Drop>(
+/// The turn of a candidate that contradicts the copy. It is a fork if one of the places has the files of the proof.
+pub(crate) fn contradict<H: TreeHash, S: Source + Drop>(
     alloc: Global,
     places: &mut Places<S>,
     copy: &Candidate,

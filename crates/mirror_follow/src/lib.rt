@@ -1,6 +1,7 @@
 //! Follows a log: brings a copy to the newest checkpoint that some places give, and reports the forks that they show.
 #![tactic(auto)]
 
+mod again;
 mod bring;
 mod compare;
 mod copy;
@@ -8,6 +9,7 @@ mod fault;
 mod first;
 mod following;
 mod laws;
+mod lines;
 mod renote;
 mod report;
 mod run;

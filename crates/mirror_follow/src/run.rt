@@ -1,17 +1,17 @@
 //! The state of a run of turns: the forks, and the candidates to which the copy could not be brought.
-ghost use Rattle.std.specs.Prelude.{◌≡◌, ◌≢◌, [], ℕ, IfSome, List, None, OnOk, false};
+ghost use Rattle.std.specs.Prelude.{◌≡◌, ◌≢◌, [], ℕ, IfSome, List, None, OnOk, length};
 ghost use Rattle.mirror_candidates.specs.Adding.{AddsFork};
 ghost use Rattle.mirror_candidates.specs.Lines.{IsInSomeLine, KeepsLines};
 ghost use Rattle.mirror_candidates.specs.Shown.{AreFork, ShowsEach};
 ghost use Rattle.mirror_follow.specs.Ending.{fault_after, or_fault};
 ghost use Rattle.mirror_follow.specs.Turning.{ShowsTurn};
 ghost use Rattle.mirror_follow.specs.Standing.{KnowsAfter, size_of_copy};
-ghost use Rattle.mirror_follow.specs.Taken.{AddsLacked, IsAdded, MarksReached, or_agreed};
+ghost use Rattle.mirror_follow.specs.Taken.{AddsLacked, IsAdded, IsLargerThan};
 
 use crate::fault::FollowFault;
+use crate::lines::exceeds;
 use mirror_candidates::{Candidate, ForkLine, add_fork};
 use std::alloc::{AllocError, Global};
-use tlog_hash::Hash;
 use tlog_proof::Proof;
 
 /// The outcome of a candidate's turn.
@@ -36,8 +36,8 @@ pub(crate) struct Run {
     pub(crate) had: u64,
     pub(crate) forks: Vec<ForkLine>,
     pub(crate) not_had: Vec<Candidate>,
-    pub(crate) behind: Option<(u64, Hash)>,
-    pub(crate) is_reached: bool,
+    // How many of them there were when the copy grew last.
+    pub(crate) again: usize,
     pub(crate) first_fault: Option<FollowFault>,
 }
 
@@ -49,8 +49,6 @@ impl Run {
         ensures fault { result.first_fault ≡ None }
         ensures forks { result.forks.items ≡ [] }
         ensures not_had { result.not_had.items ≡ [] }
-        ensures behind { result.behind ≡ None }
-        ensures reached { result.is_reached ≡ false }
     {
         let had = match &copy {
             Some(copy) => copy.size.0,
@@ -61,33 +59,8 @@ impl Run {
             had,
             forks: Vec::new(alloc),
             not_had: Vec::new(alloc),
-            behind: None,
-            is_reached: false,
+            again: 0,
             first_fault: None,
-        }
-    }
-
-    // Records that the candidate agrees with the copy.
-    fn agree(&mut self, candidate: &Candidate)
-        ensures copy { self.new.copy ≡ self.old.copy }
-        ensures had { self.new.had ≡ self.old.had }
-        ensures fault { self.new.first_fault ≡ self.old.first_fault }
-        ensures forks { self.new.forks ≡ self.old.forks }
-        ensures not_had { self.new.not_had ≡ self.old.not_had }
-        ensures behind { self.new.behind ≡ or_agreed self.old.behind candidate.now }
-        ensures reached { MarksReached self.old.copy candidate.now self.old.is_reached
-            self.new.is_reached }
-    {
-        let size = match &self.copy {
-            Some(copy) => copy.size.0,
-            None => 0,
-        };
-        if candidate.size.0 == size {
-            self.is_reached = true;
-        }
-        if self.behind.is_none() {
-            let root = candidate.root;
-            self.behind = Some((candidate.size.0, root));
         }
     }
 
@@ -104,8 +77,6 @@ impl Run {
         ensures forks { self.new.forks ≡ self.old.forks }
         ensures not_had { OnOk result (AddsLacked candidate.now self.old.not_had.items
             self.new.not_had.items) }
-        ensures behind { self.new.behind ≡ self.old.behind }
-        ensures reached { self.new.is_reached ≡ self.old.is_reached }
     {
         self.not_had.push(candidate.copy(alloc)?)?;
         if self.first_fault.is_none() {
@@ -133,12 +104,25 @@ impl Run {
         ensures adds { OnOk result (IfSome self.old.copy (λ copy. AddsFork copy candidate.now
             self.old.forks.items self.new.forks.items)) }
         ensures not_had { self.new.not_had ≡ self.old.not_had }
-        ensures behind { self.new.behind ≡ self.old.behind }
-        ensures reached { self.new.is_reached ≡ self.old.is_reached }
     {
         match &self.copy {
             Some(copy) => add_fork(alloc, &mut self.forks, copy, candidate, proof),
             None => Ok(()),
+        }
+    }
+
+    // Notes how many candidates were not had when the copy grows.
+    fn grow(&mut self, candidate: &Candidate)
+        ensures copy { self.new.copy ≡ self.old.copy }
+        ensures had { self.new.had ≡ self.old.had }
+        ensures fault { self.new.first_fault ≡ self.old.first_fault }
+        ensures forks { self.new.forks ≡ self.old.forks }
+        ensures not_had { self.new.not_had ≡ self.old.not_had }
+        ensures again { IsLargerThan self.old.copy candidate.now
+            → self.new.again ≡ length self.old.not_had.items }
+    {
+        if exceeds(&self.copy, candidate) {
+            self.again = self.not_had.len();
         }
     }
 
@@ -159,9 +143,9 @@ impl Run {
         ensures added { OnOk result (IsAdded candidate.now turn self.old self.new) }
     {
         match turn {
-            Outcome::Agrees => self.agree(candidate),
+            Outcome::Agrees => {}
             Outcome::Brought => {
-                self.is_reached = true;
+                self.grow(candidate);
                 self.copy = Some(candidate.copy(alloc)?);
             }
             Outcome::Forks(proof) => self.fork(alloc, candidate, proof)?,

@@ -13,6 +13,7 @@ ghost use Rattle.mirror_follow.specs.Turning.{ContinuesRun, IsRunFrom};
 ghost use Rattle.mirror_follow.specs.Standing.{HasStanding, HoldsNoCopy, IsCopyOfRun, IsHeadOf};
 ghost use Rattle.mirror_follow.specs.Taken.{HasTakenRun, IsLargerThan, IsRepeat};
 
+use crate::again::look_again;
 use crate::fault::FollowFault;
 use crate::run::Run;
 use crate::turn::take_turn;
@@ -23,8 +24,8 @@ use mirror_sources::Source;
 use std::alloc::Global;
 use tlog_hash::TreeHash;
 
-// Whether a candidate of a list has the size and root of the one before it.
-fn is_repeated(candidates: &[Candidate], i: usize) -> bool
+/// Whether a candidate of a list has the size and root of the one before it.
+pub(crate) fn is_repeated(candidates: &[Candidate], i: usize) -> bool
     requires { i < length candidates.now }
     ensures some { IsTrue result → 0 < i }
     ensures is { IsTrue result ↔ IsRepeat candidates.now i }
@@ -80,8 +81,8 @@ fn take_turn_at<H: TreeHash, D: ReadableShelf, S: Source + Drop>(
     take_turn::<H, D, S>(alloc, origin, shelf, places, run, &candidates[i])
 }
 
-/// Runs the turn of each candidate, the greatest first. If several have one size and root, only the first has a turn.
-pub(crate) fn take_turns<H: TreeHash, D: ReadableShelf, S: Source + Drop>(
+// Runs the turn of each candidate, the greatest first. If several have one size and root, only the first has a turn.
+fn take_each<H: TreeHash, D: ReadableShelf, S: Source + Drop>(
     alloc: Global,
     origin: &str,
     shelf: &mut D,
@@ -117,4 +118,43 @@ pub(crate) fn take_turns<H: TreeHash, D: ReadableShelf, S: Source + Drop>(
         take_turn_at::<H, D, S>(alloc, origin, shelf, places, &mut run, candidates, i)?;
     }
     Ok(run)
+}
+
+/// Runs the turn of each candidate, the greatest first. If several have one size and root, only the first has a turn. Then those to which
+/// the copy could not be brought before it grew are looked at once more.
+pub(crate) fn take_turns<H: TreeHash, D: ReadableShelf, S: Source + Drop>(
+    alloc: Global,
+    origin: &str,
+    shelf: &mut D,
+    places: &mut Places<S>,
+    copy: Option<Candidate>,
+    candidates: &[Candidate],
+) -> Result<Run, FollowFault>
+    requires heads { All (IsHeadOf origin.now) candidates.now }
+    requires copy { IfSome copy (IsHeadOf origin.now) }
+    ensures keeps { KeepsEach H.digest origin.now (map note_of candidates.now)
+        (D.puts shelf.old) (D.puts shelf.new) }
+    ensures counted { CountsFollow (D.failed shelf.old) (D.failed shelf.new) result }
+    ensures run { IfOk result (IsRunFrom H.digest origin.now (D.puts shelf.old)
+        (D.puts shelf.new) copy) }
+    ensures asks { AsksAny S.may_answer S.failed S.asked places.old places.new }
+    ensures source { IfOk result (λ run. run.first_fault ≡ Some FollowFault.Source
+        → PlaceFails places.old places.new) }
+    ensures ends { IfErr result (EndsAt ((first : Option (List Put))
+        → IsCopyOfRun H.digest origin.now first (D.puts shelf.old) copy
+        → HoldsNoCopy H.digest origin.now first)) }
+    ensures fault { IfOk result (KeepsFault H.digest candidates.now) }
+    ensures taken { IfOk result (λ run. IsSorted turn_cmp candidates.now
+        → HasTakenRun H.digest copy candidates.now run) }
+    ensures suffices { IsSorted turn_cmp candidates.now
+        → (h : IsHonestFirst H.digest S.may_answer (D.puts shelf.old) places.old places.new
+        origin.now copy candidates.now) → TurnsReach copy h.first result }
+    ensures passes { IfOk result (λ run. IsSorted turn_cmp candidates.now
+        → (h : IsHonestListed H.digest S.may_answer (D.puts shelf.new) places.old places.new
+        origin.now (D.puts shelf.old) copy candidates.now) → HasSize h.candidate.size.0 run.copy) }
+{
+    match take_each::<H, D, S>(alloc, origin, shelf, places, copy, candidates) {
+        Ok(run) => look_again::<H, S>(alloc, places, run),
+        Err(fault) => Err(fault),
+    }
 }

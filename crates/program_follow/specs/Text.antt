@@ -11,6 +11,11 @@ abbrev pub followed_line : ℕ → List ℕ → ℕ → List ℕ
 followed_line size root old =
     codes "followed " ++ (point_text size root ++ (codes " from " ++ (decimal old ++ 10 ∷ [])))
 
+-- the same, if there is a copy
+abbrev pub copy_line : Option (ℕ × List ℕ) → ℕ → List ℕ
+copy_line None old = []
+copy_line (Some copy) old = followed_line copy.0 copy.1 old
+
 -- `fork SIZE ROOT SIZE ROOT`, the smaller checkpoint first
 abbrev pub fork_line : ForkLine → List ℕ
 fork_line line =
@@ -26,10 +31,10 @@ abbrev pub behind_line : Option (ℕ × List ℕ) → List ℕ
 behind_line None = []
 behind_line (Some point) = codes "behind " ++ (point_text point.0 point.1 ++ 10 ∷ [])
 
--- all lines: the copy, the forks, the larger candidates to which it could not be brought, and the greatest candidate if all are smaller
+-- all lines: the copy, if there is one, the forks, the larger candidates to which it could not be brought, and the greatest candidate if all are smaller
 abbrev pub followed_lines : Followed → List ℕ
 followed_lines done =
-    followed_line done.size done.root done.old
+    copy_line done.copy done.old
     ++ (flat_map fork_line done.forks.items ++ (flat_map larger_line done.larger.items ++ behind_line done.behind))
 
 -- the list is empty

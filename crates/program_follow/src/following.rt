@@ -78,7 +78,9 @@ fn end_lines<D: CountedFolders>(
 {
     if progress {
         if let Ok(done) = done {
-            folders.end_followed(done.old, done.size);
+            if let Some(copy) = &done.copy {
+                folders.end_followed(done.old, copy.0);
+            }
         }
     }
 }

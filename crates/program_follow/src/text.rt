@@ -2,7 +2,7 @@
 ghost use Rattle.std.specs.Prelude.{◌≡◌, ◌++◌, ◌∷◌, ◌⊎◌, [], IfOk, OnOk, string_bytes};
 ghost use Rattle.std.specs.List.{flat_map};
 ghost use Rattle.mirror_model.specs.Texts.{point_text};
-ghost use Rattle.program_follow.specs.Text.{behind_line, followed_line, followed_lines, followed_status_of, fork_line, larger_line};
+ghost use Rattle.program_follow.specs.Text.{behind_line, copy_line, followed_line, followed_lines, followed_status_of, fork_line, larger_line};
 
 use mirror_candidates::ForkLine;
 use mirror_follow::Followed;
@@ -10,9 +10,9 @@ use std::alloc::{AllocError, Global};
 use tlog_hash::Hash;
 use tlog_text::{push_hash, push_number};
 
-/// The result of `follow`, with these lines. First the copy's size, root and old size. Then each fork, with the smaller checkpoint first.
-/// Then each larger candidate to which the copy could not be brought. Last the greatest candidate, if all are smaller. Roots are in
-/// standard base64.
+/// The result of `follow`, with these lines. First the copy's size, root and old size, unless it was empty and still is. Then each fork,
+/// with the smaller checkpoint first. Then each larger candidate to which the copy could not be brought. Last the greatest candidate, if
+/// all are smaller. Roots are in standard base64.
 ///
 /// ```text
 /// followed 257 Vtr95bs6bTEAwKWkpA8ePu37C9grbzipJ/t/5Cf4fos= from 257
@@ -26,7 +26,7 @@ pub fn followed_text(alloc: Global, followed: &Followed) -> Result<String, Alloc
     ensures { IfOk result (λ text. string_bytes text ≡ followed_lines followed.now) }
 {
     let mut text = String::new(alloc);
-    push_followed(&mut text, followed.size, &followed.root, followed.old)?;
+    push_copy(&mut text, &followed.copy, followed.old)?;
     push_forks(&mut text, &followed.forks)?;
     push_larger(&mut text, &followed.larger)?;
     push_behind(&mut text, &followed.behind)?;
@@ -71,6 +71,17 @@ fn push_followed(text: &mut String, size: u64, root: &Hash, old: u64) -> Result<
     text.push_str(" from ")?;
     push_number(text, old)?;
     text.push_str("\n")
+}
+
+// Adds the line of the copy, if there is one.
+fn push_copy(text: &mut String, copy: &Option<(u64, Hash)>, old: u64) -> Result<(), AllocError>
+    ensures { OnOk result (string_bytes text.new ≡ string_bytes text.old
+        ++ copy_line copy.now old) }
+{
+    match copy {
+        Some(point) => push_followed(text, point.0, &point.1, old),
+        None => Ok(()),
+    }
 }
 
 // Adds the line of a fork.

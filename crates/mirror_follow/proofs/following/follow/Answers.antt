@@ -1,4 +1,4 @@
-use Rattle.std.proofs.Common.{◌∙◌, ℕ, List, Option, IfOk, option_map, subst, sym}
+use Rattle.std.proofs.Common.{◌∙◌, ℕ, List, Option, IfErr, IfOk, option_map, subst, sym}
 use Rattle.std.specs.List.Sorted.{IsSorted}
 use Rattle.std.proofs.lemmas.Result.{err_from_is_err_and}
 use Rattle.mirror_folders.specs.Shelf.{Put}
@@ -13,7 +13,7 @@ use Rattle.mirror_follow.specs.Ending.{KeepsFault}
 use Rattle.mirror_follow.specs.Says.{SettlesEach}
 use Rattle.mirror_follow.specs.Standing.{HoldsNoCopy, IsCopyOfRun}
 use Rattle.mirror_follow.specs.Taken.{HasTakenRun}
-use Rattle.mirror_follow.proofs.Ending.{ends_lacking, ends_report, ends_run, ends_so, none_counts, report_counts, was_empty}
+use Rattle.mirror_follow.proofs.Ending.{Reported, ends_lacking, ends_report, ends_run, ends_so, none_counts, report_counts, was_empty}
 use Rattle.mirror_follow.proofs.Noted.{says_by}
 use Rattle.mirror_follow.proofs.Shown.{reported_forks}
 use Rattle.mirror_follow.proofs.Standing.{followed_by, had_found, known_found, read_found}
@@ -58,7 +58,7 @@ returns-clause-counted g c =
     c.in_ok-candidates.candidates.items c.in_ok-run.run' c.report.result
     (c.in_ok-run.ensures.counted ∙ c.in_ok-copy.ensures.counted) c.in_ok-candidates.ensures.some
     (subst (λ (l : List Candidate). KeepsFault digest l c.in_ok-run.run') c.deref.ensures.value c.in_ok-run.ensures.fault)
-    c.report.ensures.fault
+    (subst (λ (l : List Candidate). IfErr c.report.result (Reported l c.in_ok-run.run')) c.deref-2.ensures.value c.report.ensures.fault)
 
 pub returns-clause-ends : goal.returns-clause-ends
 returns-clause-ends g c =
@@ -82,7 +82,7 @@ returns-clause-ends g c =
     (subst (λ (l : List Candidate). KeepsFault digest l run) c.deref.ensures.value c.in_ok-run.ensures.fault)
     (λ e. fails_later g.S.Source.may_answer g.S.Source.failed g.S.Source.asked
     c.args.places.now c.candidates_of.new.places c.take_turns.new.places c.candidates_of.ensures.asks
-    c.take_turns.ensures.asks (c.in_ok-run.ensures.source e)) c.report.ensures.fault
+    c.take_turns.ensures.asks (c.in_ok-run.ensures.source e)) (subst (λ (l : List Candidate). IfErr c.report.result (Reported l c.in_ok-run.run')) c.deref-2.ensures.value c.report.ensures.fault)
 
 pub returns-in_err-candidates-clause-counted : goal.returns-in_err-candidates-clause-counted
 returns-in_err-candidates-clause-counted g c =
@@ -217,7 +217,7 @@ returns-clause-suffices g c = λ h.
     (read_found digest origin x copy c.in_ok-copy.ensures.found) known k.0.first k.1 k.2 c.in_ok-run.run' c.report.result
     c.in_ok-run.ensures.run.had_is
     (c.in_ok-run.ensures.suffices (subst (IsSorted turn_cmp) (sym c.deref.ensures.value) rising) k.0)
-    c.report.ensures.copy c.report.ensures.had c.report.ensures.fault
+    c.report.ensures.copy c.report.ensures.had (subst (λ (l : List Candidate). IfErr c.report.result (Reported l c.in_ok-run.run')) c.deref-2.ensures.value c.report.ensures.fault)
 
 pub returns-in_err-copy-clause-reaches : goal.returns-in_err-copy-clause-reaches
 returns-in_err-copy-clause-reaches g c = λ h.
@@ -273,4 +273,4 @@ returns-clause-reaches g c = λ h.
     report_passes digest may origin x last start new _ h candidates gathered c.in_ok-run.run' k.0.candidate.size.0
     c.report.result k.1
     (c.in_ok-run.ensures.passes (subst (IsSorted turn_cmp) (sym c.deref.ensures.value) rising) k.0)
-    c.report.ensures.copy c.report.ensures.fault
+    c.report.ensures.copy (subst (λ (l : List Candidate). IfErr c.report.result (Reported l c.in_ok-run.run')) c.deref-2.ensures.value c.report.ensures.fault)

@@ -1,6 +1,5 @@
 use Rattle.std.proofs.Common.{◌≢◌, None}
-use Rattle.mirror_follow.proofs.Adding.{fork_adds}
-use Rattle.mirror_follow.proofs.Split.{line_added}
+use Rattle.mirror_follow.proofs.Adding.{fork_adds, line_added}
 use Rattle.mirror_follow.proofs.Shown.{fork_added}
 use Rattle.mirror_follow.proofs.run.Run.fork.Goals as goal
 

@@ -8,7 +8,7 @@ use Rattle.mirror_follow.specs.Taken.{HasTakenRun}
 use Rattle.mirror_follow.specs.Turning.{IsRunFrom}
 use Rattle.mirror_follow.specs.declared.fault.FollowFault.TheVariants.{Source}
 use Rattle.mirror_follow.proofs.OneHonest.{Reaching}
-use Rattle.mirror_follow.proofs.turns.take_turns.Given as goal
+use Rattle.mirror_follow.proofs.turns.take_each.Given as goal
 
 abbrev pub invariant-loop-i : goal.invariant-loop-i
 invariant-loop-i g l = record {

@@ -1,0 +1,24 @@
+use Rattle.std.proofs.Common.{Some, arith, sym}
+use Rattle.mirror_candidates.proofs.Requests.{any_same, any_then}
+use Rattle.mirror_follow.proofs.Looking.{adds_none, adds_then}
+use Rattle.mirror_follow.proofs.again.look_each.Goals as goal
+
+pub loop-i-init : goal.loop-i-init
+loop-i-init g c = record {
+  asks = any_same g.S.Source.may_answer g.S.Source.failed g.S.Source.asked c.args.places.now;
+  adds = adds_none g.H.TreeHash.digest (Some c.args.copy.now) c.args.lacked.now c.args.forks.now.items;
+}
+
+pub returns-in_err-look_at-clause-asks : goal.returns-in_err-look_at-clause-asks
+returns-in_err-look_at-clause-asks g c =
+    any_then g.S.Source.may_answer g.S.Source.failed g.S.Source.asked c.args.places.now c.loop-i.places c.look_at.new.places
+    c.loop-i.invariant.asks c.look_at.ensures.asks
+
+pub loop-i-preserved : goal.loop-i-preserved
+loop-i-preserved g c = record {
+  asks = any_then g.S.Source.may_answer g.S.Source.failed g.S.Source.asked c.args.places.now c.loop-i.places
+      c.look_at.new.places c.loop-i.invariant.asks c.look_at.ensures.asks;
+  adds = adds_then g.H.TreeHash.digest c.args.copy.now c.args.lacked.now c.index-lacked-i.result c.args.forks.now.items
+      c.loop-i.forks.items c.look_at.new.forks.items (c.loop-i.i, omega (arith, c.loop-i-test.true), sym c.index-lacked-i.is)
+      c.loop-i.invariant.adds c.in_ok-look_at.ensures.adds;
+}

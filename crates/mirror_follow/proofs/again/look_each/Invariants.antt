@@ -1,0 +1,10 @@
+use Rattle.std.proofs.Common.{Some}
+use Rattle.mirror_candidates.specs.Requests.{AsksAny}
+use Rattle.mirror_follow.specs.Looking.{AddsForks}
+use Rattle.mirror_follow.proofs.again.look_each.Given as goal
+
+abbrev pub invariant-loop-i : goal.invariant-loop-i
+invariant-loop-i g l = record {
+  asks : AsksAny g.S.Source.may_answer g.S.Source.failed g.S.Source.asked l.initial.places l.places;
+  adds : AddsForks g.H.TreeHash.digest (Some l.copy) l.lacked l.initial.forks.items l.forks.items;
+}

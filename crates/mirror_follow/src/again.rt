@@ -1,0 +1,139 @@
+//! Candidates to which the copy could not be brought are looked at once more, where the copy has grown since.
+ghost use Rattle.std.specs.Prelude.{◌≡◌, ◌∷◌, ◌<◌, [], ℕ, IfErr, IfOk, List, OnOk, Some};
+ghost use Rattle.mirror_candidates.specs.Requests.{AsksAny};
+ghost use Rattle.mirror_follow.specs.Looking.{AddsForks, LooksOn};
+ghost use Rattle.mirror_follow.specs.Turning.{ShowsTurn};
+
+use crate::bring::contradict;
+use crate::fault::FollowFault;
+use crate::run::{Outcome, Run};
+use mirror_candidates::{Candidate, ForkLine, add_fork};
+use mirror_places::Places;
+use mirror_sources::Source;
+use std::alloc::{AllocError, Global};
+use tlog_hash::TreeHash;
+
+// The proof that a larger candidate contradicts the copy, if the places have its files.
+fn proof_again<H: TreeHash, S: Source + Drop>(
+    alloc: Global,
+    places: &mut Places<S>,
+    copy: &Candidate,
+    candidate: &Candidate,
+) -> Result<Outcome, AllocError>
+    requires { copy.now.size.0 < candidate.now.size.0 }
+    ensures asks { AsksAny S.may_answer S.failed S.asked places.old places.new }
+    ensures shows { IfOk result (ShowsTurn H.digest (Some copy.now) candidate.now) }
+{
+    places.keep_ends(copy.size.0, candidate.size.0);
+    contradict::<H, S>(alloc, places, copy, candidate)
+}
+
+// Adds the fork of the copy and a larger candidate, if the turn ended with one.
+fn add_shown(
+    alloc: Global,
+    copy: &Candidate,
+    candidate: &Candidate,
+    turn: Outcome,
+    forks: &mut Vec<ForkLine>,
+) -> Result<(), AllocError>
+    ensures { OnOk result ((digest : List ℕ → List ℕ)
+        → ShowsTurn digest (Some copy.now) candidate.now turn
+        → AddsForks digest (Some copy.now) (candidate.now ∷ []) forks.old.items
+        forks.new.items) }
+{
+    match turn {
+        Outcome::Forks(proof) => add_fork(alloc, forks, copy, candidate, proof),
+        _ => Ok(()),
+    }
+}
+
+// Looks once more at a candidate. The rule of lines has one of the copy's size.
+fn look_at<H: TreeHash, S: Source + Drop>(
+    alloc: Global,
+    places: &mut Places<S>,
+    copy: &Candidate,
+    candidate: &Candidate,
+    forks: &mut Vec<ForkLine>,
+) -> Result<(), AllocError>
+    ensures asks { AsksAny S.may_answer S.failed S.asked places.old places.new }
+    ensures adds { OnOk result (AddsForks H.digest (Some copy.now) (candidate.now ∷ [])
+        forks.old.items forks.new.items) }
+{
+    if candidate.size.0 <= copy.size.0 {
+        return Ok(());
+    }
+    match proof_again::<H, S>(alloc, places, copy, candidate) {
+        Ok(turn) => add_shown(alloc, copy, candidate, turn, forks),
+        Err(fault) => Err(fault),
+    }
+}
+
+// Looks once more at the first of the candidates, as many as "again".
+fn look_each<H: TreeHash, S: Source + Drop>(
+    alloc: Global,
+    places: &mut Places<S>,
+    copy: &Candidate,
+    lacked: &[Candidate],
+    again: usize,
+    forks: &mut Vec<ForkLine>,
+) -> Result<(), AllocError>
+    ensures asks { AsksAny S.may_answer S.failed S.asked places.old places.new }
+    ensures adds { OnOk result (AddsForks H.digest (Some copy.now) lacked.now forks.old.items
+        forks.new.items) }
+{
+    for i in 0..lacked.len() {
+        if i >= again {
+            return Ok(());
+        }
+        look_at::<H, S>(alloc, places, copy, &lacked[i], forks)?;
+    }
+    Ok(())
+}
+
+// The same, if there is a copy.
+fn look_all<H: TreeHash, S: Source + Drop>(
+    alloc: Global,
+    places: &mut Places<S>,
+    copy: &Option<Candidate>,
+    lacked: &[Candidate],
+    again: usize,
+    forks: &mut Vec<ForkLine>,
+) -> Result<(), AllocError>
+    ensures asks { AsksAny S.may_answer S.failed S.asked places.old places.new }
+    ensures adds { OnOk result (AddsForks H.digest copy.now lacked.now forks.old.items
+        forks.new.items) }
+{
+    match copy {
+        Some(copy) => look_each::<H, S>(alloc, places, copy, lacked, again, forks),
+        None => Ok(()),
+    }
+}
+
+/// Looks once more at each candidate to which the copy could not be brought before it grew.
+pub(crate) fn look_again<H: TreeHash, S: Source + Drop>(
+    alloc: Global,
+    places: &mut Places<S>,
+    run: Run,
+) -> Result<Run, FollowFault>
+    ensures asks { AsksAny S.may_answer S.failed S.asked places.old places.new }
+    ensures run { IfOk result (LooksOn H.digest run) }
+    ensures fault { IfErr result (λ e. e ≡ FollowFault.OutOfMemory) }
+{
+    let Run {
+        copy,
+        had,
+        mut forks,
+        not_had,
+        again,
+        first_fault,
+    } = run;
+    look_all::<H, S>(alloc, places, &copy, &not_had, again, &mut forks)?;
+    Ok(Run {
+        copy,
+        had,
+        forks,
+        not_had,
+        again,
+        first_fault,
+    })
+}
