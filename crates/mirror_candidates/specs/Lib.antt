@@ -3,6 +3,7 @@ pub mod Gathering
 pub mod Requests
 pub mod GatheredFrom
 pub mod Forks
+pub mod Faults
 pub mod Agreeing
 pub mod Checked
 pub mod Shown

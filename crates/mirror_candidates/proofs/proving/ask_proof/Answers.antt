@@ -1,0 +1,13 @@
+use Rattle.std.specs.Prelude.{⊤}
+use Rattle.mirror_candidates.proofs.Requests.{any_of, any_same}
+use Rattle.mirror_places.proofs.AskingOnce.{more_same}
+use Rattle.mirror_candidates.proofs.proving.ask_proof.Goals as goal
+
+pub returns-clause-asks : goal.returns-clause-asks
+returns-clause-asks g c =
+    any_of g.S.Source.may_answer g.S.Source.failed g.S.Source.asked (λ path. ⊤) c.args.places.now c.find_proof.new.places c.find_proof.ensures.goes.asks
+
+pub returns-then-first-smaller-clause-asks : goal.returns-then-first-smaller-clause-asks
+returns-then-first-smaller-clause-asks g c =
+    any_same g.S.Source.may_answer g.S.Source.failed g.S.Source.asked c.args.places.now
+
