@@ -9,5 +9,4 @@ pub mod Checked
 pub mod Shown
 pub mod Lines
 pub mod Adding
-pub mod TrueFiles
-pub mod Noting
+pub mod ReadFiles

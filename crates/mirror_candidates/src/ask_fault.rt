@@ -10,6 +10,8 @@ use std::fmt;
 /// Why a proof was not looked for to the end. It prints as its variant's name.
 #[derive(Debug, Drop, Clone, Copy)]
 pub enum AskFault {
+    /// Nobody has one of the files of the proof, or those that were had are of no log.
+    NoFile,
     /// The shelf failed.
     ShelfFault,
     /// The places keep the answers for two other sizes, or the proof needs a file that was not looked for.

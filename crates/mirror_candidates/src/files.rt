@@ -1,6 +1,6 @@
 //! The files of a log for a proof, in memory.
 ghost use Rattle.std.specs.Prelude.{◌≡◌, ◌∷◌, ◌++◌, [], IfOk, IfSome, OnOk, option_map};
-ghost use Rattle.mirror_candidates.specs.TrueFiles.{IsReadAt};
+ghost use Rattle.mirror_candidates.specs.ReadFiles.{IsReadAt};
 
 use log_reader::{EdgeRows, edge_path};
 use mirror_sources::{Source, SourceFault};
@@ -47,7 +47,7 @@ fn index_of(files: &[ReadFile], path: &Path) -> Option<usize>
 }
 
 impl Source for ReadFiles {
-    ghost use Rattle.mirror_candidates.specs.TrueFiles.{IsRead};
+    ghost use Rattle.mirror_candidates.specs.ReadFiles.{IsRead};
 
     ghost may_answer = { λ s. IsRead s.files.items };
 

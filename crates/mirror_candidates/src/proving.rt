@@ -188,7 +188,7 @@ pub fn fork_proof<H: TreeHash, S: Source>(
     checked_proof::<H, S>(alloc, files, small, large)
 }
 
-// The proof from files in memory. None: the files are not those of a log of the larger candidate, or they show no fork.
+// The proof from files in memory. None: they show no fork.
 fn read_proof<H: TreeHash>(
     alloc: Global,
     mut files: ReadFiles,
@@ -198,12 +198,15 @@ fn read_proof<H: TreeHash>(
     ensures memory { (n : ℕ) → CountsAsk n n result }
     ensures proof { IfOk result (λ found. IfSome found
         (λ proof. ShowsLarger H.digest smaller.now larger.now (Some proof))) }
+    ensures agrees { IfOk result (λ found. found ≡ None → 0 < smaller.now.size.0
+        → smaller.now.size.0 < larger.now.size.0
+        → Agrees H.digest (point_of smaller.now) (point_of larger.now)) }
 {
     match fork_proof::<H, ReadFiles>(alloc, &mut files, smaller, larger) {
         Ok(found) => Ok(found),
-        Err(ReadFault::NoFile(_)) => Ok(None),
-        Err(ReadFault::FalseFile(_)) => Ok(None),
-        Err(ReadFault::Collision) => Ok(None),
+        Err(ReadFault::NoFile(_)) => Err(AskFault::NoFile),
+        Err(ReadFault::FalseFile(_)) => Err(AskFault::NoFile),
+        Err(ReadFault::Collision) => Err(AskFault::NoFile),
         Err(ReadFault::Source) => Err(AskFault::OtherFiles),
         Err(ReadFault::OutOfMemory) => Err(AskFault::OutOfMemory),
     }
@@ -224,13 +227,16 @@ fn find_proof<H: TreeHash, D: ReadableShelf, S: Source + Drop>(
     ensures goes { AsksEnds S.may_answer S.failed S.asked places.old places.new }
     ensures proof { IfOk result (λ found. IfSome found
         (λ proof. ShowsLarger H.digest smaller.now larger.now (Some proof))) }
+    ensures agrees { IfOk result (λ found. found ≡ None → 0 < smaller.now.size.0
+        → smaller.now.size.0 < larger.now.size.0
+        → Agrees H.digest (point_of smaller.now) (point_of larger.now)) }
 {
     let Some(edge) = kept_edge::<H, S>(alloc, places, larger.size.0, &larger.root)? else {
-        return Ok(None);
+        return Err(AskFault::NoFile);
     };
     let mut files = files_of_edge(alloc, &edge)?;
     if !add_way::<H, D, S>(alloc, shelf, places, smaller.size.0, &edge, &mut files)? {
-        return Ok(None);
+        return Err(AskFault::NoFile);
     }
     read_proof::<H>(alloc, files, smaller, larger)
 }
@@ -241,7 +247,7 @@ fn find_proof<H: TreeHash, D: ReadableShelf, S: Source + Drop>(
 /// A full file counts from wherever it verifies: from the shelf first, then from each place. A full row of level 0 counts from its bundle,
 /// or else from its tile. The rows of the larger candidate's edge are those of one place, or of two mixed.
 ///
-/// None: nobody has one of these files, or they show no fork.
+/// None: the files were had, and show no fork: a proof made of them shows that the two candidates agree.
 ///
 /// ```text
 /// ask_proof::<Sha256Tree, MemShelf, ListSource<Sha256Tree>>(alloc, &mut shelf, &mut places, &copy, &larger)? // Some(proof): no log has both
@@ -249,6 +255,7 @@ fn find_proof<H: TreeHash, D: ReadableShelf, S: Source + Drop>(
 ///
 /// # Errors
 ///
+/// - `NoFile`: nobody has one of these files, or the places give edge rows of no log.
 /// - `ShelfFault`: the shelf failed.
 /// - `OtherFiles`: the sizes are not those of `Places::ends`, or the proof needs a file that was not looked for.
 /// - `OutOfMemory`: memory was refused.
@@ -265,6 +272,9 @@ pub fn ask_proof<H: TreeHash, D: ReadableShelf, S: Source + Drop>(
     ensures more { AsksMore S.asked places.old places.new }
     ensures proof { IfOk result (λ found. IfSome found
         (λ proof. ShowsLarger H.digest smaller.now larger.now (Some proof))) }
+    ensures agrees { IfOk result (λ found. found ≡ None → 0 < smaller.now.size.0
+        → smaller.now.size.0 < larger.now.size.0
+        → Agrees H.digest (point_of smaller.now) (point_of larger.now)) }
 {
     let (first, second) = places.ends();
     if first != smaller.size.0 || second != larger.size.0 {

@@ -15,3 +15,4 @@ pub mod Split
 pub mod OneHonest
 pub mod HonestRuns
 pub mod Adding
+pub mod Looked
