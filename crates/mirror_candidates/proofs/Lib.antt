@@ -10,5 +10,4 @@ pub mod Checked
 pub mod Shown
 pub mod Points
 pub mod LineLists
-pub mod TrueFiles
 pub mod Lines

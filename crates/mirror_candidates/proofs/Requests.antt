@@ -2,23 +2,15 @@
 use Rattle.std.proofs.Common.{◌≡◌, inl, inr, ℕ, ◌<◌, List, [], ◌∷◌, length, get_or, Global, Vec, Option, Some, refl, subst, ◌∙◌, arith}
 use Rattle.std.proofs.lemmas.Bool.{cases_lt}
 use Rattle.tlog_tiles.specs.declared.paths.Path.{Path}
-use Rattle.tlog_tiles.specs.declared.paths.Path.TheVariants.{Checkpoint, Entries, Tile}
-use Rattle.mirror_sources.specs.Files.{full_of}
+use Rattle.tlog_tiles.specs.declared.paths.Path.TheVariants.{Checkpoint}
 use Rattle.mirror_places.specs.PlaceGets.{AnswersGet, AsksEach, AsksPlaces}
 use Rattle.mirror_places.specs.declared.place.Place.{Place}
 use Rattle.mirror_places.specs.declared.place.PlaceAnswer.{PlaceAnswer}
 use Rattle.mirror_places.specs.declared.place.PlaceAnswer.TheVariants as answer
 use Rattle.mirror_places.specs.declared.places.Places.{Places}
 use Rattle.mirror_places.proofs.Asking.{asked_same, asked_then, asked_weaker}
-use Rattle.mirror_places.specs.EndTiles.{IsEndTile}
 use Rattle.mirror_candidates.specs.Requests.{AsksAny, MayGiveNote, PlaceFails}
 use Rattle.mirror_candidates.specs.Gathering.{IsNote}
-
--- the full file of a tile in which a tree ends is one too
-pub full_ends : (sizes : ℕ × ℕ) (path : Path) → IsEndTile sizes path → IsEndTile sizes (full_of path)
-full_ends sizes Checkpoint h = h
-full_ends sizes (Tile level index width) h = h
-full_ends sizes (Entries index width) h = h
 
 module _ {S : Type 0} (may : S → Path → Option (List ℕ) → Type 0) (failed : S → ℕ) (asked : S → Option (List Path)) where
   abbrev Any : Places S → Places S → Type 0

@@ -3,10 +3,10 @@ pub mod Gathering
 pub mod Requests
 pub mod GatheredFrom
 pub mod Forks
+pub mod Faults
 pub mod Agreeing
 pub mod Checked
 pub mod Shown
 pub mod Lines
 pub mod Adding
-pub mod TrueFiles
-pub mod Noting
+pub mod ReadFiles

@@ -2,19 +2,23 @@
 //!
 //! ```text
 //! let candidates = candidates_of(alloc, "ex", &keys, &mut places, None)?; // places over 3 and over 257 entries: first that of 257
-//! ask_proof::<Sha256Tree, ListSource<Sha256Tree>>(alloc, &mut places, &candidates[1], &candidates[0])? // a proof of their fork, if any
+//! ask_proof::<Sha256Tree, MemShelf, ListSource<Sha256Tree>>(alloc, &mut shelf, &mut places, &candidates[1], &candidates[0])? // a proof of their fork, if any
 //! ```
 #![tactic(auto)]
 
+mod ask_fault;
 mod candidate;
 mod candidates;
 mod fault;
 mod files;
+mod find;
 mod fork_line;
 mod gather;
 mod laws;
 mod proving;
+mod way;
 
+pub use ask_fault::AskFault;
 pub use candidate::Candidate;
 pub use candidates::candidates_of;
 pub use fault::CandidateFault;

@@ -7,29 +7,30 @@ ghost use Rattle.tlog_proof.specs.declared.proof.Ask.TheVariants.{Consistency};
 ghost use Rattle.tlog_proof.specs.Text.{HasHashes};
 ghost use Rattle.mirror_sources.specs.Source.{StaysWithin};
 ghost use Rattle.mirror_sources.specs.Recorded.{KeepsRecord};
-ghost use Rattle.log_reader.specs.Faults.{CountsFailure, IsFailure};
+ghost use Rattle.log_reader.specs.Faults.{CountsFailure};
 ghost use Rattle.log_reader.specs.Holding.{ReadsLog};
 ghost use Rattle.log_reader.specs.Proving.{IsConsistencyTo};
 ghost use Rattle.mirror_places.specs.AskedOnce.{AsksMore};
-ghost use Rattle.mirror_places.specs.EndTiles.{AnswersStay, IsEndTile};
-ghost use Rattle.mirror_places.specs.PlaceGets.{NotesWrong};
+ghost use Rattle.mirror_places.specs.AskedEnds.{AsksEnds};
+ghost use Rattle.mirror_candidates.specs.Faults.{CountsAsk};
 ghost use Rattle.mirror_candidates.specs.Agreeing.{Agrees};
 ghost use Rattle.mirror_candidates.specs.Candidates.{point_of};
 ghost use Rattle.mirror_candidates.specs.Checked.{HasFirstRoot};
 ghost use Rattle.mirror_candidates.specs.Forks.{HasPoint};
 ghost use Rattle.mirror_candidates.specs.Requests.{AsksAny};
 ghost use Rattle.mirror_candidates.specs.Shown.{ShowsLarger};
-ghost use Rattle.mirror_candidates.specs.TrueFiles.{ShowsAgreement};
 
+use crate::ask_fault::AskFault;
 use crate::candidate::Candidate;
-use crate::files::{ReadFiles, ask_files, proof_paths};
+use crate::files::{ReadFiles, files_of_edge};
+use crate::way::add_way;
 use log_reader::{LogReader, ReadFault};
-use mirror_places::{Places, Wrong};
+use mirror_folders::ReadableShelf;
+use mirror_places::{Places, kept_edge};
 use mirror_sources::Source;
 use std::alloc::Global;
 use tlog_hash::{Hash, TreeHash};
 use tlog_proof::Proof;
-use tlog_tiles::Path;
 
 // Whether the first root of a proof is that hash.
 fn has_first_root(proof: &Proof, root: &Hash) -> bool
@@ -187,100 +188,97 @@ pub fn fork_proof<H: TreeHash, S: Source>(
     checked_proof::<H, S>(alloc, files, small, large)
 }
 
-// Records the file that is false, if that is why a proof was not made from the files of a place. A file that is missing is recorded
-// already. Another fault is returned.
-fn note_fault<S: Source + Drop>(
-    places: &mut Places<S>,
-    index: usize,
-    fault: ReadFault,
-) -> Result<(), ReadFault>
-    requires { index < length places.old.list.items }
-    ensures asks { AsksAny S.may_answer S.failed S.asked places.old places.new }
-    ensures more { AsksMore S.asked places.old places.new }
-    ensures ends { places.new.ends ≡ places.old.ends }
-    ensures files { OnOk result (¬ IsFailure fault) }
-    ensures noted { (path : Path) → fault ≡ ReadFault.FalseFile path
-        → NotesWrong path Wrong.False places.old places.new index }
-{
-    match fault {
-        ReadFault::NoFile(_) => Ok(()),
-        ReadFault::FalseFile(path) => {
-            places.note_wrong(index, &path, Wrong::False);
-            Ok(())
-        }
-        ReadFault::Collision => Ok(()),
-        fault => Err(fault),
-    }
-}
-
-// The proof that the larger candidate contradicts the smaller one, made from those files of a place. None: the place lacks them, or
-// there is no such proof. The fault `Source`: other files are needed.
-fn place_proof<H: TreeHash, S: Source + Drop>(
+// The proof from files in memory. None: they show no fork.
+fn read_proof<H: TreeHash>(
     alloc: Global,
-    places: &mut Places<S>,
-    index: usize,
-    paths: &[Path],
+    mut files: ReadFiles,
     smaller: &Candidate,
     larger: &Candidate,
-) -> Result<Option<Proof>, ReadFault>
-    requires place { index < length places.old.list.items }
-    requires ends { All (IsEndTile places.old.ends.sizes) paths.now }
-    ensures asks { AsksAny S.may_answer S.failed S.asked places.old places.new }
-    ensures more { AsksMore S.asked places.old places.new }
+) -> Result<Option<Proof>, AskFault>
+    ensures memory { (n : ℕ) → CountsAsk n n result }
     ensures proof { IfOk result (λ found. IfSome found
         (λ proof. ShowsLarger H.digest smaller.now larger.now (Some proof))) }
-    ensures stay { AnswersStay places.old.ends.tiles.items places.new.ends.tiles.items }
     ensures agrees { IfOk result (λ found. found ≡ None → 0 < smaller.now.size.0
         → smaller.now.size.0 < larger.now.size.0
-        → ShowsAgreement H.digest places.new.ends.tiles.items index (point_of smaller.now)
-        (point_of larger.now)) }
+        → Agrees H.digest (point_of smaller.now) (point_of larger.now)) }
 {
-    let mut files = ask_files(alloc, places, index, paths)?;
     match fork_proof::<H, ReadFiles>(alloc, &mut files, smaller, larger) {
         Ok(found) => Ok(found),
-        Err(fault) => match note_fault(places, index, fault) {
-            Ok(()) => Ok(None),
-            Err(fault) => Err(fault),
-        },
+        Err(ReadFault::NoFile(_)) => Err(AskFault::NoFile),
+        Err(ReadFault::FalseFile(_)) => Err(AskFault::NoFile),
+        Err(ReadFault::Collision) => Err(AskFault::NoFile),
+        Err(ReadFault::Source) => Err(AskFault::OtherFiles),
+        Err(ReadFault::OutOfMemory) => Err(AskFault::OutOfMemory),
     }
 }
 
-/// The proof that a larger candidate contradicts a smaller one, made from files of one of the places. For what a place was asked when a
-/// copy was brought from the one to the other, its answer is used.
+// The proof of two candidates whose sizes are those of the kept answers.
+fn find_proof<H: TreeHash, D: ReadableShelf, S: Source + Drop>(
+    alloc: Global,
+    shelf: &mut D,
+    places: &mut Places<S>,
+    smaller: &Candidate,
+    larger: &Candidate,
+) -> Result<Option<Proof>, AskFault>
+    requires first { smaller.now.size.0 ≡ places.old.ends.sizes.0 }
+    requires second { larger.now.size.0 ≡ places.old.ends.sizes.1 }
+    ensures same { KeepsRecord (D.puts shelf.old) (D.puts shelf.new) }
+    ensures counted { CountsAsk (D.failed shelf.old) (D.failed shelf.new) result }
+    ensures goes { AsksEnds S.may_answer S.failed S.asked places.old places.new }
+    ensures proof { IfOk result (λ found. IfSome found
+        (λ proof. ShowsLarger H.digest smaller.now larger.now (Some proof))) }
+    ensures agrees { IfOk result (λ found. found ≡ None → 0 < smaller.now.size.0
+        → smaller.now.size.0 < larger.now.size.0
+        → Agrees H.digest (point_of smaller.now) (point_of larger.now)) }
+{
+    let Some(edge) = kept_edge::<H, S>(alloc, places, larger.size.0, &larger.root)? else {
+        return Err(AskFault::NoFile);
+    };
+    let mut files = files_of_edge(alloc, &edge)?;
+    if !add_way::<H, D, S>(alloc, shelf, places, smaller.size.0, &edge, &mut files)? {
+        return Err(AskFault::NoFile);
+    }
+    read_proof::<H>(alloc, files, smaller, larger)
+}
+
+/// The proof that a larger candidate contradicts a smaller one, whoever holds which of its files. It is for after a copy was to be brought
+/// from the one to the other, and for what a place was asked then, its answer is used.
 ///
-/// None: no place has these files, or they show no fork. If the kept answers of a place are true of a log that has the larger candidate,
-/// that log has the smaller one too.
+/// A full file counts from wherever it verifies: from the shelf first, then from each place. A full row of level 0 counts from its bundle,
+/// or else from its tile. The rows of the larger candidate's edge are those of one place, or of two mixed.
+///
+/// None: the files were had, and show no fork: a proof made of them shows that the two candidates agree.
 ///
 /// ```text
-/// ask_proof::<Sha256Tree, ListSource<Sha256Tree>>(alloc, &mut places, &copy, &larger)? // Some(proof): no log has both
+/// ask_proof::<Sha256Tree, MemShelf, ListSource<Sha256Tree>>(alloc, &mut shelf, &mut places, &copy, &larger)? // Some(proof): no log has both
 /// ```
 ///
 /// # Errors
 ///
+/// - `NoFile`: nobody has one of these files, or the places give edge rows of no log.
+/// - `ShelfFault`: the shelf failed.
+/// - `OtherFiles`: the sizes are not those of `Places::ends`, or the proof needs a file that was not looked for.
 /// - `OutOfMemory`: memory was refused.
-/// - `Source`: the proof needs other files than those of the sizes `ends`.
-pub fn ask_proof<H: TreeHash, S: Source + Drop>(
+pub fn ask_proof<H: TreeHash, D: ReadableShelf, S: Source + Drop>(
     alloc: Global,
+    shelf: &mut D,
     places: &mut Places<S>,
     smaller: &Candidate,
     larger: &Candidate,
-) -> Result<Option<Proof>, ReadFault>
+) -> Result<Option<Proof>, AskFault>
+    ensures same { KeepsRecord (D.puts shelf.old) (D.puts shelf.new) }
+    ensures counted { CountsAsk (D.failed shelf.old) (D.failed shelf.new) result }
     ensures asks { AsksAny S.may_answer S.failed S.asked places.old places.new }
     ensures more { AsksMore S.asked places.old places.new }
     ensures proof { IfOk result (λ found. IfSome found
         (λ proof. ShowsLarger H.digest smaller.now larger.now (Some proof))) }
     ensures agrees { IfOk result (λ found. found ≡ None → 0 < smaller.now.size.0
-        → smaller.now.size.0 < larger.now.size.0 → (k : ℕ) → k < length places.old.list.items
-        → ShowsAgreement H.digest places.new.ends.tiles.items k (point_of smaller.now)
-        (point_of larger.now)) }
+        → smaller.now.size.0 < larger.now.size.0
+        → Agrees H.digest (point_of smaller.now) (point_of larger.now)) }
 {
-    let (first, size) = places.ends();
-    let paths = proof_paths(alloc, first, size)?;
-    for i in 0..places.list().len() {
-        match place_proof::<H, S>(alloc, places, i, &paths, smaller, larger)? {
-            Some(proof) => return Ok(Some(proof)),
-            None => {}
-        }
+    let (first, second) = places.ends();
+    if first != smaller.size.0 || second != larger.size.0 {
+        return Err(AskFault::OtherFiles);
     }
-    Ok(None)
+    find_proof::<H, D, S>(alloc, shelf, places, smaller, larger)
 }

@@ -16,3 +16,4 @@ pub mod Looking
 pub mod OneHonest
 pub mod HonestRuns
 pub mod Adding
+pub mod Looked

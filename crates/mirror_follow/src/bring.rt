@@ -2,6 +2,7 @@
 ghost use Rattle.std.specs.Prelude.{◌≡◌, ◌≢◌, ◌⊎◌, ◌<◌, ℕ, IfErr, IfOk, List, Option, Some, option_map, ⊤};
 ghost use Rattle.tlog_tiles.specs.declared.paths.Path.TheVariants.{Checkpoint};
 ghost use Rattle.mirror_folders.specs.Shelf.{Put, RecordsRead};
+ghost use Rattle.mirror_sources.specs.Recorded.{KeepsRecord};
 ghost use Rattle.mirror_places.specs.AskedOnce.{AsksEachOnce, AsksMore};
 ghost use Rattle.mirror_places.specs.EndTiles.{IsKept};
 ghost use Rattle.mirror_copy.specs.Conflicts.{HasConflict, IsConflict};
@@ -20,13 +21,12 @@ ghost use Rattle.mirror_follow.specs.Taken.{IsLargerThan, SaysTurn};
 
 use crate::fault::FollowFault;
 use crate::run::Outcome;
-use log_reader::ReadFault;
-use mirror_candidates::{Candidate, ask_proof};
+use mirror_candidates::{AskFault, Candidate, ask_proof};
 use mirror_copy::{BringFault, bring_copy};
 use mirror_folders::ReadableShelf;
 use mirror_places::Places;
 use mirror_sources::Source;
-use std::alloc::{AllocError, Global};
+use std::alloc::Global;
 use tlog_hash::TreeHash;
 
 // The meaning of a fault of `bring_copy`: the outcome for the candidate, or the fault that ends the run.
@@ -106,28 +106,34 @@ pub(crate) fn bring<H: TreeHash, D: ReadableShelf, S: Source + Drop>(
     }
 }
 
-/// The turn of a candidate that contradicts the copy. It is a fork if one of the places has the files of the proof.
-pub(crate) fn contradict<H: TreeHash, S: Source + Drop>(
+/// The turn of a candidate that contradicts the copy. It is a fork if the files of the proof are to be had.
+pub(crate) fn contradict<H: TreeHash, D: ReadableShelf, S: Source + Drop>(
     alloc: Global,
+    shelf: &mut D,
     places: &mut Places<S>,
     copy: &Candidate,
     candidate: &Candidate,
-) -> Result<Outcome, AllocError>
+) -> Result<Outcome, FollowFault>
     requires { copy.now.size.0 < candidate.now.size.0 }
+    ensures same { KeepsRecord (D.puts shelf.old) (D.puts shelf.new) }
+    ensures counted { CountsFollow (D.failed shelf.old) (D.failed shelf.new) result }
     ensures after { IfOk result (λ turn. (digest : List ℕ → List ℕ) (origin : List ℕ)
         (old new : Option (List Put)) → EachStays digest origin old new
         → StandsAfter digest origin candidate.now old new turn) }
     ensures asks { AsksAny S.may_answer S.failed S.asked places.old places.new }
     ensures more { AsksMore S.asked places.old places.new }
     ensures source { IfOk result (λ turn. turn ≢ Outcome.NotHad FollowFault.Source) }
+    ensures ends { IfErr result (EndsRun ⊥ ⊥) }
     ensures shows { IfOk result (ShowsTurn H.digest (Some copy.now) candidate.now) }
     ensures says { IfOk result (SaysTurn H.digest (Some copy.now) candidate.now) }
 {
-    match ask_proof::<H, S>(alloc, places, copy, candidate) {
+    match ask_proof::<H, D, S>(alloc, shelf, places, copy, candidate) {
         Ok(Some(proof)) => Ok(Outcome::Forks(Some(proof))),
         Ok(None) => Ok(Outcome::Contradicts),
-        Err(ReadFault::OutOfMemory) => Err(AllocError),
-        Err(_) => Ok(Outcome::Contradicts),
+        Err(AskFault::NoFile) => Ok(Outcome::Contradicts),
+        Err(AskFault::OtherFiles) => Ok(Outcome::Contradicts),
+        Err(AskFault::ShelfFault) => Err(FollowFault::ShelfFault),
+        Err(AskFault::OutOfMemory) => Err(FollowFault::OutOfMemory),
     }
 }
 
@@ -165,10 +171,7 @@ pub(crate) fn take_larger<H: TreeHash, D: ReadableShelf, S: Source + Drop>(
         Err(fault) => return Err(fault),
     };
     match turn {
-        Outcome::Contradicts => match contradict::<H, S>(alloc, places, copy, candidate) {
-            Ok(turn) => Ok(turn),
-            Err(_) => Err(FollowFault::OutOfMemory),
-        },
+        Outcome::Contradicts => contradict::<H, D, S>(alloc, shelf, places, copy, candidate),
         turn => Ok(turn),
     }
 }

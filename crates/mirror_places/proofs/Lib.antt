@@ -2,9 +2,12 @@ pub mod Asking
 pub mod AskingOnce
 pub mod Getting
 pub mod KeptAnswers
+pub mod AskingEnds
 pub mod EdgeLevels
 pub mod Prefixes
 pub mod Cutting
 pub mod Giving
+pub mod Mixing
 pub mod TrueAnswers
 pub mod TruePlaces
+pub mod GivenRows

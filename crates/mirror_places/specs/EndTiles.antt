@@ -1,4 +1,5 @@
--- The tiles in which the copy and the larger tree end. The answers of the places for them are kept.
+-- The tiles in which the copy and the larger tree end, and the full bundle in which the copy ends. The answers of the places for them
+-- are kept.
 use Rattle.std.specs.Prelude.{◌≡◌, ◌≢◌, ◌⊎◌, ℕ, ◌<◌, ◌≤◌, List, length, get_or, Option, Some, None}
 use Rattle.tlog_shape.specs.Edge.{edge_index_of}
 use Rattle.tlog_tiles.specs.declared.paths.Path.{Path}
@@ -9,12 +10,13 @@ use Rattle.mirror_places.specs.declared.place.PlaceAnswer.{PlaceAnswer}
 use Rattle.mirror_places.specs.declared.place.PlaceAnswer.TheVariants.{File, NotFound, Failed}
 use Rattle.mirror_places.specs.declared.places.Places.{Places}
 
--- a tile, partial or full, in which a tree of one of two sizes ends: the one after the full tiles of its level
+-- a tile, partial or full, in which a tree of one of two sizes ends: the one after the full tiles of its level. Or the full bundle in
+-- which the tree of the first size ends
 abbrev pub IsEndTile : ℕ × ℕ → Path → Type 0
 IsEndTile sizes Checkpoint = ⊥
 IsEndTile sizes (Tile level index width) =
     (level ≤ 7) × ((index ≡ edge_index_of sizes.0 level) ⊎ (index ≡ edge_index_of sizes.1 level))
-IsEndTile sizes (Entries index width) = ⊥
+IsEndTile sizes (Entries index width) = (index ≡ edge_index_of sizes.0 0) × (width ≡ 256)
 
 -- one of the answers is that of the place of index k for the path
 pub record IsHeard (tiles : List EndTile) (k : ℕ) (path : Path) : Type 0 where

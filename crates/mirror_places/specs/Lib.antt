@@ -1,7 +1,10 @@
 pub mod Asked
+pub mod AskedEnds
 pub mod AskedOnce
 pub mod EndTiles
+pub mod GivenFrom
 pub mod Giving
+pub mod Mixes
 pub mod PlaceGets
 pub mod TrueAnswers
 pub mod TruePlaces

@@ -19,8 +19,8 @@ use std::alloc::{AllocError, Global};
 use tlog_hash::{Hash, TreeHash};
 use tlog_tiles::Path;
 
-// Whether two rows have the same hashes.
-fn is_same_row(first: &[Hash], second: &[Hash]) -> bool
+/// Whether two rows have the same hashes.
+pub(crate) fn is_same_row(first: &[Hash], second: &[Hash]) -> bool
     ensures { IsTrue result ↔ (first.now ≡ second.now) }
 {
     first == second

@@ -1,4 +1,4 @@
-//! The tiles in which two trees end, as places answered for them.
+//! The tiles in which two trees end, and the bundle in which the first one ends, as places answered for them.
 ghost use Rattle.std.specs.Prelude.{◌≡◌, ◌↔◌, [], ℕ, IfNone, IfOk, IfSome, IsSomeAnd, IsTrue, OnOk, length};
 ghost use Rattle.mirror_places.specs.EndTiles.{AnswersStay, IsEmpty, IsEndTile, IsHeard, IsKeptAnswer, IsTileOf, KeepsAnswers, OthersStay, said};
 
@@ -7,7 +7,7 @@ use std::alloc::{AllocError, Global};
 use tlog_shape::edge_index;
 use tlog_tiles::Path;
 
-/// What a place answered for a tile.
+/// What a place answered for a tile, or for the bundle.
 #[derive(Drop)]
 pub(crate) struct EndTile {
     place: usize,
@@ -15,8 +15,9 @@ pub(crate) struct EndTile {
     answer: PlaceAnswer,
 }
 
-/// What the places answered in one bringing for the last tile of each level, partial or full, of the copy and of the larger tree.
-/// The proof that they contradict each other is made from these tiles. A place gives 24 of them at most, of 8,192 bytes at most.
+/// What the places answered in one bringing for the last tile of each level, partial or full, of the copy and of the larger tree, and
+/// for the full bundle in which the copy ends. The proof that they contradict each other is made from these files. A place gives 24
+/// tiles at most, of 8,192 bytes at most, and one bundle.
 #[derive(Drop)]
 pub(crate) struct EndTiles {
     alloc: Global,
@@ -35,7 +36,7 @@ fn copy_of(alloc: Global, answer: &PlaceAnswer) -> Result<PlaceAnswer, AllocErro
     }
 }
 
-// Whether a tree of one of these sizes ends in the tile at a path.
+// Whether a tree of one of these sizes ends in the tile at a path, or the first one in the full bundle there.
 fn is_end_tile(sizes: (u64, u64), path: &Path) -> bool
     ensures { IsTrue result ↔ IsEndTile sizes path.now }
 {
@@ -45,7 +46,7 @@ fn is_end_tile(sizes: (u64, u64), path: &Path) -> bool
             *level <= 7
                 && (*index == edge_index(sizes.0, *level) || *index == edge_index(sizes.1, *level))
         }
-        Path::Entries { .. } => false,
+        Path::Entries { index, width } => *index == edge_index(sizes.0, 0) && *width == 256,
     }
 }
 

@@ -1,13 +1,18 @@
-use Rattle.std.proofs.Common.{◌≡◌, ◌<◌, inl, inr, subst, sym, arith, length}
+use Rattle.std.proofs.Common.{◌≡◌, ◌<◌, All, inl, inr, subst, sym, arith, length}
 use Rattle.std.proofs.lemmas.Bool.{cases_lt}
 use Rattle.mirror_places.specs.Asked.{IsAskedInTurn, IsEdgeTile}
 use Rattle.mirror_places.specs.TruePlaces.{IsTruePlace}
+use Rattle.std.proofs.lemmas.List.Elements.{All-nil}
+use Rattle.mirror_places.specs.AskedOnce.{IsBeforeTurn}
+use Rattle.mirror_places.specs.GivenFrom.{AreRowsFrom}
 use Rattle.mirror_places.specs.Giving.{MayGive}
+use Rattle.mirror_places.specs.Mixes.{HaveWidths}
 use Rattle.mirror_places.proofs.Asking.{asks_noted, asks_same, asks_then, blamed_all, blamed_turn, turn_of, turn_one}
 use Rattle.mirror_places.proofs.Giving.{given_before}
 use Rattle.mirror_places.proofs.TruePlaces.{true_between, true_noted}
 use Rattle.mirror_places.proofs.Giving.{edge_weaker}
-use Rattle.mirror_places.proofs.AskingOnce.{once_noted, once_last, once_turn, once_turns}
+use Rattle.mirror_places.proofs.GivenRows.{added_from, adds_weaker, all_widths, among_from}
+use Rattle.mirror_places.proofs.AskingOnce.{once_noted, once_same, once_last, once_turn, once_turns}
 use Rattle.mirror_places.proofs.edge.edge_at_places.Goals as goal
 
 pub returns-in_err-edge-clause-asks : goal.returns-in_err-edge-clause-asks
@@ -60,6 +65,10 @@ loop-turn-preserved g c =
           c.args.places.now c.loop-turn.places c.edge_at_place.new.places c.loop-turn.invariant.asks c.edge_at_place.ensures.asks
           c.first-first.result c.loop-turn.turn c.in_turn-index.result c.in_turn-index.ensures.turn c.loop-turn.invariant.blamed
           (rw c.in-None.is at c.in_ok-edge.ensures.blamed);
+      given = added_from (MayGive may x) c.args.size c.loop-turn.given.items c.edge_at_place.new.given.items c.loop-turn.invariant.given
+          (adds_weaker (MayGive may y) (MayGive may x)
+          (λ path bytes given. given_before may failed asked so x y path bytes before given) c.args.size c.loop-turn.given.items
+          c.edge_at_place.new.given.items (rw c.in-None.is at c.in_ok-edge.ensures.rows));
     }
 
 pub returns-clause-honest : goal.returns-clause-honest
@@ -104,3 +113,38 @@ returns-clause-blamed g c =
     blamed_all g.S.Source.may_answer g.S.Source.failed g.S.Source.asked (λ p. ⊥) c.args.places.now c.loop-turn.places
     c.note_lacked.new.self c.note_lacked.ensures.asks c.first-first.result c.loop-turn.turn c.first-first.ensures
     (omega (arith, long, past)) c.loop-turn.invariant.blamed
+
+pub edge_of_pairs-requires : goal.edge_of_pairs-requires
+edge_of_pairs-requires g c = record {
+  widths = subst (All (HaveWidths c.args.size)) (sym c.deref.ensures.value)
+      (all_widths (MayGive g.S.Source.may_answer c.args.places.now) c.args.size c.loop-turn.given.items c.loop-turn.invariant.given);
+}
+
+pub loop-turn-init : goal.loop-turn-init
+loop-turn-init g c =
+    let x = c.args.places.now in
+    let take = MayGive g.S.Source.may_answer x in
+    record {
+      asks = asks_same g.S.Source.may_answer g.S.Source.failed g.S.Source.asked (IsEdgeTile c.args.size) x;
+      once = once_same g.S.Source.asked (IsBeforeTurn c.first-first.result 0 (IsEdgeTile c.args.size)) x;
+      honest = λ turn k lt. absurd (omega (arith, lt));
+      given = subst (All (AreRowsFrom take c.args.size)) (sym c.new-given.ensures.items) (All-nil (AreRowsFrom take c.args.size));
+      blamed = λ turn k lt. absurd (omega (arith, lt));
+    }
+
+pub returns-in_err-edge-2-clause-once : goal.returns-in_err-edge-2-clause-once
+returns-in_err-edge-2-clause-once g c =
+    once_turns g.S.Source.asked (IsEdgeTile c.args.size) c.first-first.result c.loop-turn.turn c.args.places.now
+    c.loop-turn.places c.loop-turn.invariant.once
+
+pub returns-in-Some-2-clause-once : goal.returns-in-Some-2-clause-once
+returns-in-Some-2-clause-once g c =
+    once_turns g.S.Source.asked (IsEdgeTile c.args.size) c.first-first.result c.loop-turn.turn c.args.places.now
+    c.loop-turn.places c.loop-turn.invariant.once
+
+pub returns-in-Some-2-clause-taken : goal.returns-in-Some-2-clause-taken
+returns-in-Some-2-clause-taken g c =
+    let take = MayGive g.S.Source.may_answer c.args.places.now in
+    among_from take c.args.size g.H.TreeHash.digest c.args.root.now c.deref.result.now c.in-Some-2.edge
+    (subst (All (AreRowsFrom take c.args.size)) (sym c.deref.ensures.value) c.loop-turn.invariant.given)
+    (rw c.in-Some-2.is at c.in_ok-edge-2.ensures.leads) (rw c.in-Some-2.is at c.in_ok-edge-2.ensures.mix)

@@ -1,4 +1,6 @@
-use Rattle.std.proofs.Common.{◌<◌, ℕ, List}
+use Rattle.std.proofs.Common.{◌<◌, ℕ, List, All}
+use Rattle.mirror_places.specs.Giving.{MayGive}
+use Rattle.mirror_places.specs.GivenFrom.{AreRowsFrom}
 use Rattle.mirror_places.specs.Asked.{IsAskedInTurn, IsEdgeTile}
 use Rattle.mirror_places.specs.AskedOnce.{AsksOnce, IsBeforeTurn}
 use Rattle.mirror_places.specs.PlaceGets.{AsksPlaces, IsBlamed}
@@ -13,5 +15,6 @@ invariant-loop-turn g l = record {
   honest : (turn k : ℕ) → turn < l.turn → IsAskedInTurn l.first turn k → (entries : List (List ℕ)) →
       IsRootOf g.H.TreeHash.digest entries l.size l.root →
       IsTruePlace g.H.TreeHash.digest entries g.S.Source.may_answer l.fn.places l.places k → ⊥;
+  given : All (AreRowsFrom (MayGive g.S.Source.may_answer l.fn.places) l.size) l.given.items;
   blamed : (turn k : ℕ) → turn < l.turn → IsAskedInTurn l.first turn k → IsBlamed l.fn.places l.places k;
 }
