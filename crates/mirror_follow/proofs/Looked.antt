@@ -1,5 +1,5 @@
 -- A proof was looked for on the shelf after a call that did not bring the copy.
-use Rattle.std.proofs.Common.{◌≡◌, ℕ, List, Option, Some, None, Result, Ok, Err, subst, sym, arith}
+use Rattle.std.proofs.Common.{◌≡◌, ℕ, List, [], Option, Some, None, Result, Ok, Err, subst, sym, arith}
 use Rattle.std.specs.Prelude.{IfOk, IfErr}
 use Rattle.mirror_sources.specs.Recorded.{KeepsRecord}
 use Rattle.mirror_folders.specs.Shelf.{Put}
@@ -7,13 +7,15 @@ use Rattle.mirror_copy.specs.Moments.{InTheEnd}
 use Rattle.mirror_candidates.specs.declared.candidate.Candidate.{Candidate}
 use Rattle.mirror_follow.specs.Blame.{CountsFollow}
 use Rattle.mirror_follow.specs.Ending.{EndsAt, EndsRun}
-use Rattle.mirror_follow.specs.Standing.{EachStays, StandsAfter}
+use Rattle.tlog_tiles.specs.declared.paths.Path.TheVariants.{Checkpoint}
+use Rattle.mirror_folders.specs.Shelf.{HasPut}
+use Rattle.mirror_follow.specs.Standing.{EachStays, IsCopyOfRun, PrunedAs, PrunedUnder, StandsAfter, StandsAs, StandsOrNone, StandsUnder}
 use Rattle.mirror_follow.specs.declared.fault.FollowFault.{FollowFault}
 use Rattle.mirror_follow.specs.declared.run.Outcome.{Outcome}
 use Rattle.mirror_follow.specs.declared.run.Outcome.TheVariants as turn
 use Rattle.mirror_follow.proofs.Ending.{ends_so}
 
-end_later : (y z : Option (List Put)) (so : List Put → Type 0) → KeepsRecord y z → InTheEnd y so → InTheEnd z so
+pub end_later : (y z : Option (List Put)) (so : List Put → Type 0) → KeepsRecord y z → InTheEnd y so → InTheEnd z so
 end_later None z so kept h = absurd h
 end_later (Some ys) None so kept h = absurd kept
 end_later (Some ys) (Some zs) so kept h = subst so (sym kept) h
@@ -45,7 +47,30 @@ pub ends_later : {T : Type 0} (so : Type 0) (r : Result T FollowFault) → IfErr
 ends_later so (Ok x) h = tt
 ends_later so (Err fault) h = ends_so ⊥ ⊥ so so fault (λ none. absurd none) (λ none. absurd none) h
 
-pub source_never : {T : Type 0} {E : Type 0} (so : Type 0) (v : Outcome) (r : Result Outcome E) →
+pub source_never : {E : Type 0} (so : Type 0) (v : Outcome) (r : Result Outcome E) →
     IfOk r (λ t. t ≡ v → ⊥) → IfOk r (λ t. t ≡ v → so)
 source_never so v (Ok t) h = λ is. absurd (h is)
 source_never so v (Err e) h = tt
+
+-- the copy of the run is still on the shelf
+pub known_later : (digest : List ℕ → List ℕ) (origin : List ℕ) (x y z : Option (List Put)) (copy : Option Candidate) →
+    IsCopyOfRun digest origin x y copy → KeepsRecord y z → IsCopyOfRun digest origin x z copy
+known_later digest origin x y z copy k kept = record {
+  some = λ held is note entries c. as_later copy entries (k.some held is note entries c);
+  pruned = λ held is note entries c. pruned_later copy entries (k.pruned held is note entries c);
+  none = λ held is none. none_later copy (k.none held is none);
+}
+  where
+    as_later : (copy : Option Candidate) (entries : List (List ℕ)) → StandsAs digest origin copy entries y →
+        StandsAs digest origin copy entries z
+    as_later None entries h = absurd h
+    as_later (Some c) entries h = end_later y z (StandsUnder digest origin c entries) kept h
+
+    pruned_later : (copy : Option Candidate) (entries : List (List ℕ)) → PrunedAs digest origin copy entries y →
+        PrunedAs digest origin copy entries z
+    pruned_later None entries h = absurd h
+    pruned_later (Some c) entries h = end_later y z (PrunedUnder digest origin c entries) kept h
+
+    none_later : (copy : Option Candidate) → StandsOrNone digest origin copy y → StandsOrNone digest origin copy z
+    none_later None h = end_later y z (λ now. HasPut now Checkpoint → ⊥) kept h
+    none_later (Some c) h = end_later y z (StandsUnder digest origin c []) kept h

@@ -21,8 +21,10 @@ use Rattle.mirror_candidates.proofs.Points.{one_back}
 use Rattle.mirror_candidates.proofs.Requests.{any_same, fails_then}
 use Rattle.mirror_follow.specs.Looking.{AddsForks, LooksOn}
 use Rattle.mirror_follow.specs.Blame.{CountsFollow, CountsFollowFault}
-use Rattle.mirror_follow.specs.Ending.{EndsAt, IsFirstFault, KeepsFault}
-use Rattle.mirror_follow.specs.OneHonest.{HasReached, HasSize, IsHonestFirst, IsHonestListed, TurnsReach}
+use Rattle.mirror_copy.specs.Taken.{WasPut}
+use Rattle.mirror_sources.specs.Recorded.{KeepsRecord}
+use Rattle.mirror_follow.specs.Ending.{EndsAt, EndsRun, IsFirstFault, KeepsFault}
+use Rattle.mirror_follow.specs.OneHonest.{HasReached, HasSize, IsHonestFirst, IsHonestListed, IsOfShelfOrMemory, TurnsReach}
 use Rattle.mirror_follow.specs.Standing.{IsCopyOfRun, IsHeadOf}
 use Rattle.mirror_follow.specs.Taken.{HasTaken, HasTakenRun, IsLineUpTo, IsOneOf}
 use Rattle.mirror_follow.specs.Turning.{IsRunFrom, ShowsTurn}
@@ -31,6 +33,7 @@ use Rattle.mirror_follow.specs.declared.fault.FollowFault.TheVariants as fault
 use Rattle.mirror_follow.specs.declared.run.Run.{Run}
 use Rattle.mirror_follow.specs.declared.run.Outcome.{Outcome}
 use Rattle.mirror_follow.specs.declared.run.Outcome.TheVariants as turn
+use Rattle.mirror_follow.proofs.Looked.{known_later}
 use Rattle.mirror_follow.proofs.OneHonest.{honest_part}
 use Rattle.mirror_follow.proofs.Taken.{fork_apart, taken_lines, within_added}
 
@@ -122,6 +125,19 @@ adds_fork (Err e) held c t proof old new is shows kept adds = tt
 
 -- ---- the places
 
+-- a call that ends without a fault of the copy ends since the shelf failed, or memory was refused
+shelf_or_memory : (e : FollowFault) → EndsRun ⊥ ⊥ e → IsOfShelfOrMemory e
+shelf_or_memory fault.NoCheckpoint h = absurd h
+shelf_or_memory (fault.Head f) h = absurd h
+shelf_or_memory fault.CopyDamaged h = absurd h
+shelf_or_memory fault.CopyInUse h = absurd h
+shelf_or_memory fault.ShelfFault h = inl refl
+shelf_or_memory fault.Contradiction h = absurd h
+shelf_or_memory fault.Collision h = absurd h
+shelf_or_memory fault.NoFile h = absurd h
+shelf_or_memory fault.Source h = absurd h
+shelf_or_memory fault.OutOfMemory h = inr refl
+
 module _ {S : Type 0} (may : S → Path → Option (List ℕ) → Type 0) (failed : S → ℕ) (asked : S → Option (List Path)) where
   -- a call that asks no place, and then one that asks some
   pub asks_then : (x y z : Places S) → y.list.items ≡ x.list.items → AsksAny may failed asked y z →
@@ -147,14 +163,16 @@ module _ {S : Type 0} (may : S → Path → Option (List ℕ) → Type 0) (faile
     known = h.known;
   }
 
-  listed_sooner : (digest : List ℕ → List ℕ) (puts held : Option (List Put)) (x y z : Places S) (origin : List ℕ)
+  -- "mid" are the puts before the second call, and "last" those after it
+  listed_sooner : (digest : List ℕ → List ℕ) (mid last held : Option (List Put)) (x y z : Places S) (origin : List ℕ)
       (copy : Option Candidate) (cs : List Candidate) → AsksAny may failed asked x y → AsksAny may failed asked y z →
-      IsHonestListed digest may puts x z origin held copy cs → IsHonestListed digest may puts x y origin held copy cs
-  listed_sooner digest puts held x y z origin copy cs p q h = record {
+      ((path : Path) (bytes : List ℕ) → WasPut mid path bytes → WasPut last path bytes) →
+      IsHonestListed digest may last x z origin held copy cs → IsHonestListed digest may mid x y origin held copy cs
+  listed_sooner digest mid last held x y z origin copy cs p q put h = record {
     entries = h.entries;
     candidate = h.candidate;
     listed = h.listed;
-    honest = honest_part may failed asked x x y z (any_same may failed asked x) p q puts puts (λ path bytes put. put) digest
+    honest = honest_part may failed asked x x y z (any_same may failed asked x) p q mid last put digest
         h.entries h.candidate.size.0 h.candidate.root h.honest;
     holds = h.holds;
     had = h.had;
@@ -164,14 +182,15 @@ module _ {S : Type 0} (may : S → Path → Option (List ℕ) → Type 0) (faile
   -- ---- the clauses of all turns
 
   module _ (digest : List ℕ → List ℕ) (run : Run) (r : Result Run FollowFault) (looks : IfOk r (LooksOn digest run))
-      (memory : IfErr r (λ e. e ≡ fault.OutOfMemory)) where
-    pub run_on : (origin : List ℕ) (a b : Option (List Put)) (copy : Option Candidate) →
-        IsRunFrom digest origin a b copy run → IfOk r (IsRunFrom digest origin a b copy)
-    run_on origin a b copy h = go r looks
+      (ends : IfErr r (EndsRun ⊥ ⊥)) where
+    pub run_on : (origin : List ℕ) (a b last : Option (List Put)) (copy : Option Candidate) → KeepsRecord b last →
+        IsRunFrom digest origin a b copy run → IfOk r (IsRunFrom digest origin a last copy)
+    run_on origin a b last copy kept h = go r looks
       where
-        go : (r : Result Run FollowFault) → IfOk r (LooksOn digest run) → IfOk r (IsRunFrom digest origin a b copy)
+        go : (r : Result Run FollowFault) → IfOk r (LooksOn digest run) → IfOk r (IsRunFrom digest origin a last copy)
         go (Ok next) l = record {
-          known = λ first k. subst (λ o. IsCopyOfRun digest origin first b o) (sym l.copy_is) (h.known first k);
+          known = λ first k. subst (λ o. IsCopyOfRun digest origin first last o) (sym l.copy_is)
+              (known_later digest origin first b last run.copy (h.known first k) kept);
           head = subst (λ o. IfSome o (IsHeadOf origin)) (sym l.copy_is) h.head;
           had_is = l.had_is ∙ h.had_is;
           shows = l.shows h.shows;
@@ -198,12 +217,11 @@ module _ {S : Type 0} (may : S → Path → Option (List ℕ) → Type 0) (faile
         go (Err e) l = tt
 
     pub reaches_on : (read : Option Candidate) (c : Candidate) → HasReached read c run.copy → TurnsReach read c r
-    reaches_on read c h = go r looks memory
+    reaches_on read c h = go r looks ends
       where
-        go : (r : Result Run FollowFault) → IfOk r (LooksOn digest run) → IfErr r (λ e. e ≡ fault.OutOfMemory) →
-            TurnsReach read c r
+        go : (r : Result Run FollowFault) → IfOk r (LooksOn digest run) → IfErr r (EndsRun ⊥ ⊥) → TurnsReach read c r
         go (Ok next) l is = subst (HasReached read c) (sym l.copy_is) h
-        go (Err e) l is = inr is
+        go (Err e) l is = shelf_or_memory e is
 
     pub first_on : (puts : Option (List Put)) (x y z : Places S) (origin : List ℕ) (copy : Option Candidate)
         (cs : List Candidate) → AsksAny may failed asked x y → AsksAny may failed asked y z →
@@ -213,17 +231,19 @@ module _ {S : Type 0} (may : S → Path → Option (List ℕ) → Type 0) (faile
     first_on puts x y z origin copy cs p q f h =
         reaches_on copy h.first (f (first_sooner digest puts x y z origin copy cs p q h))
 
-    pub passes_on : (P : Type 0) (puts held : Option (List Put)) (x y z : Places S) (origin : List ℕ)
+    pub passes_on : (P : Type 0) (mid last held : Option (List Put)) (x y z : Places S) (origin : List ℕ)
         (copy : Option Candidate) (cs : List Candidate) → AsksAny may failed asked x y → AsksAny may failed asked y z →
-        (P → (h : IsHonestListed digest may puts x y origin held copy cs) → HasSize h.candidate.size.0 run.copy) →
-        IfOk r (λ next. P → (h : IsHonestListed digest may puts x z origin held copy cs) → HasSize h.candidate.size.0 next.copy)
+        ((h : IsHonestListed digest may last x z origin held copy cs) (path : Path) (bytes : List ℕ) → WasPut mid path bytes →
+        WasPut last path bytes) →
+        (P → (h : IsHonestListed digest may mid x y origin held copy cs) → HasSize h.candidate.size.0 run.copy) →
+        IfOk r (λ next. P → (h : IsHonestListed digest may last x z origin held copy cs) → HasSize h.candidate.size.0 next.copy)
     unfolding listed_sooner
-    passes_on P puts held x y z origin copy cs p q f = go r looks
+    passes_on P mid last held x y z origin copy cs p q put f = go r looks
       where
         go : (r : Result Run FollowFault) → IfOk r (LooksOn digest run) →
-            IfOk r (λ next. P → (h : IsHonestListed digest may puts x z origin held copy cs) →
+            IfOk r (λ next. P → (h : IsHonestListed digest may last x z origin held copy cs) →
             HasSize h.candidate.size.0 next.copy)
         go (Ok next) l = λ prem h.
             subst (HasSize h.candidate.size.0) (sym l.copy_is)
-            (f prem (listed_sooner digest puts held x y z origin copy cs p q h))
+            (f prem (listed_sooner digest mid last held x y z origin copy cs p q (put h) h))
         go (Err e) l = tt

@@ -154,7 +154,7 @@ pub(crate) fn take_turns<H: TreeHash, D: ReadableShelf, S: Source + Drop>(
         origin.now (D.puts shelf.old) copy candidates.now) → HasSize h.candidate.size.0 run.copy) }
 {
     match take_each::<H, D, S>(alloc, origin, shelf, places, copy, candidates) {
-        Ok(run) => look_again::<H, S>(alloc, places, run),
+        Ok(run) => look_again::<H, D, S>(alloc, shelf, places, run),
         Err(fault) => Err(fault),
     }
 }

@@ -17,4 +17,4 @@ returns-clause-run g c =
     })
     refl refl refl refl
     (subst (λ l. AddsForks g.H.TreeHash.digest run.copy l run.forks.items c.look_all.new.forks.items) c.deref.ensures.value
-    c.in_ok-look_all.ensures.adds)
+    c.in-Ok.ensures.adds)
