@@ -45,7 +45,7 @@ pub ends_later : {T : Type 0} (so : Type 0) (r : Result T FollowFault) → IfErr
 ends_later so (Ok x) h = tt
 ends_later so (Err fault) h = ends_so ⊥ ⊥ so so fault (λ none. absurd none) (λ none. absurd none) h
 
-pub source_never : {T : Type 0} {E : Type 0} (so : Type 0) (v : Outcome) (r : Result Outcome E) →
+pub source_never : {E : Type 0} (so : Type 0) (v : Outcome) (r : Result Outcome E) →
     IfOk r (λ t. t ≡ v → ⊥) → IfOk r (λ t. t ≡ v → so)
 source_never so v (Ok t) h = λ is. absurd (h is)
 source_never so v (Err e) h = tt
