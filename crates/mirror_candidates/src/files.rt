@@ -90,7 +90,6 @@ impl ReadFiles {
     }
 }
 
-
 /// Adds the tile of a row.
 pub(crate) fn add_row(
     alloc: Global,

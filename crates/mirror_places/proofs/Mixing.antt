@@ -201,20 +201,20 @@ module _ (digest : List ℕ → List ℕ) (n : ℕ) (root : List ℕ) (first sec
         HaveNoMix digest n root first second
     mix_none none = record {
       none = λ edge size_is widths mix is.
-        let rows = table (row_at edge) 0 8 in
-        let rows_long : length rows ≡ 8 = table_long (row_at edge) 0 8 in
-        let at = λ (i : ℕ) (lt : i < 8). table_get (row_at edge) 0 8 i lt ∙ ap (row_at edge) (zero-add i) in
-        none rows (record {
-          mix = mix_of levels rows (rows_long ∙ sym long) (λ k d lt.
-              let low : k < 8 = omega (arith, lt, long) in
-              let two = each k d (omega (arith, low)) in
-              let there : get_or rows k [] ≡ row_at edge k = at k low in
-              elim (two.all (row_at edge k) (mix k (omega (arith, low)))) [
-                | inl first_is ↦ inl (there ∙ first_is)
-                | inr second_is ↦ inr (there ∙ second_is)
-              ]);
-          leads = all_lead digest edge widths rows rows_long (λ i lt. at i (omega (arith, lt, rows_long))) ∙ is;
-        });
+          let rows = table (row_at edge) 0 8 in
+          let rows_long : length rows ≡ 8 = table_long (row_at edge) 0 8 in
+          let at = λ (i : ℕ) (lt : i < 8). table_get (row_at edge) 0 8 i lt ∙ ap (row_at edge) (zero-add i) in
+          none rows (record {
+            mix = mix_of levels rows (rows_long ∙ sym long) (λ k d lt.
+                let low : k < 8 = omega (arith, lt, long) in
+                let two = each k d (omega (arith, low)) in
+                let there : get_or rows k [] ≡ row_at edge k = at k low in
+                elim (two.all (row_at edge k) (mix k (omega (arith, low)))) [
+                  | inl first_is ↦ inl (there ∙ first_is)
+                  | inr second_is ↦ inr (there ∙ second_is)
+                ]);
+            leads = all_lead digest edge widths rows rows_long (λ i lt. at i (omega (arith, lt, rows_long))) ∙ is;
+          });
     }
 
   -- neither place has a row of some level

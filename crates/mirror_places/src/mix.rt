@@ -79,11 +79,7 @@ fn is_root<H: TreeHash>(hash: Option<Hash>, root: &Hash) -> bool
 }
 
 // The rows with one more below them.
-fn with_row(
-    alloc: Global,
-    rows: Vec<Vec<Hash>>,
-    row: &[Hash],
-) -> Result<Vec<Vec<Hash>>, AllocError>
+fn with_row(alloc: Global, rows: Vec<Vec<Hash>>, row: &[Hash]) -> Result<Vec<Vec<Hash>>, AllocError>
     ensures { IfOk result (λ all. map (λ v. v.items) all.items
         ≡ row.now ∷ map (λ v. v.items) rows.items) }
 {

@@ -8,4 +8,3 @@ returns-in_err-found-clause-goes g c =
 pub returns-in-Some-clause-goes : goal.returns-in-Some-clause-goes
 returns-in-Some-clause-goes g c =
     ends_same g.S.Source.may_answer g.S.Source.failed g.S.Source.asked c.args.places.now
-

@@ -10,4 +10,3 @@ returns-clause-asks g c =
 pub returns-then-first-smaller-clause-asks : goal.returns-then-first-smaller-clause-asks
 returns-then-first-smaller-clause-asks g c =
     any_same g.S.Source.may_answer g.S.Source.failed g.S.Source.asked c.args.places.now
-

@@ -19,4 +19,3 @@ pub returns-clause-counted : goal.returns-clause-counted
 returns-clause-counted g c =
     let old = g.D.Shelf.failed c.args.shelf.now in
     subst (λ m. CountsAsk old m c.read_proof.result) (sym c.in_ok-add_way.ensures.counted) (c.read_proof.ensures.memory old)
-

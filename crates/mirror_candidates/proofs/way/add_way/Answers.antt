@@ -47,4 +47,3 @@ loop-done-preserved g c =
       goes = ends_then g.S.Source.may_answer g.S.Source.failed g.S.Source.asked c.args.places.now c.loop-done.places c.step_down.new.places c.loop-done.invariant.goes c.step_down.ensures.goes;
       end = inv.end ∙ sym (ap (λ (sizes : ℕ × ℕ). sizes.0) now.goes.asks.still.sizes_are);
     }
-

@@ -12,4 +12,3 @@ returns-then-is_whole-clause-goes g c =
 pub returns-in_default-clause-goes : goal.returns-in_default-clause-goes
 returns-in_default-clause-goes g c =
     ends_same g.S.Source.may_answer g.S.Source.failed g.S.Source.asked c.args.places.now
-

@@ -39,4 +39,3 @@ loop-turn-preserved g c =
           (All-append (HaveWidths c.args.size) c.loop-turn.given.items (c.in_ok-rows.rows ∷ []) inv.wide
           (All-cons (HaveWidths c.args.size) c.in_ok-rows.rows [] c.in_ok-rows.ensures.wide (All-nil (HaveWidths c.args.size))));
     }
-

@@ -35,4 +35,3 @@ returns-clause-none g c =
     vain_all c.loop-turn.places.ends.tiles.items (length c.args.places.now.list.items) c.first-first.result c.loop-turn.turn
     c.args.path.now (λ bytes. (row : List (List ℕ)) × Verifies g.H.TreeHash.digest c.args.kind c.args.hash.now bytes row)
     c.first-first.ensures (omega (arith, long, past)) c.loop-turn.invariant.none
-

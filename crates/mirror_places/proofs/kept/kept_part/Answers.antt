@@ -8,4 +8,3 @@ returns-in-NotFound g c =
 pub returns-in-File : goal.returns-in-File
 returns-in-File g c =
     ends_then g.S.Source.may_answer g.S.Source.failed g.S.Source.asked c.args.places.now c.ask_end.new.places c.note_end.new.places c.ask_end.ensures.goes c.note_end.ensures.goes
-

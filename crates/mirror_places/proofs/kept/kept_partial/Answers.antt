@@ -4,4 +4,3 @@ use Rattle.mirror_places.proofs.kept.kept_partial.Goals as goal
 pub returns-in-NotFound : goal.returns-in-NotFound
 returns-in-NotFound g c =
     ends_then g.S.Source.may_answer g.S.Source.failed g.S.Source.asked c.args.places.now c.ask_end.new.places c.kept_part.new.places c.ask_end.ensures.goes c.kept_part.ensures
-

@@ -49,4 +49,3 @@ returns-clause-wide g c = λ level low.
     let past = c.loop-level-test.false in
     subst (λ (given : GivenRows). IfSome (given_at given level) (λ row. length row ≡ width_of c.args.size level))
     (sym c.new.ensures) (c.loop-level.invariant.wide level (omega (arith, low, past)))
-
