@@ -1,5 +1,5 @@
 //! A copy that is brought to a larger candidate.
-ghost use Rattle.std.specs.Prelude.{◌≡◌, ◌≢◌, ◌⊎◌, ◌<◌, ℕ, IfErr, IfOk, List, Option, Some, option_map, ⊤};
+ghost use Rattle.std.specs.Prelude.{◌≡◌, ◌≢◌, ◌⊎◌, ◌<◌, ℕ, Err, IfErr, IfOk, IfSome, IsErr, List, Option, Some, option_map, ⊤};
 ghost use Rattle.tlog_tiles.specs.declared.paths.Path.TheVariants.{Checkpoint};
 ghost use Rattle.mirror_folders.specs.Shelf.{Put, RecordsRead};
 ghost use Rattle.mirror_sources.specs.Recorded.{KeepsRecord};
@@ -10,6 +10,8 @@ ghost use Rattle.mirror_copy.specs.Faults.{CountsFault, IsOtherFound};
 ghost use Rattle.mirror_copy.specs.OneHonest.{IsShelfOrMemory};
 ghost use Rattle.mirror_candidates.specs.Requests.{AsksAny, PlaceFails};
 ghost use Rattle.mirror_candidates.specs.Candidates.{note_of};
+ghost use Rattle.mirror_candidates.specs.Faults.{CountsAsk};
+ghost use Rattle.mirror_candidates.specs.Shown.{ShowsLarger};
 ghost use Rattle.mirror_candidates.specs.declared.candidate.Candidate.{Candidate};
 ghost use Rattle.mirror_follow.specs.Blame.{CountsFollow};
 ghost use Rattle.mirror_follow.specs.Ending.{EndsAt, EndsRun, IsOfConflict, IsOfOtherRun, NoPlaceFails};
@@ -28,6 +30,7 @@ use mirror_places::Places;
 use mirror_sources::Source;
 use std::alloc::Global;
 use tlog_hash::TreeHash;
+use tlog_proof::Proof;
 
 // The meaning of a fault of `bring_copy`: the outcome for the candidate, or the fault that ends the run.
 fn turn_of(fault: BringFault) -> Result<Outcome, FollowFault>
@@ -106,6 +109,32 @@ pub(crate) fn bring<H: TreeHash, D: ReadableShelf, S: Source + Drop>(
     }
 }
 
+// The outcome for a candidate that contradicts the copy, by what came of the request for its proof. Refused memory is no outcome.
+fn outcome_of(found: Result<Option<Proof>, AskFault>) -> Result<Outcome, FollowFault>
+    ensures memory { found ≡ Err AskFault.OutOfMemory → IsErr result }
+    ensures proof { IfOk result (λ turn. (digest : List ℕ → List ℕ) (copy candidate : Candidate)
+        → IfOk found (λ proof. IfSome proof
+        (λ p. ShowsLarger digest copy candidate (Some p)))
+        → ShowsTurn digest (Some copy) candidate turn) }
+    ensures source { IfOk result (λ turn. turn ≢ Outcome.NotHad FollowFault.Source) }
+    ensures after { IfOk result (λ turn. (digest : List ℕ → List ℕ) (origin : List ℕ)
+        (candidate : Candidate) (old new : Option (List Put)) → EachStays digest origin old new
+        → StandsAfter digest origin candidate old new turn) }
+    ensures says { IfOk result (λ turn. (digest : List ℕ → List ℕ) (copy candidate : Candidate)
+        → copy.size.0 < candidate.size.0 → SaysTurn digest (Some copy) candidate turn) }
+    ensures ends { IfErr result (EndsRun ⊥ ⊥) }
+    ensures counted { (old new : ℕ) → CountsAsk old new found → CountsFollow old new result }
+{
+    match found {
+        Ok(Some(proof)) => Ok(Outcome::Forks(Some(proof))),
+        Ok(None) => Ok(Outcome::Contradicts),
+        Err(AskFault::NoFile) => Ok(Outcome::Contradicts),
+        Err(AskFault::OtherFiles) => Ok(Outcome::Contradicts),
+        Err(AskFault::ShelfFault) => Err(FollowFault::ShelfFault),
+        Err(AskFault::OutOfMemory) => Err(FollowFault::OutOfMemory),
+    }
+}
+
 /// The turn of a candidate that contradicts the copy. It is a fork if the files of the proof are to be had.
 pub(crate) fn contradict<H: TreeHash, D: ReadableShelf, S: Source + Drop>(
     alloc: Global,
@@ -127,14 +156,8 @@ pub(crate) fn contradict<H: TreeHash, D: ReadableShelf, S: Source + Drop>(
     ensures shows { IfOk result (ShowsTurn H.digest (Some copy.now) candidate.now) }
     ensures says { IfOk result (SaysTurn H.digest (Some copy.now) candidate.now) }
 {
-    match ask_proof::<H, D, S>(alloc, shelf, places, copy, candidate) {
-        Ok(Some(proof)) => Ok(Outcome::Forks(Some(proof))),
-        Ok(None) => Ok(Outcome::Contradicts),
-        Err(AskFault::NoFile) => Ok(Outcome::Contradicts),
-        Err(AskFault::OtherFiles) => Ok(Outcome::Contradicts),
-        Err(AskFault::ShelfFault) => Err(FollowFault::ShelfFault),
-        Err(AskFault::OutOfMemory) => Err(FollowFault::OutOfMemory),
-    }
+    let found = ask_proof::<H, D, S>(alloc, shelf, places, copy, candidate);
+    outcome_of(found)
 }
 
 /// The turn of a candidate that is larger than the copy. No place is asked twice for a path, also if it is a fork.

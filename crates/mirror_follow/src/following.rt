@@ -30,13 +30,14 @@ use tlog_hash::TreeHash;
 ///
 /// The copy is brought to a larger candidate, as by `bring_copy`. The root of a smaller candidate is compared with that of the copy's first
 /// entries, from verified files of the copy. A larger candidate that contradicts the copy is a fork if a place has the files of the proof.
-/// Else it is one of `larger`, like a candidate whose files no place has.
+/// One that could not be had is looked at once more if the copy has grown since. Of the candidates that are larger than the copy at the end,
+/// the least root of each size is a fork with each other root of that size. One that is in no fork is one of `larger`.
 ///
 /// At each moment the shelf has a whole copy, for all answers of the places.
 ///
 /// ```text
 /// let done = follow::<Sha256Tree, MemShelf, ListSource<Sha256Tree>>(alloc, "ex", &keys, &mut shelf, &mut places, None)?;
-/// done.size    // 600
+/// done.copy    // Some((600, root))
 /// done.old     // 257
 /// done.forks   // empty: no candidate contradicts the copy
 /// ```
@@ -47,7 +48,7 @@ use tlog_hash::TreeHash;
 ///   or false. `ShelfFault`: the shelf failed. `CopyInUse`: another run put a checkpoint in the meantime.
 /// - `Head`: the given note is no candidate. Or no place gives a candidate, and this is the reason for the first place's note.
 ///   `NoCheckpoint`, `Source`: no place gives a candidate, and the first place lacks a checkpoint, or failed.
-/// - If the copy was empty and still is, the fault of the greatest candidate: `NoFile`; `Source`, if a place failed; `Contradiction`,
+/// - If the copy was empty and still is, and there is no fork, the fault of the greatest candidate: `NoFile`; `Source`, if a place failed; `Contradiction`,
 ///   if it has no entries and its root is not the hash of the empty list.
 /// - `OutOfMemory`: memory was refused.
 #[tactic(auto, using(crate::proofs::Kept::heads_open))]
