@@ -46,9 +46,9 @@ The targets:
   /mirror/missing/SIZE/ROOT          what 'missing' prints, with ROOT in lower case hexadecimal
   /mirror/inclusion/SIZE/INDEX, /mirror/consistency/FIRST/SECOND
                                      what 'prove' prints
-With --dir the checkpoint of D is read at each request, so D may be followed meanwhile. Its signature is
-not verified. A tile or a bundle is sent as it stands in D; proofs are verified. Where a file is missing
-or cannot be read, or a proof does not verify, the reply has status 500; --why names the file.
+With --dir the checkpoint of D is read at each request, so D may be followed meanwhile. It has to open
+under K, which is read again for a new one. Each file and proof is verified up to its root. Where a file
+is missing, false or cannot be read, the reply has status 500; --why names the file.
 
 Exit status: 0 done, 1 a fault, 2 a usage error, or a bad value (BadArgument).
 Faults of O, K, S and D: see 'tlogmirror --help'. Those of D are printed at the request that meets

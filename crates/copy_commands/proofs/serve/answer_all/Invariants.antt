@@ -12,7 +12,7 @@ abbrev pub invariant-loop : goal.invariant-loop
 invariant-loop g l =
     KeepsRecord (g.D.Shelf.puts l.fn.folders) (g.D.Shelf.puts l.folders)
     × IfSome (g.D.Shelf.puts l.fn.folders)
-    (λ puts. AnswersMore (IsAnswer sha256 (AreFileKeys (g.F.NamedFiles.puts l.files.now) l.serve.copy.log.keys.now)
+    (λ puts. AnswersMore (IsAnswer sha256 (AreFileKeys (g.F.NamedFiles.puts l.files) l.serve.copy.log.keys.now)
     l.serve.copy.log.origin.now (Some puts)) l.counter
     (g.S.Clients.exchanges l.fn.clients) (g.S.Clients.exchanges l.clients))
-    × IsLastOpened (AreFileKeys (g.F.NamedFiles.puts l.files.now) l.serve.copy.log.keys.now) l.serve.copy.log.origin.now None l.kept
+    × IsLastOpened (AreFileKeys (g.F.NamedFiles.puts l.files) l.serve.copy.log.keys.now) l.serve.copy.log.origin.now None l.kept
