@@ -14,7 +14,7 @@ use Rattle.mirror_folders.specs.Shelf.{Put}
 use Rattle.log_reader.specs.EdgeRows.{Edge, HasWidths, row_at}
 use Rattle.log_reader.specs.Verified.{HasLeaves}
 use Rattle.mirror_copy.specs.Growing.{IsKnown, IsNewFile, empty_tip}
-use Rattle.mirror_copy.specs.Repaired.{BeginsBundle, IsClearLog, IsEndHad, RecordsHad}
+use Rattle.mirror_copy.specs.Repaired.{AreEndsClear, BeginsBundle, IsEndHad, RecordsHad}
 use Rattle.mirror_copy.specs.Suffices.{IsEdgeTrue}
 use Rattle.mirror_copy.proofs.Bundles as bundles
 use Rattle.mirror_copy.proofs.Growth.{gathers_none, kept_adds, kept_same}
@@ -79,11 +79,11 @@ module _ (digest : List ℕ → List ℕ) (edge : Edge) (widths : HasWidths edge
 
 -- the partial bundle that was taken is true
 pub end_true : (digest : List ℕ → List ℕ) → IsDigest digest → (log : List (List ℕ)) (may : Path → List ℕ → Type 0) →
-    IsClearLog digest log may → (edge : Edge) → HasWidths edge → IsEdgeTrue digest log edge → (index width : ℕ) (bytes : List ℕ)
+    AreEndsClear digest log may → (edge : Edge) → HasWidths edge → IsEdgeTrue digest log edge → (index width : ℕ) (bytes : List ℕ)
     (row : List (List ℕ)) → index ≡ edge_index_of edge.size 0 → row ≡ row_at edge 0 → width ≡ length row → 1 ≤ width →
     HasLeaves digest width bytes row → BeginsBundle may index bytes → IsNewFile digest 0 log (Entries index width, bytes)
 end_true digest hash log may clear edge widths is index width bytes row at row_is wide some v taken =
-    let clean = clear.bundle index width bytes v.entries taken v.is_bundle in
+    let clean = clear index width bytes v.entries taken v.is_bundle in
     let w : width ≡ width_of edge.size 0 = wide ∙ (ap length row_is ∙ widths 0 (omega arith)) in
     let h : 256 * edge_index_of edge.size 0 + width_of edge.size 0 ≡ edge.size / 1 = hashes_of edge.size 0 in
     let same = edge_bundle_true digest hash log edge widths is index width bytes row at row_is wide v clean in

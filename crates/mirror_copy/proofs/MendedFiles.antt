@@ -1,7 +1,9 @@
 -- Files that stand, or whose full files begin with their bytes, while true files are put; and all files of a copy.
-use Rattle.std.proofs.Common.{◌≡◌, ◌≢◌, ◌⊎◌, ℕ, ◌+◌, ◌-◌, ◌*◌, ◌/◌, ◌^◌, ◌≤◌, ◌<◌, List, [], ◌∷◌, ◌++◌, length, map, All}
+use Rattle.std.proofs.Common.{◌≡◌, ◌≢◌, ◌⊎◌, ℕ, ◌+◌, ◌-◌, ◌*◌, ◌/◌, ◌%◌, ◌^◌, ◌≤◌, ◌<◌, List, [], ◌∷◌, ◌++◌, length, map, All}
 use Rattle.std.proofs.Common.{Option, Result, Ok, Err, OnOk, Some, None, inl, inr, refl, sym, ap, subst, ◌∙◌, arith, append_assoc}
 use Rattle.std.specs.List.{Contains}
+use Rattle.std.proofs.Math.Nat.{div-eq_of_lt}
+use Rattle.tlog_shape.proofs.Levels.{level_positive}
 use Rattle.std.proofs.lemmas.Bool.{cases_eq, cases_lt}
 use Rattle.std.proofs.lemmas.Nat.{mul-le}
 use Rattle.std.proofs.lemmas.List.{append-nil, append_cancel_left, length-append}
@@ -30,15 +32,15 @@ use Rattle.mirror_model.specs.Heads.{IsHead}
 use Rattle.mirror_model.specs.TrueLaws.{AreShort}
 use Rattle.mirror_places.proofs.Prefixes.{level_row_front, within_more}
 use Rattle.mirror_copy.specs.Edges.{IsEdgeBrought}
-use Rattle.mirror_copy.specs.Growing.{IsBelow, IsNewFile, Obtains, empty_tip}
+use Rattle.mirror_copy.specs.Growing.{IsBelow, IsKnown, IsNewFile, Obtains, empty_tip}
 use Rattle.mirror_copy.specs.Moments.{InTheEnd}
 use Rattle.mirror_copy.specs.Pruned.{HasGivenWay, IsPrunedCopy}
-use Rattle.mirror_copy.specs.Repaired.{AreEdgeTilesHad, GaveWay, HasCopy, HasLog, IsEachHad, IsEdgeTileHad, IsEndHad, IsRepaired, MendsEdgeTile, PutsTrue, RecordsHad, RepairKeepsTrue}
+use Rattle.mirror_copy.specs.Repaired.{AreEdgeTilesHad, GaveWay, HasCopy, HasLog, IsEachHad, IsEdgeTileHad, IsEndHad, IsRepaired, MendsEdgeTile, MendsEdgeTiles, PutsTrue, RecordsHad, RepairKeepsTrue}
 use Rattle.mirror_copy.specs.Standing.{RecordsStands}
 use Rattle.mirror_copy.proofs.Below.{below_within, records_earlier, stands_gathered}
 use Rattle.mirror_copy.proofs.EdgeRows.{above_within}
 use Rattle.mirror_copy.proofs.Finishing.{IsUnder, full_under, partial_at}
-use Rattle.mirror_copy.proofs.Growth.{gathers_keep, gathers_none, gathers_then, kept_same}
+use Rattle.mirror_copy.proofs.Growth.{gathers_keep, gathers_none, gathers_then, kept_adds, kept_same}
 use Rattle.mirror_copy.proofs.Mending.{never_within}
 use Rattle.mirror_copy.proofs.PrunedFiles.{file_listed, file_within}
 use Rattle.mirror_copy.proofs.Roots.{levels_within, map_same}
@@ -251,6 +253,23 @@ pub mends_tile : (digest : List ℕ → List ℕ) (edge : Edge) (entries : List 
 mends_tile digest edge entries x y level (Ok a) P p f left = f p
 mends_tile digest edge entries x y level (Err e) P p f left = left
 
+pub tiles_kept : (digest : List ℕ → List ℕ) (edge : Edge) (entries : List (List ℕ)) (x y : Option (List Put))
+    {T E : Type 0} (r : Result T E) → MendsEdgeTiles digest edge entries x y r → PutsTrue digest entries x y
+tiles_kept digest edge entries x y (Ok a) h = h.gathers
+tiles_kept digest edge entries x y (Err e) h = h
+
+-- no entries are known of an empty copy
+no_width : (level : ℕ) → width_of 0 level ≡ 0
+no_width level = ap (λ q. q % 256) (div-eq_of_lt (level_positive level))
+
+pub known_none : (digest : List ℕ → List ℕ) → IsKnown digest empty_tip 0 []
+known_none digest = record {
+  size_is = refl;
+  short = All-nil (λ (e : List ℕ). length e < 2 ^ 16);
+  rows_are = λ level upto. sym (ap (λ w. level_row digest [] level (256 * edge_index_of 0 level) w) (no_width level));
+  bundle_is = refl;
+}
+
 -- ---- all files
 
 module _ (digest : List ℕ → List ℕ) (edge : Edge) (small : edge.size < 9223372036854775808) (widths : HasWidths edge)
@@ -408,6 +427,16 @@ empty_log digest size root x y none is kept = record {
   holds = λ path file. absurd (no_file path (subst (λ n. IsTreeFile n path) none file));
 }
 
+pub log_then : (digest : List ℕ → List ℕ) (size : ℕ) (root : List ℕ) (x y z : Option (List Put)) → KeepsRecord x y →
+    HasLog digest size root y z → HasLog digest size root x z
+log_then digest size root x y z kept h = record {
+  log = h.log;
+  gathers = gathers_then digest 0 [] [] h.log x y z (gathers_none digest 0 [] x y kept) h.gathers;
+  size_is = h.size_is;
+  root_is = h.root_is;
+  holds = λ path file. had_earlier x y z [] path (true_bytes digest h.log path) (kept_adds x y kept) (h.holds path file);
+}
+
 way_given : (digest : List ℕ → List ℕ) (log : List (List ℕ)) (puts : List Put) (path : Path) →
     Stands puts path (true_bytes digest log path) ⊎ GaveWay puts path (true_bytes digest log path) →
     Stands puts path (true_bytes digest log path) ⊎ HasGivenWay digest log puts path
@@ -438,6 +467,12 @@ repaired_copy digest origin note size root (Some xs) (Some ys) (Some zs) head h 
         files = λ path file. way_given digest h.log ys path (h.holds path (subst (λ n. IsTreeFile n path) h.size_is file));
       };
     })
+
+pub repaired_then : (digest : List ℕ → List ℕ) (origin note : List ℕ) (x y z : Option (List Put)) → KeepsRecord x y →
+    IsRepaired digest origin note y z → IsRepaired digest origin note x z
+repaired_then digest origin note None y z kept h = λ held is. absurd (cc is)
+repaired_then digest origin note (Some xs) None z kept h = absurd kept
+repaired_then digest origin note (Some xs) (Some ys) z kept h = λ held is. h ys refl
 
 -- ---- moments
 

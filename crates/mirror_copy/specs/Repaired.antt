@@ -64,11 +64,16 @@ module _ (take : Path → List ℕ → Type 0) where
     pub size_is : edge.size ≡ n
     pub rows_are : (level : ℕ) → level ≤ 7 → BeginsTile n level (row_at edge level)
 
--- no two different strings of the log's tree and of a file or an edge that may be taken share a digest
+-- no two different strings of the log's tree and of the first entries of a bundle that may be taken share a digest
+abbrev pub AreEndsClear : (List ℕ → List ℕ) → List (List ℕ) → (Path → List ℕ → Type 0) → Type 0
+AreEndsClear digest log take =
+    (index width : ℕ) (bytes : List ℕ) (entries : List (List ℕ)) → BeginsBundle take index bytes → IsBundle width bytes entries →
+    AreEntriesClear digest log entries
+
+-- the same for each file and for each edge that may be taken
 pub record IsClearLog (digest : List ℕ → List ℕ) (log : List (List ℕ)) (take : Path → List ℕ → Type 0) : Type 0 where
   pub files : FilesAreClear digest log take
-  pub bundle : (index width : ℕ) (bytes : List ℕ) (entries : List (List ℕ)) →
-      BeginsBundle take index bytes → IsBundle width bytes entries → AreEntriesClear digest log entries
+  pub ends : AreEndsClear digest log take
   pub edge : (edge : Edge) → IsEdgeCut take (length log) edge → IsEdgeClear digest log edge
 
 -- ---- what stands

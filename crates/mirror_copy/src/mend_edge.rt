@@ -12,7 +12,7 @@ ghost use Rattle.mirror_copy.specs.Asked.{IsNewFull};
 ghost use Rattle.mirror_copy.specs.Edges.{IsEdgeBrought};
 ghost use Rattle.mirror_copy.specs.Faults.{CountsShelf};
 ghost use Rattle.mirror_copy.specs.Growing.{IsKnown, empty_tip};
-ghost use Rattle.mirror_copy.specs.Repaired.{BeginsBundle, CountsPuts, IsClearLog, IsEachHad, IsEdgeCut, IsEndHad, IsOfEdge, MayBeAskedToRepair, Mends, MendsEdgeTile, MendsEdgeTiles, PutsTrue};
+ghost use Rattle.mirror_copy.specs.Repaired.{AreEndsClear, BeginsBundle, CountsPuts, IsClearLog, IsEachHad, IsEdgeCut, IsEndHad, IsOfEdge, MayBeAskedToRepair, Mends, MendsEdgeTile, MendsEdgeTiles, PutsTrue};
 ghost use Rattle.mirror_copy.specs.Suffices.{IsEdgeTrue};
 ghost use Rattle.mirror_copy.specs.Taken.{FilesAreClear, MayTake};
 
@@ -262,7 +262,7 @@ fn mend_end<H: TreeHash, D: ReadableShelf, S: Source + Drop>(
     ensures counts { CountsPuts repaired.old.put repaired.new.put
         (D.puts shelf.old) (D.puts shelf.new) }
     ensures keeps { (log : List (List ℕ))
-        → IsClearLog H.digest log (MayTake S.may_answer places.old (D.puts shelf.old))
+        → AreEndsClear H.digest log (MayTake S.may_answer places.old (D.puts shelf.old))
         → IsEdgeTrue H.digest log edge.now
         → PutsTrue H.digest log (D.puts shelf.old) (D.puts shelf.new) }
     ensures whole { IfOk result (λ all. IsTrue all → (known : List (List ℕ))

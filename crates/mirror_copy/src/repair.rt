@@ -1,5 +1,5 @@
 //! A copy whose missing and false files are put anew.
-ghost use Rattle.std.specs.Prelude.{◌≡◌, ◌^◌, ◌<◌, ℕ, List, Some, IfOk, IsTrue, OnOk, length};
+ghost use Rattle.std.specs.Prelude.{◌≡◌, ◌^◌, ◌<◌, [], ℕ, List, Some, IfOk, IsTrue, OnOk, length};
 ghost use Rattle.tlog_hash.specs.Tree.{mth};
 ghost use Rattle.tlog_tiles.specs.declared.paths.Path.TheVariants.{Checkpoint};
 ghost use Rattle.mirror_model.specs.Heads.{IsHead};
@@ -10,6 +10,7 @@ ghost use Rattle.mirror_copy.specs.Faults.{CountsFault, CountsShelf};
 ghost use Rattle.mirror_copy.specs.Repaired.{AsksToRepair, CountsPuts, HasLog, IsClearLog, IsLack, IsRepaired, MayBeAskedToRepair, PutsTrue};
 ghost use Rattle.mirror_copy.specs.Taken.{MayTake};
 
+use crate::copy::is_empty_root;
 use crate::fault::BringFault;
 use crate::mend_edge::{look_for_edge, mend_all};
 use crate::repaired::Repaired;
@@ -22,16 +23,21 @@ use std::alloc::Global;
 use tlog_hash::{Hash, TreeHash};
 use tlog_tiles::Path;
 
-// Whether the shelf's checkpoint is that note.
-fn has_note<D: ReadableShelf>(shelf: &mut D, note: &[u8]) -> Result<bool, BringFault>
+// Goes on if the shelf's checkpoint is that note.
+fn check_note<D: ReadableShelf>(shelf: &mut D, note: &[u8]) -> Result<(), BringFault>
     ensures counted { CountsShelf (D.failed shelf.old) (D.failed shelf.new) result }
     ensures same { KeepsRecord (D.puts shelf.old) (D.puts shelf.new) }
-    ensures read { IfOk result (λ b. IsTrue b
-        → RecordsRead (D.puts shelf.old) Checkpoint (Some note.now)) }
+    ensures read { OnOk result (RecordsRead (D.puts shelf.old) Checkpoint (Some note.now)) }
 {
     match shelf.read(&Path::Checkpoint)? {
-        Some(there) => Ok(is_same(&there, note)),
-        None => Ok(false),
+        Some(there) => {
+            if is_same(&there, note) {
+                Ok(())
+            } else {
+                Err(BringFault::CopyInUse)
+            }
+        }
+        None => Err(BringFault::CopyInUse),
     }
 }
 
@@ -44,6 +50,18 @@ fn lack_of<S: Source + Drop>(places: &Places<S>) -> BringFault
         BringFault::Source
     } else {
         BringFault::NoFile
+    }
+}
+
+// A copy without entries has no file but its checkpoint.
+fn mend_empty<H: TreeHash>(root: &Hash) -> Result<bool, BringFault>
+    ensures counted { (n : ℕ) → CountsShelf n n result }
+    ensures empty { IfOk result (λ all. root.now ≡ H.digest []) }
+{
+    if is_empty_root::<H>(root) {
+        Ok(true)
+    } else {
+        Err(BringFault::CopyDamaged)
     }
 }
 
@@ -70,11 +88,7 @@ fn mend_copy<H: TreeHash, D: ReadableShelf, S: Source + Drop>(
         → HasLog H.digest size root.now (D.puts shelf.old) (D.puts shelf.new)) }
 {
     if size == 0 {
-        return if *root == H::empty() {
-            Ok(true)
-        } else {
-            Err(BringFault::CopyDamaged)
-        };
+        return mend_empty::<H>(root);
     }
     let edge = match look_for_edge::<H, D, S>(alloc, origin, shelf, places, size, root) {
         Ok(Some(edge)) => edge,
@@ -85,6 +99,43 @@ fn mend_copy<H: TreeHash, D: ReadableShelf, S: Source + Drop>(
         Err(fault) => return Err(fault),
     };
     mend_all::<H, D, S>(alloc, origin, shelf, places, &edge, repaired)
+}
+
+// Mends each file of the copy under the note, a checkpoint of that size and root. The note stands before and after it.
+fn mend_noted<H: TreeHash, D: ReadableShelf, S: Source + Drop>(
+    alloc: Global,
+    origin: &str,
+    shelf: &mut D,
+    places: &mut Places<S>,
+    note: &[u8],
+    size: u64,
+    root: &Hash,
+    repaired: &mut Repaired,
+) -> Result<bool, BringFault>
+    requires { IsHead note.now origin.now size root.now }
+    ensures counted { CountsShelf (D.failed shelf.old) (D.failed shelf.new) result }
+    ensures asks { AsksPlaces S.may_answer S.failed S.asked (MayBeAskedToRepair size)
+        places.old places.new }
+    ensures counts { CountsPuts repaired.old.put repaired.new.put
+        (D.puts shelf.old) (D.puts shelf.new) }
+    ensures keeps { (log : List (List ℕ)) → length log ≡ size → mth H.digest log ≡ root.now
+        → IsClearLog H.digest log (MayTake S.may_answer places.old (D.puts shelf.old))
+        → PutsTrue H.digest log (D.puts shelf.old) (D.puts shelf.new) }
+    ensures whole { IfOk result (λ all. IsTrue all
+        → IsRepaired H.digest origin.now note.now (D.puts shelf.old) (D.puts shelf.new)) }
+{
+    match check_note(shelf, note) {
+        Ok(()) => {}
+        Err(fault) => return Err(fault),
+    }
+    let all = match mend_copy::<H, D, S>(alloc, origin, shelf, places, size, root, repaired) {
+        Ok(all) => all,
+        Err(fault) => return Err(fault),
+    };
+    match check_note(shelf, note) {
+        Ok(()) => Ok(all),
+        Err(fault) => Err(fault),
+    }
 }
 
 /// Repairs the copy on a shelf: each file that is missing or false is put anew. `repaired` counts the files that were put.
@@ -138,20 +189,12 @@ pub fn repair_copy<H: TreeHash, D: ReadableShelf, S: Source + Drop>(
         Ok(None) => return Err(BringFault::BadCheckpoint),
         Err(_) => return Err(BringFault::OutOfMemory),
     };
-    match has_note(shelf, note) {
-        Ok(true) => {}
-        Ok(false) => return Err(BringFault::CopyInUse),
-        Err(fault) => return Err(fault),
-    }
     let root = head.1;
-    let all = match mend_copy::<H, D, S>(alloc, origin, shelf, places, head.0, &root, repaired) {
+    let all = match mend_noted::<H, D, S>(
+        alloc, origin, shelf, places, note, head.0, &root, repaired,
+    ) {
         Ok(all) => all,
         Err(fault) => return Err(fault),
     };
-    match has_note(shelf, note) {
-        Ok(true) => {}
-        Ok(false) => return Err(BringFault::CopyInUse),
-        Err(fault) => return Err(fault),
-    }
     if all { Ok(()) } else { Err(lack_of(places)) }
 }
