@@ -28,3 +28,7 @@ pub mod TrueEdges
 pub mod Damages
 pub mod Compared
 pub mod OneHonest
+pub mod Mending
+pub mod MendedFiles
+pub mod Cuts
+pub mod Ends

@@ -20,11 +20,11 @@ all_within =
     (All-cons P 6 (7 ∷ []) (omega arith)
     (All-cons P 7 [] (omega arith) (All-nil P))))))))
 
-levels_within : (n : ℕ) → All (λ level. level ≤ 7) (edge_levels n)
+pub levels_within : (n : ℕ) → All (λ level. level ≤ 7) (edge_levels n)
 unfolding edge_levels
 levels_within n = All-filter (λ level. not (width_of n level == 0)) (λ level. level ≤ 7) all_levels all_within
 
-map_same : (f g : ℕ → List (List ℕ)) (levels : List ℕ) → All (λ level. level ≤ 7) levels →
+pub map_same : (f g : ℕ → List (List ℕ)) (levels : List ℕ) → All (λ level. level ≤ 7) levels →
     ((level : ℕ) → level ≤ 7 → f level ≡ g level) → map f levels ≡ map g levels
 map_same f g [] all same = refl
 map_same f g (x ∷ xs) all same =

@@ -14,3 +14,4 @@ pub mod Taken
 pub mod OneHonest
 pub mod Damaged
 pub mod Compared
+pub mod Repaired

@@ -52,8 +52,8 @@ struct Candidate<'a> {
     root: Hash,
 }
 
-// Whether the root is the hash of the empty list.
-fn is_empty_root<H: TreeHash>(root: &Hash) -> bool
+/// Whether the root is the hash of the empty list.
+pub(crate) fn is_empty_root<H: TreeHash>(root: &Hash) -> bool
     ensures { IsTrue result ↔ (root.now ≡ H.digest []) }
 {
     *root == H::empty()

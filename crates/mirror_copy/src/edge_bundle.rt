@@ -34,7 +34,7 @@ use tlog_shape::edge_index;
 use tlog_tiles::Path;
 
 // The bundle from the shelf, if it has these leaf hashes. The shelf notes one that does not.
-fn edge_bundle_on_shelf<H: TreeHash, D: ReadableShelf>(
+pub(crate) fn edge_bundle_on_shelf<H: TreeHash, D: ReadableShelf>(
     alloc: Global,
     shelf: &mut D,
     path: &Path,
@@ -63,7 +63,7 @@ fn edge_bundle_on_shelf<H: TreeHash, D: ReadableShelf>(
 }
 
 // The bundle from the shelf, or else from a place.
-fn find_edge_bundle<H: TreeHash, D: ReadableShelf, S: Source + Drop>(
+pub(crate) fn find_edge_bundle<H: TreeHash, D: ReadableShelf, S: Source + Drop>(
     alloc: Global,
     shelf: &mut D,
     places: &mut Places<S>,

@@ -81,3 +81,30 @@ pub(crate) fn find<H: TreeHash, D: ReadableShelf, S: Source + Drop>(
         None => Err(fault_of(places)),
     }
 }
+
+/// The same. None: neither the shelf nor a place has the file.
+pub(crate) fn look_for<H: TreeHash, D: ReadableShelf, S: Source + Drop>(
+    alloc: Global,
+    shelf: &mut D,
+    places: &mut Places<S>,
+    kind: FullFile,
+    path: &Path,
+    hash: &Hash,
+    bundles: u64,
+) -> Result<Option<Found>, BringFault>
+    ensures found { IfOk result (λ found. IfSome found
+        (λ f. Verifies H.digest kind hash.now f.bytes.items f.row.items)) }
+    ensures same { KeepsRecord (D.puts shelf.old) (D.puts shelf.new) }
+    ensures counted { CountsShelf (D.failed shelf.old) (D.failed shelf.new) result }
+    ensures asks { AsksPlaces S.may_answer S.failed S.asked (λ p. p ≡ path.now)
+        places.old places.new }
+    ensures taken { IfOk result (λ found. IfSome found
+        (λ f. MayTake S.may_answer places.old (D.puts shelf.old) path.now f.bytes.items)) }
+{
+    match find::<H, D, S>(alloc, shelf, places, kind, path, hash, bundles) {
+        Ok(found) => Ok(Some(found)),
+        Err(BringFault::NoFile) => Ok(None),
+        Err(BringFault::Source) => Ok(None),
+        Err(fault) => Err(fault),
+    }
+}

@@ -1,6 +1,7 @@
 //! Laws of the definitions that the contracts cite.
 ghost use Rattle.mirror_copy.specs.Copies.{BringingBeginsEmpty, BringingMakesCopy, BringingStaysCopy, BroughtRowsLeadToRoot, CopiesAreSame, NewFilesKeepCopies};
 ghost use Rattle.mirror_copy.specs.Pruned.{CopiesArePruned};
+ghost use Rattle.mirror_copy.specs.Repaired.{RepairKeepsTrue};
 
 /// At each moment, if only new files were put, the old copy is unchanged.
 pub fn new_files_law()
@@ -36,4 +37,9 @@ pub fn pruned_copy_law()
 /// The call may start from an empty shelf.
 pub fn empty_tip_law()
     ensures { BringingBeginsEmpty }
+{}
+
+/// At each moment of a repair, each file of the copy that was true is true.
+pub fn repair_keeps_law()
+    ensures { RepairKeepsTrue }
 {}

@@ -17,15 +17,23 @@ mod found;
 mod keep;
 mod last;
 mod laws;
+mod mend;
+mod mend_edge;
+mod mend_tiles;
 mod read_tip;
+mod repair;
+mod repaired;
 mod same;
 mod shelf_files;
 mod tip;
 mod to_edge;
+mod wider;
 
 pub use copy::bring_copy;
 pub use fault::BringFault;
 pub use laws::{
-    empty_tip_law, makes_copy_law, new_files_law, pruned_copy_law, root_law, same_copy_law,
-    stays_copy_law,
+    empty_tip_law, makes_copy_law, new_files_law, pruned_copy_law, repair_keeps_law, root_law,
+    same_copy_law, stays_copy_law,
 };
+pub use repair::repair_copy;
+pub use repaired::Repaired;

@@ -48,7 +48,7 @@ fn begins_with(row: &[Hash], old: &[Hash]) -> bool
 }
 
 // Whether the bytes begin with the old ones.
-fn goes_on_from(bytes: &[u8], old: &[u8]) -> bool
+pub(crate) fn goes_on_from(bytes: &[u8], old: &[u8]) -> bool
     ensures { IsTrue result ↔ ((length old.now ≤ length bytes.now)
         × (take (length old.now) bytes.now ≡ old.now)) }
 {
