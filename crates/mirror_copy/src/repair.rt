@@ -177,7 +177,8 @@ pub fn repair_copy<H: TreeHash, D: ReadableShelf, S: Source + Drop>(
         places.old places.new }
     ensures counts { CountsPuts repaired.old.put repaired.new.put
         (D.puts shelf.old) (D.puts shelf.new) }
-    ensures keeps { (log : List (List ℕ)) → IsHead note.now origin.now (length log) (mth H.digest log)
+    ensures keeps { (log : List (List ℕ))
+        → IsHead note.now origin.now (length log) (mth H.digest log)
         → IsClearLog H.digest log (MayTake S.may_answer places.old (D.puts shelf.old))
         → PutsTrue H.digest log (D.puts shelf.old) (D.puts shelf.new) }
     ensures whole { OnOk result
