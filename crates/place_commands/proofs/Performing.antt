@@ -1,5 +1,6 @@
 -- How a command over places ends, given the answer of its call. The answers of the commands cite one lemma each.
 use Rattle.std.proofs.Common.{◌≡◌, inl, ℕ, List, Option, Result, Ok, Err, IfErr, IfOk, Some, None, map, refl}
+use Rattle.std.specs.Prelude.{⊤}
 use Rattle.std.specs.Io.KnownBytes.{Keeps}
 use Rattle.std.specs.Result.{result_map_both}
 use Rattle.signed_note.specs.Keys.{Key}
