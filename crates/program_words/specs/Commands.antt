@@ -235,12 +235,12 @@ pub record IsPull (options : List Row) (pull : Pull) : Type 0 where
 
 -- -- follow
 
--- `follow --origin O --keys K --dir D [--checkpoint FILE] [--forks F] [--ahead N] [--wait SECONDS] [--progress] KIND
--- PLACE..`
+-- `follow --origin O --keys K --dir D [--checkpoint FILE] [--forks F] [--repair] [--ahead N] [--wait SECONDS] [--progress]
+-- KIND PLACE..`
 abbrev pub follow_app : App
-follow_app = with_rule (with_rule (with_rule (with_rule (with_rule (with_rule
+follow_app = with_rule (with_rule (with_rule (with_rule (with_rule (with_rule (with_rule
     (copy_app (codes "follow")) (choice_rule (codes "checkpoint"))) (choice_rule (codes "forks")))
-    ahead_rule) wait_rule) progress_rule) (words_rule (codes "place"))
+    (flag_rule (codes "repair"))) ahead_rule) wait_rule) progress_rule) (words_rule (codes "place"))
 
 -- there are words, and they name these places; `clap` requires at least one word
 abbrev pub ArePlacesGiven : Option (List Text) → List Place → Type 0
@@ -256,6 +256,7 @@ pub record IsFollow (options : List Row) (follow : Follow) : Type 0 where
   pub copy : IsCopyArgs options follow.copy
   pub checkpoint : first_of (codes "checkpoint") options ≡ option_map (λ f. f.now) follow.checkpoint
   pub forks : first_of (codes "forks") options ≡ option_map (λ f. f.now) follow.forks
+  pub repair : IsTrue follow.repair ↔ HasFlag options (codes "repair")
   pub pace : IsPace options follow.pace
   pub progress : IsTrue follow.progress ↔ HasFlag options (codes "progress")
   pub why : IsTrue follow.why ↔ HasFlag options (codes "why")

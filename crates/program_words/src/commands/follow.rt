@@ -24,6 +24,8 @@ pub struct Follow<'a> {
     pub checkpoint: Option<&'a str>,
     /// The folder for the evidence of forks, if it is wanted.
     pub forks: Option<&'a str>,
+    /// Whether the copy is repaired first.
+    pub repair: bool,
     /// How each server is asked. A folder ignores it.
     pub pace: Pace,
     /// Whether lines report the progress.
@@ -46,6 +48,8 @@ The output is 'followed SIZE ROOT from OLD': what D has now, and how many entrie
   behind SIZE ROOT          the greatest checkpoint of the places, where all are smaller than D's
 A fork is the operator's doing. With --forks both notes and the proof that 'check' reads are written to F.
 With --checkpoint D is brought to the note in FILE, and no place is asked for one.
+With --repair all of D is read first. A file that is missing or false is looked for at the places, verified
+and written anew. The output then begins with 'repaired N', the number of files that were written.
 With --progress lines like 'follow: 1,024 of 7,832 files, 23 MB' go to standard error, from the first
 second on, and at its end 'follow: 5,000 to 5,300 entries, 4 files, 91 kB'.
 With --why a line goes to standard error for D and for each place, if something was wrong there.
@@ -56,12 +60,11 @@ Exit status: 0 done, 3 there is a fork, or a larger checkpoint, 1 a fault, 2 a u
 or a bad value (BadArgument).
 Faults of O and K: see 'tlogmirror --help'. Besides, on standard error:
   FileFault           FILE cannot be read, or F cannot be written: D was brought forward before
-  CopyDamaged         a file of D is missing or false, or D is of another log: audit D, and follow the log
-                      into a new folder
+  CopyDamaged         a file of D is missing or false, or D is of another log: see O, and give --repair
   CopyInUse           another run has written the checkpoint of D: let one run at a time work on it
   ShelfFault          D cannot be read or written: see the path, the rights and the room
   NoCheckpoint        the first place has no checkpoint, and no other has one of the log
-  NoFile              D is empty, and no place has a file that is wanted: try again, or another place
+  NoFile              D is empty, or is repaired, and no place has a file of it: try again, or another place
   Source              a place could not be read, did not answer or stayed busy, and no other had what was wanted
   NoteTooLong, NotText, NoSignatures, TooManySignatures, BadSignatureLine
                       the checkpoint is no signed note
@@ -92,6 +95,10 @@ pub const LINE: CommandLine<'static> = CommandLine {
             "forks",
             "F",
             "The folder that the evidence of forks is written to",
+        ),
+        Argument::Flag(
+            "repair",
+            "Read the whole copy first, and write each missing or false file anew",
         ),
         AHEAD,
         WAIT,
@@ -131,6 +138,7 @@ pub fn read<'a>(alloc: Global, found: &ArgMatches<'a>, refusals: &mut Refusals) 
     let copy = copy_args(found, refusals);
     let checkpoint = found.get_str("checkpoint");
     let forks = found.get_str("forks");
+    let repair = has_flag(found, "repair");
     let pace = pace_of(found, refusals);
     let progress = has_flag(found, "progress");
     let why = has_flag(found, "why");
@@ -139,6 +147,7 @@ pub fn read<'a>(alloc: Global, found: &ArgMatches<'a>, refusals: &mut Refusals) 
         copy,
         checkpoint,
         forks,
+        repair,
         pace,
         progress,
         why,

@@ -28,6 +28,7 @@ returns c = record {
             copy = s0.1;
             checkpoint = given_or_none (found_of c.args.found.now) (codes "checkpoint") (option_map (λ s. s.now) c.get_str-checkpoint.result) c.get_str-checkpoint.ensures;
             forks = given_or_none (found_of c.args.found.now) (codes "forks") (option_map (λ s. s.now) c.get_str-forks.result) c.get_str-forks.ensures;
+            repair = c.has_flag-repair.ensures;
             pace = s1.1;
             progress = c.has_flag-progress.ensures;
             why = c.has_flag-why.ensures;
