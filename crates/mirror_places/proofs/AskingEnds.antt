@@ -1,5 +1,5 @@
 -- Requests for the files in which the two trees end, call after call.
-use Rattle.std.proofs.Common.{◌≡◌, ◌⊎◌, inl, inr, ℕ, ◌+◌, ◌<◌, ◌≤◌, List, length, get_or, Option, refl, sym, ap, subst, ◌∙◌, arith}
+use Rattle.std.proofs.Common.{◌≡◌, ◌⊎◌, inl, inr, ℕ, ◌+◌, ◌<◌, ◌≤◌, List, Option, refl, sym, ap, subst, arith}
 use Rattle.std.specs.Prelude.{⊤}
 use Rattle.std.proofs.lemmas.Bool.{cases_lt}
 use Rattle.tlog_tiles.specs.declared.paths.Path.{Path}
@@ -9,14 +9,14 @@ use Rattle.mirror_sources.specs.Files.{full_of}
 use Rattle.mirror_places.specs.Asked.{IsAskedInTurn}
 use Rattle.mirror_places.specs.AskedEnds.{AsksEnds, IsEndSize, IsKeptInVain}
 use Rattle.mirror_places.specs.AskedOnce.{AsksMore}
-use Rattle.mirror_places.specs.EndTiles.{AnswersStay, IsEndTile, IsKeptAnswer, said}
+use Rattle.mirror_places.specs.EndTiles.{AnswersStay, IsEndTile}
 use Rattle.mirror_places.specs.PlaceGets.{AsksPlaces}
 use Rattle.mirror_places.specs.declared.end_tiles.EndTile.{EndTile}
 use Rattle.mirror_places.specs.declared.end_tiles.EndTiles.{EndTiles}
 use Rattle.mirror_places.specs.declared.places.Places.{Places}
 use Rattle.mirror_places.proofs.Asking.{asks_same, asks_then, asks_weaker, turn_of, turn_one}
 use Rattle.mirror_places.proofs.AskingOnce.{more_same, more_then}
-use Rattle.mirror_places.proofs.KeptAnswers.{answers_same, answers_then}
+use Rattle.mirror_places.proofs.KeptAnswers.{answer_later, answers_same, answers_then}
 
 -- the full file of a file in which a tree ends is one too
 pub full_end : (sizes : ℕ × ℕ) (path : Path) → IsEndTile sizes path → IsEndTile sizes (full_of path)
@@ -71,21 +71,11 @@ module _ {S : Type 0} (may : S → Path → Option (List ℕ) → Type 0) (faile
 
 pub kept_later : (x y : List EndTile) → AnswersStay x y → (k : ℕ) (path : Path) (good : List ℕ → Type 0) →
     IsKeptInVain x k path good → IsKeptInVain y k path good
-kept_later x y stay k path good h =
-    let lt = h.kept.tile.listed in
-    let more = stay.more in
-    record {
-      answer = h.answer;
-      kept = record {
-        at = h.kept.at;
-        tile = record {
-          listed = omega (arith, lt, more);
-          is = λ d. subst (λ (t : EndTile). (t.place ≡ k) × (t.path ≡ path)) (sym (stay.same h.kept.at lt d)) (h.kept.tile.is d);
-        };
-        says = λ d. ap (λ (t : EndTile). said t.answer) (stay.same h.kept.at lt d) ∙ h.kept.says d;
-      };
-      vain = h.vain;
-    }
+kept_later x y stay k path good h = record {
+  answer = h.answer;
+  kept = answer_later x y stay k path h.answer h.kept;
+  vain = h.vain;
+}
 
 -- one more place
 pub vain_turn : (x y : List EndTile) → AnswersStay x y → (first turn index : ℕ) → IsAskedInTurn first turn index → (path : Path)

@@ -1,15 +1,14 @@
 -- The rows that a place gave for an edge.
-use Rattle.std.proofs.Common.{◌≡◌, ◌⊎◌, inl, inr, ℕ, ◌+◌, ◌*◌, ◌^◌, ◌<◌, ◌≤◌, List, [], ◌∷◌, ◌++◌, length, get_or, All, Option, Some, None, Vec, Global}
+use Rattle.std.proofs.Common.{◌≡◌, inl, inr, ℕ, ◌*◌, ◌^◌, ◌<◌, ◌≤◌, List, [], ◌∷◌, length, get_or, All, Option, Some, None, Vec, Global}
 use Rattle.std.proofs.Common.{refl, sym, ap, subst, ◌∙◌, arith, zero-add}
 use Rattle.std.specs.Prelude.{IfSome, option_map}
-use Rattle.std.proofs.lemmas.Bool.{cases_lt}
 use Rattle.std.proofs.lemmas.List.{get_or_default}
 use Rattle.std.proofs.lemmas.List.Elements.{All-append, All-cons, All-nil}
 use Rattle.tlog_shape.specs.Edge.{edge_index_of, width_of}
 use Rattle.tlog_hash.specs.Rows.{level_row}
 use Rattle.tlog_tiles.specs.declared.paths.Path.{Path}
 use Rattle.log_reader.proofs.NodeHashes.{row_count}
-use Rattle.log_reader.specs.EdgeRows.{Edge, HasWidths, LeadsTo, hash_of_edge, row_at}
+use Rattle.log_reader.specs.EdgeRows.{Edge, LeadsTo, row_at}
 use Rattle.mirror_places.specs.Giving.{IsEdgeFrom, IsRowFrom, MayGive}
 use Rattle.mirror_places.specs.GivenFrom.{AddsRows, AreRowsFrom}
 use Rattle.mirror_places.specs.Mixes.{HaveNoMix, HaveWidths, IsMixAmong, IsMixOf, IsOfEither, given_at}

@@ -72,6 +72,21 @@ answers_then x y z p q =
       same = λ at lt d. q.same at (omega (arith, lt, first)) d ∙ p.same at lt d;
     }
 
+-- an answer that was kept is kept
+pub answer_later : (x y : List EndTile) → AnswersStay x y → (k : ℕ) (path : Path) (answer : PlaceAnswer) →
+    IsKeptAnswer x k path answer → IsKeptAnswer y k path answer
+answer_later x y stay k path answer h =
+    let lt = h.tile.listed in
+    let more = stay.more in
+    record {
+      at = h.at;
+      tile = record {
+        listed = omega (arith, lt, more);
+        is = λ d. subst (λ (t : EndTile). (t.place ≡ k) × (t.path ≡ path)) (sym (stay.same h.at lt d)) (h.tile.is d);
+      };
+      says = λ d. ap (λ (t : EndTile). said t.answer) (stay.same h.at lt d) ∙ h.says d;
+    }
+
 pub others_set : (tiles : List EndTile) (i : ℕ) (tile : EndTile) → OthersStay (Some i) tiles (set tiles i tile)
 others_set tiles i tile =
     let long = length-set tiles i tile in

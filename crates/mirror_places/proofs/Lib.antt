@@ -11,3 +11,4 @@ pub mod Mixing
 pub mod TrueAnswers
 pub mod TruePlaces
 pub mod GivenRows
+pub mod KeptRows

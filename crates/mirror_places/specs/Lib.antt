@@ -4,6 +4,7 @@ pub mod AskedOnce
 pub mod EndTiles
 pub mod GivenFrom
 pub mod Giving
+pub mod KeptRows
 pub mod Mixes
 pub mod PlaceGets
 pub mod TrueAnswers

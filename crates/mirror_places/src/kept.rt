@@ -1,10 +1,11 @@
 //! The files in which two trees end, by the answers that are kept: no place is asked twice.
-ghost use Rattle.std.specs.Prelude.{◌≡◌, ◌<◌, ◌≤◌, ℕ, IfNone, IfOk, IfSome, List, length};
+ghost use Rattle.std.specs.Prelude.{◌≡◌, ◌<◌, ◌≤◌, ℕ, IfNone, IfOk, IfSome, List, length, option_map};
 ghost use Rattle.log_reader.specs.EdgeRows.{LeadsTo};
 ghost use Rattle.log_reader.specs.Verified.{Verifies};
 ghost use Rattle.tlog_shape.specs.Edge.{width_of};
 ghost use Rattle.mirror_places.specs.AskedEnds.{AsksEnds, IsEndSize, IsKeptInVain};
 ghost use Rattle.mirror_places.specs.EndTiles.{IsEndTile, IsKeptAnswer};
+ghost use Rattle.mirror_places.specs.KeptRows.{AreKeptRows, IsKeptCut, IsKeptRow, IsKeptTile, LackMix};
 ghost use Rattle.mirror_places.specs.Mixes.{HaveWidths};
 
 use crate::file::{Found, accept_file};
@@ -123,7 +124,9 @@ fn kept_part<S: Source + Drop>(
 ) -> Result<Option<Vec<u8>>, AllocError>
     requires place { index < length places.old.list.items }
     requires end { IsEndTile places.old.ends.sizes path.now }
-    ensures { AsksEnds S.may_answer S.failed S.asked places.old places.new }
+    ensures goes { AsksEnds S.may_answer S.failed S.asked places.old places.new }
+    ensures kept { IfOk result (λ found. IsKeptCut places.new.ends.tiles.items index path.now
+        (option_map (λ v. v.items) found)) }
 {
     let full_path = full_of(path);
     match ask_end::<S>(places, index, &full_path)? {
@@ -151,7 +154,9 @@ fn kept_partial<S: Source + Drop>(
 ) -> Result<Option<Vec<u8>>, AllocError>
     requires place { index < length places.old.list.items }
     requires end { IsEndTile places.old.ends.sizes path.now }
-    ensures { AsksEnds S.may_answer S.failed S.asked places.old places.new }
+    ensures goes { AsksEnds S.may_answer S.failed S.asked places.old places.new }
+    ensures kept { IfOk result (λ found. IsKeptTile places.new.ends.tiles.items index path.now
+        (option_map (λ v. v.items) found)) }
 {
     match ask_end::<S>(places, index, path)? {
         PlaceAnswer::File(bytes) => Ok(Some(bytes)),
@@ -174,6 +179,8 @@ fn kept_row<S: Source + Drop>(
     ensures goes { AsksEnds S.may_answer S.failed S.asked places.old places.new }
     ensures wide { IfOk result (λ found. IfSome found
         (λ row. length row.items ≡ width_of size level)) }
+    ensures kept { IfOk result (λ found. IsKeptRow places.new.ends.tiles.items index size level
+        (option_map (λ row. row.items) found)) }
 {
     let width = edge_width(size, level);
     if width == 0 {
@@ -203,6 +210,7 @@ fn kept_rows<S: Source + Drop>(
     requires end { IsEndSize places.old size }
     ensures goes { AsksEnds S.may_answer S.failed S.asked places.old places.new }
     ensures wide { IfOk result (HaveWidths size) }
+    ensures kept { IfOk result (AreKeptRows places.new.ends.tiles.items index size) }
 {
     let mut rows = Vec::new(alloc);
     for level in 0..8u32 {
@@ -232,6 +240,9 @@ pub fn kept_edge<H: TreeHash, S: Source + Drop>(
     ensures goes { AsksEnds S.may_answer S.failed S.asked places.old places.new }
     ensures leads { IfOk result (λ found. IfSome found
         (λ edge. LeadsTo H.digest size root.now edge)) }
+    ensures none { IfOk result (λ found. IfNone found
+        ((i j : ℕ) → i < length places.old.list.items → j < length places.old.list.items
+        → LackMix H.digest size root.now places.new.ends.tiles.items i j)) }
 {
     let first = places.first();
     let mut given = Vec::new(alloc);

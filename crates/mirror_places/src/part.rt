@@ -8,6 +8,7 @@ ghost use Rattle.mirror_model.specs.TrueLaws.{AreShort};
 ghost use Rattle.mirror_sources.specs.Files.{full_of};
 ghost use Rattle.mirror_sources.specs.Honest.{true_bytes};
 ghost use Rattle.mirror_places.specs.Giving.{IsFirstOf};
+ghost use Rattle.mirror_places.specs.KeptRows.{IsTileCut};
 
 use tlog_tiles::{Path, split_entry};
 
@@ -59,6 +60,8 @@ fn first_hashes(tile: &[u8], count: u32) -> Option<&[u8]>
     ensures cut { (row : List (List ℕ)) → All (λ hash. length hash ≡ 32) row → count ≡ length row
         → IsFirstOf tile.now (row_text row)
         → option_map (λ part. part.now) result ≡ Some (row_text row) }
+    ensures tile { (level index : ℕ) → IsTileCut (Path.Tile level index count) tile.now
+        (option_map (λ part. part.now) result) }
 {
     let len = 32 * count as usize;
     if tile.len() < len {
@@ -80,6 +83,7 @@ pub fn part_of<'a>(path: &Path, full: &'a [u8]) -> Option<&'a [u8]>
         → AreShort entries → IsWithin (length entries) path.now
         → IsFirstOf full.now (true_bytes digest entries path.now)
         → option_map (λ part. part.now) result ≡ Some (true_bytes digest entries path.now) }
+    ensures tile { IsTileCut path.now full.now (option_map (λ part. part.now) result) }
 {
     match path {
         Path::Checkpoint => None,

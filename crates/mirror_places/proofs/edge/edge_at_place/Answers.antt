@@ -1,4 +1,4 @@
-use Rattle.std.proofs.Common.{◌<◌, ◌^◌, inl, subst, arith}
+use Rattle.std.proofs.Common.{◌<◌, ◌^◌, inl, arith}
 use Rattle.mirror_places.specs.Asked.{IsEdgeTile}
 use Rattle.mirror_places.specs.AskedOnce.{IsAtPlace}
 use Rattle.mirror_places.specs.Giving.{MayGive}

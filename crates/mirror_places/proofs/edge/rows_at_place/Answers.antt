@@ -1,4 +1,4 @@
-use Rattle.std.proofs.Common.{◌≡◌, ◌*◌, ◌<◌, ℕ, List, [], ◌∷◌, None, Option, Some, Vec, Global, length, length-append, get_or, ap, sym, subst, arith, ◌∙◌}
+use Rattle.std.proofs.Common.{◌≡◌, ◌*◌, ℕ, List, [], ◌∷◌, None, Option, Some, Vec, Global, length, length-append, get_or, ap, sym, subst, arith, ◌∙◌}
 use Rattle.std.specs.Prelude.{IfSome, option_map}
 use Rattle.tlog_shape.specs.Edge.{edge_index_of, width_of}
 use Rattle.tlog_hash.specs.Rows.{level_row}
@@ -7,7 +7,6 @@ use Rattle.mirror_places.specs.AskedOnce.{IsAtPlace, IsEdgeTileBelow}
 use Rattle.mirror_places.specs.Giving.{IsRowFrom, MayGive}
 use Rattle.mirror_places.specs.Mixes.{given_at}
 use Rattle.mirror_places.specs.declared.mix.GivenRows.{GivenRows}
-use Rattle.mirror_places.specs.declared.place.Place.{Place}
 use Rattle.mirror_places.proofs.Asking.{asks_same, asks_then}
 use Rattle.mirror_places.proofs.AskingOnce.{once_same}
 use Rattle.mirror_places.proofs.EdgeLevels.{once_last_level, once_level, once_levels}

@@ -1,6 +1,6 @@
 use Rattle.std.proofs.Common.{ℕ, List, length, arith}
 use Rattle.log_reader.specs.Verified.{Verifies}
-use Rattle.mirror_places.proofs.AskingEnds.{ends_same, ends_then, still_end, vain_all, vain_turn}
+use Rattle.mirror_places.proofs.AskingEnds.{ends_same, ends_then, vain_all, vain_turn}
 use Rattle.mirror_places.proofs.kept.kept_file.Goals as goal
 
 pub loop-turn-init : goal.loop-turn-init

@@ -7,4 +7,4 @@ returns-then-width-eq0-clause-goes g c =
 
 pub returns-clause-goes : goal.returns-clause-goes
 returns-clause-goes g c =
-    ends_then g.S.Source.may_answer g.S.Source.failed g.S.Source.asked c.args.places.now c.kept_partial.new.places c.note_end.new.places c.kept_partial.ensures c.note_end.ensures.goes
+    ends_then g.S.Source.may_answer g.S.Source.failed g.S.Source.asked c.args.places.now c.kept_partial.new.places c.note_end.new.places c.kept_partial.ensures.goes c.note_end.ensures.goes

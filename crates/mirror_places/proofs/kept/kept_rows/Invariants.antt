@@ -2,9 +2,10 @@ use Rattle.std.proofs.Common.{◌≡◌, ◌<◌, ℕ, None, length, get_or}
 use Rattle.std.specs.Prelude.{IfSome, option_map}
 use Rattle.tlog_shape.specs.Edge.{width_of}
 use Rattle.mirror_places.specs.AskedEnds.{AsksEnds, IsEndSize}
+use Rattle.mirror_places.specs.KeptRows.{IsKeptRow}
 use Rattle.mirror_places.proofs.kept.kept_rows.Given as goal
 
--- the rows so far have the widths of their levels
+-- the rows so far have the widths of their levels, and come from the kept answers
 abbrev pub invariant-loop-level : goal.invariant-loop-level
 invariant-loop-level g l = record {
   goes : AsksEnds g.S.Source.may_answer g.S.Source.failed g.S.Source.asked l.fn.places l.places;
@@ -13,4 +14,6 @@ invariant-loop-level g l = record {
   count : length l.rows.items ≡ l.level;
   wide : (k : ℕ) → k < l.level → IfSome (option_map (λ row. row.items) (get_or l.rows.items k None))
       (λ row. length row ≡ width_of l.size k);
+  kept : (k : ℕ) → k < l.level → IsKeptRow l.places.ends.tiles.items l.index l.size k
+      (option_map (λ row. row.items) (get_or l.rows.items k None));
 }

@@ -1,8 +1,7 @@
-use Rattle.std.proofs.Common.{◌≡◌, ℕ, None, map, length, subst, ap, sym, ◌∙◌, List}
-use Rattle.std.specs.Prelude.{IfNone, IfSome}
+use Rattle.std.proofs.Common.{None, map, subst, sym, List}
 use Rattle.mirror_places.specs.Mixes.{IsMixTo}
 use Rattle.mirror_places.specs.declared.mix.TwoRows.{TwoRows}
-use Rattle.mirror_places.proofs.Mixing.{is_mix, lacks_mix, mix_leads, mix_none}
+use Rattle.mirror_places.proofs.Mixing.{is_mix, mix_leads, mix_none}
 use Rattle.mirror_places.proofs.mix.edge_of_two.Goals as goal
 
 pub returns-in-Some-2-clause-leads : goal.returns-in-Some-2-clause-leads

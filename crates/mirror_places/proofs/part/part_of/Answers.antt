@@ -49,3 +49,6 @@ returns-in-Entries-clause-cut c = λ digest hash entries short within first.
     let at = rw c.in-Entries.is at first in
     let bundle = (served_is_read digest hash entries short).bundle index width fits in
     rw c.in-Entries.is (c.first_entries.ensures.cut (part (256 * index) width entries) bundle.fits (sym bundle.count) at)
+
+pub returns-in-Tile-clause-tile : goal.returns-in-Tile-clause-tile
+returns-in-Tile-clause-tile c = rw c.in-Tile.is (c.first_hashes.ensures.tile c.in-Tile.level c.in-Tile.index)
