@@ -8,7 +8,7 @@ use Rattle.mirror_folders.specs.Shelf.{Put}
 use Rattle.log_reader.specs.EdgeRows.{Edge}
 use Rattle.log_reader.specs.Holding.{row_width}
 use Rattle.copy_reader.specs.WholeCopies.{IsWholeCopy}
-use Rattle.program_monitor.specs.Copied.{AnswersCopied, EndsWritten, IsOfWriting, IsOpenCopy, IsUndamaged}
+use Rattle.program_monitor.specs.Copied.{AnswersCopied, EndsWritten, IsOfWriting, IsOpenCopy, IsUndamaged, NamesFalseIn}
 use Rattle.program_monitor.specs.Served.{WritesFirst}
 use Rattle.program_monitor.specs.Shown.{WritesShown, WritesSomeShown}
 use Rattle.program_monitor.specs.Texts.{bundle_width}
@@ -35,13 +35,13 @@ module _ (digest : List ℕ → List ℕ) (origin : List ℕ) (keys : List Key) 
     pub answers_written : (result : Result T CopyEntriesFault) → OnOk result (WritesShown digest edge base64 from to old new) →
         OnErr result (WritesSomeShown digest edge base64 from to old new) → IfErr result IsOfWriting →
         ((note : List ℕ) (entries : List (List ℕ)) → IsWholeCopy digest origin note entries held →
-        EndsWritten entries base64 from to old new result) →
+        EndsWritten entries base64 from to old new result) → IfErr result (NamesFalseIn digest held edge) →
         AnswersCopied digest origin keys held from to base64 old new result
-    answers_written (Ok x) all some is whole =
+    answers_written (Ok x) all some is whole named =
         record { edge = edge; opened = opened; rises = rises; within = within; written = all; whole = whole }
-    answers_written (Err NothingComplete) all some is whole = absurd is
-    answers_written (Err (Head fault)) all some is whole = absurd is
-    answers_written (Err (CopyDamaged path)) all some is whole = (
+    answers_written (Err NothingComplete) all some is whole named = absurd is
+    answers_written (Err (Head fault)) all some is whole named = absurd is
+    answers_written (Err (CopyDamaged path)) all some is whole named = (
       inr (record {
         edge = edge;
         opened = opened;
@@ -51,8 +51,9 @@ module _ (digest : List ℕ → List ℕ) (origin : List ℕ) (keys : List Key) 
         whole = λ note entries w. (whole note entries w).1;
       }),
       λ note entries w. (whole note entries w).0,
+      inr (edge, opened, named),
     )
-    answers_written (Err ShelfFault) all some is whole =
+    answers_written (Err ShelfFault) all some is whole named =
         inr (record {
           edge = edge;
           opened = opened;
@@ -61,9 +62,9 @@ module _ (digest : List ℕ → List ℕ) (origin : List ℕ) (keys : List Key) 
           written = some;
           whole = λ note entries w. (whole note entries w).1;
         })
-    answers_written (Err NoSuchSize) all some is whole = absurd is
-    answers_written (Err Backwards) all some is whole = absurd is
-    answers_written (Err WriteFault) all some is whole =
+    answers_written (Err NoSuchSize) all some is whole named = absurd is
+    answers_written (Err Backwards) all some is whole named = absurd is
+    answers_written (Err WriteFault) all some is whole named =
         record {
           edge = edge;
           opened = opened;
@@ -72,7 +73,7 @@ module _ (digest : List ℕ → List ℕ) (origin : List ℕ) (keys : List Key) 
           written = some;
           whole = λ note entries w. (whole note entries w).1;
         }
-    answers_written (Err OutOfMemory) all some is whole =
+    answers_written (Err OutOfMemory) all some is whole named =
         inr (record {
           edge = edge;
           opened = opened;

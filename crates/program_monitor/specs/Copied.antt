@@ -2,12 +2,15 @@
 use Rattle.std.specs.Prelude.{◌≡◌, ◌⊎◌, ℕ, ◌<◌, ◌≤◌, List, Bool, Option, None, Some, Result, Ok, Err, ⊤}
 use Rattle.std.specs.Io.KnownBytes.{Keeps}
 use Rattle.signed_note.specs.Keys.{Key}
+use Rattle.tlog_tiles.specs.declared.paths.Path.{Path}
 use Rattle.tlog_tiles.specs.declared.paths.Path.TheVariants.{Checkpoint}
 use Rattle.mirror_sources.specs.Recorded.{one_more}
 use Rattle.mirror_folders.specs.Shelf.{Put, RecordsRead}
 use Rattle.log_reader.specs.EdgeRows.{Edge, hash_of_edge}
+use Rattle.log_reader.specs.FalseFiles.{IsFalseFile}
 use Rattle.log_reader.specs.Ways.{HasEdgeHashes}
 use Rattle.copy_reader.specs.Copies.{HasCheckpoint, RefusesCheckpoint}
+use Rattle.copy_reader.specs.Damage.{IsDamagedEdge}
 use Rattle.copy_reader.specs.WholeCopies.{IsDamaged, IsWholeCopy}
 use Rattle.copy_reader.specs.declared.fault.CopyFault.{CopyFault}
 use Rattle.copy_reader.specs.declared.fault.CopyFault.TheVariants as copy
@@ -93,12 +96,28 @@ EndsWritten entries base64 from to old new (Ok x) = WritesAll entries base64 fro
 EndsWritten entries base64 from to old new (Err fault) =
     IsUndamaged fault × WritesFirst entries base64 from to old new
 
+-- CopyDamaged names a file that is false in the tree of that edge. Only private contracts cite it
+abbrev pub NamesFalseIn : (List ℕ → List ℕ) → Option (List Put) → Edge → CopyEntriesFault → Type 0
+NamesFalseIn digest held edge NothingComplete = ⊤
+NamesFalseIn digest held edge (Head fault) = ⊤
+NamesFalseIn digest held edge (CopyDamaged path) = IsFalseFile digest (RecordsRead held) edge path
+NamesFalseIn digest held edge ShelfFault = ⊤
+NamesFalseIn digest held edge NoSuchSize = ⊤
+NamesFalseIn digest held edge Backwards = ⊤
+NamesFalseIn digest held edge WriteFault = ⊤
+NamesFalseIn digest held edge OutOfMemory = ⊤
+
 module _ (digest : List ℕ → List ℕ) (origin : List ℕ) (keys : List Key) (held : Option (List Put)) where
+  -- the file is a tile of the edge of the copy's checkpoint that is missing or too short, or the lowest of rows that do not lead to its root
+  abbrev pub IsDamagedAtEdge : Path → Type 0
+  IsDamagedAtEdge path =
+      (size : ℕ) × (root : List ℕ) × HasCheckpoint origin keys held size root × IsDamagedEdge digest held size root path
+
   -- the reason why a copy is not opened, by the content of the folder
   abbrev pub RefusesCopy : CopyEntriesFault → Type 0
   RefusesCopy NothingComplete = RecordsRead held Checkpoint None
   RefusesCopy (Head fault) = RefusesCheckpoint origin keys held fault
-  RefusesCopy (CopyDamaged path) = IsDamaged digest origin held
+  RefusesCopy (CopyDamaged path) = IsDamaged digest origin held × IsDamagedAtEdge path
   RefusesCopy ShelfFault = ⊤
   RefusesCopy NoSuchSize = ⊥
   RefusesCopy Backwards = ⊥
@@ -111,6 +130,12 @@ module _ (digest : List ℕ → List ℕ) (origin : List ℕ) (keys : List Key) 
     pub checkpoint : HasCheckpoint origin keys held edge.size root
     pub hashes : HasEdgeHashes edge
     pub leads : hash_of_edge digest edge ≡ root
+
+  -- the file is one of that edge, or false in the tree of the copy's checkpoint: what the shelf has at its path, also if that is nothing, is
+  -- not what the tree says
+  abbrev pub IsDamagedIn : Path → Type 0
+  IsDamagedIn path =
+      IsDamagedAtEdge path ⊎ ((edge : Edge) × IsOpenCopy edge × IsFalseFile digest (RecordsRead held) edge path)
 
   module _ (from to : ℕ) (base64 : Bool) (old new : Option (List ℕ)) where
     -- the copy's entries from FROM up to TO were written. If the copy is whole, they are its log's entries
@@ -151,7 +176,8 @@ module _ (digest : List ℕ → List ℕ) (origin : List ℕ) (keys : List Key) 
     AnswersCopied (Ok x) = WritesCopied
     AnswersCopied (Err NothingComplete) = RefusesCopy NothingComplete × Keeps old new
     AnswersCopied (Err (Head fault)) = RefusesCopy (Head fault) × Keeps old new
-    AnswersCopied (Err (CopyDamaged path)) = (Keeps old new ⊎ WritesSomeCopied) × IsDamaged digest origin held
+    AnswersCopied (Err (CopyDamaged path)) =
+        (Keeps old new ⊎ WritesSomeCopied) × IsDamaged digest origin held × IsDamagedIn path
     AnswersCopied (Err ShelfFault) = Keeps old new ⊎ WritesSomeCopied
     AnswersCopied (Err NoSuchSize) = HasFewerCopied × Keeps old new
     AnswersCopied (Err Backwards) = HasBackwardsCopied × Keeps old new

@@ -5,7 +5,7 @@ ghost use Rattle.log_reader.specs.Ways.{HasEdgeHashes};
 ghost use Rattle.copy_reader.specs.Copies.{LeavesPuts};
 ghost use Rattle.copy_reader.specs.WholeCopies.{HasFilesOf};
 ghost use Rattle.log_reader.specs.Holding.{IsReaderOf};
-ghost use Rattle.program_monitor.specs.Copied.{AnswersCopied, CountsCopy, EndsWritten, IsOfWriting, IsRangeFault};
+ghost use Rattle.program_monitor.specs.Copied.{AnswersCopied, CountsCopy, EndsWritten, IsOfWriting, IsRangeFault, NamesFalseIn};
 ghost use Rattle.program_monitor.specs.Shown.{WritesShown, WritesSomeShown};
 
 use crate::cutting::CutFault;
@@ -36,6 +36,7 @@ fn write_copied<H: TreeHash, D: ReadableShelf, W: Write>(
     ensures err { OnErr result (WritesSomeShown H.digest reader.old.edge range.now.base64
         range.now.from range.now.to (W.contents output.old) (W.contents output.new)) }
     ensures fault { IfErr result IsOfWriting }
+    ensures damage { IfErr result (NamesFalseIn H.digest (D.puts shelf.old) reader.old.edge) }
     ensures honest { (entries : List (List ℕ)) → IsReaderOf H.digest entries reader.old
         → HasFilesOf H.digest entries (D.puts shelf.old) → EndsWritten entries range.now.base64
         range.now.from range.now.to (W.contents output.old) (W.contents output.new) result }

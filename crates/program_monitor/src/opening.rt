@@ -4,7 +4,7 @@ ghost use Rattle.tlog_tiles.specs.Tiles.{bundle_bytes};
 ghost use Rattle.mirror_sources.specs.Recorded.{KeepsRecord};
 ghost use Rattle.log_reader.specs.Ways.{IsShownBundle};
 ghost use Rattle.copy_reader.specs.WholeCopies.{OpensWhole, ReadsCopyOf};
-ghost use Rattle.program_monitor.specs.Copied.{CountsCopy, IsOfFiles, IsOpenCopy, IsUndamaged, RefusesCopy};
+ghost use Rattle.program_monitor.specs.Copied.{CountsCopy, IsOfFiles, IsOpenCopy, IsUndamaged, NamesFalseIn, RefusesCopy};
 ghost use Rattle.program_monitor.specs.Texts.{bundle_width};
 
 use crate::fault::{CopyEntriesFault, fault_of};
@@ -43,7 +43,7 @@ pub(crate) fn open_copy<H: TreeHash, D: ReadableShelf>(
 }
 
 /// The verified bytes of a bundle of the copy.
-#[tactic(auto, using(crate::proofs::CopyFaults::of_files, crate::proofs::CopyFaults::counts_read))]
+#[tactic(auto, using(crate::proofs::CopyFaults::of_files, crate::proofs::CopyFaults::counts_read, crate::proofs::CopyFaults::names_false))]
 pub(crate) fn bundle_on<H: TreeHash, D: ReadableShelf>(
     shelf: &mut D,
     alloc: Global,
@@ -57,6 +57,7 @@ pub(crate) fn bundle_on<H: TreeHash, D: ReadableShelf>(
     ensures same { KeepsRecord (D.puts shelf.old) (D.puts shelf.new) }
     ensures counted { CountsCopy (D.failed shelf.old) (D.failed shelf.new) result }
     ensures fault { IfErr result IsOfFiles }
+    ensures damage { IfErr result (NamesFalseIn H.digest (D.puts shelf.old) reader.old.edge) }
     ensures honest { ReadsCopyOf IsUndamaged H.digest reader.old reader.new (D.puts shelf.old)
         result (λ entries bytes. bytes.items
         ≡ bundle_bytes entries index (bundle_width (length entries) index)) }

@@ -7,6 +7,7 @@ use Rattle.log_reader.proofs.Kept.{kept_twice}
 use Rattle.copy_reader.proofs.WholeCopies.{files_later}
 use Rattle.program_monitor.proofs.ServedSteps.{served_early, served_stop, served_then}
 use Rattle.program_monitor.proofs.WholeSteps.{ends_early}
+use Rattle.program_monitor.proofs.CopyFaults.{names_exit}
 use Rattle.program_monitor.proofs.CopySteps.{shown_early, shown_stop, shown_then}
 use Rattle.program_monitor.proofs.copied.write_copied.Goals as goal
 
@@ -146,3 +147,9 @@ returns-in-Err-OutOfMemory-clause-honest g c = λ entries is files.
           (subst (λ n. BeginsFrom bytes n at range.to range.base64 b d) (c.size-size.ensures ∙ is.size_is)
           c.in-Err-OutOfMemory.ensures.err),
     )
+
+pub returns-in_err-bytes-clause-damage : goal.returns-in_err-bytes-clause-damage
+returns-in_err-bytes-clause-damage g c =
+    names_exit g.H.TreeHash.digest (g.D.Shelf.puts c.args.shelf.now) c.args.reader.now.edge (g.D.Shelf.puts c.loop-at.shelf)
+    c.loop-at.invariant.same c.loop-at.reader.edge c.loop-at.invariant.edge c.in_err-bytes.field-0.0 c.from_residual.result
+    c.from_residual.ensures c.in_err-bytes.ensures.damage

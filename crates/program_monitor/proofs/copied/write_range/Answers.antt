@@ -1,5 +1,6 @@
 use Rattle.std.proofs.Common.{◌≤◌, subst}
 use Rattle.copy_reader.proofs.WholeCopies.{files_later}
+use Rattle.program_monitor.proofs.CopyFaults.{names_before}
 use Rattle.program_monitor.proofs.WholeSteps.{answers_written}
 use Rattle.program_monitor.proofs.copied.write_range.Goals as goal
 
@@ -17,3 +18,5 @@ returns-clause-answer g c =
     c.write_copied.result done.ok done.err done.fault
     (λ note entries w. done.honest entries (c.in_ok-reader.ensures.whole note entries w)
     (files_later digest held (g.D.Shelf.puts c.open_copy.new.shelf) c.in_ok-reader.ensures.same entries w.files))
+    (names_before digest held edge (g.D.Shelf.puts c.open_copy.new.shelf) c.in_ok-reader.ensures.same c.write_copied.result
+    done.damage)
