@@ -181,7 +181,8 @@ fn read_proof<H: TreeHash>(
     larger: &Candidate,
 ) -> Result<Option<Proof>, AskFault>
     ensures memory { (n : ℕ) → CountsAsk n n result }
-    ensures log { result ≡ Err AskFault.NoFile → (entries : List (List ℕ)) → HasPoint H.digest (point_of larger.now) entries
+    ensures log { result ≡ Err AskFault.NoFile → (entries : List (List ℕ))
+        → HasPoint H.digest (point_of larger.now) entries
         → ¬ IsSourceOf H.digest entries (IsRead files.files.items) }
     ensures proof { IfOk result (λ found. IfSome found
         (λ proof. ShowsLarger H.digest smaller.now larger.now (Some proof))) }
