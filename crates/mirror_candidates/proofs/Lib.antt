@@ -11,3 +11,5 @@ pub mod Shown
 pub mod Points
 pub mod LineLists
 pub mod Lines
+pub mod WayFiles
+pub mod GivenFiles

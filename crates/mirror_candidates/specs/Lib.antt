@@ -10,3 +10,5 @@ pub mod Shown
 pub mod Lines
 pub mod Adding
 pub mod ReadFiles
+pub mod Nobodys
+pub mod WayFiles

@@ -1,6 +1,7 @@
 //! The files of a log for a proof, in memory.
-ghost use Rattle.std.specs.Prelude.{◌≡◌, ◌∷◌, ◌++◌, [], IfOk, IfSome, OnOk, option_map};
+ghost use Rattle.std.specs.Prelude.{◌≡◌, ◌∷◌, ◌++◌, ◌≤◌, [], All, IfOk, IfSome, OnOk, option_map};
 ghost use Rattle.mirror_candidates.specs.ReadFiles.{IsReadAt};
+ghost use Rattle.mirror_candidates.specs.WayFiles.{AddsTile, IsEdgeFile};
 
 use log_reader::{EdgeRows, edge_path};
 use mirror_sources::{Source, SourceFault};
@@ -96,19 +97,38 @@ pub(crate) fn add_row(
     files: &mut ReadFiles,
     path: Path,
     row: &[Hash],
-) -> Result<(), AllocError> {
+) -> Result<(), AllocError>
+    ensures { OnOk result (AddsTile path row.now files.old.files.items files.new.files.items) }
+{
     let bytes = write_row(alloc, row)?;
     files.add(path, Some(bytes))
 }
 
+// Adds the partial tile of a level, if the edge has one.
+fn add_edge_row(
+    alloc: Global,
+    files: &mut ReadFiles,
+    edge: &EdgeRows,
+    level: u32,
+) -> Result<(), AllocError>
+    requires { level ≤ 7 }
+    ensures { OnOk result (All (IsEdgeFile edge.now) files.old.files.items
+        → All (IsEdgeFile edge.now) files.new.files.items) }
+{
+    let row = edge.row(level);
+    if row.is_empty() {
+        return Ok(());
+    }
+    add_row(alloc, files, edge_path(edge.size(), level), row)
+}
+
 /// The partial tiles of an edge.
-pub(crate) fn files_of_edge(alloc: Global, edge: &EdgeRows) -> Result<ReadFiles, AllocError> {
+pub(crate) fn files_of_edge(alloc: Global, edge: &EdgeRows) -> Result<ReadFiles, AllocError>
+    ensures { IfOk result (λ files. All (IsEdgeFile edge.now) files.files.items) }
+{
     let mut files = ReadFiles::new(alloc);
     for level in 0..8u32 {
-        let row = edge.row(level);
-        if !row.is_empty() {
-            add_row(alloc, &mut files, edge_path(edge.size(), level), row)?;
-        }
+        add_edge_row(alloc, &mut files, edge, level)?;
     }
     Ok(files)
 }

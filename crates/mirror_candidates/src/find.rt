@@ -1,12 +1,14 @@
 //! Verified full files, from the shelf or from a place.
-ghost use Rattle.std.specs.Prelude.{◌≡◌, ◌≤◌, IfOk, IfSome};
+ghost use Rattle.std.specs.Prelude.{◌≡◌, ◌≢◌, ◌≤◌, IfErr, IfNone, IfOk, IfSome, length};
 ghost use Rattle.tlog_shape.specs.Edge.{edge_index_of};
 ghost use Rattle.tlog_hash.specs.Tree.{fold_of};
 ghost use Rattle.mirror_sources.specs.Recorded.{KeepsRecord};
 ghost use Rattle.log_reader.specs.Verified.{Verifies};
 ghost use Rattle.mirror_places.specs.AskedEnds.{AsksEnds};
 ghost use Rattle.mirror_places.specs.EndTiles.{IsEndTile};
+ghost use Rattle.log_reader.specs.declared.verify.FullFile.TheVariants.{Tile};
 ghost use Rattle.mirror_candidates.specs.Faults.{CountsAsk};
+ghost use Rattle.mirror_candidates.specs.Nobodys.{IsFileOf, IsNobodys, IsReadInVain, IsRowNobodys};
 
 use crate::ask_fault::AskFault;
 use log_reader::FullFile;
@@ -27,8 +29,11 @@ fn file_on_shelf<H: TreeHash, D: ReadableShelf>(
 ) -> Result<Option<Found>, AskFault>
     ensures same { KeepsRecord (D.puts shelf.old) (D.puts shelf.new) }
     ensures counted { CountsAsk (D.failed shelf.old) (D.failed shelf.new) result }
+    ensures sure { IfErr result (λ fault. fault ≢ AskFault.NoFile) }
     ensures found { IfOk result (λ found. IfSome found
         (λ f. Verifies H.digest kind hash.now f.bytes.items f.row.items)) }
+    ensures none { IfOk result (λ found. IfNone found (IsReadInVain (D.puts shelf.old) path.now
+        (IsFileOf H.digest kind hash.now))) }
 {
     let Some(bytes) = shelf.read(path)? else {
         return Ok(None);
@@ -48,9 +53,12 @@ fn find_file<H: TreeHash, D: ReadableShelf, S: Source + Drop>(
     requires { IsEndTile places.old.ends.sizes path.now }
     ensures same { KeepsRecord (D.puts shelf.old) (D.puts shelf.new) }
     ensures counted { CountsAsk (D.failed shelf.old) (D.failed shelf.new) result }
+    ensures sure { IfErr result (λ fault. fault ≢ AskFault.NoFile) }
     ensures goes { AsksEnds S.may_answer S.failed S.asked places.old places.new }
     ensures found { IfOk result (λ found. IfSome found
         (λ f. Verifies H.digest kind hash.now f.bytes.items f.row.items)) }
+    ensures none { IfOk result (λ found. IfNone found (IsNobodys H.digest (D.puts shelf.old)
+        places.new.ends.tiles.items (length places.old.list.items) kind path.now hash.now)) }
 {
     match file_on_shelf::<H, D>(alloc, shelf, kind, path, hash)? {
         Some(found) => Ok(Some(found)),
@@ -71,9 +79,14 @@ fn row_of_tile<H: TreeHash, D: ReadableShelf, S: Source + Drop>(
     requires end { index ≡ edge_index_of places.old.ends.sizes.0 level }
     ensures same { KeepsRecord (D.puts shelf.old) (D.puts shelf.new) }
     ensures counted { CountsAsk (D.failed shelf.old) (D.failed shelf.new) result }
+    ensures sure { IfErr result (λ fault. fault ≢ AskFault.NoFile) }
     ensures goes { AsksEnds S.may_answer S.failed S.asked places.old places.new }
     ensures row { IfOk result (λ found. IfSome found
         (λ row. fold_of H.digest row.items ≡ hash.now)) }
+    ensures long { IfOk result (λ found. IfSome found (λ row. length row.items ≡ 256)) }
+    ensures none { IfOk result (λ found. IfNone found (IsNobodys H.digest (D.puts shelf.old)
+        places.new.ends.tiles.items (length places.old.list.items) Tile (Path.Tile level index 256)
+        hash.now)) }
 {
     let path = Path::Tile {
         level,
@@ -97,9 +110,13 @@ fn row_of_leaves<H: TreeHash, D: ReadableShelf, S: Source + Drop>(
     requires { index ≡ edge_index_of places.old.ends.sizes.0 0 }
     ensures same { KeepsRecord (D.puts shelf.old) (D.puts shelf.new) }
     ensures counted { CountsAsk (D.failed shelf.old) (D.failed shelf.new) result }
+    ensures sure { IfErr result (λ fault. fault ≢ AskFault.NoFile) }
     ensures goes { AsksEnds S.may_answer S.failed S.asked places.old places.new }
     ensures row { IfOk result (λ found. IfSome found
         (λ row. fold_of H.digest row.items ≡ hash.now)) }
+    ensures long { IfOk result (λ found. IfSome found (λ row. length row.items ≡ 256)) }
+    ensures none { IfOk result (λ found. IfNone found (IsRowNobodys H.digest (D.puts shelf.old)
+        places.new.ends.tiles.items (length places.old.list.items) 0 index hash.now)) }
 {
     let path = Path::Entries { index, width: 256 };
     match find_file::<H, D, S>(alloc, shelf, places, FullFile::Bundle, &path, hash)? {
@@ -121,9 +138,13 @@ pub(crate) fn find_row<H: TreeHash, D: ReadableShelf, S: Source + Drop>(
     requires end { index ≡ edge_index_of places.old.ends.sizes.0 level }
     ensures same { KeepsRecord (D.puts shelf.old) (D.puts shelf.new) }
     ensures counted { CountsAsk (D.failed shelf.old) (D.failed shelf.new) result }
+    ensures sure { IfErr result (λ fault. fault ≢ AskFault.NoFile) }
     ensures goes { AsksEnds S.may_answer S.failed S.asked places.old places.new }
     ensures row { IfOk result (λ found. IfSome found
         (λ row. fold_of H.digest row.items ≡ hash.now)) }
+    ensures long { IfOk result (λ found. IfSome found (λ row. length row.items ≡ 256)) }
+    ensures none { IfOk result (λ found. IfNone found (IsRowNobodys H.digest (D.puts shelf.old)
+        places.new.ends.tiles.items (length places.old.list.items) level index hash.now)) }
 {
     if level == 0 {
         return row_of_leaves::<H, D, S>(alloc, shelf, places, index, hash);

@@ -1,14 +1,12 @@
 //! Proofs of forks.
-ghost use Rattle.std.specs.Prelude.{◌≡◌, ◌↔◌, ◌<◌, ℕ, All, IfNone, IfOk, IfSome, IsTrue, None, Ok, OnOk, Some, length, take, ⊤};
-ghost use Rattle.std.specs.List.{AllByRecursion};
-ghost use Rattle.tlog_text.specs.Hash.{Is32Bytes};
+ghost use Rattle.std.specs.Prelude.{◌≡◌, ◌↔◌, ◌<◌, ℕ, All, Err, IfNone, IfOk, IfSome, IsTrue, List, None, Ok, OnOk, Some, length, take, ⊤};
 ghost use Rattle.tlog_proof.specs.Made.{Holds, asked_proof};
 ghost use Rattle.tlog_proof.specs.declared.proof.Ask.TheVariants.{Consistency};
 ghost use Rattle.tlog_proof.specs.Text.{HasHashes};
 ghost use Rattle.mirror_sources.specs.Source.{StaysWithin};
 ghost use Rattle.mirror_sources.specs.Recorded.{KeepsRecord};
 ghost use Rattle.log_reader.specs.Faults.{CountsFailure};
-ghost use Rattle.log_reader.specs.Holding.{ReadsLog};
+ghost use Rattle.log_reader.specs.Holding.{IsSourceOf, ReadsLog};
 ghost use Rattle.log_reader.specs.Proving.{IsConsistencyTo};
 ghost use Rattle.mirror_places.specs.AskedOnce.{AsksMore};
 ghost use Rattle.mirror_places.specs.AskedEnds.{AsksEnds};
@@ -17,12 +15,15 @@ ghost use Rattle.mirror_candidates.specs.Agreeing.{Agrees};
 ghost use Rattle.mirror_candidates.specs.Candidates.{point_of};
 ghost use Rattle.mirror_candidates.specs.Checked.{HasFirstRoot};
 ghost use Rattle.mirror_candidates.specs.Forks.{HasPoint};
+ghost use Rattle.mirror_candidates.specs.Nobodys.{CannotBeHad};
+ghost use Rattle.mirror_candidates.specs.ReadFiles.{IsRead};
 ghost use Rattle.mirror_candidates.specs.Requests.{AsksAny};
 ghost use Rattle.mirror_candidates.specs.Shown.{ShowsLarger};
 
 use crate::ask_fault::AskFault;
 use crate::candidate::Candidate;
 use crate::files::{ReadFiles, files_of_edge};
+use crate::hash_sizes::{hash_len, see_edge, see_path};
 use crate::way::add_way;
 use log_reader::{LogReader, ReadFault};
 use mirror_folders::ReadableShelf;
@@ -39,22 +40,6 @@ fn has_first_root(proof: &Proof, root: &Hash) -> bool
     match proof {
         Proof::Inclusion { .. } => false,
         Proof::Consistency { first_root, .. } => *first_root == *root,
-    }
-}
-
-// The number of bytes of a hash, which is 32.
-fn hash_len(hash: &Hash) -> usize
-    ensures { Is32Bytes hash.now }
-{
-    hash.as_slice().len()
-}
-
-// Each hash of a path has 32 bytes.
-fn see_path(path: &[Hash])
-    ensures { AllByRecursion Is32Bytes path.now }
-{
-    for hash in path {
-        hash_len(hash);
     }
 }
 
@@ -196,6 +181,9 @@ fn read_proof<H: TreeHash>(
     larger: &Candidate,
 ) -> Result<Option<Proof>, AskFault>
     ensures memory { (n : ℕ) → CountsAsk n n result }
+    ensures log { result ≡ Err AskFault.NoFile → (entries : List (List ℕ))
+        → HasPoint H.digest (point_of larger.now) entries
+        → ¬ IsSourceOf H.digest entries (IsRead files.files.items) }
     ensures proof { IfOk result (λ found. IfSome found
         (λ proof. ShowsLarger H.digest smaller.now larger.now (Some proof))) }
     ensures agrees { IfOk result (λ found. found ≡ None → 0 < smaller.now.size.0
@@ -222,6 +210,7 @@ fn find_proof<H: TreeHash, D: ReadableShelf, S: Source + Drop>(
 ) -> Result<Option<Proof>, AskFault>
     requires first { smaller.now.size.0 ≡ places.old.ends.sizes.0 }
     requires second { larger.now.size.0 ≡ places.old.ends.sizes.1 }
+    requires less { smaller.now.size.0 < larger.now.size.0 }
     ensures same { KeepsRecord (D.puts shelf.old) (D.puts shelf.new) }
     ensures counted { CountsAsk (D.failed shelf.old) (D.failed shelf.new) result }
     ensures goes { AsksEnds S.may_answer S.failed S.asked places.old places.new }
@@ -230,10 +219,14 @@ fn find_proof<H: TreeHash, D: ReadableShelf, S: Source + Drop>(
     ensures agrees { IfOk result (λ found. found ≡ None → 0 < smaller.now.size.0
         → smaller.now.size.0 < larger.now.size.0
         → Agrees H.digest (point_of smaller.now) (point_of larger.now)) }
+    ensures lacks { result ≡ Err AskFault.NoFile → CannotBeHad H.digest (D.puts shelf.old)
+        places.new.ends.tiles.items (length places.old.list.items) smaller.now.size.0
+        (point_of larger.now) }
 {
     let Some(edge) = kept_edge::<H, S>(alloc, places, larger.size.0, &larger.root)? else {
         return Err(AskFault::NoFile);
     };
+    see_edge(&edge);
     let mut files = files_of_edge(alloc, &edge)?;
     if !add_way::<H, D, S>(alloc, shelf, places, smaller.size.0, &edge, &mut files)? {
         return Err(AskFault::NoFile);
@@ -247,7 +240,8 @@ fn find_proof<H: TreeHash, D: ReadableShelf, S: Source + Drop>(
 /// A full file counts from wherever it verifies: from the shelf first, then from each place. A full row of level 0 counts from its bundle,
 /// or else from its tile. The rows of the larger candidate's edge are those of one place, or of two mixed.
 ///
-/// None: the files were had, and show no fork: a proof made of them shows that the two candidates agree.
+/// None: the files were had, and show no fork: a proof made of them shows that the two candidates agree. Or the first candidate is not
+/// smaller.
 ///
 /// ```text
 /// ask_proof::<Sha256Tree, MemShelf, ListSource<Sha256Tree>>(alloc, &mut shelf, &mut places, &copy, &larger)? // Some(proof): no log has both
@@ -255,7 +249,7 @@ fn find_proof<H: TreeHash, D: ReadableShelf, S: Source + Drop>(
 ///
 /// # Errors
 ///
-/// - `NoFile`: nobody has one of these files, or the places give edge rows of no log.
+/// - `NoFile`: nobody has one of these files, or those that were had are of no log.
 /// - `ShelfFault`: the shelf failed.
 /// - `OtherFiles`: the sizes are not those of `Places::ends`, or the proof needs a file that was not looked for.
 /// - `OutOfMemory`: memory was refused.
@@ -275,10 +269,16 @@ pub fn ask_proof<H: TreeHash, D: ReadableShelf, S: Source + Drop>(
     ensures agrees { IfOk result (λ found. found ≡ None → 0 < smaller.now.size.0
         → smaller.now.size.0 < larger.now.size.0
         → Agrees H.digest (point_of smaller.now) (point_of larger.now)) }
+    ensures lacks { result ≡ Err AskFault.NoFile → CannotBeHad H.digest (D.puts shelf.old)
+        places.new.ends.tiles.items (length places.old.list.items) smaller.now.size.0
+        (point_of larger.now) }
 {
     let (first, second) = places.ends();
     if first != smaller.size.0 || second != larger.size.0 {
         return Err(AskFault::OtherFiles);
+    }
+    if first >= second {
+        return Ok(None);
     }
     find_proof::<H, D, S>(alloc, shelf, places, smaller, larger)
 }

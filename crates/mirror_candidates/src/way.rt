@@ -1,12 +1,17 @@
 //! The full tiles in which the smaller tree ends, from below the edge of the larger tree down.
-ghost use Rattle.std.specs.Prelude.{◌≡◌, ◌≤◌, IfOk};
+ghost use Rattle.std.specs.Prelude.{◌≡◌, ◌≢◌, ◌<◌, ◌≤◌, ℕ, All, IfErr, IfOk, IsFalse, IsTrue, length};
+ghost use Rattle.tlog_shape.specs.Edge.{width_of};
+ghost use Rattle.log_reader.specs.Ways.{HasEdgeHashes};
 ghost use Rattle.mirror_sources.specs.Recorded.{KeepsRecord};
 ghost use Rattle.mirror_places.specs.AskedEnds.{AsksEnds};
 ghost use Rattle.mirror_candidates.specs.Faults.{CountsAsk};
+ghost use Rattle.mirror_candidates.specs.Nobodys.{LacksRow};
+ghost use Rattle.mirror_candidates.specs.WayFiles.{AreWayFiles, IsEdgeFile, StepsDown};
 
 use crate::ask_fault::AskFault;
 use crate::files::{ReadFiles, add_row};
 use crate::find::find_row;
+use crate::hash_sizes::see_path;
 use log_reader::EdgeRows;
 use mirror_folders::ReadableShelf;
 use mirror_places::Places;
@@ -30,7 +35,9 @@ enum Step {
 }
 
 // Whether a tree ends where its tile of that level begins.
-fn is_whole(size: u64, level: u32) -> bool {
+fn is_whole(size: u64, level: u32) -> bool
+    ensures { IsFalse result → (below : ℕ) × (below ≤ level) × (1 ≤ width_of size below) }
+{
     for below in 0..8u32 {
         if below <= level && edge_width(size, below) > 0 {
             return false;
@@ -53,7 +60,10 @@ fn step_down<H: TreeHash, D: ReadableShelf, S: Source + Drop>(
     requires first { first ≡ places.old.ends.sizes.0 }
     ensures same { KeepsRecord (D.puts shelf.old) (D.puts shelf.new) }
     ensures counted { CountsAsk (D.failed shelf.old) (D.failed shelf.new) result }
+    ensures sure { IfErr result (λ fault. fault ≢ AskFault.NoFile) }
     ensures goes { AsksEnds S.may_answer S.failed S.asked places.old places.new }
+    ensures step { IfOk result (StepsDown H.digest (D.puts shelf.old) places.new.ends.tiles.items
+        (length places.old.list.items) first size level above.now) }
 {
     let index = edge_index(first, level);
     if index == edge_index(size, level) {
@@ -66,7 +76,10 @@ fn step_down<H: TreeHash, D: ReadableShelf, S: Source + Drop>(
         return Ok(Step::Lacking);
     };
     match find_row::<H, D, S>(alloc, shelf, places, level, index, hash)? {
-        Some(row) => Ok(Step::Tile(row)),
+        Some(row) => {
+            see_path(&row);
+            Ok(Step::Tile(row))
+        }
         None => Ok(Step::Lacking),
     }
 }
@@ -81,10 +94,18 @@ pub(crate) fn add_way<H: TreeHash, D: ReadableShelf, S: Source + Drop>(
     edge: &EdgeRows,
     files: &mut ReadFiles,
 ) -> Result<bool, AskFault>
-    requires { first ≡ places.old.ends.sizes.0 }
+    requires first { first ≡ places.old.ends.sizes.0 }
+    requires less { first < edge.now.size }
+    requires hashes { HasEdgeHashes edge.now }
+    requires files { All (IsEdgeFile edge.now) files.old.files.items }
     ensures same { KeepsRecord (D.puts shelf.old) (D.puts shelf.new) }
     ensures counted { CountsAsk (D.failed shelf.old) (D.failed shelf.new) result }
+    ensures sure { IfErr result (λ fault. fault ≢ AskFault.NoFile) }
     ensures goes { AsksEnds S.may_answer S.failed S.asked places.old places.new }
+    ensures lacks { IfOk result (λ had. IsFalse had → LacksRow H.digest (D.puts shelf.old)
+        places.new.ends.tiles.items (length places.old.list.items) first edge.now) }
+    ensures files { IfOk result (λ had. IsTrue had
+        → AreWayFiles H.digest edge.now files.new.files.items) }
 {
     let size = edge.size();
     let mut above = Vec::from_slice(alloc, edge.row(7))?;

@@ -1,6 +1,5 @@
 use Rattle.std.specs.Prelude.{⊤}
 use Rattle.mirror_candidates.proofs.Requests.{any_of, any_same}
-use Rattle.mirror_places.proofs.AskingOnce.{more_same}
 use Rattle.mirror_candidates.proofs.proving.ask_proof.Goals as goal
 
 pub returns-clause-asks : goal.returns-clause-asks
@@ -9,4 +8,8 @@ returns-clause-asks g c =
 
 pub returns-then-first-smaller-clause-asks : goal.returns-then-first-smaller-clause-asks
 returns-then-first-smaller-clause-asks g c =
+    any_same g.S.Source.may_answer g.S.Source.failed g.S.Source.asked c.args.places.now
+
+pub returns-then-first-second-clause-asks : goal.returns-then-first-second-clause-asks
+returns-then-first-second-clause-asks g c =
     any_same g.S.Source.may_answer g.S.Source.failed g.S.Source.asked c.args.places.now

@@ -3,7 +3,7 @@ use Rattle.std.specs.List.{AllByRecursion}
 use Rattle.std.proofs.lemmas.List.{take_more}
 use Rattle.tlog_text.specs.Hash.{Is32Bytes}
 use Rattle.tlog_proof.proofs.Lines.{hashes-push}
-use Rattle.mirror_candidates.proofs.proving.see_path.Goals as goal
+use Rattle.mirror_candidates.proofs.hash_sizes.see_path.Goals as goal
 
 pub loop-hash-preserved : goal.loop-hash-preserved
 loop-hash-preserved c =
