@@ -1,5 +1,7 @@
 -- The file that CopyDamaged names, from the reads of a shelf whose puts were kept.
-use Rattle.std.proofs.Common.{◌≡◌, ◌≢◌, ℕ, List, Option, inl, inr}
+use Rattle.std.proofs.Common.{◌≡◌, ◌≢◌, ℕ, List, Option, Result, IfErr, inl, inr, subst}
+use Rattle.std.specs.Result.{IsErr, IsErrAnd}
+use Rattle.signed_note.specs.Keys.{Key}
 use Rattle.tlog_tiles.specs.declared.paths.Path.{Path}
 use Rattle.tlog_tiles.specs.declared.paths.Path.TheVariants.{Tile}
 use Rattle.mirror_folders.specs.Shelf.{Put, RecordsRead}
@@ -9,11 +11,13 @@ use Rattle.mirror_server.specs.declared.resource.Resource.TheVariants.{File, Sta
 use Rattle.log_reader.specs.EdgeRows.{Edge}
 use Rattle.log_reader.proofs.FalseEdges.{edge_given}
 use Rattle.log_reader.proofs.FalseFiles.{false_given}
-use Rattle.copy_reader.specs.Damage.{IsFalseWithin, NamesDamage, NamesEdgeDamage, NamesProofDamage}
+use Rattle.copy_reader.specs.Copies.{HasCheckpoint}
+use Rattle.copy_reader.specs.Damage.{IsFalseWithin, NamesDamage, NamesEdgeDamage, NamesOpenDamage, NamesProofDamage}
+use Rattle.copy_reader.proofs.Damage.{damage_exit}
 use Rattle.copy_reader.specs.declared.fault.CopyFault.{CopyFault}
 use Rattle.copy_reader.specs.declared.fault.CopyFault.TheVariants.{BadOrigin, Head, CopyDamaged, ShelfFault, OutOfMemory}
 use Rattle.copy_reader.proofs.ShelfSources.{recorded_before}
-use Rattle.program_copies.specs.Damages.{IsDamagedFile, IsDamagedFor, IsDamagedProof, NamesFile, NamesProof}
+use Rattle.program_copies.specs.Damages.{IsDamagedFile, IsDamagedFor, IsDamagedProof, NamesFile, NamesProof, NamesUnder}
 use Rattle.program_copies.specs.GivenFiles.{IsEdgeTo}
 
 module _ (digest : List ℕ → List ℕ) (size : ℕ) (root : List ℕ) where
@@ -86,6 +90,23 @@ module _ (digest : List ℕ → List ℕ) (size : ℕ) (root : List ℕ) where
     proof_names edge to ShelfFault h = tt
     proof_names edge to OutOfMemory h = tt
 
+    -- the same, of the copy's checkpoint
+    pub file_under : (origin : List ℕ) (keys : List Key) → HasCheckpoint origin keys held size root → (fault : CopyFault) →
+        NamesFile digest held size root fault → NamesUnder digest origin keys held (IsDamagedFile digest held) fault
+    file_under origin keys has BadOrigin h = tt
+    file_under origin keys has (Head fault) h = tt
+    file_under origin keys has (CopyDamaged path) h = (size, root, has, h)
+    file_under origin keys has ShelfFault h = tt
+    file_under origin keys has OutOfMemory h = tt
+
+    pub proof_under : (origin : List ℕ) (keys : List Key) → HasCheckpoint origin keys held size root → (fault : CopyFault) →
+        NamesProof digest held size root fault → NamesUnder digest origin keys held (IsDamagedProof digest held) fault
+    proof_under origin keys has BadOrigin h = tt
+    proof_under origin keys has (Head fault) h = tt
+    proof_under origin keys has (CopyDamaged path) h = (size, root, has, h)
+    proof_under origin keys has ShelfFault h = tt
+    proof_under origin keys has OutOfMemory h = tt
+
     -- the file that a read names
     pub read_names : (edge : Edge) → IsEdgeTo digest size root edge → (fault : CopyFault) → NamesDamage digest held edge fault →
         NamesFile digest held size root fault
@@ -94,3 +115,49 @@ module _ (digest : List ℕ → List ℕ) (size : ℕ) (root : List ℕ) where
     read_names edge to (CopyDamaged path) h = inr (edge, to, h)
     read_names edge to ShelfFault h = tt
     read_names edge to OutOfMemory h = tt
+
+-- ---- a read of a reader with this edge, after the puts were kept
+
+module _ (digest : List ℕ → List ℕ) (held after : Option (List Put)) (kept : KeepsRecord held after) (edge : Edge) where
+  damage_before : (fault : CopyFault) → NamesDamage digest after edge fault → NamesDamage digest held edge fault
+  damage_before BadOrigin h = tt
+  damage_before (Head fault) h = tt
+  damage_before (CopyDamaged path) h =
+      false_given digest (RecordsRead held) (RecordsRead after) (λ p some answer r. recorded_before held after p answer kept r) edge
+      path h
+  damage_before ShelfFault h = tt
+  damage_before OutOfMemory h = tt
+
+  pub damage_then : {T : Type 0} (now : Edge) → now ≡ edge → (fault : CopyFault) (result : Result T CopyFault) →
+      IsErr result × IsErrAnd result (λ f. f ≡ fault) → NamesDamage digest after now fault →
+      IfErr result (NamesDamage digest held edge)
+  damage_then now same fault result is h =
+      damage_exit (NamesDamage digest held edge) result fault is
+      (damage_before fault (subst (λ e. NamesDamage digest after e fault) same h))
+
+-- ---- the opening of a copy
+
+module _ (digest : List ℕ → List ℕ) (origin : List ℕ) (keys : List Key) (held : Option (List Put)) where
+  -- the file that the opening of a copy names
+  pub opened_under : (fault : CopyFault) → NamesOpenDamage digest held origin keys fault →
+      NamesUnder digest origin keys held (IsDamagedFile digest held) fault
+  opened_under BadOrigin h = tt
+  opened_under (Head fault) h = tt
+  opened_under (CopyDamaged path) h = (h.0, h.1, h.2, inl h.3)
+  opened_under ShelfFault h = tt
+  opened_under OutOfMemory h = tt
+
+  pub opened_under_proof : (fault : CopyFault) → NamesOpenDamage digest held origin keys fault →
+      NamesUnder digest origin keys held (IsDamagedProof digest held) fault
+  opened_under_proof BadOrigin h = tt
+  opened_under_proof (Head fault) h = tt
+  opened_under_proof (CopyDamaged path) h = (h.0, h.1, h.2, inl h.3)
+  opened_under_proof ShelfFault h = tt
+  opened_under_proof OutOfMemory h = tt
+
+-- the opened folder has the content of the folder of that name
+pub names_there : {T : Type 0} (digest : List ℕ → List ℕ) (origin : List ℕ) (keys : List Key) (x y : Option (List Put))
+    (result : Result T CopyFault) → x ≡ y → IfErr result (NamesOpenDamage digest x origin keys) →
+    IfErr result (NamesOpenDamage digest y origin keys)
+names_there digest origin keys x y result e h =
+    subst (λ held. IfErr result (NamesOpenDamage digest held origin keys)) e h

@@ -14,11 +14,11 @@ module _ (origin : List ℕ) (keys : List Key) (files : Option (List NamedFile))
   -- if the tree heads cannot be read, nothing is reported, for that reason
   pub given_fault : (digest : List ℕ → List ℕ) (held : Option (List Put)) (fault : CopyAskFault) →
       GivesHeads origin keys files names (Err fault) → ReportsCompared origin keys files names digest held (Err fault)
-  given_fault digest held (Copy BadOrigin) h = h
+  given_fault digest held (Copy BadOrigin) h = record { refused = h; named = tt }
   given_fault digest held (Copy (Head f)) h = absurd h
   given_fault digest held (Copy (CopyDamaged path)) h = absurd h
   given_fault digest held (Copy ShelfFault) h = absurd h
-  given_fault digest held (Copy OutOfMemory) h = tt
+  given_fault digest held (Copy OutOfMemory) h = record { refused = tt; named = tt }
   given_fault digest held (Heads f) h = h
   given_fault digest held (Ask f) h = absurd h
 

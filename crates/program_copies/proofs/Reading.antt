@@ -10,6 +10,7 @@ use Rattle.mirror_folders.specs.Shelf.{Put}
 use Rattle.copy_reader.specs.Copies.{HasCheckpoint, IsRefused, OpensCopy}
 use Rattle.mirror_sources.specs.Recorded.{KeepsRecord}
 use Rattle.program_reports.specs.declared.reports.Report.{Report as Printout}
+use Rattle.copy_reader.specs.Damage.{NamesProofDamage}
 use Rattle.copy_reader.specs.Faults.{CountsRead, IsReadFault}
 use Rattle.copy_reader.specs.WholeCopies.{GivesOr, HoldsWhole, IsShelfFailure, OpensWhole, ReadsCopyOf}
 use Rattle.copy_reader.proofs.WholeCopies.{files_later}
@@ -20,7 +21,10 @@ use Rattle.program_reports.specs.declared.fault.AskFault.TheVariants.{Report, Wr
 use Rattle.program_reports.specs.declared.fault.ReportFault.TheVariants.{NothingComplete, NoSuchHead}
 use Rattle.program_reports.specs.declared.fault.ReportFault.TheVariants.{Proof as Refused, OutOfMemory as NoMemory}
 use Rattle.program_copies.specs.Comparisons.{IsComparisonOf, IsLogRead}
+use Rattle.program_copies.specs.Damages.{IsDamagedProof, NamesAsked, NamesUnder}
+use Rattle.program_copies.specs.GivenFiles.{IsEdgeTo}
 use Rattle.program_copies.specs.Proofs.{IsProvable, IsReadOf, ReportsAsk, ReportsProof}
+use Rattle.program_copies.proofs.Damages.{proof_names, proof_names_before, proof_under}
 use Rattle.program_copies.specs.declared.fault.CopyAskFault.{CopyAskFault}
 use Rattle.program_copies.specs.declared.fault.CopyAskFault.TheVariants as asking
 use Rattle.copy_reader.specs.declared.fault.CopyFault.{CopyFault}
@@ -118,7 +122,8 @@ read_fault T a b OutOfMemory counts = tt
 
 module _ (digest : List ℕ → List ℕ) (origin : List ℕ) (keys : List Key) (held after : Option (List Put)) (reader : Reader)
     (kept : KeepsRecord held after) (opens : OpensWhole digest origin held (Some reader))
-    (checkpoint : HasCheckpoint origin keys held reader.edge.size reader.root) (ask : Ask) where
+    (checkpoint : HasCheckpoint origin keys held reader.edge.size reader.root)
+    (to : IsEdgeTo digest reader.edge.size reader.root reader.edge) (ask : Ask) where
   -- the log of a whole copy is the opened one
   provable : (entries : List (List ℕ)) → HoldsWhole digest origin held entries → IsProvable digest reader after entries
   provable entries w = record {
@@ -135,21 +140,28 @@ module _ (digest : List ℕ → List ℕ) (origin : List ℕ) (keys : List Key) 
   proof_refused ShelfFault r = tt
   proof_refused OutOfMemory r = tt
 
+  proof_named : (fault : CopyFault) → NamesProofDamage digest after reader.edge fault →
+      NamesUnder digest origin keys held (IsDamagedProof digest held) fault
+  proof_named fault h =
+      proof_under digest reader.edge.size reader.root held origin keys checkpoint fault
+      (proof_names_before digest reader.edge.size reader.root held after kept fault
+      (proof_names digest reader.edge.size reader.root after reader.edge to fault h))
+
   -- a report on the opened log is a report on the copy
   pub proof_of_copy : (result : Result Printout CopyAskFault) →
       ReportsAsk digest reader.edge.size reader.root (IsProvable digest reader after) ask result →
-      ReportsProof digest origin keys held ask result
-  proof_of_copy (Ok report) p = record {
+      IfErr result (NamesAsked digest after reader.edge) → ReportsProof digest origin keys held ask result
+  proof_of_copy (Ok report) p d = record {
     size = reader.edge.size;
     root = reader.root;
     checkpoint = checkpoint;
     is = record { is = p.is; whole = λ entries w. p.whole entries (provable entries w); status = p.status };
   }
-  proof_of_copy (Err (asking.Copy fault)) p = proof_refused fault p
-  proof_of_copy (Err (asking.Heads fault)) p = absurd p
-  proof_of_copy (Err (asking.Ask (Report NothingComplete))) p = absurd p
-  proof_of_copy (Err (asking.Ask (Report (Refused fault)))) p =
+  proof_of_copy (Err (asking.Copy fault)) p d = record { refused = proof_refused fault p; named = proof_named fault d }
+  proof_of_copy (Err (asking.Heads fault)) p d = absurd p
+  proof_of_copy (Err (asking.Ask (Report NothingComplete))) p d = absurd p
+  proof_of_copy (Err (asking.Ask (Report (Refused fault)))) p d =
       record { size = reader.edge.size; root = reader.root; checkpoint = checkpoint; refused = p }
-  proof_of_copy (Err (asking.Ask (Report NoSuchHead))) p = absurd p
-  proof_of_copy (Err (asking.Ask (Report NoMemory))) p = absurd p
-  proof_of_copy (Err (asking.Ask WriteFault)) p = absurd p
+  proof_of_copy (Err (asking.Ask (Report NoSuchHead))) p d = absurd p
+  proof_of_copy (Err (asking.Ask (Report NoMemory))) p d = absurd p
+  proof_of_copy (Err (asking.Ask WriteFault)) p d = absurd p

@@ -15,7 +15,7 @@ use Rattle.program_reports.specs.declared.reports.Report.{Report as Printout}
 use Rattle.program_reports.specs.declared.fault.AskFault.TheVariants.{Report, WriteFault}
 use Rattle.program_reports.specs.declared.fault.ReportFault.TheVariants.{NothingComplete, NoSuchHead}
 use Rattle.program_reports.specs.declared.fault.ReportFault.TheVariants.{Proof as Refused, OutOfMemory}
-use Rattle.copy_reader.specs.Copies.{HasCheckpoint, IsEmptyCopy, IsRefused}
+use Rattle.copy_reader.specs.Copies.{HasCheckpoint, IsEmptyCopy}
 use Rattle.copy_reader.specs.Shown.{IsRootOf}
 use Rattle.copy_reader.specs.WholeCopies.{HasFilesOf, HoldsWhole}
 use Rattle.log_reader.specs.Holding.{IsReaderOf}
@@ -23,6 +23,7 @@ use Rattle.log_reader.specs.Ways.{Reader}
 use Rattle.copy_reader.specs.declared.fault.CopyFault.{CopyFault}
 use Rattle.copy_reader.specs.declared.fault.CopyFault.TheVariants.{BadOrigin, Head, CopyDamaged, ShelfFault}
 use Rattle.copy_reader.specs.declared.fault.CopyFault.TheVariants.{OutOfMemory as NoMemory}
+use Rattle.program_copies.specs.Damages.{IsDamagedFile, IsRefusedFor}
 use Rattle.program_copies.specs.declared.fault.CopyAskFault.{CopyAskFault}
 use Rattle.program_copies.specs.declared.fault.CopyAskFault.TheVariants as asking
 
@@ -88,7 +89,7 @@ module _ (origin : List ℕ) (keys : List Key) (files : Option (List NamedFile))
     -- the facts at each answer of the reporter
     abbrev pub ReportsCompared : Result Printout CopyAskFault → Type 0
     ReportsCompared (Ok report) = IsComparedPrint report
-    ReportsCompared (Err (asking.Copy fault)) = IsRefused digest origin keys held fault
+    ReportsCompared (Err (asking.Copy fault)) = IsRefusedFor digest origin keys held (IsDamagedFile digest held) fault
     ReportsCompared (Err (asking.Heads fault)) = ReadsHeads origin keys files names (Err fault)
     ReportsCompared (Err (asking.Ask (Report NothingComplete))) = IsEmptyCopy origin keys held
     ReportsCompared (Err (asking.Ask (Report (Refused fault)))) = ⊥

@@ -1,5 +1,6 @@
 -- The file that CopyDamaged names: what the shelf has at its path, also if that is nothing, is not what the tree over it says.
 use Rattle.std.specs.Prelude.{◌≡◌, ◌⊎◌, ℕ, List, Option, Some, None, ⊤}
+use Rattle.signed_note.specs.Keys.{Key}
 use Rattle.tlog_tiles.specs.declared.paths.Path.{Path}
 use Rattle.tlog_tiles.specs.declared.paths.Path.TheVariants.{Checkpoint}
 use Rattle.mirror_folders.specs.Shelf.{Put, RecordsRead}
@@ -10,10 +11,13 @@ use Rattle.mirror_server.specs.declared.resource.Resource.{Resource}
 use Rattle.mirror_server.specs.declared.resource.Resource.TheVariants.{File, Status, Forks, Missing, Proof}
 use Rattle.log_reader.specs.EdgeRows.{Edge}
 use Rattle.log_reader.specs.FalseFiles.{IsFalseFile}
-use Rattle.copy_reader.specs.Damage.{IsDamagedEdge, IsFalseWithin}
+use Rattle.copy_reader.specs.Copies.{HasCheckpoint, IsRefused}
+use Rattle.copy_reader.specs.Damage.{IsDamagedEdge, IsFalseWithin, NamesProofDamage}
 use Rattle.copy_reader.specs.declared.fault.CopyFault.{CopyFault}
 use Rattle.copy_reader.specs.declared.fault.CopyFault.TheVariants.{BadOrigin, Head, CopyDamaged, ShelfFault, OutOfMemory}
 use Rattle.program_copies.specs.CopyHeads.{CopyHead}
+use Rattle.program_copies.specs.declared.fault.CopyAskFault.{CopyAskFault}
+use Rattle.program_copies.specs.declared.fault.CopyAskFault.TheVariants as asking
 use Rattle.program_copies.specs.GivenFiles.{IsEdgeTo}
 
 module _ (digest : List ℕ → List ℕ) (held : Option (List Put)) (size : ℕ) (root : List ℕ) where
@@ -62,6 +66,27 @@ module _ (digest : List ℕ → List ℕ) (held : Option (List Put)) (size : ℕ
   NamesFile (CopyDamaged path) = IsDamagedFile path
   NamesFile ShelfFault = ⊤
   NamesFile OutOfMemory = ⊤
+
+module _ (digest : List ℕ → List ℕ) (origin : List ℕ) (keys : List Key) (held : Option (List Put)) where
+  -- CopyDamaged names a file that is damaged so in the log of the copy's checkpoint
+  abbrev pub NamesUnder : (ℕ → List ℕ → Path → Type 0) → CopyFault → Type 0
+  NamesUnder IsOne BadOrigin = ⊤
+  NamesUnder IsOne (Head fault) = ⊤
+  NamesUnder IsOne (CopyDamaged path) =
+      (size : ℕ) × (root : List ℕ) × HasCheckpoint origin keys held size root × IsOne size root path
+  NamesUnder IsOne ShelfFault = ⊤
+  NamesUnder IsOne OutOfMemory = ⊤
+
+  -- the reason why a copy is not read, with such a file
+  pub record IsRefusedFor (IsOne : ℕ → List ℕ → Path → Type 0) (fault : CopyFault) : Type 0 where
+    pub refused : IsRefused digest origin keys held fault
+    pub named : NamesUnder IsOne fault
+
+-- the fault of a proof on a log whose checkpoint was read. Only a private contract cites it
+abbrev pub NamesAsked : (List ℕ → List ℕ) → Option (List Put) → Edge → CopyAskFault → Type 0
+NamesAsked digest held edge (asking.Copy fault) = NamesProofDamage digest held edge fault
+NamesAsked digest held edge (asking.Heads fault) = ⊤
+NamesAsked digest held edge (asking.Ask fault) = ⊤
 
 -- the same under that checkpoint, if there is one
 abbrev pub IsDamagedAt : (List ℕ → List ℕ) → Option (List Put) → Option CopyHead → Resource → Path → Type 0

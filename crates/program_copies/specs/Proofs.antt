@@ -13,13 +13,14 @@ use Rattle.program_reports.specs.declared.reports.Report.{Report as Printout}
 use Rattle.program_reports.specs.declared.fault.AskFault.TheVariants.{Report, WriteFault}
 use Rattle.program_reports.specs.declared.fault.ReportFault.TheVariants.{NothingComplete, NoSuchHead}
 use Rattle.program_reports.specs.declared.fault.ReportFault.TheVariants.{Proof as Refused, OutOfMemory}
-use Rattle.copy_reader.specs.Copies.{HasCheckpoint, IsEmptyCopy, IsRefused}
+use Rattle.copy_reader.specs.Copies.{HasCheckpoint, IsEmptyCopy}
 use Rattle.copy_reader.specs.Faults.{IsReadFault}
 use Rattle.copy_reader.specs.Proofs.{IsProofOf, IsTrueText}
 use Rattle.copy_reader.specs.WholeCopies.{HoldsWhole, IsShelfFailure}
 use Rattle.copy_reader.specs.declared.fault.CopyFault.{CopyFault}
 use Rattle.log_reader.specs.Ways.{Reader}
 use Rattle.program_copies.specs.Comparisons.{IsLogRead}
+use Rattle.program_copies.specs.Damages.{IsDamagedProof, IsRefusedFor}
 use Rattle.program_copies.specs.declared.fault.CopyAskFault.{CopyAskFault}
 use Rattle.program_copies.specs.declared.fault.CopyAskFault.TheVariants as asking
 
@@ -85,7 +86,7 @@ module _ (digest : List ℕ → List ℕ) (origin : List ℕ) (keys : List Key) 
     -- the facts at each answer of the reporter
     abbrev pub ReportsProof : Result Printout CopyAskFault → Type 0
     ReportsProof (Ok report) = IsProofPrint report
-    ReportsProof (Err (asking.Copy fault)) = IsRefused digest origin keys held fault
+    ReportsProof (Err (asking.Copy fault)) = IsRefusedFor digest origin keys held (IsDamagedProof digest held) fault
     ReportsProof (Err (asking.Heads fault)) = ⊥
     ReportsProof (Err (asking.Ask (Report NothingComplete))) = IsEmptyCopy origin keys held
     ReportsProof (Err (asking.Ask (Report (Refused fault)))) = RefusesAsk fault

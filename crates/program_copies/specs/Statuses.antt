@@ -7,8 +7,9 @@ use Rattle.log_reader.specs.EdgeRows.{Edge}
 use Rattle.log_reader.specs.Ways.{IsShownBundle, Reader}
 use Rattle.program_reports.specs.Reports.{printed}
 use Rattle.program_reports.specs.declared.reports.Report.{Report as Printout}
-use Rattle.copy_reader.specs.Copies.{HasCheckpoint, IsEmptyCopy, IsRefused}
+use Rattle.copy_reader.specs.Copies.{HasCheckpoint, IsEmptyCopy}
 use Rattle.copy_reader.specs.Statuses.{copy_status}
+use Rattle.program_copies.specs.Damages.{IsDamagedFile, IsRefusedFor}
 use Rattle.program_copies.specs.GivenFiles.{IsEdgeTo}
 use Rattle.program_copies.specs.declared.fault.CopyAskFault.{CopyAskFault}
 use Rattle.program_copies.specs.declared.fault.CopyAskFault.TheVariants.{Copy, Heads, Ask}
@@ -55,6 +56,6 @@ module _ (digest : List ℕ → List ℕ) (origin : List ℕ) (keys : List Key) 
   -- the facts at each answer of the reporter
   abbrev pub ReportsStatus : Result Printout CopyAskFault → Type 0
   ReportsStatus (Ok report) = IsStatusPrint report
-  ReportsStatus (Err (Copy fault)) = IsRefused digest origin keys held fault
+  ReportsStatus (Err (Copy fault)) = IsRefusedFor digest origin keys held (IsDamagedFile digest held) fault
   ReportsStatus (Err (Heads fault)) = ⊥
   ReportsStatus (Err (Ask fault)) = ⊥

@@ -3,6 +3,7 @@ ghost use Rattle.std.specs.Prelude.{◌≡◌, ◌≢◌, ◌↔◌, [], ⊤, Al
 ghost use Rattle.tlog_text.specs.Answers.{seen};
 ghost use Rattle.mirror_sources.specs.Recorded.{KeepsRecord};
 ghost use Rattle.copy_reader.specs.Copies.{LeavesPuts};
+ghost use Rattle.copy_reader.specs.Damage.{NamesDamage};
 ghost use Rattle.copy_reader.specs.Faults.{CountsRead};
 ghost use Rattle.copy_reader.specs.WholeCopies.{IsShelfFailure, ReadsCopyOf};
 ghost use Rattle.mirror_reports.specs.Compared.{IsCompared, compared_point, compared_text};
@@ -50,6 +51,7 @@ fn compare_one<H: TreeHash, D: ReadableShelf>(
     ensures root { reader.new.root ≡ reader.old.root }
     ensures same { KeepsRecord (D.puts shelf.old) (D.puts shelf.new) }
     ensures counted { CountsRead (D.failed shelf.old) (D.failed shelf.new) result }
+    ensures damage { IfErr result (NamesDamage H.digest (D.puts shelf.old) reader.old.edge) }
     ensures honest { ReadsCopyOf IsShelfFailure H.digest reader.old reader.new
         (D.puts shelf.old) result (IsCompared H.digest) }
 {
@@ -80,6 +82,7 @@ fn compare_all<H: TreeHash, D: ReadableShelf>(
         reader.old.root heads.now compared.items) }
     ensures same { KeepsRecord (D.puts shelf.old) (D.puts shelf.new) }
     ensures counted { CountsRead (D.failed shelf.old) (D.failed shelf.new) result }
+    ensures damage { IfErr result (NamesDamage H.digest (D.puts shelf.old) reader.old.edge) }
     ensures honest { ReadsCopyOf IsShelfFailure H.digest reader.old reader.new
         (D.puts shelf.old) result
         (λ entries compared. All (IsCompared H.digest entries) compared.items) }
@@ -132,6 +135,7 @@ fn compare_report<H: TreeHash, D: ReadableShelf>(
         (IsLogRead H.digest reader.old (D.puts shelf.old))) }
     ensures same { KeepsRecord (D.puts shelf.old) (D.puts shelf.new) }
     ensures counted { CountsRead (D.failed shelf.old) (D.failed shelf.new) result }
+    ensures damage { IfErr result (NamesDamage H.digest (D.puts shelf.old) reader.old.edge) }
     ensures honest { ReadsCopyOf IsShelfFailure H.digest reader.old reader.new
         (D.puts shelf.old) result (λ _ _. ⊤) }
 {
@@ -208,6 +212,7 @@ fn compare_text<H: TreeHash, F: NamedFiles, D: NamedFolders>(
         return Err(CopyAskFault::Ask(AskFault::Report(ReportFault::NothingComplete)));
     };
     let mut reader = reader;
+    let _root = reader.root();
     match compare_report::<H, D>(alloc, folders, &mut reader, given) {
         Ok(report) => Ok(report),
         Err(fault) => Err(CopyAskFault::Copy(fault)),

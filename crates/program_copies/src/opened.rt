@@ -1,7 +1,8 @@
 //! Opens a copy in a folder.
-ghost use Rattle.std.specs.Prelude.{IfOk, OnOk, map};
+ghost use Rattle.std.specs.Prelude.{IfErr, IfOk, OnOk, map};
 ghost use Rattle.mirror_sources.specs.Recorded.{KeepsRecord};
 ghost use Rattle.copy_reader.specs.Copies.{LeavesPuts, OpensCopy};
+ghost use Rattle.copy_reader.specs.Damage.{NamesOpenDamage};
 ghost use Rattle.copy_reader.specs.Faults.{CountsCopy};
 ghost use Rattle.copy_reader.specs.WholeCopies.{OpensWhole};
 
@@ -40,6 +41,8 @@ pub fn open_copy<H: TreeHash, D: NamedFolders>(
     ensures kept { LeavesPuts (D.held folders.old folder.now) (D.puts folders.old)
         (D.puts folders.new) }
     ensures counted { CountsCopy (D.failed folders.old) (D.failed folders.new) result }
+    ensures damage { IfErr result (NamesOpenDamage H.digest (D.held folders.old folder.now)
+        origin.now (map (λ k. key k) keys.now)) }
     ensures honest { IfOk result (OpensWhole H.digest origin.now (D.held folders.old folder.now)) }
 {
     match check_origin(alloc, origin) {

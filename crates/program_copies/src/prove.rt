@@ -3,9 +3,11 @@ ghost use Rattle.std.specs.Prelude.{ℕ, IfErr, IfOk, List, OnOk, map};
 ghost use Rattle.mirror_sources.specs.Recorded.{KeepsRecord};
 ghost use Rattle.std.specs.Io.KnownBytes.{Keeps};
 ghost use Rattle.copy_reader.specs.Copies.{LeavesPuts};
+ghost use Rattle.copy_reader.specs.Damage.{NamesProofDamage};
 ghost use Rattle.copy_reader.specs.Faults.{CountsRead};
 ghost use Rattle.copy_reader.specs.Proofs.{IsWithin};
 ghost use Rattle.copy_reader.specs.WholeCopies.{IsShelfFailure};
+ghost use Rattle.program_copies.specs.Damages.{NamesAsked};
 ghost use Rattle.program_copies.specs.Printed.{CountsAsk, HasStatus, IsStatus, IsWriteFault, Prints};
 ghost use Rattle.program_copies.specs.Proofs.{IsProvable, IsRefusedOf, PrintsProof, ReportsAsk, ReportsProof};
 
@@ -64,6 +66,8 @@ fn read_report<H: TreeHash, D: ReadableShelf>(
         (IsProvable H.digest reader.old (D.puts shelf.old)) ask) }
     ensures same { KeepsRecord (D.puts shelf.old) (D.puts shelf.new) }
     ensures counted { CountsRead (D.failed shelf.old) (D.failed shelf.new) result }
+    ensures damage { IfErr result
+        (NamesProofDamage H.digest (D.puts shelf.old) reader.old.edge) }
     ensures honest { IfErr result (λ fault. (entries : List (List ℕ))
         → IsProvable H.digest reader.old (D.puts shelf.old) entries → IsShelfFailure fault) }
 {
@@ -83,6 +87,7 @@ fn ask_reader<H: TreeHash, D: ReadableShelf>(
         (IsProvable H.digest reader.old (D.puts shelf.old)) ask result }
     ensures same { KeepsRecord (D.puts shelf.old) (D.puts shelf.new) }
     ensures counted { CountsAsk (D.failed shelf.old) (D.failed shelf.new) result }
+    ensures damage { IfErr result (NamesAsked H.digest (D.puts shelf.old) reader.old.edge) }
 {
     match refusal(ask, reader.size()) {
         Ok(()) => {}
@@ -119,6 +124,7 @@ fn text_of_proof<H: TreeHash, D: NamedFolders>(
         return Err(CopyAskFault::Ask(AskFault::Report(ReportFault::NothingComplete)));
     };
     let mut reader = reader;
+    let _root = reader.root();
     ask_reader::<H, D>(alloc, folders, &mut reader, ask)
 }
 

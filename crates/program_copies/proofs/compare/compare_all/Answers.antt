@@ -6,6 +6,10 @@ use Rattle.std.proofs.lemmas.List.Elements.{All-push}
 use Rattle.copy_reader.proofs.WholeCopies.{files_later}
 use Rattle.mirror_reports.specs.Compared.{IsCompared}
 use Rattle.mirror_reports.specs.declared.compare.Compared.{Compared}
+use Rattle.copy_reader.proofs.Damage.{damage_exit}
+use Rattle.copy_reader.specs.Damage.{NamesDamage}
+use Rattle.copy_reader.specs.declared.fault.CopyFault.TheVariants.{OutOfMemory}
+use Rattle.program_copies.proofs.Damages.{damage_then}
 use Rattle.program_copies.proofs.Reading.{ends_by, ends_no_memory}
 use Rattle.program_copies.proofs.compare.compare_all.Goals as goal
 
@@ -30,6 +34,17 @@ returns-in_err-push-clause-honest g c = λ entries is files.
       reader_is = read.reader_is;
       answer = ends_no_memory c.from_residual-in_err-push.result c.from_residual-in_err-push.ensures _;
     }
+
+pub returns-in_err-compare_one-clause-damage : goal.returns-in_err-compare_one-clause-damage
+returns-in_err-compare_one-clause-damage g c =
+    damage_then g.H.TreeHash.digest (g.D.Shelf.puts c.args.shelf.now) (g.D.Shelf.puts c.loop-head.shelf)
+    c.loop-head.invariant.same c.args.reader.now.edge c.loop-head.reader.edge c.loop-head.invariant.edge
+    c.in_err-compare_one.field-0.0 c.from_residual.result c.from_residual.ensures c.in_err-compare_one.ensures.damage
+
+pub returns-in_err-push-clause-damage : goal.returns-in_err-push-clause-damage
+returns-in_err-push-clause-damage g c =
+    damage_exit (NamesDamage g.H.TreeHash.digest (g.D.Shelf.puts c.args.shelf.now) c.args.reader.now.edge)
+    c.from_residual-in_err-push.result OutOfMemory c.from_residual-in_err-push.ensures tt
 
 pub loop-head-preserved : goal.loop-head-preserved
 loop-head-preserved g c = record {

@@ -1,3 +1,4 @@
+use Rattle.program_copies.proofs.Damages.{names_there}
 use Rattle.program_copies.proofs.Reading.{opens_there}
 use Rattle.program_copies.proofs.opened.open_copy.Goals as goal
 
@@ -6,3 +7,9 @@ returns-in-Ok-open-clause-answer g c =
     opens_there g.H.TreeHash.digest c.args.origin.now _ (g.D.Shelf.puts c.open.new.self)
     (g.D.NamedFolders.held c.args.folders.now c.args.folder.now) c.open_shelf.result c.in-Ok-open.ensures.opened
     c.open_shelf.ensures.answer
+
+pub returns-in-Ok-open-clause-damage : goal.returns-in-Ok-open-clause-damage
+returns-in-Ok-open-clause-damage g c =
+    names_there g.H.TreeHash.digest c.args.origin.now _ (g.D.Shelf.puts c.open.new.self)
+    (g.D.NamedFolders.held c.args.folders.now c.args.folder.now) c.open_shelf.result c.in-Ok-open.ensures.opened
+    c.open_shelf.ensures.damage

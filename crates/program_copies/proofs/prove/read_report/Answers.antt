@@ -1,5 +1,7 @@
 use Rattle.std.proofs.Common.{ℕ, List, refl}
 use Rattle.std.specs.Prelude.{string_bytes}
+use Rattle.copy_reader.proofs.Damage.{damage_exit}
+use Rattle.copy_reader.specs.Damage.{NamesProofDamage}
 use Rattle.copy_reader.specs.WholeCopies.{IsShelfFailure}
 use Rattle.program_copies.specs.Proofs.{IsProvable}
 use Rattle.program_copies.proofs.Reading.{passed_on, read_fails, read_true}
@@ -20,3 +22,8 @@ returns-clause-report g c = record {
       (g.D.Shelf.puts c.args.shelf.now) c.args.ask c.in_ok-text.text c.in_ok-text.ensures.honest;
   status = refl;
 }
+
+pub returns-in_err-text-clause-damage : goal.returns-in_err-text-clause-damage
+returns-in_err-text-clause-damage g c =
+    damage_exit (NamesProofDamage g.H.TreeHash.digest (g.D.Shelf.puts c.args.shelf.now) c.args.reader.now.edge)
+    c.from_residual.result c.in_err-text.field-0.0 c.from_residual.ensures c.in_err-text.ensures.damage
