@@ -1,5 +1,5 @@
 -- How a command over places ends, given the answer of its call. The answers of the commands cite one lemma each.
-use Rattle.std.proofs.Common.{◌≡◌, inl, ℕ, List, Option, Result, Ok, Err, IfErr, IfOk, Some, None, map, refl}
+use Rattle.std.proofs.Common.{◌≡◌, ◌⊎◌, inl, inr, ℕ, List, Option, Result, Ok, Err, IfErr, IfOk, Some, None, map, refl}
 use Rattle.std.specs.Prelude.{⊤}
 use Rattle.std.specs.Io.KnownBytes.{Keeps}
 use Rattle.std.specs.Result.{result_map_both}
@@ -9,6 +9,8 @@ use Rattle.mirror_places.specs.declared.places.Places.{Places}
 use Rattle.program_follow.specs.Places.{MayAnswerAny, SeenPlace}
 use Rattle.program_follow.specs.declared.fault.FollowRunFault.{FollowRunFault}
 use Rattle.program_follow.specs.declared.fault.FollowRunFault.TheVariants as follow
+use Rattle.program_follow.specs.declared.repair_fault.RepairRunFault.{RepairRunFault}
+use Rattle.program_follow.specs.declared.repair_fault.RepairRunFault.TheVariants as repair
 use Rattle.program_monitor.specs.Audits.{RunsAudit}
 use Rattle.program_monitor.specs.declared.fault.AuditRunFault.{AuditRunFault}
 use Rattle.program_monitor.specs.declared.fault.AuditRunFault.TheVariants as audit
@@ -18,44 +20,58 @@ use Rattle.program_env.specs.Moment.{Moment}
 use Rattle.program_env.specs.Performing.{IsStatus, MayLeave, Performs, Stays}
 use Rattle.place_commands.specs.Faults.{IsLate}
 use Rattle.place_commands.specs.Audit.{DoesAudit}
-use Rattle.place_commands.specs.Follow.{AnswersAmong, DoesFollow, FollowsAmong}
+use Rattle.place_commands.specs.Follow.{AnswersAmong, DoesFollow}
 use Rattle.place_commands.specs.Places.{name_of, names_of}
 use Rattle.place_commands.specs.declared.fault.PlaceRunFault.{PlaceRunFault}
-use Rattle.place_commands.specs.declared.fault.PlaceRunFault.TheVariants.{Audit, Follow, Origin, OutOfMemory}
+use Rattle.place_commands.specs.declared.fault.PlaceRunFault.TheVariants.{Audit, Follow, Origin, OutOfMemory, Repair}
 use Rattle.program_env.proofs.Performing.{performs, performs_done}
 
--- ---- follow, over these places
+-- ---- follow
 
-module _ (digest : List ℕ → List ℕ) {S : Type 0} (may : S → Path → Option (List ℕ) → Type 0) (keys : List Key)
-    (old new : Moment) (places : Places S) (c : FollowWords) where
-  -- the places were followed
-  pub follows : (answer : Result ℕ FollowRunFault) → FollowsAmong digest may keys old new places c answer →
-      (is : Result ℕ PlaceRunFault) → is ≡ result_map_both (λ status. status) (λ fault. Follow fault) answer →
-      AnswersAmong digest may keys old new places c is
-  follows (Ok status) h is same = rw same h
-  follows (Err fault) h is same = rw same h
-
--- ---- follow, over the places of the words
+-- the answer of the call is that of the command
+pub same_answer : (digest : List ℕ → List ℕ) {S : Type 0} (may : S → Path → Option (List ℕ) → Type 0) (failed : S → ℕ)
+    (asked : S → Option (List Path)) (keys : List Key) (old new : Moment) (places : Places S) (c : FollowWords)
+    (answer is : Result ℕ PlaceRunFault) → is ≡ result_map_both (λ status. status) (λ fault. fault) answer →
+    AnswersAmong digest may failed asked keys old new places c answer →
+    AnswersAmong digest may failed asked keys old new places c is
+same_answer digest may failed asked keys old new places c (Ok status) is same h = rw same h
+same_answer digest may failed asked keys old new places c (Err fault) is same h = rw same h
 
 module _ (digest : List ℕ → List ℕ) (keys : List Key) (old new : Moment) (c : FollowWords) (places : Places SeenPlace)
     (named : names_of places ≡ map name_of c.places.items) where
-  quiet : (fault : FollowRunFault) → FollowsAmong digest MayAnswerAny keys old new places c (Err fault) →
-      (¬ IsLate (Follow fault)) → Keeps old.output new.output
-  quiet (follow.File fault) h other = h.runs.follows.text
-  quiet follow.CopyInUse h other = h.runs.follows.text
-  quiet follow.OutOfMemory h other = h.runs.follows.text
-  quiet (follow.Follow fault) h other = h.runs.follows.text
+  abbrev Among : Result ℕ PlaceRunFault → Type 0
+  Among answer = AnswersAmong digest MayAnswerAny (λ place. place.failures) (λ place. None) keys old new places c answer
+
+  quiet : (fault : FollowRunFault) → Among (Err (Follow fault)) → (¬ IsLate (Follow fault)) → Keeps old.output new.output
+  quiet (follow.File fault) h other = h.1.runs.follows.text
+  quiet follow.CopyInUse h other = h.1.runs.follows.text
+  quiet follow.OutOfMemory h other = h.1.runs.follows.text
+  quiet (follow.Follow fault) h other = h.1.runs.follows.text
   quiet follow.WriteFault h other = absurd (other tt)
   quiet (follow.Evidence fault) h other = absurd (other tt)
   quiet (follow.EvidenceAndOutput fault) h other = absurd (other tt)
 
-  pub performed : (is : Result ℕ PlaceRunFault) → AnswersAmong digest MayAnswerAny keys old new places c is →
-      Performs DoesFollow IsLate MayLeave digest keys old new c is
+  quiet_repair : (fault : RepairRunFault) → Among (Err (Repair fault)) → (¬ IsLate (Repair fault)) → Keeps old.output new.output
+  quiet_repair (repair.Early fault) h other = h.1.runs.text
+  quiet_repair repair.OutOfMemory h other = h.1.runs.1.line
+  quiet_repair (repair.Repair fault) h other = absurd (other tt)
+  quiet_repair (repair.RepairAndOutput fault) h other = absurd (other tt)
+  quiet_repair (repair.Followed fault) h other = absurd (other tt)
+  quiet_repair (repair.Unprinted fault) h other = absurd (other tt)
+
+  status_of : (status : ℕ) → Among (Ok status) → (status ≡ 0) ⊎ (status ≡ 3)
+  status_of status (inl h) = h.1.runs.status
+  status_of status (inr h) = h.1.runs.does.follows.status
+
+  pub performed : (is : Result ℕ PlaceRunFault) → Among is → Performs DoesFollow IsLate MayLeave digest keys old new c is
   performed (Ok status) h =
-      performs_done DoesFollow IsLate MayLeave digest keys old new c tt status h.runs.status
+      performs_done DoesFollow IsLate MayLeave digest keys old new c tt status (status_of status h)
       (record { places = places; named = named; among = h })
   performed (Err (Follow fault)) h =
       performs DoesFollow IsLate MayLeave digest keys old new c tt (Err (Follow fault)) tt (quiet fault h)
+      (record { places = places; named = named; among = h })
+  performed (Err (Repair fault)) h =
+      performs DoesFollow IsLate MayLeave digest keys old new c tt (Err (Repair fault)) tt (quiet_repair fault h)
       (record { places = places; named = named; among = h })
   performed (Err OutOfMemory) h = absurd h
   performed (Err (Origin fault)) h = absurd h

@@ -1,14 +1,20 @@
 -- The faults of the commands over places after which text may have been written.
 use Rattle.std.specs.Prelude.{⊤}
 use Rattle.program_follow.specs.declared.fault.FollowRunFault.TheVariants as follow
+use Rattle.program_follow.specs.declared.repair_fault.RepairRunFault.TheVariants as repair
 use Rattle.program_monitor.specs.declared.fault.AuditRunFault.TheVariants as audit
 use Rattle.place_commands.specs.declared.fault.PlaceRunFault.{PlaceRunFault}
-use Rattle.place_commands.specs.declared.fault.PlaceRunFault.TheVariants.{Audit, Follow}
+use Rattle.place_commands.specs.declared.fault.PlaceRunFault.TheVariants.{Audit, Follow, Repair}
 
--- a write failed, or the evidence was not put, which does not keep the text from being written
+-- a write failed, or the evidence was not put, which does not keep the text from being written. Of a run with a repair each fault after
+-- the repair, whose line comes first
 abbrev pub IsLate : PlaceRunFault → Type 0
 IsLate (Follow follow.WriteFault) = ⊤
 IsLate (Follow (follow.Evidence fault)) = ⊤
 IsLate (Follow (follow.EvidenceAndOutput fault)) = ⊤
+IsLate (Repair (repair.Repair fault)) = ⊤
+IsLate (Repair (repair.RepairAndOutput fault)) = ⊤
+IsLate (Repair (repair.Followed fault)) = ⊤
+IsLate (Repair (repair.Unprinted fault)) = ⊤
 IsLate (Audit audit.WriteFault) = ⊤
 IsLate other = ⊥

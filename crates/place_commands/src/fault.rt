@@ -1,5 +1,5 @@
 //! Why a command over places was not done.
-use program_follow::FollowRunFault;
+use program_follow::{FollowRunFault, RepairRunFault};
 use program_monitor::AuditRunFault;
 use std::fmt;
 use thiserror::Error as FaultText;
@@ -14,6 +14,9 @@ pub enum PlaceRunFault {
     /// A copy was not followed to the end.
     #[error(transparent)]
     Follow(FollowRunFault),
+    /// A copy was not repaired, or then not followed to the end.
+    #[error(transparent)]
+    Repair(RepairRunFault),
     /// The files of a log are wrong or missing, or the log was not read to the end.
     #[error(transparent)]
     Audit(AuditRunFault),

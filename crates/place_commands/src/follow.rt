@@ -9,6 +9,7 @@ ghost use Rattle.place_commands.specs.Follow.{AnswersAmong, DoesFollow};
 
 use crate::fault::{Error, PlaceRunFault};
 use crate::places::places_of;
+use mirror_copy::{BringFault, Repaired};
 use mirror_follow::FollowFault;
 use mirror_places::Places;
 use mirror_progress::Task;
@@ -17,7 +18,10 @@ use program_env::served::of_note;
 use program_env::why::{FailedStreams, Why, of_folder, of_named, of_origin, print_why};
 use program_env::{Env, RunFiles, RunFolders, print_waited, write_front};
 use program_files::system_reason;
-use program_follow::{FollowRunFault, Following, SystemHold, WatchedPlace, follow_why, run_follow};
+use program_follow::{
+    FollowRunFault, Following, Hold, RepairFault, RepairRunFault, SystemHold, WatchedPlace,
+    follow_why, run_follow, run_repair,
+};
 use program_states::check_origin;
 use program_words::commands::follow::Follow;
 use signed_note::Verifier;
@@ -90,9 +94,44 @@ fn follow_among<R, F: RunFiles, D: RunFolders, I: Read, O: Write, E: Write, S: W
 where
     R: Files<File = File>,
     ensures same { IsSameEnv env.old env.new }
-    ensures does { AnswersAmong sha256 S.may_answer (map (λ k. key k) keys.now)
+    ensures does { AnswersAmong sha256 S.may_answer S.failed S.asked (map (λ k. key k) keys.now)
         (moment F.puts D.held D.puts I.remaining O.contents env.old)
         (moment F.puts D.held D.puts I.remaining O.contents env.new) places follow.now result }
+{
+    let mut hold = SystemHold::new(env.rt, env.alloc);
+    let mut repaired = Repaired::new();
+    let answer = repair_or_follow(env, keys, follow, &mut places, &mut hold, &mut repaired);
+    write_unlocked(follow, env.alloc, hold.unlocked(), env.errors);
+    drop(hold);
+    write_waits(follow.progress, env.alloc, &places, env.errors);
+    write_whys::<D, S, E>(follow, env.alloc, keys, &env.folders, &places, env.errors);
+    let lacked = lacked_of(places, &repaired);
+    followed(env, follow, lacked, answer)
+}
+
+// Follows the places, after a repair if the words ask for one.
+fn repair_or_follow<
+    R,
+    F: RunFiles,
+    D: RunFolders,
+    I: Read,
+    O: Write,
+    E: Write,
+    S: Source + Drop,
+    L: Hold,
+>(
+    env: &mut Env<'_, '_, '_, '_, R, F, D, I, O, E>,
+    keys: &[Box<dyn Verifier>],
+    follow: &Follow<'_>,
+    places: &mut Places<S>,
+    hold: &mut L,
+    repaired: &mut Repaired,
+) -> Result<u8, PlaceRunFault>
+    requires { repaired.old.put ≡ 0 }
+    ensures same { IsSameEnv env.old env.new }
+    ensures does { AnswersAmong sha256 S.may_answer S.failed S.asked (map (λ k. key k) keys.now)
+        (moment F.puts D.held D.puts I.remaining O.contents env.old)
+        (moment F.puts D.held D.puts I.remaining O.contents env.new) places.old follow.now result }
 {
     let following = Following {
         origin: follow.copy.log.origin,
@@ -101,62 +140,125 @@ where
         forks: follow.forks,
         progress: follow.progress,
     };
-    let mut hold = SystemHold::new(env.rt, env.alloc);
-    let answer = run_follow::<Sha256Tree, F, D, S, SystemHold<'_, R>, O>(
-        &mut env.files,
-        &mut env.folders,
-        env.alloc,
-        keys,
-        &following,
-        &mut places,
-        &mut hold,
-        env.output,
-    );
-    write_unlocked(follow, env.alloc, hold.unlocked(), env.errors);
-    drop(hold);
-    write_waits(follow.progress, env.alloc, &places, env.errors);
-    write_whys::<D, S, E>(
-        follow.why,
-        env.alloc,
-        &following,
-        keys,
-        &env.folders,
-        &places,
-        env.errors,
-    );
-    let lacked = lacked_of(places);
-    followed(env, follow, lacked, answer)
-}
-
-// The path of the first file that no place gave, if there is one. The greatest candidate, whose fault is returned, has the first turn.
-// Drops the places.
-fn lacked_of<S: Source + Drop>(places: Places<S>) -> Option<Path> {
-    let lacked = places.first_lacked();
-    drop(places);
-    lacked
-}
-
-// The answer of the command from the answer of the follower.
-fn followed<R, F: RunFiles, D: RunFolders, I, O, E>(
-    env: &Env<'_, '_, '_, '_, R, F, D, I, O, E>,
-    follow: &Follow<'_>,
-    lacked: Option<Path>,
-    answer: Result<u8, FollowRunFault>,
-) -> Result<u8, Error>
-    ensures { result ≡ result_map_both (λ status. status) (λ fault. PlaceRunFault.Follow fault)
-        answer }
-{
-    match answer {
-        Ok(status) => Ok(status),
-        Err(fault) => {
-            let why = why_of(env, follow, lacked, fault);
-            Err(Error::new(PlaceRunFault::Follow(fault), why))
+    if follow.repair {
+        match run_repair::<Sha256Tree, F, D, S, L, O>(
+            &mut env.files,
+            &mut env.folders,
+            env.alloc,
+            keys,
+            &following,
+            places,
+            hold,
+            env.output,
+            repaired,
+        ) {
+            Ok(status) => Ok(status),
+            Err(fault) => Err(PlaceRunFault::Repair(fault)),
+        }
+    } else {
+        match run_follow::<Sha256Tree, F, D, S, L, O>(
+            &mut env.files,
+            &mut env.folders,
+            env.alloc,
+            keys,
+            &following,
+            places,
+            hold,
+            env.output,
+        ) {
+            Ok(status) => Ok(status),
+            Err(fault) => Err(PlaceRunFault::Follow(fault)),
         }
     }
 }
 
-// The thing that the fault is about: a named file, the given note, a file of the folder, or the folder.
+// The path of the first file that no place gave, if there is one: one of the repair comes first. Then the greatest candidate, whose fault is
+// returned, has the first turn. Drops the places.
+fn lacked_of<S: Source + Drop>(places: Places<S>, repaired: &Repaired) -> Option<Path> {
+    let lacked = places.first_lacked();
+    drop(places);
+    match repaired.lacked() {
+        Some(path) => Some(path),
+        None => lacked,
+    }
+}
+
+// The answer of the command, with the thing that a fault is about.
+fn followed<R, F: RunFiles, D: RunFolders, I, O, E>(
+    env: &Env<'_, '_, '_, '_, R, F, D, I, O, E>,
+    follow: &Follow<'_>,
+    lacked: Option<Path>,
+    answer: Result<u8, PlaceRunFault>,
+) -> Result<u8, Error>
+    ensures { result ≡ result_map_both (λ status. status) (λ fault. fault) answer }
+{
+    match answer {
+        Ok(status) => Ok(status),
+        Err(fault) => {
+            let why = why_of(env, follow, lacked, &fault);
+            Err(Error::new(fault, why))
+        }
+    }
+}
+
+// The thing that a fault is about.
 fn why_of<R, F: RunFiles, D: RunFolders, I, O, E>(
+    env: &Env<'_, '_, '_, '_, R, F, D, I, O, E>,
+    follow: &Follow<'_>,
+    lacked: Option<Path>,
+    fault: &PlaceRunFault,
+) -> Option<Why> {
+    match fault {
+        PlaceRunFault::Follow(fault) => why_of_run(env, follow, lacked, *fault),
+        PlaceRunFault::Repair(fault) => why_of_repair(env, follow, lacked, *fault),
+        _ => None,
+    }
+}
+
+// The thing that a fault of a run with a repair is about.
+fn why_of_repair<R, F: RunFiles, D: RunFolders, I, O, E>(
+    env: &Env<'_, '_, '_, '_, R, F, D, I, O, E>,
+    follow: &Follow<'_>,
+    lacked: Option<Path>,
+    fault: RepairRunFault,
+) -> Option<Why> {
+    match fault {
+        RepairRunFault::Early(fault)
+        | RepairRunFault::Followed(fault)
+        | RepairRunFault::Unprinted(fault) => why_of_run(env, follow, lacked, fault),
+        RepairRunFault::Repair(fault) | RepairRunFault::RepairAndOutput(fault) => {
+            why_of_unrepaired(env, follow, lacked, fault)
+        }
+        RepairRunFault::OutOfMemory => None,
+    }
+}
+
+// The thing that a fault of the repair is about: a file of the folder, or the folder.
+fn why_of_unrepaired<R, F: RunFiles, D: RunFolders, I, O, E>(
+    env: &Env<'_, '_, '_, '_, R, F, D, I, O, E>,
+    follow: &Follow<'_>,
+    lacked: Option<Path>,
+    fault: RepairFault,
+) -> Option<Why> {
+    let folder = follow.copy.folder;
+    match fault {
+        RepairFault::Note(_)
+        | RepairFault::Copy(BringFault::BadCheckpoint)
+        | RepairFault::Copy(BringFault::CopyDamaged) => {
+            Why::of_made(env.alloc, format!(in env.alloc; "{folder}: checkpoint"))
+        }
+        RepairFault::Copy(BringFault::CopyInUse) => Why::of_thing(env.alloc, folder),
+        RepairFault::Copy(BringFault::ShelfFault) => of_folder(env.alloc, &env.folders, folder),
+        RepairFault::Copy(BringFault::NoFile) | RepairFault::Copy(BringFault::Source) => {
+            let path = lacked?;
+            Why::of_made(env.alloc, format!(in env.alloc; "{path}"))
+        }
+        RepairFault::Copy(_) => None,
+    }
+}
+
+// The thing that a fault of a run is about: a named file, the given note, a file of the folder, or the folder.
+fn why_of_run<R, F: RunFiles, D: RunFolders, I, O, E>(
     env: &Env<'_, '_, '_, '_, R, F, D, I, O, E>,
     follow: &Follow<'_>,
     lacked: Option<Path>,
@@ -223,16 +325,17 @@ fn write_waits<S: WatchedPlace + Drop, E: Write>(
 
 // Writes the lines about the copy and the places if the words ask for them, or a prefix of that text if the stream fails.
 fn write_whys<D: RunFolders, S: WatchedPlace + Drop, E: Write>(
-    asked: bool,
+    follow: &Follow<'_>,
     alloc: Global,
-    following: &Following<'_>,
     keys: &[Box<dyn Verifier>],
     folders: &D,
     places: &Places<S>,
     errors: &mut E,
 ) {
-    if asked {
-        if let Ok(text) = follow_why::<D, S>(alloc, following, keys, folders, places) {
+    if follow.why {
+        let origin = follow.copy.log.origin;
+        let folder = follow.copy.folder;
+        if let Ok(text) = follow_why::<D, S>(alloc, origin, folder, keys, folders, places) {
             write_front(errors, text.as_bytes());
         }
     }

@@ -3,3 +3,4 @@ pub mod Noted
 mod Putting
 mod Serving
 mod Whys
+pub mod Repaired

@@ -1,5 +1,5 @@
 -- The facts about the note, the copy, the output and the evidence of a run.
-use Rattle.std.proofs.Common.{◌≡◌, inr, ℕ, List, IfErr, IfOk, Option, Some, None, Result, Ok, Err, sym, subst, ◌∙◌}
+use Rattle.std.proofs.Common.{◌≡◌, inr, ℕ, List, IfErr, Option, Some, None, Result, Ok, Err, sym, subst, ◌∙◌}
 use Rattle.std.specs.Io.KnownBytes.{Keeps}
 use Rattle.std.proofs.lemmas.List.Elements.{All-weaker}
 use Rattle.std.proofs.lemmas.Option.{none-some}
@@ -21,7 +21,7 @@ use Rattle.mirror_follow.specs.declared.fault.FollowFault.{FollowFault}
 use Rattle.mirror_follow.specs.declared.fault.FollowFault.TheVariants as following
 use Rattle.mirror_follow.specs.declared.report.Followed.{Followed}
 use Rattle.program_files.specs.Named.{HasContents, NamedFile}
-use Rattle.program_follow.specs.Following.{AreRunCandidates, CopyFollowed, CountsRun, EndsFollowing, Follows, FollowsIn, IsNoteOf, HonestSuffices, PrintsSettled, ReachesIn, ReachesRun, ReadsNote, PrintsDone, SettlesRun, SufficesForRun}
+use Rattle.program_follow.specs.Following.{AreRunCandidates, CopyFollowed, CountsRun, EndsFollowing, Follows, FollowsIn, IsNoteOf, HonestSuffices, PrintsSettled, ReachesIn, ReachesRun, ReadsGiven, ReadsNote, PrintsDone, SettlesRun, SufficesForRun}
 use Rattle.program_follow.specs.declared.fault.FollowRunFault.{FollowRunFault}
 use Rattle.program_follow.specs.declared.fault.FollowRunFault.TheVariants.{File, CopyInUse, OutOfMemory, Follow, WriteFault, Evidence, EvidenceAndOutput}
 
@@ -34,6 +34,20 @@ note_had may recorded None places (Some bytes) reads note had = absurd (none-som
 note_had may recorded (Some name) places None reads note had = absurd reads
 note_had may recorded (Some name) places (Some bytes) reads note had =
     subst (λ (given : List ℕ). HasContents recorded name given) (sym had) reads
+
+-- the named note was read before the result was written
+pub given_recorded : (recorded : Option (List NamedFile)) (name given : Option (List ℕ)) → ReadsNote recorded name (Ok given) →
+    (origin : List ℕ) (keys : List Key) (forks : Option (List ℕ)) (done : Followed) (from left : Option (List NamedFile))
+    (old new : Option (List ℕ)) (r : Result ℕ FollowRunFault) → PrintsDone origin keys forks done from left old new r →
+    ReadsGiven recorded name r
+given_recorded recorded name given reads origin keys forks done from left old new (Ok status) tells = (given, reads)
+given_recorded recorded name given reads origin keys forks done from left old new (Err (File fault)) tells = absurd tells
+given_recorded recorded name given reads origin keys forks done from left old new (Err CopyInUse) tells = absurd tells
+given_recorded recorded name given reads origin keys forks done from left old new (Err OutOfMemory) tells = absurd tells
+given_recorded recorded name given reads origin keys forks done from left old new (Err (Follow fault)) tells = (given, reads)
+given_recorded recorded name given reads origin keys forks done from left old new (Err WriteFault) tells = (given, reads)
+given_recorded recorded name given reads origin keys forks done from left old new (Err (Evidence fault)) tells = (given, reads)
+given_recorded recorded name given reads origin keys forks done from left old new (Err (EvidenceAndOutput fault)) tells = (given, reads)
 
 module _ (digest : List ℕ → List ℕ) (origin : List ℕ) (keys : List Key) (so other : List ℕ → Type 0)
     (weaker : (note : List ℕ) → so note → other note) (held before put : Option (List Put))

@@ -1,5 +1,5 @@
 -- A note that opens under the keys has one size and root.
-use Rattle.std.proofs.Common.{◌≡◌, ◌≢◌, ℕ, List, Result, Ok, Err, Bool, true, false, sym, ap, ◌∙◌}
+use Rattle.std.proofs.Common.{◌≡◌, ◌≢◌, ℕ, List, Result, Ok, Err, Bool, false, sym, ap, ◌∙◌}
 use Rattle.std.specs.Prelude.{◌↔◌, IfOk, IsTrue}
 use Rattle.std.proofs.lemmas.Bool.{false≢true}
 use Rattle.signed_note.specs.Keys.{Key}

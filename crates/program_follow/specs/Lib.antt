@@ -3,3 +3,4 @@ pub mod Evidence
 pub mod Following
 pub mod Whys
 pub mod Places
+pub mod Repairing

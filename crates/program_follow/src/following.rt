@@ -43,8 +43,11 @@ pub struct Following<'a> {
     pub progress: bool,
 }
 
-// The given note: the bytes of its file, if one is named.
-fn read_given<F: NamedFiles>(files: &F, name: Option<&str>) -> Result<Option<Vec<u8>>, NamedFault>
+/// The given note: the bytes of its file, if one is named.
+pub(crate) fn read_given<F: NamedFiles>(
+    files: &F,
+    name: Option<&str>,
+) -> Result<Option<Vec<u8>>, NamedFault>
     ensures { ReadsNote (F.puts files.now) (option_map (λ name. name.now) name.entry)
         (seen (option_map (λ bytes. bytes.items)) result) }
 {
@@ -124,8 +127,8 @@ fn follow_reporting<H: TreeHash, D: CountedFolders, S: Source + Drop>(
     done
 }
 
-// Holds and opens the folder.
-fn open_held<D: CountedFolders, L: Hold>(
+/// Holds and opens the folder.
+pub(crate) fn open_held<D: CountedFolders, L: Hold>(
     folders: &mut D,
     folder: &str,
     hold: &mut L,
@@ -224,6 +227,40 @@ fn report_done<F: NamedFiles, W: Write>(
             Ok(()) => Err(FollowRunFault::Evidence(fault)),
             Err(_) => Err(FollowRunFault::EvidenceAndOutput(fault)),
         },
+    }
+}
+
+/// Follows the places into the open folder, and reports the result, after the named note was read.
+pub(crate) fn follow_open<
+    H: TreeHash,
+    F: NamedFiles,
+    D: CountedFolders,
+    S: Source + Drop,
+    W: Write,
+>(
+    files: &mut F,
+    folders: &mut D,
+    alloc: Global,
+    keys: &[Box<dyn Verifier>],
+    following: &Following<'_>,
+    places: &mut Places<S>,
+    given: Option<Vec<u8>>,
+    output: &mut W,
+) -> Result<u8, FollowRunFault>
+    requires { ReadsNote (F.puts files.old)
+        (option_map (λ name. name.now) following.now.checkpoint)
+        (Ok (option_map (λ v. v.items) given)) }
+    ensures { RunsFollow H.digest S.may_answer following.now.origin.now
+        (map (λ k. key k) keys.now) places.old places.new
+        (option_map (λ name. name.now) following.now.checkpoint)
+        (option_map (λ name. name.now) following.now.forks) (D.puts folders.old)
+        (D.puts folders.old) (D.puts folders.new) (D.failed folders.old) (D.failed folders.new)
+        (F.puts files.old) (F.puts files.new) (W.contents output.old) (W.contents output.new)
+        result }
+{
+    match follow_reporting::<H, D, S>(folders, alloc, keys, following, places, given) {
+        Ok(done) => report_done(files, alloc, keys, following, &done, output),
+        Err(fault) => Err(FollowRunFault::Follow(fault)),
     }
 }
 

@@ -13,6 +13,8 @@ mod fault;
 mod following;
 mod hold;
 mod place;
+mod repair;
+mod repair_fault;
 mod text;
 mod why;
 
@@ -20,5 +22,7 @@ pub use fault::FollowRunFault;
 pub use following::{Following, run_follow};
 pub use hold::{Hold, HoldFault, NoHold, SystemHold};
 pub use place::{Answered, FailedAt, PlaceSource, WatchedPlace};
+pub use repair::run_repair;
+pub use repair_fault::{RepairFault, RepairRunFault};
 pub use text::{followed_status, followed_text};
 pub use why::follow_why;

@@ -3,7 +3,6 @@ ghost use Rattle.std.specs.Prelude.{IfOk, OnOk, string_bytes};
 ghost use Rattle.program_files.specs.Why.{IsWhyLine};
 ghost use Rattle.program_follow.specs.Whys.{AreWhyLines};
 
-use crate::following::Following;
 use crate::place::{Answered, FailedAt, WatchedPlace};
 use log_reader::open_head;
 use mirror_client::Reason;
@@ -147,7 +146,8 @@ fn push_copy<D: ReadableShelf>(
 #[tactic(auto, using(crate::proofs::Whys::no_whys))]
 pub fn follow_why<D: ReadableShelf, S: WatchedPlace + Drop>(
     alloc: Global,
-    following: &Following<'_>,
+    origin: &str,
+    folder: &str,
     keys: &[Box<dyn Verifier>],
     shelf: &D,
     places: &Places<S>,
@@ -155,9 +155,9 @@ pub fn follow_why<D: ReadableShelf, S: WatchedPlace + Drop>(
     ensures { IfOk result (λ text. AreWhyLines (string_bytes text)) }
 {
     let mut text = String::new(alloc);
-    push_copy::<D>(alloc, &mut text, following.folder, shelf)?;
+    push_copy::<D>(alloc, &mut text, folder, shelf)?;
     for place in places.list() {
-        push_place(alloc, &mut text, following.origin, keys, place)?;
+        push_place(alloc, &mut text, origin, keys, place)?;
     }
     Ok(text)
 }
