@@ -1,5 +1,5 @@
 -- How a command over places ends, given the answer of its call. The answers of the commands cite one lemma each.
-use Rattle.std.proofs.Common.{◌≡◌, ◌⊎◌, inl, inr, ℕ, List, Option, Result, Ok, Err, IfErr, IfOk, Some, None, map, refl}
+use Rattle.std.proofs.Common.{◌≡◌, ◌⊎◌, inl, inr, ℕ, List, Option, Result, Ok, Err, IfErr, IfOk, Some, None, map, option_map, refl, subst}
 use Rattle.std.specs.Prelude.{⊤}
 use Rattle.std.specs.Io.KnownBytes.{Keeps}
 use Rattle.std.specs.Result.{result_map_both}
@@ -7,6 +7,7 @@ use Rattle.signed_note.specs.Keys.{Key}
 use Rattle.tlog_tiles.specs.declared.paths.Path.{Path}
 use Rattle.mirror_places.specs.declared.places.Places.{Places}
 use Rattle.program_follow.specs.Places.{MayAnswerAny, SeenPlace}
+use Rattle.program_follow.specs.Repairing.{RunsRepair}
 use Rattle.program_follow.specs.declared.fault.FollowRunFault.{FollowRunFault}
 use Rattle.program_follow.specs.declared.fault.FollowRunFault.TheVariants as follow
 use Rattle.program_follow.specs.declared.repair_fault.RepairRunFault.{RepairRunFault}
@@ -20,13 +21,31 @@ use Rattle.program_env.specs.Moment.{Moment}
 use Rattle.program_env.specs.Performing.{IsStatus, MayLeave, Performs, Stays}
 use Rattle.place_commands.specs.Faults.{IsLate}
 use Rattle.place_commands.specs.Audit.{DoesAudit}
-use Rattle.place_commands.specs.Follow.{AnswersAmong, DoesFollow}
+use Rattle.place_commands.specs.Follow.{AnswersAmong, DoesFollow, RepairsAmong}
 use Rattle.place_commands.specs.Places.{name_of, names_of}
 use Rattle.place_commands.specs.declared.fault.PlaceRunFault.{PlaceRunFault}
 use Rattle.place_commands.specs.declared.fault.PlaceRunFault.TheVariants.{Audit, Follow, Origin, OutOfMemory, Repair}
 use Rattle.program_env.proofs.Performing.{performs, performs_done}
 
 -- ---- follow
+
+-- the repair counts from 0
+pub repairs_from : (digest : List ℕ → List ℕ) {S : Type 0} (may : S → Path → Option (List ℕ) → Type 0) (failed : S → ℕ)
+    (asked : S → Option (List Path)) (keys : List Key) (old new : Moment) (places left : Places S) (c : FollowWords)
+    (failures more_failures from count : ℕ) → from ≡ 0 → (answer : Result ℕ RepairRunFault) →
+    RunsRepair digest may failed asked c.copy.log.origin.now keys places left (option_map (λ name. name.now) c.checkpoint)
+    (option_map (λ name. name.now) c.forks) (old.held c.copy.folder.now) old.puts new.puts failures more_failures
+    old.files new.files old.output new.output from count answer →
+    RepairsAmong digest may failed asked keys old new places c answer
+repairs_from digest may failed asked keys old new places left c failures more_failures from count same answer h = record {
+  left = left;
+  failures = failures;
+  more_failures = more_failures;
+  count = count;
+  runs = subst (λ n. RunsRepair digest may failed asked c.copy.log.origin.now keys places left
+      (option_map (λ name. name.now) c.checkpoint) (option_map (λ name. name.now) c.forks) (old.held c.copy.folder.now)
+      old.puts new.puts failures more_failures old.files new.files old.output new.output n count answer) same h;
+}
 
 -- the answer of the call is that of the command
 pub same_answer : (digest : List ℕ → List ℕ) {S : Type 0} (may : S → Path → Option (List ℕ) → Type 0) (failed : S → ℕ)

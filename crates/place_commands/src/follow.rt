@@ -35,11 +35,12 @@ use tlog_hash::Sha256Tree;
 use tlog_tiles::Path;
 
 /// Brings the copy in the folder to the newest checkpoint of the places, and prints the result. The status is 3 if there is a
-/// fork, or a checkpoint that could not be reached. With `--why`, a line on standard error names the first fault of each place.
+/// fork, or a checkpoint that could not be reached. With `--repair` the copy is repaired first. With `--why`, a line on standard error
+/// names the first fault of each place.
 ///
 /// # Errors
 ///
-/// `BadOrigin` before anything is read; then those of `run_follow`.
+/// `BadOrigin` before anything is read; then those of `run_follow`, or of `run_repair` with `--repair`.
 pub fn run<R, F: RunFiles, D: RunFolders, I: Read, O: Write, E: Write>(
     env: &mut Env<'_, '_, '_, '_, R, F, D, I, O, E>,
     keys: &[Box<dyn Verifier>],

@@ -26,7 +26,7 @@ use signed_note::{KeyFileFault, KeyLine, Verifier};
 ///
 /// After a fault nothing was written to the output, with a few exceptions (`IsWriteFault`). One is a write that failed. The
 /// others are faults after a first text: `serve` prints its port first, `entries` writes what it reads, and `follow` puts its
-/// evidence last.
+/// evidence last. With `--repair`, `follow` writes the line of the repair before it goes on.
 ///
 /// With `--why`, one line on `errors` names the thing that the fault is about. It includes what the system said of a stream.
 pub fn run<C: RunEnv + WatchedEnv>(env: &mut C, words: &[String]) -> Result<u8, RunFault>
