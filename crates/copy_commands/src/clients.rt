@@ -5,10 +5,10 @@ ghost use Rattle.program_copies.specs.CopyHeads.{IsLastOpened};
 use byte_streams::TimedStream;
 use mirror_server::HttpFault;
 use program_copies::{CopyAnswerFault, CopyKeys, KeptCopy, answer_from_copy};
-use program_env::RunFolders;
+use program_env::{OpenPort, RunFolders};
 use std::alloc::Global;
 use std::io;
-use std::net::{TcpListener, TcpStream};
+use std::net::TcpStream;
 use std::rt::Clock;
 use std::time::Duration;
 use tlog_hash::Sha256Tree;
@@ -54,7 +54,7 @@ pub(crate) trait Clients {
         ensures same { KeepsRecord (D.puts folders.old) (D.puts folders.new) };
 }
 
-impl Clients for TcpListener {
+impl Clients for OpenPort {
     fn answer_next<D: RunFolders, K: CopyKeys, C: Clock>(
         &mut self,
         clock: &C,
@@ -64,7 +64,7 @@ impl Clients for TcpListener {
         kept: &mut KeptCopy<Sha256Tree>,
         origin: &str,
     ) -> io::Result<Result<(), CopyAnswerFault>> {
-        let (stream, _) = self.accept()?;
+        let stream = self.accept()?;
         Ok(answer_one(clock, alloc, folders, keys, kept, origin, &stream))
     }
 }

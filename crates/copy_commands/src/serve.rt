@@ -19,7 +19,7 @@ use crate::key_file::KeyFile;
 use program_copies::{CopyAnswerFault, KeptCopy};
 use program_env::why::{FailedStreams, Why, of_folder, of_origin, print_why};
 use program_env::{
-    Env, ListenFault, RunFiles, RunFolders, port_fault, print_fault, print_port, write_front,
+    Env, ListenFault, RunFiles, RunFolders, listen, port_fault, print_fault, write_front,
 };
 use program_states::check_origin;
 use program_words::commands::serve::CopyServe;
@@ -106,12 +106,11 @@ where
         result }
     ensures same { KeepsRecord (D.puts folders.old) (D.puts folders.new) }
 {
-    let mut listener = match TcpListener::bind(rt, (Ipv4Addr::LOCALHOST, serve.port)) {
-        Ok(listener) => listener,
-        Err(error) => return Err(port_fault(alloc, serve.port, &error)),
+    let mut opened = match listen(rt, alloc, Ipv4Addr::LOCALHOST, serve.port, output) {
+        Ok(opened) => opened,
+        Err(error) => return Err(error),
     };
-    print_port(alloc, serve.port, output)?;
-    match answer_all(rt, alloc, files, folders, serve, &mut listener, errors) {
+    match answer_all(rt, alloc, files, folders, serve, &mut opened, errors) {
         Ok(()) => Ok(()),
         Err(error) => Err(port_fault(alloc, serve.port, &error)),
     }

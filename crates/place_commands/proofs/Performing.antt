@@ -6,13 +6,13 @@ use Rattle.std.specs.Result.{result_map_both}
 use Rattle.signed_note.specs.Keys.{Key}
 use Rattle.tlog_tiles.specs.declared.paths.Path.{Path}
 use Rattle.mirror_places.specs.declared.places.Places.{Places}
-use Rattle.program_follow.specs.Places.{MayAnswerAny, SeenPlace}
+use Rattle.program_follow.specs.Places.{MayAnswerAny, PlaceName, SeenPlace}
 use Rattle.program_follow.specs.Repairing.{RunsRepair}
 use Rattle.program_follow.specs.declared.fault.FollowRunFault.{FollowRunFault}
 use Rattle.program_follow.specs.declared.fault.FollowRunFault.TheVariants as follow
 use Rattle.program_follow.specs.declared.repair_fault.RepairRunFault.{RepairRunFault}
 use Rattle.program_follow.specs.declared.repair_fault.RepairRunFault.TheVariants as repair
-use Rattle.program_monitor.specs.Audits.{RunsAudit}
+use Rattle.program_monitor.specs.Audits.{BlamesRun, RunsAudit}
 use Rattle.program_monitor.specs.declared.fault.AuditRunFault.{AuditRunFault}
 use Rattle.program_monitor.specs.declared.fault.AuditRunFault.TheVariants as audit
 use Rattle.program_words.specs.declared.commands.audit.Audit.{Audit as AuditWords}
@@ -20,7 +20,7 @@ use Rattle.program_words.specs.declared.commands.follow.Follow.{Follow as Follow
 use Rattle.program_env.specs.Moment.{Moment}
 use Rattle.program_env.specs.Performing.{IsStatus, MayLeave, Performs, Stays}
 use Rattle.place_commands.specs.Faults.{IsLate}
-use Rattle.place_commands.specs.Audit.{DoesAudit}
+use Rattle.place_commands.specs.Audit.{AnswersPlace, AnswersSeen, AuditsPlace, DoesAudit}
 use Rattle.place_commands.specs.Follow.{AnswersAmong, DoesFollow, RepairsAmong}
 use Rattle.place_commands.specs.Places.{name_of, names_of}
 use Rattle.place_commands.specs.declared.fault.PlaceRunFault.{PlaceRunFault}
@@ -96,25 +96,50 @@ module _ (digest : List ℕ → List ℕ) (keys : List Key) (old new : Moment) (
   performed (Err (Origin fault)) h = absurd h
   performed (Err (Audit fault)) h = absurd h
 
--- ---- audit
+-- ---- audit, over this place
+
+module _ (digest : List ℕ → List ℕ) {S : Type 0} (name : S → PlaceName) (may : S → Path → Option (List ℕ) → Type 0)
+    (asked : S → Option (List Path)) (failed : S → ℕ) (keys : List Key) (old new : Moment) (c : AuditWords) where
+  passed_on : (place : S) (answer : Result ℕ AuditRunFault) → AuditsPlace digest name may asked failed keys old new place c answer →
+      (is : Result ℕ PlaceRunFault) → is ≡ result_map_both (λ status. status) (λ fault. Audit fault) answer →
+      AnswersPlace digest name may asked failed keys old new place c is
+  passed_on place (Ok status) h is same = rw same h
+  passed_on place (Err fault) h is same = rw same h
+
+  -- the place was audited, through a source that is the place
+  pub audits : (place : S) → name place ≡ name_of c.place → (source : S) → source ≡ place →
+      (answer : Result ℕ AuditRunFault) (left : S) →
+      RunsAudit digest c.log.origin.now keys (may source) (may left) (asked source) (asked left) old.output new.output answer →
+      BlamesRun (failed source) (failed left) answer → (is : Result ℕ PlaceRunFault) →
+      is ≡ result_map_both (λ status. status) (λ fault. Audit fault) answer →
+      AnswersPlace digest name may asked failed keys old new place c is
+  audits place named source at answer left h b is same =
+      passed_on place answer (record {
+        named = named;
+        left = left;
+        audits = subst (λ s. RunsAudit digest c.log.origin.now keys (may s) (may left) (asked s) (asked left) old.output
+            new.output answer) at h;
+        blamed = subst (λ s. BlamesRun (failed s) (failed left) answer) at b;
+      }) is same
+
+-- ---- audit, over the place of the words
 
 module _ (digest : List ℕ → List ℕ) (keys : List Key) (old new : Moment) (c : AuditWords) (stays : Stays old new)
-    (place : SeenPlace) (named : place.name ≡ name_of c.place) where
-  abbrev Audited : Result ℕ AuditRunFault → Type 0
-  Audited answer =
-      RunsAudit digest c.log.origin.now keys (λ path bytes. ⊤) (λ path bytes. ⊤) None None old.output new.output answer
-
-  quiet_audit : (fault : AuditRunFault) → Audited (Err fault) → (¬ IsLate (Audit fault)) → Keeps old.output new.output
+    (place : SeenPlace) where
+  quiet_audit : (fault : AuditRunFault) → AnswersSeen digest keys old new place c (Err (Audit fault)) →
+      (¬ IsLate (Audit fault)) → Keeps old.output new.output
   quiet_audit audit.WriteFault h other = absurd (other tt)
-  quiet_audit (audit.Audit fault) h other = h.2
+  quiet_audit (audit.Audit fault) h other = h.audits.2
 
-  -- the source at the place was audited
-  pub audits : (answer : Result ℕ AuditRunFault) → Audited answer → (is : Result ℕ PlaceRunFault) →
-      is ≡ result_map_both (λ status. status) (λ fault. Audit fault) answer →
+  pub audited : (is : Result ℕ PlaceRunFault) → AnswersSeen digest keys old new place c is →
       Performs DoesAudit IsLate Stays digest keys old new c is
-  audits (Ok status) h is same =
-      rw same (performs_done DoesAudit IsLate Stays digest keys old new c stays status (inl h.0)
-      (record { place = place; named = named; left = place; audits = h }))
-  audits (Err fault) h is same =
-      rw same (performs DoesAudit IsLate Stays digest keys old new c stays (Err (Audit fault)) tt (quiet_audit fault h)
-      (record { place = place; named = named; left = place; audits = h }))
+  audited (Ok status) h =
+      performs_done DoesAudit IsLate Stays digest keys old new c stays status (inl h.audits.0)
+      (record { place = place; answers = h })
+  audited (Err (Audit fault)) h =
+      performs DoesAudit IsLate Stays digest keys old new c stays (Err (Audit fault)) tt (quiet_audit fault h)
+      (record { place = place; answers = h })
+  audited (Err OutOfMemory) h = absurd h
+  audited (Err (Origin fault)) h = absurd h
+  audited (Err (Follow fault)) h = absurd h
+  audited (Err (Repair fault)) h = absurd h

@@ -5,12 +5,11 @@ ghost use Rattle.sha2.specs.Sha256.{sha256};
 ghost use Rattle.program_env.specs.Envs.{IsSameEnv, moment};
 ghost use Rattle.program_env.specs.Performing.{Stays, Performs};
 ghost use Rattle.place_commands.specs.Faults.{IsLate};
-ghost use Rattle.place_commands.specs.Audit.{DoesAudit};
+ghost use Rattle.place_commands.specs.Audit.{AnswersPlace, DoesAudit};
 ghost use Rattle.place_commands.specs.Places.{name_of};
-ghost use Rattle.program_follow.specs.Places.{SeenPlace};
-ghost use Rattle.program_monitor.specs.Audits.{RunsAudit};
+ghost use Rattle.program_monitor.specs.Audits.{BlamesRun, RunsAudit};
 
-use crate::any::{AnySource, FailingPlace};
+use crate::any::{FailingPlace, watched};
 use crate::fault::{Error, PlaceRunFault};
 use crate::places::source_of;
 use mirror_audit::AuditFault;
@@ -81,7 +80,7 @@ where
     }
 }
 
-// Audits this source, which is at the place of the words.
+// Audits the place of that source, which has to be the place of the words.
 fn audit_any<R, F: RunFiles, D: RunFolders, I: Read, O: Write, E: Write, S: FailingPlace + Drop>(
     env: &mut Env<'_, '_, '_, '_, R, F, D, I, O, E>,
     keys: &[Box<dyn Verifier>],
@@ -91,12 +90,14 @@ fn audit_any<R, F: RunFiles, D: RunFolders, I: Read, O: Write, E: Write, S: Fail
 where
     R: Clock + Eprint,
     ensures same { IsSameEnv env.old env.new }
-    ensures does { (place : SeenPlace) → place.name ≡ name_of audit.now.place
-        → Performs DoesAudit IsLate Stays sha256 (map (λ k. key k) keys.now)
+    ensures stays { Stays (moment F.puts D.held D.puts I.remaining O.contents env.old)
+        (moment F.puts D.held D.puts I.remaining O.contents env.new) }
+    ensures does { S.name source ≡ name_of audit.now.place
+        → AnswersPlace sha256 S.name S.may_answer S.asked S.failed (map (λ k. key k) keys.now)
         (moment F.puts D.held D.puts I.remaining O.contents env.old)
-        (moment F.puts D.held D.puts I.remaining O.contents env.new) audit.now result }
+        (moment F.puts D.held D.puts I.remaining O.contents env.new) source audit.now result }
 {
-    let source = WatchedSource::new(env.alloc, AnySource::new(source));
+    let source = watched(env.alloc, source);
     let (answer, source) = audit_source(env.rt, env.alloc, audit, keys, source, env.output);
     write_waited(env.alloc, audit, source.source.waited(), env.errors);
     audited(env.alloc, audit, source, answer)
@@ -139,9 +140,10 @@ fn audit_source<S: Source + Drop, R: Clock + Eprint, W: Write>(
     source: S,
     output: &mut W,
 ) -> (Result<u8, AuditRunFault>, S)
-    ensures { RunsAudit sha256 words.now.log.origin.now (map (λ k. key k) keys.now)
+    ensures audits { RunsAudit sha256 words.now.log.origin.now (map (λ k. key k) keys.now)
         (S.may_answer source) (S.may_answer result.1) (S.asked source) (S.asked result.1)
         (W.contents output.old) (W.contents output.new) result.0 }
+    ensures blamed { BlamesRun (S.failed source) (S.failed result.1) result.0 }
 {
     if words.progress {
         audit_counted(rt, alloc, words.log.origin, keys, source, output)
@@ -158,9 +160,10 @@ fn audit_silent<S: Source + Drop, W: Write>(
     mut source: S,
     output: &mut W,
 ) -> (Result<u8, AuditRunFault>, S)
-    ensures { RunsAudit sha256 origin.now (map (λ k. key k) keys.now) (S.may_answer source)
-        (S.may_answer result.1) (S.asked source) (S.asked result.1) (W.contents output.old)
-        (W.contents output.new) result.0 }
+    ensures audits { RunsAudit sha256 origin.now (map (λ k. key k) keys.now)
+        (S.may_answer source) (S.may_answer result.1) (S.asked source) (S.asked result.1)
+        (W.contents output.old) (W.contents output.new) result.0 }
+    ensures blamed { BlamesRun (S.failed source) (S.failed result.1) result.0 }
 {
     let answer = run_audit::<Sha256Tree, S, W>(alloc, origin, keys, &mut source, output);
     (answer, source)
@@ -175,9 +178,10 @@ fn audit_counted<S: Source + Drop, R: Clock + Eprint, W: Write>(
     source: S,
     output: &mut W,
 ) -> (Result<u8, AuditRunFault>, S)
-    ensures { RunsAudit sha256 origin.now (map (λ k. key k) keys.now) (S.may_answer source)
-        (S.may_answer result.1) (S.asked source) (S.asked result.1) (W.contents output.old)
-        (W.contents output.new) result.0 }
+    ensures audits { RunsAudit sha256 origin.now (map (λ k. key k) keys.now)
+        (S.may_answer source) (S.may_answer result.1) (S.asked source) (S.asked result.1)
+        (W.contents output.old) (W.contents output.new) result.0 }
+    ensures blamed { BlamesRun (S.failed source) (S.failed result.1) result.0 }
 {
     let mut progress = Progress::new(alloc, rt, StandardError::new(rt));
     progress.begin(Task::Audit);

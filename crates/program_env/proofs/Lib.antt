@@ -1,4 +1,5 @@
 pub mod Performing
 pub mod Exchanges
 pub mod Written
+pub mod Listened
 mod Whys

@@ -2,7 +2,9 @@ pub mod Moment
 pub mod Envs
 pub mod Performing
 pub mod Origins
+pub mod Listening
 pub mod Ports
 pub mod Exchanges
 pub mod FaultLines
 pub mod Whys
+pub mod PlaceWords

@@ -1,30 +1,12 @@
-//! A place of a log: the source at a server, and the lines of `--why` about the place.
+//! The lines of `--why` about a place of a log.
 use crate::failing::Failing;
 use crate::served::of_origin_in;
 use crate::watched::WatchedSource;
 use crate::why::Why;
-use mirror_client::{HttpSource, Pace, Site, TcpDial};
 use mirror_model::TakeFault;
 use program_words::Place;
 use std::alloc::{AllocError, Global};
-use std::net::{Net, TcpStream};
-use std::rt::Clock;
 use tlog_tiles::Path;
-
-/// The source at a server, which is asked at that pace. `Site` has already accepted these words, so only memory can be lacking.
-pub fn server_of<N: Net<Stream = TcpStream> + Clock + Clone + Drop>(
-    net: N,
-    alloc: Global,
-    site: (&str, &str),
-    address: (&str, u16),
-    pace: Pace,
-) -> Result<HttpSource<TcpDial<N>>, AllocError> {
-    let Ok(site) = Site::new(alloc, site.0, site.1) else {
-        return Err(AllocError);
-    };
-    let dial = TcpDial::new(net, alloc, address.0, address.1)?;
-    Ok(HttpSource::new(alloc, site, dial, pace))
-}
 
 /// The name of a place, as in the words of the command.
 pub fn place_name(alloc: Global, place: &Place<'_>) -> Result<String, AllocError> {

@@ -2,15 +2,19 @@
 ghost use Rattle.std.specs.Prelude.{◌≡◌, IfOk, string_bytes};
 ghost use Rattle.byte_streams.specs.Streams.{AppendsPrefix};
 ghost use Rattle.program_env.specs.FaultLines.{fault_line};
-ghost use Rattle.program_env.specs.Ports.{PrintsPort, connection_fault, listening_text};
+ghost use Rattle.program_env.specs.Ports.{PrintsListening, connection_fault, listening_text};
+ghost use Rattle.std.specs.Net.Addr.{ipv4_octets};
+ghost use Rattle.std.specs.Net.Text.{ipv4_text};
 
 use crate::error::Error;
 use crate::front::write_front;
+use crate::open_port::OpenPort;
 use crate::why::Why;
 use byte_streams::write_whole;
 use mirror_server::HttpFault;
 use std::alloc::{AllocError, Global};
 use std::io::{self, Write};
+use std::net::{Ipv4Addr, Net, TcpListener, TcpStream};
 use thiserror::Error as FaultText;
 
 /// Why no clients were served.
@@ -35,19 +39,16 @@ pub fn port_fault(alloc: Global, port: u16, error: &io::Error) -> Error<ListenFa
     Error::new(ListenFault::PortFault, why)
 }
 
-/// Writes the line `listening 127.0.0.1:PORT`.
-///
-/// # Errors
-///
-/// `OutOfMemory`: nothing was written. `WriteFault`: a prefix of the line was written.
-pub fn print_port<O: Write>(
+// Writes the line with the address of the port.
+fn print_port<O: Write>(
     alloc: Global,
-    port: u16,
+    opened: &OpenPort,
     output: &mut O,
 ) -> Result<(), Error<ListenFault>>
-    ensures line { PrintsPort port (O.contents output.old) (O.contents output.new) result }
+    ensures line { PrintsListening opened.now (O.contents output.old) (O.contents output.new)
+        result }
 {
-    let Ok(line) = listening_line(alloc, port) else {
+    let Ok(line) = listening_line(alloc, opened) else {
         return Err(Error::new(ListenFault::OutOfMemory, None));
     };
     match write_whole(output, line.as_bytes()) {
@@ -56,10 +57,40 @@ pub fn print_port<O: Write>(
     }
 }
 
-fn listening_line(alloc: Global, port: u16) -> Result<String, AllocError>
-    ensures { IfOk result (λ line. string_bytes line ≡ listening_text port) }
+fn listening_line(alloc: Global, opened: &OpenPort) -> Result<String, AllocError>
+    ensures { IfOk result (λ line. string_bytes line ≡ listening_text opened.now) }
 {
-    format!(in alloc; "listening 127.0.0.1:{port}\n")
+    let address = opened.address();
+    let port = opened.port();
+    format!(in alloc; "listening {address}:{port}\n")
+}
+
+/// Opens that port of that address of this host, and writes the line `listening ADDRESS:PORT`, of the address at which it is open.
+///
+/// ```text
+/// let opened = listen(&rt, alloc, Ipv4Addr::LOCALHOST, 8080, &mut output)?; // listening 127.0.0.1:8080
+/// ```
+///
+/// # Errors
+///
+/// `PortFault`: the port cannot be opened, and nothing was written. `OutOfMemory`: nothing was written. `WriteFault`: a prefix of the line
+/// was written.
+pub fn listen<R: Net<Stream = TcpStream, Listener = TcpListener>, O: Write>(
+    net: &R,
+    alloc: Global,
+    address: Ipv4Addr,
+    port: u16,
+    output: &mut O,
+) -> Result<OpenPort, Error<ListenFault>>
+    ensures line { PrintsListening (record { host = ipv4_text (ipv4_octets address); port = port })
+        (O.contents output.old) (O.contents output.new) result }
+{
+    let opened = match OpenPort::open(net, address, port) {
+        Ok(opened) => opened,
+        Err(error) => return Err(port_fault(alloc, port, &error)),
+    };
+    print_port(alloc, &opened, output)?;
+    Ok(opened)
 }
 
 // The line of the fault of a connection.

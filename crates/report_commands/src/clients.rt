@@ -1,9 +1,10 @@
 //! Clients that connect one after another and get an answer.
 use byte_streams::TimedStream;
 use mirror_server::{HttpFault, answer};
+use program_env::OpenPort;
 use std::alloc::Global;
 use std::io;
-use std::net::{TcpListener, TcpStream};
+use std::net::TcpStream;
 use std::rt::Clock;
 use std::time::Duration;
 use tlog_hash::TreeHash;
@@ -40,14 +41,14 @@ pub(crate) trait Clients {
             (exchanges self.new) result };
 }
 
-impl Clients for TcpListener {
+impl Clients for OpenPort {
     fn answer_next<H: TreeHash, C: Clock>(
         &mut self,
         clock: &C,
         alloc: Global,
         mirror: &Mirror<H>,
     ) -> io::Result<Result<(), HttpFault>> {
-        let (stream, _) = self.accept()?;
+        let stream = self.accept()?;
         Ok(answer_one(clock, alloc, mirror, &stream))
     }
 }

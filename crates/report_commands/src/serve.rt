@@ -13,7 +13,7 @@ ghost use Rattle.program_env.specs.Ports.{PrintsPort};
 use crate::clients::Clients;
 use crate::fault::{Error, ReportRunFault};
 use program_env::why::of_state;
-use program_env::{Env, ListenFault, RunFiles, RunFolders, port_fault, print_fault, print_port};
+use program_env::{Env, ListenFault, RunFiles, RunFolders, listen, port_fault, print_fault};
 use program_states::open_state;
 use program_words::commands::serve::Serve;
 use signed_note::Verifier;
@@ -128,12 +128,11 @@ where
     ensures line { PrintsPort serve.now.port (O.contents output.old) (O.contents output.new)
         result }
 {
-    let mut listener = match TcpListener::bind(rt, (Ipv4Addr::LOCALHOST, serve.port)) {
-        Ok(listener) => listener,
-        Err(error) => return Err(port_fault(alloc, serve.port, &error)),
+    let mut opened = match listen(rt, alloc, Ipv4Addr::LOCALHOST, serve.port, output) {
+        Ok(opened) => opened,
+        Err(error) => return Err(error),
     };
-    print_port(alloc, serve.port, output)?;
-    match serve_all(rt, alloc, mirror, &mut listener, serve.requests, errors) {
+    match serve_all(rt, alloc, mirror, &mut opened, serve.requests, errors) {
         Ok(()) => Ok(()),
         Err(error) => Err(port_fault(alloc, serve.port, &error)),
     }

@@ -1,2 +1,3 @@
 mod Built
 mod Keeping
+mod Placing

@@ -1,8 +1,10 @@
 -- The command `pull`: what it reads from a state file, writes to its state file, and prints.
 use Rattle.std.specs.Prelude.{◌≡◌, ◌≢◌, ◌⊎◌, ℕ, List, Option, None, Result, Ok, Err, Bool, IsTrue, option_map}
+use Rattle.std.proofs.Common.{inl, inr}
 use Rattle.std.specs.Io.KnownBytes.{Appends, Keeps}
 use Rattle.byte_streams.specs.Streams.{AppendsPrefix}
 use Rattle.signed_note.specs.Keys.{Key}
+use Rattle.tlog_tiles.specs.declared.paths.Path.{Path}
 use Rattle.mirror_model.specs.Complete.{IsLawful}
 use Rattle.mirror_model.specs.View.{View}
 use Rattle.mirror_sources.specs.Source.{IsShortAnswer}
@@ -13,7 +15,6 @@ use Rattle.mirror_pull.specs.declared.fault.PullFault.TheVariants.{Source}
 use Rattle.mirror_pull.specs.declared.fault.PullFault.TheVariants as pull
 use Rattle.mirror_pull.specs.declared.pulling.Pulled.{Pulled}
 use Rattle.program_words.specs.declared.place.Place.{Place}
-use Rattle.program_words.specs.declared.place.Place.TheVariants.{Folder, Server}
 use Rattle.program_reports.specs.Pulling.{IsPulledStatus, pulled_lines}
 use Rattle.program_files.specs.Named.{NamedFile}
 use Rattle.program_files.specs.Named.{FailsToPut}
@@ -22,6 +23,7 @@ use Rattle.program_states.specs.Saved.{IsSaved}
 use Rattle.program_states.specs.States.{BeginsWith, SavesFile, WritesState}
 use Rattle.program_words.specs.declared.commands.pull.Pull.{Pull as PullWords}
 use Rattle.program_env.specs.Moment.{Moment}
+use Rattle.program_env.specs.PlaceWords.{PlaceWords, words_of}
 use Rattle.state_commands.specs.declared.fault.StateRunFault.{StateRunFault}
 use Rattle.state_commands.specs.declared.fault.StateRunFault.TheVariants.{WriteFault, Out, OutOfMemory, Pull, State}
 
@@ -70,9 +72,9 @@ module _ (keep : Bool) (out : List ℕ) (recorded left : Option (List NamedFile)
     pub other : (¬ IsKept keep fault) → left ≡ recorded
 
 -- the greatest length of a reply from a place in bytes: for a folder that of the longest entry bundle, for a server 8,192 more
-abbrev pub most_replied : Place → ℕ
-most_replied (Folder folder) = 16_777_472
-most_replied (Server host prefix address port) = 16_785_664
+abbrev pub most_replied : PlaceWords → ℕ
+most_replied (inl folder) = 16_777_472
+most_replied (inr server) = 16_785_664
 
 -- the answer of a pull from the view `start` to this view follows from replies of at most `most` bytes each, unless memory was
 -- refused
@@ -82,6 +84,21 @@ FollowsShortReplies digest keys most start v answer =
     answer ≢ Err pull.OutOfMemory →
     FollowsReplies digest keys start v (λ path found. IsShortAnswer most found) None None answer
 
+-- a source was read that is at the place of the words: a folder by its path, a server by its host, its prefix, and the address and port
+-- that are connected to. The answer of the pull follows from its replies
+pub record ReadsPlace (digest : List ℕ → List ℕ) (keys : List Key) (place : Place) (start v : View)
+    (answer : Result Pulled PullFault) : Type 0 where
+  pub source : PlaceWords
+  pub named : source ≡ words_of place
+  pub follows : FollowsShortReplies digest keys (most_replied source) start v answer
+
+-- the same of a source that may give these replies, and records these requests. Only private contracts cite it
+pub record ReadsSource (digest : List ℕ → List ℕ) (keys : List Key) (place : Place) (start v : View)
+    (source : PlaceWords) (may : Path → Option (List ℕ) → Type 0) (asked now : Option (List Path))
+    (answer : Result Pulled PullFault) : Type 0 where
+  pub named : source ≡ words_of place
+  pub follows : FollowsReplies digest keys start v may asked now answer
+
 module _ (digest : List ℕ → List ℕ) (origin : List ℕ) (keys : List Key)
     (state : Option (List ℕ)) (place : Place) (recorded : Option (List NamedFile)) where
   -- the pull began with the mirror of the named state file, or with an empty one if no file is named; it led to this lawful
@@ -90,7 +107,7 @@ module _ (digest : List ℕ → List ℕ) (origin : List ℕ) (keys : List Key)
     pub start : View
     pub begun : BeginsWith digest origin keys recorded state (Ok start)
     pub pulls : PullsTo digest keys start v answer
-    pub follows : FollowsShortReplies digest keys (most_replied place) start v answer
+    pub reads : ReadsPlace digest keys place start v answer
     pub lawful : IsLawful digest v
 
   module _ (keep : Bool) (out : List ℕ) (left : Option (List NamedFile))

@@ -1,5 +1,5 @@
 //! The command `pull`: it fetches what is missing.
-ghost use Rattle.std.specs.Prelude.{◌≡◌, ◌↔◌, ℕ, IfErr, IfOk, IsTrue, List, OnOk, Option, Result, map, option_map};
+ghost use Rattle.std.specs.Prelude.{◌≡◌, ◌↔◌, ℕ, IfErr, IfOk, IsTrue, List, None, OnOk, Option, Result, map, option_map};
 ghost use Rattle.tlog_text.specs.Answers.{seen};
 ghost use Rattle.std.specs.Io.KnownBytes.{Keeps};
 ghost use Rattle.sha2.specs.Sha256.{sha256};
@@ -11,23 +11,25 @@ ghost use Rattle.program_commands.specs.Gained.{IsHolding};
 ghost use Rattle.mirror_client.specs.declared.limits.TheConstants.{MAX_REPLY_LEN};
 ghost use Rattle.state_commands.specs.Faults.{IsLate};
 ghost use Rattle.program_env.specs.Envs.{IsSameEnv, moment};
-ghost use Rattle.state_commands.specs.Pulls.{FollowsShortReplies, IsHeld, LeavesEarly, DoesPull, SavesPulled, PrintsPull, PrintsPulled, most_replied};
+ghost use Rattle.mirror_sources.specs.Source.{IsShortAnswer};
+ghost use Rattle.program_env.specs.PlaceWords.{words_of};
+ghost use Rattle.state_commands.specs.Pulls.{IsHeld, LeavesEarly, DoesPull, ReadsPlace, ReadsSource, SavesPulled, PrintsPull, PrintsPulled};
 ghost use Rattle.program_env.specs.Performing.{IsStatus, KeepsFolders, Performs};
 
 use crate::fault::{Error, StateRunFault};
 use crate::pulling::pull_from;
 use byte_streams::write_whole;
 use mirror_client::{Dial, HttpSource};
-use mirror_folders::DirSource;
 use mirror_progress::{StandardError, Task};
 use mirror_pull::{PullFault, Pulled};
 use mirror_sources::Source;
 use program_commands::{HeldCounts, has_gained, holding_of};
-use program_env::places::{
-    of_edge, of_file, of_place, of_refused, of_source, place_name, server_of,
-};
+use program_env::places::{of_edge, of_file, of_place, of_refused, of_source, place_name};
 use program_env::why::{Why, of_named, of_state};
-use program_env::{Env, Failing, RunFiles, RunFolders, WatchedSource, print_waited};
+use program_env::{
+    Env, Failing, PlacedSource, RunFiles, RunFolders, WatchedSource, folder_at, print_waited,
+    server_at,
+};
 use program_files::NamedFault;
 use program_reports::{pulled_status, pulled_text};
 use program_states::{open_to_save, write_state};
@@ -232,9 +234,8 @@ fn pull_kept<H: TreeHash, R: Files + Clock + Eprint + Net<Stream = TcpStream>, F
 ) -> Result<(Pulled, bool), Stopped>
     ensures pulls { PullsTo H.digest (map (λ k. key k) keys.now) mirror.old.view mirror.new.view
         (seen (λ done. done.0) result) }
-    ensures follows { FollowsShortReplies H.digest (map (λ k. key k) keys.now)
-        (most_replied words.now.place) mirror.old.view mirror.new.view
-        (seen (λ done. done.0) result) }
+    ensures reads { ReadsPlace H.digest (map (λ k. key k) keys.now) words.now.place
+        mirror.old.view mirror.new.view (seen (λ done. done.0) result) }
     ensures gained { IfOk result (λ done. (¬ IsTrue done.1)
         → mirror.new.view ≡ mirror.old.view) }
     ensures early { IfErr result (λ fault. (written : Result (Unit {0}) NamedFault)
@@ -296,7 +297,7 @@ fn is_source(fault: PullFault) -> bool
     matches!(fault, PullFault::Source)
 }
 
-// Pulls from a place into the mirror, and returns the thing that a fault is about.
+// Pulls from the place of the words into the mirror, and returns the thing that a fault is about.
 fn from_place<'a, H: TreeHash, R: Files + Clock + Eprint + Net<Stream = TcpStream>>(
     rt: &'a R,
     alloc: Global,
@@ -306,14 +307,13 @@ fn from_place<'a, H: TreeHash, R: Files + Clock + Eprint + Net<Stream = TcpStrea
 ) -> (Result<Pulled, PullFault>, Option<Why>)
     ensures pulls { PullsTo H.digest (map (λ k. key k) keys.now) mirror.old.view mirror.new.view
         result.0 }
-    ensures follows { FollowsShortReplies H.digest (map (λ k. key k) keys.now)
-        (most_replied words.now.place) mirror.old.view mirror.new.view result.0 }
+    ensures reads { ReadsPlace H.digest (map (λ k. key k) keys.now) words.now.place
+        mirror.old.view mirror.new.view result.0 }
 {
     match &words.place {
         Place::Folder(folder) => {
-            let source = WatchedSource::new(alloc, DirSource::new(rt, alloc, folder));
-            let (pulled, source) = pull_from(rt, alloc, mirror, keys, source, words.progress);
-            let why = why_of(alloc, &words.place, &pulled, &source);
+            let placed = folder_at(rt, alloc, folder);
+            let (pulled, why, _source) = pull_placed(rt, alloc, mirror, keys, placed, words);
             (pulled, why)
         }
         Place::Server {
@@ -323,8 +323,8 @@ fn from_place<'a, H: TreeHash, R: Files + Clock + Eprint + Net<Stream = TcpStrea
             port,
         } => {
             let site = (*host, *prefix);
-            match server_of(rt, alloc, site, (*address, *port), words.pace) {
-                Ok(source) => from_server(rt, alloc, mirror, keys, source, words),
+            match server_at(rt, alloc, site, (*address, *port), words.pace) {
+                Ok(placed) => from_server(rt, alloc, mirror, keys, placed, words),
                 Err(_) => (Err(PullFault::OutOfMemory), None),
             }
         }
@@ -337,19 +337,41 @@ fn from_server<H: TreeHash, R: Clock + Eprint, D: Dial + Drop>(
     alloc: Global,
     mirror: &mut Mirror<H>,
     keys: &[Box<dyn Verifier>],
-    source: HttpSource<D>,
+    placed: PlacedSource<'_, HttpSource<D>>,
     words: &Pull<'_>,
 ) -> (Result<Pulled, PullFault>, Option<Why>)
     ensures pulls { PullsTo H.digest (map (λ k. key k) keys.now) mirror.old.view mirror.new.view
         result.0 }
-    ensures follows { FollowsShortReplies H.digest (map (λ k. key k) keys.now) MAX_REPLY_LEN
-        mirror.old.view mirror.new.view result.0 }
+    ensures reads { words_of placed.entry.place ≡ words_of words.now.place
+        → ReadsSource H.digest (map (λ k. key k) keys.now) words.now.place mirror.old.view
+        mirror.new.view (words_of placed.entry.place) (λ path found. IsShortAnswer MAX_REPLY_LEN found)
+        None None result.0 }
 {
-    let source = WatchedSource::new(alloc, source);
-    let (pulled, source) = pull_from(rt, alloc, mirror, keys, source, words.progress);
+    let (pulled, why, source) = pull_placed(rt, alloc, mirror, keys, placed, words);
     write_waited(rt, alloc, words, source.source.waited());
-    let why = why_of(alloc, &words.place, &pulled, &source);
     (pulled, why)
+}
+
+// Pulls from that source, whose place has to be that of the words. Returns the thing that a fault is about, and the source.
+fn pull_placed<H: TreeHash, R: Clock + Eprint, S: Source + Failing + Drop>(
+    rt: &R,
+    alloc: Global,
+    mirror: &mut Mirror<H>,
+    keys: &[Box<dyn Verifier>],
+    placed: PlacedSource<'_, S>,
+    words: &Pull<'_>,
+) -> (Result<Pulled, PullFault>, Option<Why>, WatchedSource<S>)
+    ensures pulls { PullsTo H.digest (map (λ k. key k) keys.now) mirror.old.view mirror.new.view
+        result.0 }
+    ensures reads { words_of placed.entry.place ≡ words_of words.now.place
+        → ReadsSource H.digest (map (λ k. key k) keys.now) words.now.place mirror.old.view
+        mirror.new.view (words_of placed.entry.place) (S.may_answer placed.entry.source.source)
+        (S.asked placed.entry.source.source) (S.asked result.2.source) result.0 }
+{
+    let PlacedSource { place, source } = placed;
+    let (pulled, source) = pull_from(rt, alloc, mirror, keys, source, words.progress);
+    let why = why_of(alloc, &place, &pulled, &source);
+    (pulled, why, source)
 }
 
 // Writes the line about a wait for a busy server to standard error, if the words ask for lines.

@@ -28,7 +28,7 @@ returns-in-Ok-pull_kept-clause-answer g c =
         start = start;
         begun = c.in-Ok.ensures.begins;
         pulls = c.in-Ok-pull_kept.ensures.pulls;
-        follows = c.in-Ok-pull_kept.ensures.follows;
+        reads = c.in-Ok-pull_kept.ensures.reads;
         lawful = c.in-Ok-pull_kept.ensures.lawful;
       };
       tells = subst (λ (before : Option (List NamedFile)). PrintsPulled state start view c.in-Ok-pull_kept.pulled out before
@@ -46,7 +46,7 @@ returns-in-Err-pull_kept-clause-answer g c = rw c.into_error.ensures (inl (
       start = c.in-Ok.mirror.view;
       begun = c.in-Ok.ensures.begins;
       pulls = c.in-Err-pull_kept.ensures.pulls;
-      follows = c.in-Err-pull_kept.ensures.follows;
+      reads = c.in-Err-pull_kept.ensures.reads;
       lawful = c.in-Err-pull_kept.ensures.lawful;
     };
     written = c.in-Err-pull_kept.ensures.early.0;
