@@ -2,8 +2,8 @@
 use Rattle.std.proofs.Common.{◌≡◌, ℕ, ◌+◌, ◌<◌, ◌≤◌, List, [], ◌∷◌, ◌++◌, length, get_or, map, take, IfOk, Result, Ok, Err, sym, ap, subst, ◌∙◌}
 use Rattle.std.specs.Prelude.{None}
 use Rattle.std.proofs.lemmas.List.{map-append, take_all, take_more}
-use Rattle.mirror_places.specs.declared.places.Places.{Places}
-use Rattle.mirror_places.specs.declared.place.Place.{Place as Asked}
+use Rattle.copy_places.specs.declared.places.Places.{Places}
+use Rattle.copy_places.specs.declared.place.Place.{Place as Asked}
 use Rattle.program_words.specs.declared.place.Place.{Place}
 use Rattle.program_follow.specs.Places.{PlaceName, SeenPlace}
 use Rattle.place_commands.specs.Places.{name_of, names_of, place_of}

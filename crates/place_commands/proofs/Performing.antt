@@ -5,7 +5,7 @@ use Rattle.std.specs.Io.KnownBytes.{Keeps}
 use Rattle.std.specs.Result.{result_map_both}
 use Rattle.signed_note.specs.Keys.{Key}
 use Rattle.tlog_tiles.specs.declared.paths.Path.{Path}
-use Rattle.mirror_places.specs.declared.places.Places.{Places}
+use Rattle.copy_places.specs.declared.places.Places.{Places}
 use Rattle.program_follow.specs.Places.{MayAnswerAny, PlaceName, SeenPlace}
 use Rattle.program_follow.specs.Repairing.{RunsRepair}
 use Rattle.program_follow.specs.declared.fault.FollowRunFault.{FollowRunFault}

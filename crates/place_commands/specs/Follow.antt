@@ -2,7 +2,7 @@
 use Rattle.std.specs.Prelude.{◌≡◌, ◌⊎◌, ℕ, List, Option, None, Result, Ok, Err, IsFalse, IsTrue, map, option_map, ⊤}
 use Rattle.signed_note.specs.Keys.{Key}
 use Rattle.tlog_tiles.specs.declared.paths.Path.{Path}
-use Rattle.mirror_places.specs.declared.places.Places.{Places}
+use Rattle.copy_places.specs.declared.places.Places.{Places}
 use Rattle.program_words.specs.declared.commands.follow.Follow.{Follow as FollowWords}
 use Rattle.program_follow.specs.Following.{RunsFollow}
 use Rattle.program_follow.specs.Places.{MayAnswerAny, SeenPlace}

@@ -1,6 +1,6 @@
 -- The places that the words of a command name.
 use Rattle.std.specs.Prelude.{List, ◌++◌, false, map, true}
-use Rattle.mirror_places.specs.declared.places.Places.{Places}
+use Rattle.copy_places.specs.declared.places.Places.{Places}
 use Rattle.program_words.specs.declared.place.Place.{Place}
 use Rattle.program_words.specs.declared.place.Place.TheVariants.{Folder, Server}
 use Rattle.program_follow.specs.Places.{PlaceName, SeenPlace}

@@ -9,9 +9,8 @@ ghost use Rattle.place_commands.specs.Follow.{AnswersAmong, DoesFollow};
 
 use crate::fault::{Error, PlaceRunFault};
 use crate::places::places_of;
-use mirror_copy::{BringFault, Repaired};
-use mirror_follow::FollowFault;
-use mirror_places::Places;
+use copy_follow::{BringFault, FollowFault, Repaired};
+use copy_places::Places;
 use mirror_progress::Task;
 use mirror_sources::Source;
 use program_env::served::of_note;

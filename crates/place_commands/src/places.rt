@@ -2,8 +2,8 @@
 ghost use Rattle.std.specs.Prelude.{◌≡◌, ◌++◌, ◌∷◌, [], IfOk, None, Ok, map, true};
 ghost use Rattle.place_commands.specs.Places.{name_of, names_of, place_of};
 
+use copy_places::Places;
 use mirror_client::{Pace, Site, TcpDial};
-use mirror_places::Places;
 use mirror_sources::Source;
 use program_follow::PlaceSource;
 use program_words::Place;

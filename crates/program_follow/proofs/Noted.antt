@@ -6,20 +6,20 @@ use Rattle.std.proofs.lemmas.Option.{none-some}
 use Rattle.tlog_tiles.specs.declared.paths.Path.{Path}
 use Rattle.signed_note.specs.Keys.{Key}
 use Rattle.mirror_folders.specs.Shelf.{Put}
-use Rattle.mirror_places.specs.declared.places.Places.{Places}
-use Rattle.mirror_candidates.specs.Requests.{IsGivenOrMayGive}
-use Rattle.mirror_candidates.specs.GatheredFrom.{AreCandidates}
-use Rattle.mirror_candidates.specs.Candidates.{note_of}
-use Rattle.mirror_candidates.specs.declared.candidate.Candidate.{Candidate}
-use Rattle.mirror_follow.specs.Blame.{CountsFollowFault}
-use Rattle.mirror_follow.specs.Ending.{EndsFor}
-use Rattle.mirror_follow.specs.OneHonest.{IsHonestAmong, IsHonestRun, ReachesLog, ReachesSize}
-use Rattle.mirror_follow.specs.Runs.{FollowsCandidates}
-use Rattle.mirror_follow.specs.Says.{Says}
-use Rattle.mirror_follow.specs.Standing.{IsFollowed}
-use Rattle.mirror_follow.specs.declared.fault.FollowFault.{FollowFault}
-use Rattle.mirror_follow.specs.declared.fault.FollowFault.TheVariants as following
-use Rattle.mirror_follow.specs.declared.report.Followed.{Followed}
+use Rattle.copy_places.specs.declared.places.Places.{Places}
+use Rattle.copy_places.specs.Requests.{IsGivenOrMayGive}
+use Rattle.copy_places.specs.GatheredFrom.{AreCandidates}
+use Rattle.copy_places.specs.Candidates.{note_of}
+use Rattle.copy_places.specs.declared.candidate.Candidate.{Candidate}
+use Rattle.copy_follow.specs.Blame.{CountsFollowFault}
+use Rattle.copy_follow.specs.Ending.{EndsFor}
+use Rattle.copy_follow.specs.OneHonestRun.{IsHonestAmong, IsHonestRun, ReachesLog, ReachesSize}
+use Rattle.copy_follow.specs.Runs.{FollowsCandidates}
+use Rattle.copy_follow.specs.Says.{Says}
+use Rattle.copy_follow.specs.RunStanding.{IsFollowed}
+use Rattle.copy_follow.specs.declared.follow_fault.FollowFault.{FollowFault}
+use Rattle.copy_follow.specs.declared.follow_fault.FollowFault.TheVariants as following
+use Rattle.copy_follow.specs.declared.report.Followed.{Followed}
 use Rattle.program_files.specs.Named.{HasContents, NamedFile}
 use Rattle.program_follow.specs.Following.{AreRunCandidates, CopyFollowed, CountsRun, EndsFollowing, Follows, FollowsIn, IsNoteOf, HonestSuffices, PrintsSettled, ReachesIn, ReachesRun, ReadsGiven, ReadsNote, PrintsDone, SettlesRun, SufficesForRun}
 use Rattle.program_follow.specs.declared.fault.FollowRunFault.{FollowRunFault}

@@ -3,9 +3,9 @@ use Rattle.std.proofs.Common.{◌≡◌, ℕ, List, Bool, true, false, Option, R
 use Rattle.tlog_tiles.specs.declared.paths.Path.{Path}
 use Rattle.signed_note.specs.Keys.{Key}
 use Rattle.mirror_folders.specs.Shelf.{Put}
-use Rattle.mirror_places.specs.declared.places.Places.{Places}
-use Rattle.mirror_copy.specs.Faults.{CountsFault}
-use Rattle.mirror_copy.specs.declared.fault.BringFault.{BringFault}
+use Rattle.copy_places.specs.declared.places.Places.{Places}
+use Rattle.copy_follow.specs.Faults.{CountsFault}
+use Rattle.copy_follow.specs.declared.bring_fault.BringFault.{BringFault}
 use Rattle.program_files.specs.Named.{NamedFile}
 use Rattle.program_follow.specs.Following.{ReadsNote, RunsFollow}
 use Rattle.program_follow.specs.Repairing.{CountsRepairFault, FollowsLost, FollowsPrinted, PrintsRepair, RepairsCopy, RunsOpen, RunsRepair}

@@ -10,9 +10,9 @@ use Rattle.tlog_proof.specs.declared.proof.Proof.TheVariants.{Inclusion, Consist
 use Rattle.signed_note.specs.Keys.{Key}
 use Rattle.mirror_model.specs.Forks.{Point}
 use Rattle.mirror_model.specs.Heads.{IsOpenHead}
-use Rattle.mirror_candidates.specs.Candidates.{point_of}
-use Rattle.mirror_candidates.specs.declared.candidate.Candidate.{Candidate}
-use Rattle.mirror_candidates.specs.declared.fork_line.ForkLine.{ForkLine}
+use Rattle.copy_places.specs.Candidates.{point_of}
+use Rattle.copy_places.specs.declared.candidate.Candidate.{Candidate}
+use Rattle.copy_places.specs.declared.fork_line.ForkLine.{ForkLine}
 use Rattle.program_files.specs.Named.{NamedFile, RecordsLong, contents_of}
 use Rattle.program_files.specs.declared.fault.NamedFault.{NamedFault}
 use Rattle.program_files.specs.declared.fault.NamedFault.TheVariants.{FileFault, OutOfMemory}

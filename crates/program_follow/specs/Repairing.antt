@@ -12,11 +12,11 @@ use Rattle.mirror_model.specs.Heads.{IsHead}
 use Rattle.mirror_model.specs.Refusals.{IsOpenCheckpoint, ReadsHead}
 use Rattle.mirror_sources.specs.Recorded.{KeepsRecord}
 use Rattle.mirror_folders.specs.Shelf.{Put, RecordsRead}
-use Rattle.mirror_places.specs.declared.places.Places.{Places}
-use Rattle.mirror_copy.specs.Faults.{CountsFault}
-use Rattle.mirror_copy.specs.Repaired.{AsksToRepair, CountsPuts, IsClearLog, IsRepaired, PutsTrue}
-use Rattle.mirror_copy.specs.Taken.{MayTake}
-use Rattle.mirror_copy.specs.declared.fault.BringFault.TheVariants as bring
+use Rattle.copy_places.specs.declared.places.Places.{Places}
+use Rattle.copy_follow.specs.Faults.{CountsFault}
+use Rattle.copy_follow.specs.Repaired.{AsksToRepair, CountsPuts, IsClearLog, IsRepaired, PutsTrue}
+use Rattle.copy_follow.specs.Taken.{MayTake}
+use Rattle.copy_follow.specs.declared.bring_fault.BringFault.TheVariants as bring
 use Rattle.program_files.specs.Named.{NamedFile}
 use Rattle.program_follow.specs.Following.{ReadsGiven, ReadsNote, RunsFollow}
 use Rattle.program_follow.specs.declared.fault.FollowRunFault.{FollowRunFault}

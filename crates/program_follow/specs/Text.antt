@@ -3,8 +3,8 @@ use Rattle.std.specs.Prelude.{ℕ, List, [], ◌∷◌, ◌++◌, codes, Option,
 use Rattle.std.specs.Fmt.{decimal}
 use Rattle.std.specs.List.{flat_map}
 use Rattle.mirror_model.specs.Texts.{point_text}
-use Rattle.mirror_candidates.specs.declared.fork_line.ForkLine.{ForkLine}
-use Rattle.mirror_follow.specs.declared.report.Followed.{Followed}
+use Rattle.copy_places.specs.declared.fork_line.ForkLine.{ForkLine}
+use Rattle.copy_follow.specs.declared.report.Followed.{Followed}
 
 -- `followed SIZE ROOT from OLD`
 abbrev pub followed_line : ℕ → List ℕ → ℕ → List ℕ

@@ -6,8 +6,8 @@ ghost use Rattle.mirror_model.specs.Forks.{Point};
 ghost use Rattle.mirror_model.specs.Heads.{IsOpenHead};
 ghost use Rattle.program_follow.specs.Evidence.{LooksFor, PutsFiles, Serves, evidence_of, fork_files, is_writable_fork, note_as, note_file, note_place, proof_file, proof_files, proof_place, wanted_file};
 
+use copy_places::{Candidate, ForkLine};
 use log_reader::open_head;
-use mirror_candidates::{Candidate, ForkLine};
 use mirror_model::TakeFault;
 use program_files::{NamedFault, NamedFiles};
 use signed_note::Verifier;

@@ -1,5 +1,5 @@
 //! The reasons why a run of `follow` ended early.
-use mirror_follow::FollowFault;
+use copy_follow::FollowFault;
 use program_files::NamedFault;
 use std::fmt;
 

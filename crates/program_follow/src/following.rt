@@ -1,16 +1,16 @@
 //! The command `follow`: brings a copy in a folder to the newest checkpoint of some places.
 ghost use Rattle.std.specs.Prelude.{◌≡◌, ◌⊎◌, All, IfErr, IfOk, Ok, map, option_map};
 ghost use Rattle.tlog_text.specs.Answers.{seen};
-ghost use Rattle.mirror_candidates.specs.Requests.{IsGivenOrMayGive};
-ghost use Rattle.mirror_candidates.specs.GatheredFrom.{AreCandidates};
-ghost use Rattle.mirror_candidates.specs.Shown.{ShowsLine};
-ghost use Rattle.mirror_follow.specs.Blame.{CountsFollow};
-ghost use Rattle.mirror_follow.specs.Ending.{EndsFor};
-ghost use Rattle.mirror_follow.specs.declared.fault.FollowFault.{FollowFault};
-ghost use Rattle.mirror_follow.specs.OneHonest.{IsHonestAmong, IsHonestRun, ReachesLog, ReachesSize};
-ghost use Rattle.mirror_follow.specs.Runs.{FollowsCandidates};
-ghost use Rattle.mirror_follow.specs.Says.{Says};
-ghost use Rattle.mirror_follow.specs.Standing.{IsFollowed};
+ghost use Rattle.copy_places.specs.Requests.{IsGivenOrMayGive};
+ghost use Rattle.copy_places.specs.GatheredFrom.{AreCandidates};
+ghost use Rattle.copy_places.specs.Shown.{ShowsLine};
+ghost use Rattle.copy_follow.specs.Blame.{CountsFollow};
+ghost use Rattle.copy_follow.specs.Ending.{EndsFor};
+ghost use Rattle.copy_follow.specs.declared.follow_fault.FollowFault.{FollowFault};
+ghost use Rattle.copy_follow.specs.OneHonestRun.{IsHonestAmong, IsHonestRun, ReachesLog, ReachesSize};
+ghost use Rattle.copy_follow.specs.Runs.{FollowsCandidates};
+ghost use Rattle.copy_follow.specs.Says.{Says};
+ghost use Rattle.copy_follow.specs.RunStanding.{IsFollowed};
 ghost use Rattle.program_follow.specs.Following.{AreRunCandidates, CountsRun, EndsFollowing, Follows, FollowsIn, IsNoteOf, PrintsDone, ReachesIn, ReadsGiven, ReadsNote, RunsFollow, SettlesRun, SufficesForRun};
 
 use crate::evidence::write_evidence;
@@ -18,8 +18,8 @@ use crate::fault::FollowRunFault;
 use crate::hold::{Hold, HoldFault};
 use crate::text::{followed_status, followed_text};
 use byte_streams::write_whole;
-use mirror_follow::{FollowFault, Followed, follow};
-use mirror_places::Places;
+use copy_follow::{FollowFault, Followed, follow};
+use copy_places::Places;
 use mirror_progress::{CountedFolders, Task};
 use mirror_sources::Source;
 use program_files::{NamedFault, NamedFiles};
@@ -321,7 +321,7 @@ fn follow_and_report<
     }
 }
 
-/// Brings the copy in the folder to the newest checkpoint that the places give, as `mirror_follow::follow` does. Then, if a folder for
+/// Brings the copy in the folder to the newest checkpoint that the places give, as `copy_follow::follow` does. Then, if a folder for
 /// evidence is named, writes the evidence of each fork: both notes as `SIZE-ROOT-0.note`, and the proof, which the command `check` reads, as
 /// `SMALL-ROOT-LARGE-ROOT.proof`. A file that stands there stays if it serves: it is the proof, the note, or another note of that size and root
 /// that opens under the keys. Else it is replaced. Last writes the result to the output, in the form of `followed_text`, also if the evidence
@@ -339,7 +339,7 @@ fn follow_and_report<
 /// # Errors
 ///
 /// In this order. `File`: the named file of a note could not be read. `CopyInUse`: another run holds the folder. `OutOfMemory`: memory for the
-/// folder's name was refused. Nothing is put at these three. `Follow`, with the faults of `mirror_follow::follow`: files that were put before stay; or memory for the text was
+/// folder's name was refused. Nothing is put at these three. `Follow`, with the faults of `copy_follow::follow`: files that were put before stay; or memory for the text was
 /// refused, and no evidence is put. `Evidence`: not all of the evidence was put or flushed, but the output was written.
 /// `EvidenceAndOutput`: neither was. `WriteFault`: the output could not be written, but the evidence was.
 pub fn run_follow<

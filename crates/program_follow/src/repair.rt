@@ -13,11 +13,11 @@ use crate::following::{Following, follow_open, open_held, read_given};
 use crate::hold::{Hold, HoldFault};
 use crate::repair_fault::{RepairFault, RepairRunFault};
 use byte_streams::write_whole;
+use copy_follow::{BringFault, Repaired, repair_copy};
+use copy_places::Places;
 use log_reader::open_head;
-use mirror_copy::{BringFault, Repaired, repair_copy};
 use mirror_folders::{ReadableShelf, ShelfError};
 use mirror_model::TakeFault;
-use mirror_places::Places;
 use mirror_progress::CountedFolders;
 use mirror_sources::Source;
 use program_files::NamedFiles;
@@ -223,7 +223,7 @@ fn repair_and_follow<H: TreeHash, F: NamedFiles, D: CountedFolders, S: Source + 
 }
 
 /// Repairs the copy in the folder, and then does what `run_follow` does. The named note is read first, if there is one, and the folder is held.
-/// Then the copy's checkpoint has to open under the keys, and `mirror_copy::repair_copy` repairs the copy under it. A folder without a
+/// Then the copy's checkpoint has to open under the keys, and `copy_follow::repair_copy` repairs the copy under it. A folder without a
 /// checkpoint has nothing to repair. Then the line `repaired N` is written, with the number of files that were put, 0 too. It is written
 /// also where the repair fails, and it is followed by the output of `run_follow`. `repaired` gets what the repair did.
 ///

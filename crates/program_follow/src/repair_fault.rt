@@ -1,6 +1,6 @@
 //! The reasons why a run of `follow` that repairs the copy first ended early.
 use crate::fault::FollowRunFault;
-use mirror_copy::BringFault;
+use copy_follow::BringFault;
 use mirror_model::TakeFault;
 use std::fmt;
 

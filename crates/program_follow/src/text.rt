@@ -4,8 +4,8 @@ ghost use Rattle.std.specs.List.{flat_map};
 ghost use Rattle.mirror_model.specs.Texts.{point_text};
 ghost use Rattle.program_follow.specs.Text.{behind_line, copy_line, followed_line, followed_lines, followed_status_of, fork_line, larger_line};
 
-use mirror_candidates::ForkLine;
-use mirror_follow::Followed;
+use copy_follow::Followed;
+use copy_places::ForkLine;
 use std::alloc::{AllocError, Global};
 use tlog_hash::Hash;
 use tlog_text::{push_hash, push_number};

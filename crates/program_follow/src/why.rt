@@ -4,11 +4,11 @@ ghost use Rattle.program_files.specs.Why.{IsWhyLine};
 ghost use Rattle.program_follow.specs.Whys.{AreWhyLines};
 
 use crate::place::{Answered, FailedAt, WatchedPlace};
+use copy_places::{Place, Places, Wrong, WrongFile};
 use log_reader::open_head;
 use mirror_client::Reason;
 use mirror_folders::ReadableShelf;
 use mirror_model::TakeFault;
-use mirror_places::{Place, Places, Wrong, WrongFile};
 use program_files::{system_reason, why_line};
 use signed_note::Verifier;
 use std::alloc::{AllocError, Global};

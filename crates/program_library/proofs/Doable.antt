@@ -1,6 +1,6 @@
 -- The numbers of a command are in their ranges.
 use Rattle.std.proofs.Common.{ℕ, ◌≤◌, List, length, Option, Some, None, arith}
-use Rattle.program_parser.specs.Program.{AsksFor}
+use Rattle.program_words.specs.Program.{AsksFor}
 use Rattle.program_words.specs.Commands.{IsCount, IsNumberGiven, IsTakeWidth}
 use Rattle.program_words.specs.declared.commands.Command.{Command as Order}
 use Rattle.program_words.specs.declared.commands.Command.TheVariants as order

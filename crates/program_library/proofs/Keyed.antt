@@ -5,11 +5,11 @@ use Rattle.signed_note.specs.KeyFiles.{ReadsKeys}
 use Rattle.signed_note.specs.declared.key_fault.KeyFileFault.{KeyFileFault}
 use Rattle.signed_note.specs.declared.key_line.KeyLine.{KeyLine}
 use Rattle.program_files.specs.Named.{NamedFile}
-use Rattle.program_parser.specs.Lines.{IsLine}
-use Rattle.program_parser.specs.Readings.{Reads, ReadsKeyFile}
+use Rattle.program_words.specs.Lines.{IsLine}
+use Rattle.program_words.specs.LineReadings.{Reads, ReadsKeyFile}
 use Rattle.program_words.specs.declared.commands.Command.{Command as Order}
 use Rattle.program_words.specs.declared.fault.CommandFault.{CommandFault}
-use Rattle.program_parser.specs.declared.words.Line.{Line}
+use Rattle.program_words.specs.declared.reading.Line.{Line}
 use Rattle.program_library.specs.Commands.{IsDoable, IsWriteFault}
 use Rattle.program_env.specs.Moment.{Moment}
 use Rattle.program_env.specs.Performing.{Ends}

@@ -12,8 +12,8 @@ use Rattle.program_files.specs.Named.{ReadsShort, HasContents}
 use Rattle.program_files.specs.declared.fault.NamedFault.{NamedFault}
 use Rattle.program_words.specs.declared.commands.Command.{Command as Order}
 use Rattle.program_words.specs.declared.fault.CommandFault.{CommandFault}
-use Rattle.program_parser.specs.Program.{AsksFor}
-use Rattle.program_parser.specs.Readings.{HasKeys, HasNoKeys, Reads, ReadsKeyFile}
+use Rattle.program_words.specs.Program.{AsksFor}
+use Rattle.program_words.specs.LineReadings.{HasKeys, HasNoKeys, Reads, ReadsKeyFile}
 use Rattle.program_library.specs.declared.fault.RunFault.{RunFault}
 use Rattle.program_library.specs.declared.fault.RunFault.TheVariants.{Command, KeyFile, KeyLines}
 use Rattle.program_env.specs.Moment.{Moment}

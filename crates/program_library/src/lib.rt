@@ -1,4 +1,4 @@
-//! Runs a command of `tlogmirror` over standard input and output, and over files and folders by their names.
+//! The library of `tlogmirror`: runs a command over standard input and output, and over files and folders by their names.
 //!
 //! ```text
 //! let (files, folders) = (MemoryFiles::new(alloc), MemShelf::new(alloc));
@@ -11,8 +11,10 @@ mod answers;
 mod commands;
 mod ending;
 mod fault;
+mod given;
 mod keys;
 mod laws;
+mod names;
 mod run_env;
 mod running;
 mod system;
@@ -20,8 +22,10 @@ mod system;
 pub use answers::{printed, refused};
 pub use ending::{Message, ProgramEnd, Stream, ending_of, print_ending};
 pub use fault::{Error, RunFault};
+pub use given::run_words;
 pub use keys::Keys;
 pub use laws::{pulled_state_law, signing_key_law};
+pub use names::key_file;
 pub use program_env::{Env, RunFiles, RunFolders};
 pub use program_streams::{CheckFault, RootFault, run_check, run_root};
 pub use run_env::{RunEnv, WatchedEnv};

@@ -2,8 +2,8 @@
 ghost use Rattle.std.specs.Prelude.{◌≡◌, IfErr, IfOk, List, map, string_bytes, ℕ};
 ghost use Rattle.std.specs.Io.KnownBytes.{Keeps};
 ghost use Rattle.sha2.specs.Sha256.{sha256};
-ghost use Rattle.program_parser.specs.Program.{AsksFor};
-ghost use Rattle.program_parser.specs.Lines.{IsLine};
+ghost use Rattle.program_words.specs.Program.{AsksFor};
+ghost use Rattle.program_words.specs.Lines.{IsLine};
 ghost use Rattle.program_library.specs.Commands.{IsDoable, IsWriteFault};
 ghost use Rattle.program_env.specs.Performing.{Ends};
 ghost use Rattle.program_library.specs.Runs.{AreKeyBytes, JoinsLines, RunsKeyed};
@@ -13,8 +13,7 @@ use crate::answers::{printed, refused};
 use crate::fault::{Error, RunFault};
 use crate::keys::Keys;
 use crate::run_env::{RunEnv, WatchedEnv};
-use program_parser::{Line, read_line};
-use program_words::Command;
+use program_words::{Command, Line, read_line};
 use signed_note::{KeyFileFault, KeyLine, Verifier};
 
 /// Runs the command of the words over any files and folders that have names, with the keys of the key file that the words name. It

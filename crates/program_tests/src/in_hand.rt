@@ -1,6 +1,6 @@
 //! Commands with given keys, which no run of the program shows.
 use crate::given::keys;
-use program_calls::{key_file, run_words};
+use program_library::{key_file, run_words};
 use signed_note::Verifier;
 use std::alloc::{AllocError, Global};
 use std::process::Abort;

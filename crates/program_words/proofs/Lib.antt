@@ -2,3 +2,5 @@ pub mod Named
 pub mod Judging
 mod Places
 pub mod Refusing
+pub mod Lines
+pub mod CommandLaws

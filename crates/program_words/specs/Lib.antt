@@ -3,3 +3,8 @@ pub mod Refusals
 pub mod App
 pub mod Commands
 pub mod Readings
+pub mod Parser
+pub mod Program
+pub mod LineReadings
+pub mod LineLaws
+pub mod Lines

@@ -1,8 +1,8 @@
-//! What the commands of `tlogmirror` are: the options of each, with its command line, its help and its reader. Also what words
-//! spell, and which word is bad. `program_parser` finds the options in the words of a command line.
+//! The command line of `tlogmirror`: the commands, each with its options, its help and its reader, and the words that ask for one.
 //!
 //! ```text
-//! root::read(&found, &mut refusals)    // Command::Report(ReportCommand::Root(Root { width: 200 })), of `root --width 200`
+//! let line = read_line(alloc, &["prove", "--origin", "o", "--keys", "k", "--state", "s", "inclusion", "3", "2"])?;
+//! line.command   // Ok(Command::Prove(Prove { mirror, ask: Ask::Inclusion { size: 3, index: 2 } }))
 //! ```
 #![tactic(auto)]
 
@@ -11,9 +11,14 @@ pub mod commands;
 mod fault;
 mod laws;
 mod line;
+mod line_laws;
 mod number;
+mod options_parser;
 mod parts;
 mod place;
+mod program;
+mod readers;
+mod reading;
 mod refusals;
 
 pub use bad::BadWord;
@@ -21,6 +26,8 @@ pub use commands::{Command, CopyCommand, PlaceCommand, ReportCommand, StateComma
 pub use fault::CommandFault;
 pub use laws::one_place_law;
 pub use line::{Argument, Base, CommandLine, ORIGIN, WHY};
+pub use line_laws::{lawful_law, words_example};
 pub use parts::{CopyArgs, Log, OutputArgs, StateArgs, has_flag};
 pub use place::Place;
+pub use reading::{Line, read_line};
 pub use refusals::{Refusals, judged};

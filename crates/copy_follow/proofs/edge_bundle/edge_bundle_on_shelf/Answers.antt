@@ -1,0 +1,45 @@
+use Rattle.std.proofs.Common.{List, ℕ, refl, subst}
+use Rattle.std.proofs.lemmas.Result.{IfOk-from_err}
+use Rattle.copy_places.specs.Giving.{PartOf}
+use Rattle.copy_follow.specs.Conflicts.{IsNoConflict}
+use Rattle.copy_follow.specs.Faults.{IsOfNoPlace}
+use Rattle.copy_follow.specs.Taken.{WasPut}
+use Rattle.copy_follow.specs.declared.bring_fault.BringFault.TheVariants.{OutOfMemory}
+use Rattle.copy_follow.proofs.Exits.{counted_exit, err_exit}
+use Rattle.copy_follow.proofs.edge_bundle.edge_bundle_on_shelf.Goals as goal
+
+pub returns-in_err-bytes : goal.returns-in_err-bytes
+returns-in_err-bytes g c =
+    let exit = c.from_residual in
+    let fault = c.in_err-bytes.field-0.0 in
+    let step = c.in_err-bytes.ensures in
+    let failed = g.D.Shelf.failed in
+    record {
+      found = IfOk-from_err exit.result _ exit.ensures.0;
+      fault = err_exit IsNoConflict exit.result fault exit.ensures step.fault;
+      places = err_exit IsOfNoPlace exit.result fault exit.ensures step.places;
+      same = step.same;
+      counted = counted_exit exit.result fault exit.ensures (failed c.args.shelf.now) (failed c.args.shelf.now)
+          (failed c.read_partial.new.shelf) refl step.counted;
+      taken = IfOk-from_err exit.result _ exit.ensures.0;
+    }
+
+pub returns-in_err-found : goal.returns-in_err-found
+returns-in_err-found g c =
+    let exit = c.from_residual-in_err-found in
+    let failed = g.D.Shelf.failed in
+    record {
+      found = IfOk-from_err exit.result _ exit.ensures.0;
+      fault = err_exit IsNoConflict exit.result OutOfMemory exit.ensures tt;
+      places = err_exit IsOfNoPlace exit.result OutOfMemory exit.ensures tt;
+      same = c.read_partial.ensures.same;
+      counted = counted_exit exit.result OutOfMemory exit.ensures (failed c.args.shelf.now) (failed c.read_partial.new.shelf)
+          (failed c.read_partial.new.shelf) c.in_ok-bytes.ensures.counted refl;
+      taken = IfOk-from_err exit.result _ exit.ensures.0;
+    }
+
+pub returns-in-Some-2-clause-taken : goal.returns-in-Some-2-clause-taken
+returns-in-Some-2-clause-taken g c =
+    let read = rw c.in-Some.is at c.in_ok-bytes.ensures.taken in
+    let given = rw c.in-Some-2.is at c.in_ok-found.ensures.given in
+    subst (λ (b : List ℕ). PartOf (WasPut (g.D.Shelf.puts c.args.shelf.now)) c.args.path.now b) (cc given) read

@@ -1,0 +1,18 @@
+use Rattle.std.proofs.Common.{inl}
+use Rattle.copy_follow.proofs.Earlier.{kept_then, stands_kept}
+use Rattle.copy_follow.proofs.keep.keep.Goals as goal
+
+pub returns-in_err-flush_before_checkpoint-clause-puts : goal.returns-in_err-flush_before_checkpoint-clause-puts
+returns-in_err-flush_before_checkpoint-clause-puts g c = inl (kept_then (g.D.Shelf.puts c.args.shelf.now)
+    (g.D.Shelf.puts c.stands.new.shelf) (g.D.Shelf.puts c.flush_before_checkpoint.new.self) c.stands.ensures.same
+    c.flush_before_checkpoint.ensures.same)
+
+pub returns-then-branch-clause-puts : goal.returns-then-branch-clause-puts
+returns-then-branch-clause-puts g c = inl (kept_then (g.D.Shelf.puts c.args.shelf.now)
+    (g.D.Shelf.puts c.stands.new.shelf) (g.D.Shelf.puts c.flush_before_checkpoint.new.self) c.stands.ensures.same
+    c.flush_before_checkpoint.ensures.same)
+
+pub returns-then-branch-clause-stands : goal.returns-then-branch-clause-stands
+returns-then-branch-clause-stands g c = stands_kept (g.D.Shelf.puts c.args.shelf.now)
+    (g.D.Shelf.puts c.stands.new.shelf) (g.D.Shelf.puts c.flush_before_checkpoint.new.self) c.args.path.now c.args.bytes.now
+    (c.in_ok-stands.ensures.there c.if-branch.true) c.flush_before_checkpoint.ensures.same

@@ -1,0 +1,51 @@
+use Rattle.std.proofs.Common.{refl, inr, subst, sym, length}
+use Rattle.tlog_shape.specs.Edge.{edge_index_of}
+use Rattle.tlog_tiles.specs.declared.paths.Path.TheVariants.{Entries}
+use Rattle.copy_places.specs.Asked.{IsPathOrFull}
+use Rattle.copy_places.specs.Giving.{MayGive}
+use Rattle.copy_places.proofs.Asking.{asks_then, asks_weaker}
+use Rattle.copy_places.proofs.Giving.{given_before}
+use Rattle.copy_follow.specs.Repaired.{BeginsBundle, IsOfEdge}
+use Rattle.copy_follow.specs.Taken.{MayTake}
+use Rattle.copy_follow.proofs.Cuts.{bundle_weaker, end_of, some_weaker}
+use Rattle.copy_follow.proofs.mend_edge.look_for_end.Goals as goal
+
+pub returns-in-Ok-clause-asks : goal.returns-in-Ok-clause-asks
+returns-in-Ok-clause-asks g c =
+    let may = g.S.Source.may_answer in
+    let failed = g.S.Source.failed in
+    let asked = g.S.Source.asked in
+    let so = IsOfEdge c.args.size in
+    let x = c.args.places.now in
+    let y = c.end_found.new.places in
+    asks_then may failed asked so x y c.end_in_wider_ones.new.places
+    (asks_weaker may failed asked (IsPathOrFull c.args.path.now) so
+    (λ path h. end_of c.args.size (edge_index_of c.args.size 0) (length c.args.row.now) refl path
+    (subst (λ p. IsPathOrFull p path) c.requires.path h)) x y c.end_found.ensures.asks)
+    c.end_in_wider_ones.ensures.asks
+
+pub returns-in-Err-end_in_wider_ones-clause-asks : goal.returns-in-Err-end_in_wider_ones-clause-asks
+returns-in-Err-end_in_wider_ones-clause-asks g c =
+    let may = g.S.Source.may_answer in
+    let failed = g.S.Source.failed in
+    let asked = g.S.Source.asked in
+    let so = IsOfEdge c.args.size in
+    let x = c.args.places.now in
+    let y = c.end_found.new.places in
+    asks_then may failed asked so x y c.end_in_wider_ones.new.places
+    (asks_weaker may failed asked (IsPathOrFull c.args.path.now) so
+    (λ path h. end_of c.args.size (edge_index_of c.args.size 0) (length c.args.row.now) refl path
+    (subst (λ p. IsPathOrFull p path) c.requires.path h)) x y c.end_found.ensures.asks)
+    c.end_in_wider_ones.ensures.asks
+
+pub returns-in-Ok-clause-taken : goal.returns-in-Ok-clause-taken
+returns-in-Ok-clause-taken g c =
+    let may = g.S.Source.may_answer in
+    let x = c.args.places.now in
+    let y = c.end_found.new.places in
+    let take = MayTake may x (g.D.Shelf.puts c.args.shelf.now) in
+    let index = edge_index_of c.args.size 0 in
+    some_weaker c.in-Ok.found (λ bytes. BeginsBundle (MayGive may y) index bytes.items) (λ bytes. BeginsBundle take index bytes.items)
+    (λ bytes h. bundle_weaker (MayGive may y) take
+    (λ path b given. inr (given_before may g.S.Source.failed g.S.Source.asked (IsPathOrFull c.args.path.now) x y path b
+    c.end_found.ensures.asks given)) index bytes.items h) c.in-Ok.ensures.taken

@@ -1,0 +1,98 @@
+use Rattle.std.proofs.Common.{◌≡◌, ◌+◌, ◌-◌, ◌*◌, ◌^◌, ◌<◌, ◌≤◌, ℕ, List, length, refl, subst, sym, ap, ◌∙◌, arith}
+use Rattle.tlog_shape.specs.Edge.{edge_index_of}
+use Rattle.copy_places.proofs.Asking.{asks_same}
+use Rattle.copy_follow.specs.Asked.{IsNewFull}
+use Rattle.copy_follow.specs.Edges.{IsEdgeBrought}
+use Rattle.copy_follow.specs.Growing.{IsKnown, IsRowBrought, empty_tip}
+use Rattle.copy_follow.specs.Suffices.{IsTileRow}
+use Rattle.copy_follow.proofs.EdgeRows.{edge_first, edge_known, edge_step, row_fits}
+use Rattle.copy_follow.proofs.Growth.{gathers_none, gathers_then, kept_same}
+use Rattle.copy_follow.proofs.Mending.{mends_none, mends_then}
+use Rattle.copy_follow.proofs.OnePlace.{clear_later}
+use Rattle.copy_follow.proofs.Spared.{edge_row_true}
+use Rattle.copy_follow.proofs.mend_edge.mend_levels.Goals as goal
+
+pub loop-done-init : goal.loop-done-init
+loop-done-init g c =
+    let x = g.D.Shelf.puts c.args.shelf.now in
+    let p = c.args.places.now in
+    let n = c.args.repaired.now.put in
+    record {
+      counted = refl;
+      mends = mends_none g.S.Source.may_answer g.S.Source.failed g.S.Source.asked (IsNewFull 0) p p x x n n
+          (asks_same g.S.Source.may_answer g.S.Source.failed g.S.Source.asked (IsNewFull 0) p) (kept_same x) refl;
+      keeps = λ log clear is. gathers_none g.H.TreeHash.digest 0 log x x (kept_same x);
+      whole = λ yes known is. edge_first g.H.TreeHash.digest empty_tip c.args.edge.now known c.requires.widths x c.requires.size is;
+    }
+
+pub mend_row-requires-clause-fits : goal.mend_row-requires-clause-fits
+mend_row-requires-clause-fits g c =
+    let level = 7 - c.loop-done.done in
+    let at : c.edge_index-index.result ≡ edge_index_of c.args.edge.now.size level =
+    c.edge_index-index.ensures ∙ ap (λ n. edge_index_of n level) c.size.ensures in
+    subst (λ k. (256 * k + length c.row.result.now) * 256 ^ level ≤ 9223372036854775808) (sym at)
+    (subst (λ (r : List (List ℕ)). (256 * edge_index_of c.args.edge.now.size level + length r) * 256 ^ level ≤ 9223372036854775808)
+    (sym c.row.ensures) (row_fits c.args.edge.now c.requires.widths level (omega arith) c.requires.size))
+
+pub returns-in-Err-clause-mends : goal.returns-in-Err-clause-mends
+returns-in-Err-clause-mends g c =
+    mends_then g.S.Source.may_answer g.S.Source.failed g.S.Source.asked (IsNewFull 0) c.args.places.now c.loop-done.places
+    c.mend_row.new.places (g.D.Shelf.puts c.args.shelf.now) (g.D.Shelf.puts c.loop-done.shelf) (g.D.Shelf.puts c.mend_row.new.shelf)
+    c.args.repaired.now.put c.loop-done.repaired.put c.mend_row.new.repaired.put c.loop-done.invariant.mends c.mend_row.ensures.mends
+
+pub returns-in-Err-clause-keeps : goal.returns-in-Err-clause-keeps
+returns-in-Err-clause-keeps g c = λ log clear is.
+    let digest = g.H.TreeHash.digest in
+    let x = g.D.Shelf.puts c.args.shelf.now in
+    let y = g.D.Shelf.puts c.loop-done.shelf in
+    let z = g.D.Shelf.puts c.mend_row.new.shelf in
+    let edge = c.args.edge.now in
+    let level = 7 - c.loop-done.done in
+    let at : c.edge_index-index.result ≡ edge_index_of edge.size level =
+    c.edge_index-index.ensures ∙ ap (λ n. edge_index_of n level) c.size.ensures in
+    let there = edge_row_true digest g.met.H.TreeHash.digest_length log edge c.requires.widths is level (omega arith) in
+    gathers_then digest 0 log log log x y z (c.loop-done.invariant.keeps log clear is)
+    (c.mend_row.ensures.keeps log
+    (clear_later g.S.Source.may_answer g.S.Source.failed g.S.Source.asked (IsNewFull 0) c.args.places.now c.loop-done.places
+    c.loop-done.invariant.mends.asks digest log x y c.loop-done.invariant.mends.taken clear)
+    (subst (λ i. IsTileRow digest log level i c.row.result.now) (sym at)
+    (subst (λ (r : List (List ℕ)). IsTileRow digest log level (edge_index_of edge.size level) r) (sym c.row.ensures) there)))
+
+pub loop-done-preserved : goal.loop-done-preserved
+loop-done-preserved g c =
+    let digest = g.H.TreeHash.digest in
+    let x = g.D.Shelf.puts c.args.shelf.now in
+    let y = g.D.Shelf.puts c.loop-done.shelf in
+    let z = g.D.Shelf.puts c.mend_row.new.shelf in
+    let edge = c.args.edge.now in
+    let level = 7 - c.loop-done.done in
+    let at : c.edge_index-index.result ≡ edge_index_of edge.size level =
+    c.edge_index-index.ensures ∙ ap (λ n. edge_index_of n level) c.size.ensures in
+    record {
+      counted = c.in-Ok.ensures.counted ∙ c.loop-done.invariant.counted;
+      mends = mends_then g.S.Source.may_answer g.S.Source.failed g.S.Source.asked (IsNewFull 0) c.args.places.now c.loop-done.places
+          c.mend_row.new.places x y z c.args.repaired.now.put c.loop-done.repaired.put c.mend_row.new.repaired.put
+          c.loop-done.invariant.mends c.mend_row.ensures.mends;
+      keeps = λ log clear is.
+          let there = edge_row_true digest g.met.H.TreeHash.digest_length log edge c.requires.widths is level (omega arith) in
+          gathers_then digest 0 log log log x y z (c.loop-done.invariant.keeps log clear is)
+          (c.mend_row.ensures.keeps log
+          (clear_later g.S.Source.may_answer g.S.Source.failed g.S.Source.asked (IsNewFull 0) c.args.places.now c.loop-done.places
+          c.loop-done.invariant.mends.asks digest log x y c.loop-done.invariant.mends.taken clear)
+          (subst (λ i. IsTileRow digest log level i c.row.result.now) (sym at)
+          (subst (λ (r : List (List ℕ)). IsTileRow digest log level (edge_index_of edge.size level) r) (sym c.row.ensures) there)));
+      whole = λ yes known is.
+          let both = c.both-all.ensures yes in
+          let low = 8 - c.loop-done.done in
+          let below : level ≡ low - 1 = omega arith in
+          let s = c.loop-done.invariant.whole both.0 known is in
+          let b = c.in-Ok.ensures.whole both.1 s.next
+          (subst (λ k. IsKnown digest empty_tip (k * 256 ^ (level + 1)) s.next) (sym at)
+          (edge_known digest empty_tip edge known c.requires.widths x y low level 0 below is s)) in
+          let placed = subst (λ k. IsRowBrought digest empty_tip level k c.row.result.now s.next y z (length c.row.result.now)) at b in
+          let rowed = subst (λ r. IsRowBrought digest empty_tip level (edge_index_of edge.size level) r s.next y z (length r))
+          c.row.ensures placed in
+          let next : level ≡ 8 - (c.loop-done.done + 1) = omega arith in
+          subst (λ k. IsEdgeBrought digest empty_tip edge known k x z) next
+          (edge_step digest empty_tip edge known c.requires.widths x y z low level below (omega arith) (omega arith) s rowed);
+    }

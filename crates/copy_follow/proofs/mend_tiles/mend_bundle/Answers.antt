@@ -1,0 +1,166 @@
+use Rattle.std.proofs.Common.{◌≡◌, ◌⊎◌, [], ◌∷◌, inl, inr, refl, subst, ap, ◌∙◌, arith}
+use Rattle.tlog_tiles.specs.Row.{row_text}
+use Rattle.tlog_tiles.specs.declared.paths.Path.TheVariants.{Entries, Tile}
+use Rattle.mirror_sources.specs.Recorded.{AddsToRecord, KeepsRecord}
+use Rattle.copy_places.proofs.Asking.{asks_weaker}
+use Rattle.copy_follow.specs.Asked.{IsNewFull}
+use Rattle.copy_follow.specs.Growing.{empty_tip}
+use Rattle.copy_follow.specs.Standing.{RecordsStands}
+use Rattle.copy_follow.specs.Taken.{MayTake}
+use Rattle.copy_follow.proofs.Bundles.{bundle_brought}
+use Rattle.copy_follow.proofs.Growth.{gathers_keep, gathers_none, gathers_then}
+use Rattle.copy_follow.proofs.Mending.{bundle_found, mends_none, mends_put}
+use Rattle.copy_follow.proofs.NewFulls.{bundle_asked}
+use Rattle.copy_follow.proofs.mend_tiles.mend_bundle.Goals as goal
+
+pub returns-in-Ok-None-clause-keeps : goal.returns-in-Ok-None-clause-keeps
+returns-in-Ok-None-clause-keeps g c = λ log clear is.
+    gathers_none g.H.TreeHash.digest 0 log (g.D.Shelf.puts c.args.shelf.now) (g.D.Shelf.puts c.look_for.new.shelf)
+    c.look_for.ensures.same
+
+pub returns-in-Err-clause-keeps : goal.returns-in-Err-clause-keeps
+returns-in-Err-clause-keeps g c = λ log clear is.
+    gathers_none g.H.TreeHash.digest 0 log (g.D.Shelf.puts c.args.shelf.now) (g.D.Shelf.puts c.look_for.new.shelf)
+    c.look_for.ensures.same
+
+pub returns-in-Err-write_row-clause-keeps : goal.returns-in-Err-write_row-clause-keeps
+returns-in-Err-write_row-clause-keeps g c = λ log clear is.
+    gathers_none g.H.TreeHash.digest 0 log (g.D.Shelf.puts c.args.shelf.now) (g.D.Shelf.puts c.look_for.new.shelf)
+    c.look_for.ensures.same
+
+pub returns-in-Err-mend-clause-mends : goal.returns-in-Err-mend-clause-mends
+returns-in-Err-mend-clause-mends g c =
+    let may = g.S.Source.may_answer in
+    let failed = g.S.Source.failed in
+    let asked = g.S.Source.asked in
+    let so = IsNewFull 0 in
+    let p = c.args.places.now in
+    let q = c.look_for.new.places in
+    let x = g.D.Shelf.puts c.args.shelf.now in
+    let y = g.D.Shelf.puts c.look_for.new.shelf in
+    let z = g.D.Shelf.puts c.mend.new.shelf in
+    let n = c.args.repaired.now.put in
+    let path = Entries c.args.index 256 in
+    let bytes = c.in-Ok-Some.found.bytes.items in
+    let asks = asks_weaker may failed asked (λ p. p ≡ path) so (bundle_asked 0 c.args.index (omega arith)) p q c.look_for.ensures.asks in
+    let puts = subst (λ b. (KeepsRecord y z) ⊎ (AddsToRecord y z ((path, b) ∷ []))) c.deref-2.ensures.value c.mend.ensures.puts in
+    mends_put may failed asked so p q x y z n n c.mend.new.repaired.put path bytes
+    (mends_none may failed asked so p q x y n n asks c.look_for.ensures.same refl) puts (inr (rw c.in-Ok-Some.field-0-is at c.in-Ok-Some.ensures.taken))
+    c.mend.ensures.counts
+
+pub returns-in-Err-mend-clause-keeps : goal.returns-in-Err-mend-clause-keeps
+returns-in-Err-mend-clause-keeps g c = λ log clear is.
+    let digest = g.H.TreeHash.digest in
+    let x = g.D.Shelf.puts c.args.shelf.now in
+    let y = g.D.Shelf.puts c.look_for.new.shelf in
+    let z = g.D.Shelf.puts c.mend.new.shelf in
+    let path = Entries c.args.index 256 in
+    let bytes = c.in-Ok-Some.found.bytes.items in
+    let puts = subst (λ b. (KeepsRecord y z) ⊎ (AddsToRecord y z ((path, b) ∷ []))) c.deref-2.ensures.value c.mend.ensures.puts in
+    let true = bundle_found digest g.met.H.TreeHash.digest_length log (MayTake g.S.Source.may_answer c.args.places.now x) clear
+    c.args.index c.args.hash.now bytes c.in-Ok-Some.found.row.items (rw c.in-Ok-Some.field-0-is at c.in-Ok-Some.ensures.taken) (rw c.in-Ok-Some.field-0-is at c.in-Ok-Some.ensures.found) is in
+    gathers_then digest 0 log log log x y z (gathers_none digest 0 log x y c.look_for.ensures.same)
+    (gathers_keep digest 0 log y z (path, bytes) puts true.0)
+
+pub returns-in-Ok-mend-2-clause-mends : goal.returns-in-Ok-mend-2-clause-mends
+returns-in-Ok-mend-2-clause-mends g c =
+    let may = g.S.Source.may_answer in
+    let failed = g.S.Source.failed in
+    let asked = g.S.Source.asked in
+    let so = IsNewFull 0 in
+    let p = c.args.places.now in
+    let q = c.look_for.new.places in
+    let x = g.D.Shelf.puts c.args.shelf.now in
+    let y = g.D.Shelf.puts c.look_for.new.shelf in
+    let z = g.D.Shelf.puts c.mend.new.shelf in
+    let w = g.D.Shelf.puts c.mend-2.new.shelf in
+    let n = c.args.repaired.now.put in
+    let path = Entries c.args.index 256 in
+    let bytes = c.in-Ok-Some.found.bytes.items in
+    let asks = asks_weaker may failed asked (λ p. p ≡ path) so (bundle_asked 0 c.args.index (omega arith)) p q c.look_for.ensures.asks in
+    let puts = subst (λ b. (KeepsRecord y z) ⊎ (AddsToRecord y z ((path, b) ∷ []))) c.deref-2.ensures.value c.mend.ensures.puts in
+    let first = mends_put may failed asked so p q x y z n n c.mend.new.repaired.put path bytes
+    (mends_none may failed asked so p q x y n n asks c.look_for.ensures.same refl) puts (inr (rw c.in-Ok-Some.field-0-is at c.in-Ok-Some.ensures.taken))
+    c.mend.ensures.counts in
+    mends_put may failed asked so p q x z w n c.mend.new.repaired.put c.mend-2.new.repaired.put (Tile 0 c.args.index 256)
+    c.deref-3.result.now first c.mend-2.ensures.puts (inl refl) c.mend-2.ensures.counts
+
+pub returns-in-Ok-mend-2-clause-keeps : goal.returns-in-Ok-mend-2-clause-keeps
+returns-in-Ok-mend-2-clause-keeps g c = λ log clear is.
+    let digest = g.H.TreeHash.digest in
+    let x = g.D.Shelf.puts c.args.shelf.now in
+    let y = g.D.Shelf.puts c.look_for.new.shelf in
+    let z = g.D.Shelf.puts c.mend.new.shelf in
+    let w = g.D.Shelf.puts c.mend-2.new.shelf in
+    let path = Entries c.args.index 256 in
+    let bytes = c.in-Ok-Some.found.bytes.items in
+    let text = c.deref-3.ensures.value ∙ (c.in-Ok.ensures.text ∙ ap row_text c.deref.ensures.value) in
+    let puts = subst (λ b. (KeepsRecord y z) ⊎ (AddsToRecord y z ((path, b) ∷ []))) c.deref-2.ensures.value c.mend.ensures.puts in
+    let true = bundle_found digest g.met.H.TreeHash.digest_length log (MayTake g.S.Source.may_answer c.args.places.now x) clear
+    c.args.index c.args.hash.now bytes c.in-Ok-Some.found.row.items (rw c.in-Ok-Some.field-0-is at c.in-Ok-Some.ensures.taken) (rw c.in-Ok-Some.field-0-is at c.in-Ok-Some.ensures.found) is in
+    gathers_then digest 0 log log log x z w
+    (gathers_then digest 0 log log log x y z (gathers_none digest 0 log x y c.look_for.ensures.same)
+    (gathers_keep digest 0 log y z (path, bytes) puts true.0))
+    (gathers_keep digest 0 log z w (Tile 0 c.args.index 256, c.deref-3.result.now) c.mend-2.ensures.puts
+    (true.1 c.deref-3.result.now text))
+
+pub returns-in-Ok-mend-2-clause-whole : goal.returns-in-Ok-mend-2-clause-whole
+returns-in-Ok-mend-2-clause-whole g c = λ yes known is.
+    let digest = g.H.TreeHash.digest in
+    let x = g.D.Shelf.puts c.args.shelf.now in
+    let y = g.D.Shelf.puts c.look_for.new.shelf in
+    let z = g.D.Shelf.puts c.mend.new.shelf in
+    let w = g.D.Shelf.puts c.mend-2.new.shelf in
+    let index = c.args.index in
+    let path = Entries index 256 in
+    let found = rw c.in-Ok-Some.field-0-is at c.in-Ok-Some.ensures.found in
+    let bytes = c.in-Ok-Some.found.bytes.items in
+    let row = c.in-Ok-Some.found.row.items in
+    let text = c.deref-3.ensures.value ∙ (c.in-Ok.ensures.text ∙ ap row_text c.deref.ensures.value) in
+    let puts = subst (λ b. (KeepsRecord y z) ⊎ (AddsToRecord y z ((path, b) ∷ []))) c.deref-2.ensures.value c.mend.ensures.puts in
+    let there = subst (λ b. RecordsStands y z path b) c.deref-2.ensures.value c.in-Ok-mend.ensures.stands in
+    bundle_brought digest empty_tip index 256 (omega arith) (omega arith) known is (omega arith) bytes row found.is_row (λ same. refl)
+    x y z c.look_for.ensures.same puts w c.deref-3.result.now text c.mend-2.ensures.puts refl c.args.hash.now found.folds there
+    c.in-Ok-mend-2.ensures.stands
+
+pub returns-clause-mends : goal.returns-clause-mends
+returns-clause-mends g c =
+    let may = g.S.Source.may_answer in
+    let failed = g.S.Source.failed in
+    let asked = g.S.Source.asked in
+    let so = IsNewFull 0 in
+    let p = c.args.places.now in
+    let q = c.look_for.new.places in
+    let x = g.D.Shelf.puts c.args.shelf.now in
+    let y = g.D.Shelf.puts c.look_for.new.shelf in
+    let z = g.D.Shelf.puts c.mend.new.shelf in
+    let w = g.D.Shelf.puts c.mend-2.new.shelf in
+    let n = c.args.repaired.now.put in
+    let path = Entries c.args.index 256 in
+    let bytes = c.in-Ok-Some.found.bytes.items in
+    let asks = asks_weaker may failed asked (λ p. p ≡ path) so (bundle_asked 0 c.args.index (omega arith)) p q c.look_for.ensures.asks in
+    let puts = subst (λ b. (KeepsRecord y z) ⊎ (AddsToRecord y z ((path, b) ∷ []))) c.deref-2.ensures.value c.mend.ensures.puts in
+    let first = mends_put may failed asked so p q x y z n n c.mend.new.repaired.put path bytes
+    (mends_none may failed asked so p q x y n n asks c.look_for.ensures.same refl) puts (inr (rw c.in-Ok-Some.field-0-is at c.in-Ok-Some.ensures.taken))
+    c.mend.ensures.counts in
+    mends_put may failed asked so p q x z w n c.mend.new.repaired.put c.mend-2.new.repaired.put (Tile 0 c.args.index 256)
+    c.deref-3.result.now first c.mend-2.ensures.puts (inl refl) c.mend-2.ensures.counts
+
+pub returns-clause-keeps : goal.returns-clause-keeps
+returns-clause-keeps g c = λ log clear is.
+    let digest = g.H.TreeHash.digest in
+    let x = g.D.Shelf.puts c.args.shelf.now in
+    let y = g.D.Shelf.puts c.look_for.new.shelf in
+    let z = g.D.Shelf.puts c.mend.new.shelf in
+    let w = g.D.Shelf.puts c.mend-2.new.shelf in
+    let path = Entries c.args.index 256 in
+    let bytes = c.in-Ok-Some.found.bytes.items in
+    let text = c.deref-3.ensures.value ∙ (c.in-Ok.ensures.text ∙ ap row_text c.deref.ensures.value) in
+    let puts = subst (λ b. (KeepsRecord y z) ⊎ (AddsToRecord y z ((path, b) ∷ []))) c.deref-2.ensures.value c.mend.ensures.puts in
+    let true = bundle_found digest g.met.H.TreeHash.digest_length log (MayTake g.S.Source.may_answer c.args.places.now x) clear
+    c.args.index c.args.hash.now bytes c.in-Ok-Some.found.row.items (rw c.in-Ok-Some.field-0-is at c.in-Ok-Some.ensures.taken) (rw c.in-Ok-Some.field-0-is at c.in-Ok-Some.ensures.found) is in
+    gathers_then digest 0 log log log x z w
+    (gathers_then digest 0 log log log x y z (gathers_none digest 0 log x y c.look_for.ensures.same)
+    (gathers_keep digest 0 log y z (path, bytes) puts true.0))
+    (gathers_keep digest 0 log z w (Tile 0 c.args.index 256, c.deref-3.result.now) c.mend-2.ensures.puts
+    (true.1 c.deref-3.result.now text))

@@ -1,0 +1,132 @@
+use Rattle.std.proofs.Common.{◌≡◌, ◌<◌, ◌≤◌, ℕ, [], ◌∙◌, inl, refl, subst, sym, arith}
+use Rattle.std.specs.Prelude.{IsTrue}
+use Rattle.tlog_hash.proofs.Trees.{mth-none}
+use Rattle.copy_places.specs.PlaceGets.{AsksPlaces}
+use Rattle.copy_places.proofs.Asking.{asks_same, asks_then, asks_weaker}
+use Rattle.copy_follow.specs.Repaired.{HasLog, IsEachHad, IsOfEdge, MayBeAskedToRepair}
+use Rattle.copy_follow.specs.Taken.{MayTake}
+use Rattle.copy_follow.proofs.Cuts.{clear_weaker, cut_edge_true, ok_weaker}
+use Rattle.copy_follow.proofs.Growth.{gathers_none, gathers_then, kept_same}
+use Rattle.copy_follow.proofs.MendedFiles.{empty_log, had_log, log_then}
+use Rattle.copy_follow.proofs.Mending.{counts_none, counts_then}
+use Rattle.copy_follow.proofs.OnePlace.{taken_kept}
+use Rattle.copy_follow.proofs.repair.mend_copy.Goals as goal
+
+pub returns-then-size-eq0-clause-asks : goal.returns-then-size-eq0-clause-asks
+returns-then-size-eq0-clause-asks g c =
+    asks_same g.S.Source.may_answer g.S.Source.failed g.S.Source.asked (MayBeAskedToRepair c.args.size) c.args.places.now
+
+pub returns-then-size-eq0-clause-keeps : goal.returns-then-size-eq0-clause-keeps
+returns-then-size-eq0-clause-keeps g c = λ log long root clear.
+    let x = g.D.Shelf.puts c.args.shelf.now in
+    gathers_none g.H.TreeHash.digest 0 log x x (kept_same x)
+
+pub returns-then-size-eq0-clause-whole : goal.returns-then-size-eq0-clause-whole
+returns-then-size-eq0-clause-whole g c =
+    let digest = g.H.TreeHash.digest in
+    let x = g.D.Shelf.puts c.args.shelf.now in
+    let none : c.args.size ≡ 0 = omega arith in
+    let root = c.args.root.now in
+    ok_weaker c.mend_empty.result (λ all. root ≡ digest []) (λ all. IsTrue all → HasLog digest c.args.size root x x)
+    (λ all is yes. empty_log digest c.args.size root x x none (mth-none digest ∙ sym is) (kept_same x)) c.mend_empty.ensures.empty
+
+pub returns-in-Ok-None-clause-asks : goal.returns-in-Ok-None-clause-asks
+returns-in-Ok-None-clause-asks g c =
+    asks_weaker g.S.Source.may_answer g.S.Source.failed g.S.Source.asked (IsOfEdge c.args.size) (MayBeAskedToRepair c.args.size)
+    (λ path h. inl h) c.args.places.now c.look_for_edge.new.places c.look_for_edge.ensures.asks
+
+pub returns-in-Ok-None-clause-keeps : goal.returns-in-Ok-None-clause-keeps
+returns-in-Ok-None-clause-keeps g c = λ log long root clear.
+    gathers_none g.H.TreeHash.digest 0 log (g.D.Shelf.puts c.args.shelf.now) (g.D.Shelf.puts c.look_for_edge.new.shelf)
+    c.look_for_edge.ensures.same
+
+pub returns-in-Err-clause-asks : goal.returns-in-Err-clause-asks
+returns-in-Err-clause-asks g c =
+    asks_weaker g.S.Source.may_answer g.S.Source.failed g.S.Source.asked (IsOfEdge c.args.size) (MayBeAskedToRepair c.args.size)
+    (λ path h. inl h) c.args.places.now c.look_for_edge.new.places c.look_for_edge.ensures.asks
+
+pub returns-in-Err-clause-keeps : goal.returns-in-Err-clause-keeps
+returns-in-Err-clause-keeps g c = λ log long root clear.
+    gathers_none g.H.TreeHash.digest 0 log (g.D.Shelf.puts c.args.shelf.now) (g.D.Shelf.puts c.look_for_edge.new.shelf)
+    c.look_for_edge.ensures.same
+
+pub mend_all-requires-clause-size : goal.mend_all-requires-clause-size
+mend_all-requires-clause-size g c =
+    let leads = rw c.in-Ok-Some.field-0-is at c.in-Ok-Some.ensures.leads in
+    subst (λ n. n < 9223372036854775808) (sym leads.is_edge.size_is) c.requires
+
+pub mend_all-requires-clause-some : goal.mend_all-requires-clause-some
+mend_all-requires-clause-some g c =
+    let leads = rw c.in-Ok-Some.field-0-is at c.in-Ok-Some.ensures.leads in
+    omega (arith, leads.is_edge.size_is)
+
+pub mend_all-requires-clause-widths : goal.mend_all-requires-clause-widths
+mend_all-requires-clause-widths g c =
+    let leads = rw c.in-Ok-Some.field-0-is at c.in-Ok-Some.ensures.leads in
+    leads.is_edge.widths
+
+pub returns-clause-asks : goal.returns-clause-asks
+returns-clause-asks g c =
+    let may = g.S.Source.may_answer in
+    let failed = g.S.Source.failed in
+    let asked = g.S.Source.asked in
+    let so = MayBeAskedToRepair c.args.size in
+    let x = c.args.places.now in
+    let y = c.look_for_edge.new.places in
+    let z = c.mend_all.new.places in
+    let leads = rw c.in-Ok-Some.field-0-is at c.in-Ok-Some.ensures.leads in
+    asks_then may failed asked so x y z
+    (asks_weaker may failed asked (IsOfEdge c.args.size) so (λ path h. inl h) x y c.look_for_edge.ensures.asks)
+    (subst (λ n. AsksPlaces may failed asked (MayBeAskedToRepair n) y z) leads.is_edge.size_is c.mend_all.ensures.asks)
+
+pub returns-clause-counts : goal.returns-clause-counts
+returns-clause-counts g c =
+    let n = c.args.repaired.now.put in
+    let x = g.D.Shelf.puts c.args.shelf.now in
+    let y = g.D.Shelf.puts c.look_for_edge.new.shelf in
+    counts_then n n c.mend_all.new.repaired.put x y (g.D.Shelf.puts c.mend_all.new.shelf)
+    (counts_none n n x y refl c.look_for_edge.ensures.same) c.mend_all.ensures.counts
+
+pub returns-clause-keeps : goal.returns-clause-keeps
+returns-clause-keeps g c = λ log long root_is clear.
+    let may = g.S.Source.may_answer in
+    let failed = g.S.Source.failed in
+    let asked = g.S.Source.asked in
+    let digest = g.H.TreeHash.digest in
+    let p = c.args.places.now in
+    let q = c.look_for_edge.new.places in
+    let x = g.D.Shelf.puts c.args.shelf.now in
+    let y = g.D.Shelf.puts c.look_for_edge.new.shelf in
+    let z = g.D.Shelf.puts c.mend_all.new.shelf in
+    let leads = rw c.in-Ok-Some.field-0-is at c.in-Ok-Some.ensures.leads in
+    let from = rw c.in-Ok-Some.field-0-is at c.in-Ok-Some.ensures.taken in
+    let small = c.requires in
+    let is = cut_edge_true digest g.met.H.TreeHash.digest_length log (MayTake may p x) clear c.args.size (omega (arith, small)) long
+    c.args.root.now (sym root_is) c.in-Ok-Some.edge leads from in
+    gathers_then digest 0 log log log x y z (gathers_none digest 0 log x y c.look_for_edge.ensures.same)
+    (c.mend_all.ensures.keeps log
+    (clear_weaker digest log (MayTake may p x) (MayTake may q y)
+    (λ path bytes h. taken_kept may failed asked (IsOfEdge c.args.size) p q x y path bytes c.look_for_edge.ensures.asks
+    c.look_for_edge.ensures.same h) clear) is)
+
+pub returns-clause-whole : goal.returns-clause-whole
+returns-clause-whole g c =
+    let digest = g.H.TreeHash.digest in
+    let edge = c.in-Ok-Some.edge in
+    let x = g.D.Shelf.puts c.args.shelf.now in
+    let y = g.D.Shelf.puts c.look_for_edge.new.shelf in
+    let z = g.D.Shelf.puts c.mend_all.new.shelf in
+    let leads = rw c.in-Ok-Some.field-0-is at c.in-Ok-Some.ensures.leads in
+    let small = subst (λ n. n < 9223372036854775808) (sym leads.is_edge.size_is) c.requires in
+    ok_weaker c.mend_all.result (λ all. IsTrue all → IsEachHad digest edge y z)
+    (λ all. IsTrue all → HasLog digest c.args.size c.args.root.now x z)
+    (λ all h yes. log_then digest c.args.size c.args.root.now x y z c.look_for_edge.ensures.same
+    (had_log digest c.args.size c.args.root.now edge y z small leads (h yes))) c.mend_all.ensures.whole
+
+pub returns-then-size-eq0-clause-counted : goal.returns-then-size-eq0-clause-counted
+returns-then-size-eq0-clause-counted g c = c.mend_empty.ensures.counted (g.D.Shelf.failed c.args.shelf.now)
+
+pub returns-in-Ok-None-clause-counts : goal.returns-in-Ok-None-clause-counts
+returns-in-Ok-None-clause-counts g c =
+    counts_none c.args.repaired.now.put c.note_lacked.new.self.put (g.D.Shelf.puts c.args.shelf.now)
+    (g.D.Shelf.puts c.look_for_edge.new.shelf) c.note_lacked.ensures.put c.look_for_edge.ensures.same

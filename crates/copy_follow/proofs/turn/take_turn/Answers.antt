@@ -1,0 +1,44 @@
+use Rattle.std.proofs.Common.{subst}
+use Rattle.copy_follow.proofs.Ending.{keeps_fault, source_blames}
+use Rattle.copy_follow.proofs.Taken.{taken_turn}
+use Rattle.copy_follow.proofs.Turning.{run_turned}
+use Rattle.copy_follow.specs.RunStanding.{KnowsAfter}
+use Rattle.copy_follow.proofs.OneHonestRun.{steps_up}
+use Rattle.copy_follow.proofs.turn.take_turn.Goals as goal
+
+pub returns-in-Ok-add-clause-run : goal.returns-in-Ok-add-clause-run
+returns-in-Ok-add-clause-run g c =
+    run_turned g.H.TreeHash.digest c.args.origin.now (g.D.Shelf.puts c.args.shelf.now) (g.D.Shelf.puts c.turn_for.new.shelf)
+    c.args.candidate.now c.args.run.now c.add.new.self c.in-Ok.turn
+    c.requires.head c.in-Ok.ensures.after c.in-Ok-add.ensures.copy c.add.ensures.had
+    (c.in-Ok-add.ensures.shows g.H.TreeHash.digest c.in-Ok.ensures.shows)
+
+pub returns-in-Ok-add-clause-fault : goal.returns-in-Ok-add-clause-fault
+returns-in-Ok-add-clause-fault g c =
+    λ done keeps. keeps_fault g.H.TreeHash.digest done c.args.candidate.now c.args.run.now c.add.new.self c.in-Ok.turn
+    c.in-Ok.ensures.empty c.in-Ok-add.ensures.copy c.in-Ok-add.ensures.fault keeps
+
+pub returns-in-Ok-add-clause-source : goal.returns-in-Ok-add-clause-source
+returns-in-Ok-add-clause-source g c =
+    source_blames c.args.places.now c.turn_for.new.places c.args.run.now c.add.new.self c.in-Ok.turn
+    c.in-Ok-add.ensures.fault c.in-Ok.ensures.source
+
+pub returns-in-Ok-add-clause-taken : goal.returns-in-Ok-add-clause-taken
+returns-in-Ok-add-clause-taken g c =
+    λ first done is h. taken_turn g.H.TreeHash.digest first done c.args.candidate.now c.args.run.now c.add.new.self
+    c.in-Ok.turn h is c.in-Ok-add.ensures.copy c.in-Ok-add.ensures.added c.in-Ok.ensures.says
+    c.in-Ok.ensures.shows
+
+pub returns-in-Err-clause-suffices : goal.returns-in-Err-clause-suffices
+returns-in-Err-clause-suffices g c = λ stands larger h.
+    (c.in-Err.ensures.suffices stands larger h)
+
+pub returns-in-Ok-add-clause-suffices : goal.returns-in-Ok-add-clause-suffices
+returns-in-Ok-add-clause-suffices g c = λ stands larger h.
+    subst (λ t. KnowsAfter c.args.candidate.now t c.args.run.now.copy c.add.new.self.copy)
+    (c.in-Ok.ensures.suffices stands larger h) c.in-Ok-add.ensures.copy
+
+pub returns-in-Ok-add-clause-steps : goal.returns-in-Ok-add-clause-steps
+returns-in-Ok-add-clause-steps g c =
+    steps_up g.H.TreeHash.digest c.args.candidate.now c.in-Ok.turn c.args.run.now.copy c.add.new.self.copy
+    c.in-Ok.ensures.says c.in-Ok-add.ensures.copy

@@ -1,0 +1,294 @@
+-- The way down from the edge of the larger tree, step by step, and the files in memory for it.
+use Rattle.std.proofs.Common.{◌≡◌, ◌≢◌, inl, inr, ℕ, ◌+◌, ◌*◌, ◌/◌, ◌%◌, ◌^◌, ◌<◌, ◌≤◌, List, [], ◌∷◌, All, length, get_or}
+use Rattle.std.proofs.Common.{Option, Some, None, OnOk, Ok, Err, Result, refl, sym, ap, subst, ◌∙◌, arith}
+use Rattle.std.specs.Prelude.{option_map}
+use Rattle.std.specs.List.{AllByRecursion, Contains}
+use Rattle.std.proofs.Math.Nat.{div-mul-le_self}
+use Rattle.std.proofs.lemmas.Bool.{cases_lt}
+use Rattle.std.proofs.lemmas.List.Elements.{All-append, All-cons, All-from_recursion, All-nil, All-weaker, Contains-append_right}
+use Rattle.std.proofs.lemmas.Nat.{le-div}
+use Rattle.tlog_text.specs.Hash.{Is32Bytes}
+use Rattle.tlog_shape.specs.Edge.{edge_index_of, width_of}
+use Rattle.tlog_shape.proofs.Levels.{level_positive}
+use Rattle.tlog_hash.specs.Rows.{level_row}
+use Rattle.tlog_hash.specs.Tree.{joins}
+use Rattle.tlog_tiles.specs.declared.paths.Path.{Path}
+use Rattle.tlog_tiles.specs.declared.paths.Path.TheVariants.{Tile}
+use Rattle.tlog_tiles.specs.Row.{row_text}
+use Rattle.tlog_tiles.proofs.EdgeLemmas.{hashes_of}
+use Rattle.mirror_model.specs.Strings.{IsDigest}
+use Rattle.mirror_model.specs.TrueLaws.{AreShort}
+use Rattle.mirror_sources.specs.Honest.{true_bytes}
+use Rattle.mirror_sources.specs.Recorded.{KeepsRecord}
+use Rattle.mirror_folders.specs.Shelf.{Put, RecordsRead}
+use Rattle.log_reader.specs.EdgeRows.{Edge, edge_tile, row_at}
+use Rattle.log_reader.specs.Holding.{IsHeldAnswer, IsSourceOf}
+use Rattle.log_reader.specs.Truth.{IsListClear}
+use Rattle.log_reader.specs.Ways.{AreHashesOf, HasEdgeHashes, IsRowUnder, IsWay, way_strings}
+use Rattle.log_reader.specs.declared.verify.FullFile.{FullFile}
+use Rattle.log_reader.proofs.FalseFiles.{shown_below}
+use Rattle.log_reader.proofs.Truths.{of_way, true_way}
+use Rattle.copy_places.specs.EndTiles.{AnswersStay}
+use Rattle.copy_places.specs.declared.end_tiles.EndTile.{EndTile}
+use Rattle.copy_places.proofs.AskingEnds.{kept_later}
+use Rattle.copy_places.specs.Nobodys.{IsFileOf, IsNobodys, IsReadInVain, IsRowNobodys, LacksRow}
+use Rattle.copy_places.specs.ReadFiles.{IsRead}
+use Rattle.copy_places.specs.WayFiles.{AddsTile, AreWayFiles, IsEdgeFile, IsOnWay, IsReadFile, IsTileFile, IsWayFile}
+use Rattle.copy_places.specs.declared.proof_files.ReadFile.{ReadFile}
+
+-- ---- indices
+
+-- the tile above the one in which the first entries end
+pub index_up : (n level : ℕ) → edge_index_of n (level + 1) ≡ edge_index_of n level / 256
+index_up n level = let whole = hashes_of n (level + 1) in omega (arith, whole)
+
+-- the first entries end in a full tile, if not in that of the edge
+pub before_edge : (first n level : ℕ) → first < n → edge_index_of first level ≢ edge_index_of n level →
+    edge_index_of first level < edge_index_of n level
+before_edge first n level less differ =
+    let c = 256 ^ (level + 1) in
+    let fewer : first / c ≤ n / c =
+    le-div (first / c) n c (level_positive (level + 1)) (omega (arith, div-mul-le_self first c, less)) in
+    elim (cases_lt (edge_index_of first level) (edge_index_of n level)) [
+      | inl lt ↦ lt
+      | inr ge ↦ absurd (differ (omega (arith, fewer, ge)))
+    ]
+
+pub no_index : (n : ℕ) → n < 2 ^ 64 → edge_index_of n 7 ≡ 0
+no_index n small = omega (arith, small)
+
+-- ---- hashes
+
+pub hashes_there : (width : ℕ) (row : List (List ℕ)) → length row ≡ width → AllByRecursion Is32Bytes row → AreHashesOf width row
+hashes_there width row count all = record {
+  count = count;
+  sizes = All-weaker Is32Bytes (λ (h : List ℕ). length h ≡ 32) (λ h is. is.are_32) row (All-from_recursion Is32Bytes row all);
+}
+
+-- ---- what nobody has
+
+-- the shelf stayed as it was before the read
+pub read_before : (old new : Option (List Put)) → KeepsRecord old new → (path : Path) (good : List ℕ → Type 0) →
+    IsReadInVain new path good → IsReadInVain old path good
+read_before old new kept path good h = record { found = h.found; read = by_record old new kept h.found h.read; vain = h.vain }
+  where
+    by_record : (old new : Option (List Put)) → KeepsRecord old new → (found : Option (List ℕ)) → RecordsRead new path found →
+        RecordsRead old path found
+    by_record None new kept found read = tt
+    by_record (Some xs) None kept found read = absurd kept
+    by_record (Some xs) (Some ys) kept found read = subst (λ (puts : List Put). RecordsRead (Some puts) path found) kept read
+
+module _ (digest : List ℕ → List ℕ) (old new : Option (List Put)) (kept : KeepsRecord old new) (x y : List EndTile)
+    (stay : AnswersStay x y) (m n : ℕ) (count : m ≡ n) where
+  -- nobody has it still. The shelf was read later
+  pub nobodys_later : (kind : FullFile) (path : Path) (hash : List ℕ) → IsNobodys digest new x m kind path hash →
+      IsNobodys digest old y n kind path hash
+  nobodys_later kind path hash h = record {
+    shelf = read_before old new kept path (IsFileOf digest kind hash) h.shelf;
+    places = λ k lt. kept_later x y stay k path (IsFileOf digest kind hash) (h.places k (omega (arith, lt, count)));
+  }
+
+  pub row_nobodys_later : (level index : ℕ) (hash : List ℕ) → IsRowNobodys digest new x m level index hash →
+      IsRowNobodys digest old y n level index hash
+  row_nobodys_later level index hash h = record {
+    tile = nobodys_later _ _ hash h.tile;
+    bundle = λ zero. nobodys_later _ _ hash (h.bundle zero);
+  }
+
+-- ---- files
+
+pub files_more : (P : ReadFile → Type 0) (path : Path) (row : List (List ℕ)) (old new : List ReadFile) → All P old →
+    AddsTile path row old new → ((file : ReadFile) → IsTileFile path row file → P file) → All P new
+files_more P path row old new all adds one =
+    subst (All P) (sym adds.new_is)
+    (All-append P old (adds.file ∷ []) all (All-cons P adds.file [] (one adds.file adds.is) (All-nil P)))
+
+pub ok_weaker : {T E : Type 0} (r : Result T E) (P Q : Type 0) → (P → Q) → OnOk r P → OnOk r Q
+ok_weaker (Ok x) P Q f h = f h
+ok_weaker (Err e) P Q f h = tt
+
+-- the tile of a level of the edge is added
+pub edge_tile_added : (edge : Edge) (level : ℕ) (path : Path) (row : List (List ℕ)) (old new : List ReadFile) → level ≤ 7 →
+    path ≡ edge_tile edge level → row ≡ row_at edge level → AddsTile path row old new → All (IsEdgeFile edge) old →
+    All (IsEdgeFile edge) new
+edge_tile_added edge level path row old new low path_is row_is adds all =
+    files_more (IsEdgeFile edge) path row old new all adds (λ file is. record {
+      level = level;
+      low = low;
+      is = subst (λ p. IsTileFile p (row_at edge level) file) path_is (subst (λ r. IsTileFile path r file) row_is is);
+    })
+
+module _ (edge : Edge) where
+  pub edge_files : (level index : ℕ) (way : List (List (List ℕ))) (files : List ReadFile) → All (IsEdgeFile edge) files →
+      All (IsReadFile edge level index way) files
+  edge_files level index way files all =
+      All-weaker (IsEdgeFile edge) (IsReadFile edge level index way) (λ file is. inl is) files all
+
+  only_edge : (level index : ℕ) (file : ReadFile) → IsReadFile edge level index [] file → IsEdgeFile edge file
+  only_edge level index file (inl is) = is
+  only_edge level index file (inr is) = absurd is
+
+  -- without a way all files are those of the edge
+  pub no_way_files : (level index : ℕ) (way : List (List (List ℕ))) (files : List ReadFile) → way ≡ [] →
+      All (IsReadFile edge level index way) files → All (IsEdgeFile edge) files
+  no_way_files level index way files none all =
+      All-weaker (IsReadFile edge level index []) (IsEdgeFile edge) (λ file is. only_edge level index file is) files
+      (subst (λ w. All (IsReadFile edge level index w) files) none all)
+
+  lower_file : (level index : ℕ) (row : List (List ℕ)) (way : List (List (List ℕ))) (file : ReadFile) →
+      IsReadFile edge (level + 1) (index / 256) way file → IsReadFile edge level index (row ∷ way) file
+  lower_file level index row way file (inl is) = inl is
+  lower_file level index row way file (inr is) = inr (inr is)
+
+module _ (digest : List ℕ → List ℕ) (first : ℕ) (edge : Edge) where
+  -- the way begins at the edge
+  pub way_begun : (row : List (List ℕ)) (files : List ReadFile) → first < 2 ^ 64 → edge.size < 2 ^ 64 → row ≡ row_at edge 7 →
+      All (IsEdgeFile edge) files → IsOnWay digest first edge 7 row files
+  way_begun row files few small is all = record {
+    way = [];
+    is_way = (omega arith, no_index first few ∙ sym (no_index edge.size small));
+    row_is = is;
+    at_edge = λ same. refl;
+    are = edge_files edge 7 (edge_index_of first 7) [] files all;
+  }
+
+  -- a step to the next tile of the edge
+  pub way_at_edge : (level : ℕ) (above row : List (List ℕ)) (files : List ReadFile) → level ≤ 7 →
+      edge_index_of first level ≡ edge_index_of edge.size level → row ≡ row_at edge level →
+      IsOnWay digest first edge (level + 1) above files → IsOnWay digest first edge level row files
+  way_at_edge level above row files low same is w =
+      let up = index_up first level in
+      let over = index_up edge.size level in
+      record {
+        way = [];
+        is_way = (low, same);
+        row_is = is;
+        at_edge = λ e. refl;
+        are = edge_files edge level (edge_index_of first level) [] files
+            (no_way_files edge (level + 1) (edge_index_of first (level + 1)) w.way files
+            (w.at_edge (omega (arith, same, up, over))) w.are);
+      }
+
+  -- a step to a full tile
+  pub way_lower : (level : ℕ) (above row : List (List ℕ)) (old new : List ReadFile) →
+      edge_index_of first level ≢ edge_index_of edge.size level → IsRowUnder digest above (edge_index_of first level % 256) row →
+      AddsTile (Tile level (edge_index_of first level) 256) row old new → IsOnWay digest first edge (level + 1) above old →
+      IsOnWay digest first edge level row new
+  way_lower level above row old new differ under adds w =
+      let index = edge_index_of first level in
+      let up = index_up first level in record {
+        way = row ∷ w.way;
+        is_way = (
+          subst (λ a. IsRowUnder digest a (index % 256) row) w.row_is under,
+          subst (λ i. IsWay digest edge (level + 1) i w.way) up w.is_way,
+        );
+        row_is = refl;
+        at_edge = λ same. absurd (differ same);
+        are = files_more (IsReadFile edge level index (row ∷ w.way)) (Tile level index 256) row old new
+            (All-weaker (IsReadFile edge (level + 1) (index / 256) w.way) (IsReadFile edge level index (row ∷ w.way))
+            (λ file is. lower_file edge level index row w.way file is) old
+            (subst (λ i. All (IsReadFile edge (level + 1) i w.way) old) up w.are))
+            adds (λ file is. inr (inl is));
+      }
+
+  pub way_files : (level : ℕ) (row : List (List ℕ)) (files : List ReadFile) → IsOnWay digest first edge level row files →
+      AreWayFiles digest edge files
+  way_files level row files w = record {
+    level = level;
+    index = edge_index_of first level;
+    way = w.way;
+    is_way = w.is_way;
+    are = w.are;
+  }
+
+  -- the row above has the hash of the full tile
+  pub hash_within : HasEdgeHashes edge → (level : ℕ) (above : List (List ℕ)) (files : List ReadFile) → first < edge.size →
+      edge_index_of first level ≢ edge_index_of edge.size level → IsOnWay digest first edge (level + 1) above files →
+      edge_index_of first level % 256 < length above
+  hash_within hashes level above files less differ w =
+      let index = edge_index_of first level in
+      shown_below digest edge hashes level index above
+      (record {
+        way = w.way;
+        is_way = subst (λ i. IsWay digest edge (level + 1) i w.way) (index_up first level) w.is_way;
+        row_is = w.row_is;
+      })
+      (before_edge first edge.size level less differ)
+
+  -- nobody has the next row
+  pub row_lacking : HasEdgeHashes edge → (old new : Option (List Put)) → KeepsRecord old new → (tiles : List EndTile) (m n : ℕ) →
+      m ≡ n → (level : ℕ) → level ≤ 6 → (above : List (List ℕ)) (files : List ReadFile) → first < edge.size →
+      edge_index_of first level ≢ edge_index_of edge.size level →
+      ((below : ℕ) × (below ≤ level) × (1 ≤ width_of first below)) → IsOnWay digest first edge (level + 1) above files →
+      (edge_index_of first level % 256 < length above → IsRowNobodys digest new tiles m level (edge_index_of first level)
+      (get_or above (edge_index_of first level % 256) [])) → LacksRow digest old tiles n first edge
+  row_lacking hashes old new kept tiles m n count level low above files less differ inside w none =
+      let index = edge_index_of first level in record {
+        level = level;
+        wanted = record { low = low; is_full = before_edge first edge.size level less differ; inside = inside };
+        way = w.way;
+        is_way = w.is_way;
+        nobody = subst (λ a. IsRowNobodys digest old tiles n level index (get_or a (index % 256) [])) w.row_is
+            (row_nobodys_later digest old new kept tiles tiles (record { more = omega arith; same = λ at lt d. refl }) m n count level
+            index (get_or above (index % 256) []) (none (hash_within hashes level above files less differ w)));
+      }
+
+-- ---- the files are those of a log
+
+module _ (digest : List ℕ → List ℕ) (hash : IsDigest digest) (entries : List (List ℕ)) (edge : Edge) (hashes : HasEdgeHashes edge)
+    (small : edge.size < 2 ^ 64) where
+  -- the file has the true bytes of its path
+  abbrev IsTrueFile : ReadFile → Type 0
+  IsTrueFile file = option_map (λ b. b.items) file.found ≡ Some (true_bytes digest entries file.path)
+
+  tile_true : (level index width : ℕ) (row : List (List ℕ)) (file : ReadFile) → IsTileFile (Tile level index width) row file →
+      row ≡ level_row digest entries level (256 * index) width → IsTrueFile file
+  tile_true level index width row file is true =
+      is.bytes_are
+      ∙ (ap (λ (r : List (List ℕ)). Some (row_text r)) true ∙ ap (λ p. Some (true_bytes digest entries p)) (sym is.path_is))
+
+  module _ (whole : List (List (List ℕ))) (clear : IsListClear digest edge whole entries) where
+    way_true : (level index : ℕ) (way : List (List (List ℕ))) → IsWay digest edge level index way →
+        ((y : List ℕ) → Contains (way_strings digest way) y → Contains (way_strings digest whole) y) → (file : ReadFile) →
+        IsWayFile level index way file → IsTrueFile file
+    way_true level index [] w all file is = absurd is
+    way_true level index (row ∷ above) w all file (inl is) =
+        let t = true_way digest hash entries edge hashes small whole clear level index (row ∷ above) w
+        (λ y m. of_way digest hash entries edge hashes small whole clear y (all y m)) in
+        tile_true level index 256 row file is
+        (t.is ∙ ap (λ n. level_row digest entries level (256 * index) n) w.0.hashes.count)
+    way_true level index (row ∷ above) w all file (inr is) =
+        way_true (level + 1) (index / 256) above w.1
+        (λ y m. all y (Contains-append_right (joins digest row) (way_strings digest above) y m)) file is
+
+    edge_true : (file : ReadFile) → IsEdgeFile edge file → IsTrueFile file
+    edge_true file e =
+        let index = edge_index_of edge.size e.level in
+        let t = true_way digest hash entries edge hashes small whole clear e.level index [] (e.low, refl) (λ y m. let lt = m.1 in absurd (omega (arith, lt))) in
+        tile_true e.level index (width_of edge.size e.level) (row_at edge e.level) file e.is
+        (t.is ∙ ap (λ n. level_row digest entries e.level (256 * index) n) (hashes e.level e.low).count)
+
+    file_true : (level index : ℕ) → IsWay digest edge level index whole → (file : ReadFile) →
+        IsReadFile edge level index whole file → IsTrueFile file
+    file_true level index w file (inl is) = edge_true file is
+    file_true level index w file (inr is) = way_true level index whole w (λ y m. m) file is
+
+    held : (path : Path) (answer : Option (List ℕ)) → answer ≡ Some (true_bytes digest entries path) →
+        (may : Path → Option (List ℕ) → Type 0) → IsHeldAnswer digest entries may path answer
+    held path None is may = absurd (cc is)
+    held path (Some bytes) is may = cc is
+
+    some_file : (files : List ReadFile) (at : ℕ) → at < length files → ReadFile
+    some_file [] at lt = absurd (omega (arith, lt))
+    some_file (file ∷ files) at lt = file
+
+    pub files_of_log : AreShort entries → (level index : ℕ) → IsWay digest edge level index whole → (files : List ReadFile) →
+        All (IsReadFile edge level index whole) files → IsSourceOf digest entries (IsRead files)
+    files_of_log short level index w files all = record {
+      short = short;
+      files = λ path tree answer read.
+          let d = some_file files read.at read.file.listed in
+          let true = file_true level index w (get_or files read.at d) (all read.at d read.file.listed) in
+          held path answer
+          (sym (read.found_is d) ∙ (true ∙ ap (λ p. Some (true_bytes digest entries p)) (read.file.is d))) (IsRead files);
+    }

@@ -1,9 +1,0 @@
-use Rattle.tlog_proof.specs.declared.proof.Proof.{Proof}
-use Rattle.mirror_candidates.proofs.TwoReads.{read_log}
-use Rattle.mirror_candidates.proofs.proving.log_proof.Goals as goal
-
-pub returns-clause-honest : goal.returns-clause-honest
-returns-clause-honest g c =
-    read_log Proof g.H.TreeHash.digest c.args.large.now.size.0 c.args.large.now.root _ _ _
-    (g.S.Source.may_answer c.args.files.now) _ c.open.ensures.later c.consistency.result c.in_ok-reader.ensures.honest
-    c.consistency.ensures.honest

@@ -1,5 +1,0 @@
-use Rattle.std.proofs.Common.{length}
-use Rattle.mirror_places.proofs.mix.+find_mix.Given as goal
-
-abbrev pub decreases-find_mix : goal.decreases-find_mix
-decreases-find_mix g l = length l.levels.now

@@ -1,5 +1,0 @@
-use Rattle.program_parser.proofs.CommandLaws.{lawful_one, one_asked}
-use Rattle.program_parser.proofs.laws.lawful_law.Goals as goal
-
-pub returns : goal.returns
-returns c = record { named = lawful_one; one = one_asked }
