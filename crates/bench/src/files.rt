@@ -1,9 +1,8 @@
 //! Files: a mirror is saved, loaded again, and put onto a shelf.
 use crate::clock::{now, report_since};
 use crate::list::ORIGIN;
-use mirror_export::{ExportFault, export};
+use mirror_files::{ExportFault, LoadFault, export, load_bytes, save};
 use mirror_folders::MemShelf;
-use mirror_state::{LoadFault, load_bytes, save};
 use signed_note::Verifier;
 use std::alloc::Global;
 use std::time::CpuClock;

@@ -3,7 +3,7 @@ ghost use Rattle.std.specs.Prelude.{◌≡◌, length, map, IfOk};
 ghost use Rattle.mirror_model.specs.TrueLaws.{AreShort};
 
 use crate::clock::now;
-use list_source::ListSource;
+use mirror_pull::ListSource;
 use signed_note::{HmacKey, KeyFault};
 use std::alloc::{AllocError, Global};
 use std::time::CpuClock;

@@ -1,8 +1,7 @@
 //! Pulls: a log is fetched from a list of its entries, walked and settled.
 use crate::clock::{now, report_since, resident_bytes, tell};
 use crate::list::{entries_of, hash_tree, source_of};
-use list_source::ListSource;
-use mirror_pull::{PullFault, Pulled, pull};
+use mirror_pull::{ListSource, PullFault, Pulled, pull};
 use signed_note::Verifier;
 use std::alloc::{AllocError, Global};
 use std::rt::Files;

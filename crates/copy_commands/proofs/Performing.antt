@@ -10,14 +10,14 @@ use Rattle.program_copies.specs.Comparisons.{ReportsCompared}
 use Rattle.copy_reader.specs.Copies.{LeavesPuts}
 use Rattle.program_copies.specs.Printed.{Prints, IsWriteFault as IsPrintFault}
 use Rattle.program_copies.specs.declared.fault.CopyAskFault.{CopyAskFault}
-use Rattle.program_monitor.specs.declared.fault.CopyEntriesFault.{CopyEntriesFault}
-use Rattle.program_monitor.specs.declared.fault.CopyEntriesFault.TheVariants as copied
+use Rattle.program_copies.specs.declared.entries_fault.CopyEntriesFault.{CopyEntriesFault}
+use Rattle.program_copies.specs.declared.entries_fault.CopyEntriesFault.TheVariants as copied
 use Rattle.program_words.specs.declared.parts.CopyArgs.{CopyArgs}
 use Rattle.program_words.specs.declared.commands.compare.CopyCompare.{CopyCompare as CopyCompareWords}
 use Rattle.program_words.specs.declared.commands.entries.CopyEntries.{CopyEntries as CopyEntriesWords}
-use Rattle.program_env.specs.Moment.{Moment}
-use Rattle.program_env.specs.Performing.{IsStatus, KeepsFiles, Performs}
-use Rattle.program_env.proofs.Performing.{performs, performs_done}
+use Rattle.program_io.specs.Moment.{Moment}
+use Rattle.program_io.specs.Performing.{IsStatus, KeepsFiles, Performs}
+use Rattle.program_io.proofs.Performing.{performs, performs_done}
 use Rattle.copy_commands.specs.Asks.{DoesAskCopy, DoesCopyCompare}
 use Rattle.copy_commands.specs.Entries.{DoesCopyEntries, WritesCopyEntries}
 use Rattle.copy_commands.specs.Faults.{IsLate}

@@ -6,8 +6,8 @@ use Rattle.mirror_folders.specs.Shelf.{Put}
 use Rattle.mirror_sources.specs.Recorded.{KeepsRecord}
 use Rattle.program_copies.specs.CopyHeads.{IsLastOpened}
 use Rattle.program_copies.specs.declared.reply_fault.CopyAnswerFault.{CopyAnswerFault}
-use Rattle.program_env.specs.Exchanges.{AnswersMore, AnswersNext, Exchange}
-use Rattle.program_env.proofs.Exchanges.{one_answered}
+use Rattle.program_io.specs.Exchanges.{AnswersMore, AnswersNext, Exchange}
+use Rattle.program_io.proofs.Exchanges.{one_answered}
 use Rattle.copy_commands.specs.Clients.{IsAnswer}
 
 -- one more client was answered

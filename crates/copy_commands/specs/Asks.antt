@@ -11,7 +11,7 @@ use Rattle.program_copies.specs.Statuses.{ReportsStatus}
 use Rattle.program_copies.specs.declared.fault.CopyAskFault.{CopyAskFault}
 use Rattle.copy_reader.specs.Copies.{LeavesPuts}
 use Rattle.program_words.specs.declared.commands.prove.CopyProve.{CopyProve as CopyProveWords}
-use Rattle.program_env.specs.Moment.{Moment}
+use Rattle.program_io.specs.Moment.{Moment}
 use Rattle.copy_commands.specs.declared.fault.CopyRunFault.{CopyRunFault}
 use Rattle.copy_commands.specs.declared.fault.CopyRunFault.TheVariants.{Copy}
 

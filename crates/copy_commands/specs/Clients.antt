@@ -5,7 +5,7 @@ use Rattle.mirror_folders.specs.Shelf.{Put}
 use Rattle.program_copies.specs.CopyAnswers.{AnswersFromCopy}
 use Rattle.program_copies.specs.CopyHeads.{IsLastOpened}
 use Rattle.program_copies.specs.declared.reply_fault.CopyAnswerFault.{CopyAnswerFault}
-use Rattle.program_env.specs.Exchanges.{Exchange}
+use Rattle.program_io.specs.Exchanges.{Exchange}
 
 module _ (digest : List ℕ → List ℕ) (AreKeys : List KeyLine → Type 0) (origin : List ℕ) (held : Option (List Put)) where
   -- the bytes written to the client are the answer from the copy or, after a fault, what that writes. The last note opened, if there is one

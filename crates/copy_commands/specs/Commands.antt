@@ -3,8 +3,8 @@ use Rattle.std.specs.Prelude.{ℕ, List, Result}
 use Rattle.signed_note.specs.Keys.{Key}
 use Rattle.program_words.specs.declared.commands.CopyCommand.{CopyCommand}
 use Rattle.program_words.specs.declared.commands.CopyCommand.TheVariants as command
-use Rattle.program_env.specs.Moment.{Moment}
-use Rattle.program_env.specs.Performing.{KeepsFiles, Performs}
+use Rattle.program_io.specs.Moment.{Moment}
+use Rattle.program_io.specs.Performing.{KeepsFiles, Performs}
 use Rattle.copy_commands.specs.Asks.{DoesCopyCompare, DoesCopyProve, DoesCopyStatus}
 use Rattle.copy_commands.specs.Entries.{DoesCopyEntries}
 use Rattle.copy_commands.specs.Serve.{DoesCopyServe}

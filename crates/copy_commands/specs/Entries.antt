@@ -2,12 +2,12 @@
 use Rattle.std.specs.Prelude.{◌≡◌, ℕ, List, Result, Ok, Err}
 use Rattle.signed_note.specs.Keys.{Key}
 use Rattle.program_words.specs.declared.commands.entries.CopyEntries.{CopyEntries as CopyEntriesWords}
-use Rattle.program_monitor.specs.Copied.{AnswersCopied}
-use Rattle.program_monitor.specs.declared.fault.CopyEntriesFault.{CopyEntriesFault}
+use Rattle.program_copies.specs.Copied.{AnswersCopied}
+use Rattle.program_copies.specs.declared.entries_fault.CopyEntriesFault.{CopyEntriesFault}
 use Rattle.copy_reader.specs.Copies.{LeavesPuts}
-use Rattle.program_env.specs.Moment.{Moment}
-use Rattle.program_env.specs.Origins.{RefusesOrigin}
-use Rattle.program_env.specs.Performing.{DoesNothing, done, failed}
+use Rattle.program_io.specs.Moment.{Moment}
+use Rattle.program_io.specs.Origins.{RefusesOrigin}
+use Rattle.program_io.specs.Performing.{DoesNothing, done, failed}
 use Rattle.copy_commands.specs.declared.fault.CopyRunFault.{CopyRunFault}
 use Rattle.copy_commands.specs.declared.fault.CopyRunFault.TheVariants.{CopyEntries, Origin}
 

@@ -1,8 +1,8 @@
 -- The faults of the commands over a copy after which text may have been written.
 use Rattle.std.specs.Prelude.{⊤}
 use Rattle.program_copies.specs.Printed.{IsWriteFault as IsPrintFault}
-use Rattle.program_env.specs.Ports.{IsPortWritten}
-use Rattle.program_monitor.specs.declared.fault.CopyEntriesFault.TheVariants as copied
+use Rattle.program_io.specs.Ports.{IsPortWritten}
+use Rattle.program_copies.specs.declared.entries_fault.CopyEntriesFault.TheVariants as copied
 use Rattle.copy_commands.specs.declared.fault.CopyRunFault.{CopyRunFault}
 use Rattle.copy_commands.specs.declared.fault.CopyRunFault.TheVariants.{Copy, CopyEntries, Listen}
 

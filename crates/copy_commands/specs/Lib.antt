@@ -5,3 +5,16 @@ pub mod Asks
 pub mod Entries
 pub mod Serve
 pub mod Commands
+pub mod StateClients
+pub mod StateFaults
+pub mod Streams
+pub mod StateAsks
+pub mod Compare
+pub mod StateEntries
+pub mod StateServe
+pub mod StateCommands
+pub mod PlaceFaults
+pub mod Places
+pub mod Follow
+pub mod Audit
+pub mod PlaceCommands

@@ -3,11 +3,11 @@ use Rattle.std.specs.Prelude.{◌≡◌, ℕ, List, Result, Ok, Err}
 use Rattle.signed_note.specs.Keys.{Key}
 use Rattle.program_words.specs.declared.commands.serve.CopyServe.{CopyServe as CopyServeWords}
 use Rattle.copy_reader.specs.Copies.{LeavesPuts}
-use Rattle.program_env.specs.Moment.{Moment}
-use Rattle.program_env.specs.Origins.{RefusesOrigin}
-use Rattle.program_env.specs.Performing.{DoesNothing, done, failed}
-use Rattle.program_env.specs.Ports.{PrintsPort}
-use Rattle.program_env.specs.declared.port.ListenFault.{ListenFault}
+use Rattle.program_io.specs.Moment.{Moment}
+use Rattle.program_io.specs.Origins.{RefusesOrigin}
+use Rattle.program_io.specs.Performing.{DoesNothing, done, failed}
+use Rattle.program_io.specs.Ports.{PrintsPort}
+use Rattle.program_io.specs.declared.port.ListenFault.{ListenFault}
 use Rattle.copy_commands.specs.declared.fault.CopyRunFault.{CopyRunFault}
 use Rattle.copy_commands.specs.declared.fault.CopyRunFault.TheVariants.{Listen, Origin}
 

@@ -2,12 +2,12 @@
 ghost use Rattle.std.specs.Prelude.{◌≡◌};
 ghost use Rattle.std.specs.Result.{result_map_both};
 
-use crate::fault::{CopyRunFault, Error};
+use crate::fault::{CopyError, CopyRunFault};
 use mirror_model::TakeFault;
 use program_copies::{CopyAskFault, CopyFault};
-use program_env::served::{copy_size, of_heads, of_note, of_proof};
-use program_env::why::{Why, of_folder};
-use program_env::{Env, RunFiles, RunFolders};
+use program_io::served::{copy_size, of_heads, of_note, of_proof};
+use program_io::why::{Why, of_folder};
+use program_io::{Env, RunFiles, RunFolders};
 use program_reports::{AskFault, ReportFault};
 use program_words::CopyArgs;
 use std::alloc::Global;
@@ -20,7 +20,7 @@ pub(crate) fn asked<R, F: RunFiles, D: RunFolders, I, O, E>(
     copy: &CopyArgs<'_>,
     ask: Option<Ask>,
     answer: Result<u8, CopyAskFault>,
-) -> Result<u8, Error>
+) -> Result<u8, CopyError>
     ensures { result ≡ result_map_both (λ status. status) (λ fault. CopyRunFault.Copy fault)
         answer }
 {
@@ -28,7 +28,7 @@ pub(crate) fn asked<R, F: RunFiles, D: RunFolders, I, O, E>(
         Ok(status) => Ok(status),
         Err(fault) => {
             let why = why_of(env, copy, ask, fault);
-            Err(Error::new(CopyRunFault::Copy(fault), why))
+            Err(CopyError::new(CopyRunFault::Copy(fault), why))
         }
     }
 }

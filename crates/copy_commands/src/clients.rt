@@ -3,9 +3,9 @@ ghost use Rattle.mirror_sources.specs.Recorded.{KeepsRecord};
 ghost use Rattle.program_copies.specs.CopyHeads.{IsLastOpened};
 
 use byte_streams::TimedStream;
-use mirror_server::HttpFault;
+use mirror_http::HttpFault;
 use program_copies::{CopyAnswerFault, CopyKeys, KeptCopy, answer_from_copy};
-use program_env::{OpenPort, RunFolders};
+use program_io::{OpenPort, RunFolders};
 use std::alloc::Global;
 use std::io;
 use std::net::TcpStream;
@@ -25,7 +25,7 @@ pub(crate) trait Clients {
     ghost use Rattle.std.specs.Prelude.{List, Option, None};
     ghost use Rattle.sha2.specs.Sha256.{sha256};
     ghost use Rattle.mirror_sources.specs.Recorded.{KeepsRecord};
-    ghost use Rattle.program_env.specs.Exchanges.{AnswersNext, Exchange};
+    ghost use Rattle.program_io.specs.Exchanges.{AnswersNext, Exchange};
     ghost use Rattle.program_copies.specs.CopyHeads.{IsLastOpened};
     ghost use Rattle.copy_commands.specs.Clients.{IsAnswer};
 

@@ -2,18 +2,17 @@
 ghost use Rattle.std.specs.Prelude.{◌≡◌, map};
 ghost use Rattle.std.specs.Result.{result_map_both};
 ghost use Rattle.sha2.specs.Sha256.{sha256};
-ghost use Rattle.program_env.specs.Envs.{IsSameEnv, moment};
-ghost use Rattle.program_env.specs.Performing.{KeepsFiles, Performs};
+ghost use Rattle.program_io.specs.Envs.{IsSameEnv, moment};
+ghost use Rattle.program_io.specs.Performing.{KeepsFiles, Performs};
 ghost use Rattle.copy_commands.specs.Faults.{IsLate};
 ghost use Rattle.copy_commands.specs.Entries.{DoesCopyEntries};
 
 use crate::asking::{of_file, of_head};
-use crate::fault::{CopyRunFault, Error};
-use program_env::served::{copy_size, of_backwards, of_size};
-use program_env::why::{Why, of_folder, of_origin};
-use program_env::{Env, RunFiles, RunFolders};
-use program_monitor::{CopyEntriesFault, EntryRange, entries_of_copy};
-use program_states::check_origin;
+use crate::fault::{CopyError, CopyRunFault};
+use program_copies::{CopyEntriesFault, EntryRange, entries_of_copy};
+use program_io::served::{copy_size, of_backwards, of_size};
+use program_io::why::{Why, of_folder, of_origin};
+use program_io::{Env, RunFiles, RunFolders, check_origin};
 use program_words::commands::entries::CopyEntries;
 use signed_note::Verifier;
 use std::io::{Read, Write};
@@ -28,7 +27,7 @@ pub fn run<R, F: RunFiles, D: RunFolders, I: Read, O: Write, E: Write>(
     env: &mut Env<'_, '_, '_, '_, R, F, D, I, O, E>,
     keys: &[Box<dyn Verifier>],
     entries: &CopyEntries<'_>,
-) -> Result<u8, Error>
+) -> Result<u8, CopyError>
     ensures same { IsSameEnv env.old env.new }
     ensures does { Performs DoesCopyEntries IsLate KeepsFiles sha256 (map (λ k. key k) keys.now)
         (moment F.puts D.held D.puts I.remaining O.contents env.old)
@@ -38,7 +37,7 @@ pub fn run<R, F: RunFiles, D: RunFolders, I: Read, O: Write, E: Write>(
         Ok(()) => write_entries(env, keys, entries),
         Err(fault) => {
             let why = of_origin(env.alloc, fault);
-            Err(Error::new(CopyRunFault::Origin(fault), why))
+            Err(CopyError::new(CopyRunFault::Origin(fault), why))
         }
     }
 }
@@ -48,7 +47,7 @@ fn write_entries<R, F: RunFiles, D: RunFolders, I: Read, O: Write, E: Write>(
     env: &mut Env<'_, '_, '_, '_, R, F, D, I, O, E>,
     keys: &[Box<dyn Verifier>],
     entries: &CopyEntries<'_>,
-) -> Result<u8, Error>
+) -> Result<u8, CopyError>
     ensures same { IsSameEnv env.old env.new }
     ensures does { Performs DoesCopyEntries IsLate KeepsFiles sha256 (map (λ k. key k) keys.now)
         (moment F.puts D.held D.puts I.remaining O.contents env.old)
@@ -76,14 +75,14 @@ fn written<R, F: RunFiles, D: RunFolders, I, O, E>(
     env: &Env<'_, '_, '_, '_, R, F, D, I, O, E>,
     entries: &CopyEntries<'_>,
     answer: Result<(), CopyEntriesFault>,
-) -> Result<u8, Error>
+) -> Result<u8, CopyError>
     ensures { result ≡ result_map_both (λ _. 0) (λ fault. CopyRunFault.CopyEntries fault) answer }
 {
     match answer {
         Ok(()) => Ok(0),
         Err(fault) => {
             let why = why_of(env, entries, fault);
-            Err(Error::new(CopyRunFault::CopyEntries(fault), why))
+            Err(CopyError::new(CopyRunFault::CopyEntries(fault), why))
         }
     }
 }

@@ -1,7 +1,6 @@
 //! Why a command over a copy was not done.
-use program_copies::CopyAskFault;
-use program_env::ListenFault;
-use program_monitor::CopyEntriesFault;
+use program_copies::{CopyAskFault, CopyEntriesFault};
+use program_io::ListenFault;
 use std::fmt;
 use thiserror::Error as FaultText;
 use tlog_mirror::NewFault;
@@ -31,4 +30,4 @@ impl fmt::Debug for CopyRunFault {
 }
 
 /// Such a fault, with the thing that it is about.
-pub type Error = program_env::Error<CopyRunFault>;
+pub type CopyError = program_io::Error<CopyRunFault>;

@@ -1,8 +1,7 @@
 //! The key file of a copy's log. `serve` reads it anew for each new checkpoint.
 
 use program_copies::{CopyKeys, KeysFault};
-use program_env::RunFiles;
-use program_files::NamedFault;
+use program_io::{NamedFault, RunFiles};
 use signed_note::{KeyFileFault, KeyLine, join_pins, read_keys};
 use std::alloc::Global;
 

@@ -3,25 +3,25 @@ ghost use Rattle.std.specs.Prelude.{◌≡◌, IfSome, Some, map};
 ghost use Rattle.std.specs.Result.{result_map_both};
 ghost use Rattle.sha2.specs.Sha256.{sha256};
 ghost use Rattle.mirror_sources.specs.Recorded.{KeepsRecord};
-ghost use Rattle.program_env.specs.Envs.{IsSameEnv, moment};
-ghost use Rattle.program_env.specs.Exchanges.{AnswersClients};
-ghost use Rattle.program_env.specs.Performing.{KeepsFiles, Performs};
+ghost use Rattle.program_io.specs.Envs.{IsSameEnv, moment};
+ghost use Rattle.program_io.specs.Exchanges.{AnswersClients};
+ghost use Rattle.program_io.specs.Performing.{KeepsFiles, Performs};
 ghost use Rattle.copy_commands.specs.Clients.{IsAnswer};
 ghost use Rattle.copy_commands.specs.KeyFiles.{AreFileKeys};
 ghost use Rattle.copy_commands.specs.Faults.{IsLate};
 ghost use Rattle.copy_commands.specs.Serve.{DoesCopyServe};
-ghost use Rattle.program_env.specs.Ports.{PrintsPort};
+ghost use Rattle.program_io.specs.Ports.{PrintsPort};
 
 use crate::asking::{of_file, of_head};
 use crate::clients::Clients;
-use crate::fault::{CopyRunFault, Error};
+use crate::fault::{CopyError, CopyRunFault};
 use crate::key_file::KeyFile;
 use program_copies::{CopyAnswerFault, KeptCopy};
-use program_env::why::{FailedStreams, Why, of_folder, of_origin, print_why};
-use program_env::{
-    Env, ListenFault, RunFiles, RunFolders, listen, port_fault, print_fault, write_front,
+use program_io::why::{FailedStreams, Why, of_folder, of_origin, print_why};
+use program_io::{
+    Env, ListenFault, RunFiles, RunFolders, check_origin, listen, port_fault, print_fault,
+    write_front,
 };
-use program_states::check_origin;
 use program_words::commands::serve::CopyServe;
 use signed_note::Verifier;
 use std::alloc::Global;
@@ -47,7 +47,7 @@ pub fn run<R, F: RunFiles, D: RunFolders, I: Read, O: Write, E: Write>(
     env: &mut Env<'_, '_, '_, '_, R, F, D, I, O, E>,
     keys: &[Box<dyn Verifier>],
     serve: &CopyServe<'_>,
-) -> Result<u8, Error>
+) -> Result<u8, CopyError>
 where
     R: Clock + Net<Stream = TcpStream, Listener = TcpListener>,
     ensures same { IsSameEnv env.old env.new }
@@ -59,12 +59,12 @@ where
         Ok(()) => {}
         Err(fault) => {
             let why = of_origin(env.alloc, fault);
-            return Err(Error::new(CopyRunFault::Origin(fault), why));
+            return Err(CopyError::new(CopyRunFault::Origin(fault), why));
         }
     }
     match env.folders.open(serve.copy.folder) {
         Ok(()) => {}
-        Err(_) => return Err(Error::new(CopyRunFault::Listen(ListenFault::OutOfMemory), None)),
+        Err(_) => return Err(CopyError::new(CopyRunFault::Listen(ListenFault::OutOfMemory), None)),
     }
     served(serve_copy(
         env.rt,
@@ -78,14 +78,14 @@ where
 }
 
 // The status 0 if all connections were answered.
-fn served(answer: Result<(), program_env::Error<ListenFault>>) -> Result<u8, Error>
+fn served(answer: Result<(), program_io::Error<ListenFault>>) -> Result<u8, CopyError>
     ensures { result ≡ result_map_both (λ _. 0) (λ fault. CopyRunFault.Listen fault) answer }
 {
     match answer {
         Ok(()) => Ok(0),
         Err(error) => {
             let (fault, why) = error.into_parts();
-            Err(Error::new(CopyRunFault::Listen(fault), why))
+            Err(CopyError::new(CopyRunFault::Listen(fault), why))
         }
     }
 }
@@ -99,7 +99,7 @@ fn serve_copy<F: RunFiles, D: RunFolders, R, O: Write, E: Write>(
     serve: &CopyServe<'_>,
     output: &mut O,
     errors: &mut E,
-) -> Result<(), program_env::Error<ListenFault>>
+) -> Result<(), program_io::Error<ListenFault>>
 where
     R: Clock + Net<Stream = TcpStream, Listener = TcpListener>,
     ensures line { PrintsPort serve.now.port (O.contents output.old) (O.contents output.new)

@@ -1,15 +1,15 @@
 //! The command `status --dir`: it prints the checkpoint of a copy.
 ghost use Rattle.std.specs.Prelude.{map};
 ghost use Rattle.sha2.specs.Sha256.{sha256};
-ghost use Rattle.program_env.specs.Envs.{IsSameEnv, moment};
-ghost use Rattle.program_env.specs.Performing.{KeepsFiles, Performs};
+ghost use Rattle.program_io.specs.Envs.{IsSameEnv, moment};
+ghost use Rattle.program_io.specs.Performing.{KeepsFiles, Performs};
 ghost use Rattle.copy_commands.specs.Faults.{IsLate};
 ghost use Rattle.copy_commands.specs.Asks.{DoesCopyStatus};
 
 use crate::asking::asked;
-use crate::fault::Error;
+use crate::fault::CopyError;
 use program_copies::status_copy;
-use program_env::{Env, RunFiles, RunFolders};
+use program_io::{Env, RunFiles, RunFolders};
 use program_words::CopyArgs;
 use signed_note::Verifier;
 use std::io::{Read, Write};
@@ -24,7 +24,7 @@ pub fn run<R, F: RunFiles, D: RunFolders, I: Read, O: Write, E: Write>(
     env: &mut Env<'_, '_, '_, '_, R, F, D, I, O, E>,
     keys: &[Box<dyn Verifier>],
     status: &CopyArgs<'_>,
-) -> Result<u8, Error>
+) -> Result<u8, CopyError>
     ensures same { IsSameEnv env.old env.new }
     ensures does { Performs DoesCopyStatus IsLate KeepsFiles sha256 (map (λ k. key k) keys.now)
         (moment F.puts D.held D.puts I.remaining O.contents env.old)

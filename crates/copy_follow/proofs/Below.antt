@@ -13,7 +13,7 @@ use Rattle.tlog_tiles.specs.Tiles.{IsWithin, IsTileWithin}
 use Rattle.mirror_sources.specs.Recorded.{KeepsRecord, AddsToRecord}
 use Rattle.mirror_sources.specs.Honest.{true_bytes}
 use Rattle.mirror_folders.specs.Shelf.{Put, Stands}
-use Rattle.log_paths.proofs.Standing.{stands_more}
+use Rattle.mirror_folders.proofs.Standing.{stands_more}
 use Rattle.copy_follow.specs.Standing.{RecordsStands}
 use Rattle.copy_follow.specs.Growing.{IsBelow, IsNewFile, Obtains, HoldsBelow}
 use Rattle.copy_places.proofs.Prefixes.{bytes_front}

@@ -1,7 +1,7 @@
 -- The checkpoint that the caller found before the call, compared with the shelf's.
 use Rattle.std.proofs.Common.{◌≡◌, inl, inr, ℕ, List, Option, Some, Result, Ok, Err, sym, subst}
 use Rattle.tlog_tiles.specs.declared.paths.Path.TheVariants.{Checkpoint}
-use Rattle.log_paths.proofs.FoundOnce.{read_once}
+use Rattle.mirror_folders.proofs.FoundOnce.{read_once}
 use Rattle.mirror_folders.specs.Shelf.{Put, RecordsRead}
 use Rattle.copy_follow.specs.Compared.{BlamesTip, IsOverFound}
 use Rattle.copy_follow.specs.Conflicts.{IsNoConflict}

@@ -8,12 +8,12 @@ use Rattle.tlog_tiles.specs.declared.paths.Path.{Path}
 use Rattle.tlog_tiles.specs.declared.paths.Path.TheVariants.{Checkpoint, Tile, Entries}
 use Rattle.tlog_tiles.specs.Tiles.{IsWithin}
 use Rattle.mirror_folders.specs.Shelf.{Put, Stands}
-use Rattle.log_paths.specs.Files.{paths_of, served_bytes}
-use Rattle.log_paths.specs.FileLaws.{IsFileOf}
-use Rattle.log_paths.specs.Holding.{IsMoment}
-use Rattle.log_paths.specs.Holding.{HoldsFiles}
-use Rattle.log_paths.proofs.AllFiles.{files_are_all}
-use Rattle.log_paths.proofs.Standing.{stands_more}
+use Rattle.mirror_folders.specs.Files.{paths_of, served_bytes}
+use Rattle.mirror_folders.specs.FileLaws.{IsFileOf}
+use Rattle.mirror_folders.specs.Holding.{IsMoment}
+use Rattle.mirror_folders.specs.Holding.{HoldsFiles}
+use Rattle.mirror_folders.proofs.AllFiles.{files_are_all}
+use Rattle.mirror_folders.proofs.Standing.{stands_more}
 use Rattle.std.proofs.lemmas.Bool.{cases_lt}
 use Rattle.tlog_hash.specs.Tree.{mth}
 use Rattle.mirror_model.specs.Heads.{IsHead}

@@ -129,7 +129,7 @@ row_wrong_before x y n level k w = record {
   no_row = w.no_row;
 }
 
-edge_wrong_before : (x y : Option (List Put)) (n : ℕ) (digest : List ℕ → List ℕ) (root : List ℕ) → KeepsRecord x y →
+pub edge_wrong_before : (x y : Option (List Put)) (n : ℕ) (digest : List ℕ → List ℕ) (root : List ℕ) → KeepsRecord x y →
     IsEdgeWrong y n digest root → IsEdgeWrong x n digest root
 edge_wrong_before x y n digest root k (HasWrongRow level w) = HasWrongRow level (row_wrong_before x y n level k w)
 edge_wrong_before x y n digest root k (HasOtherRoot edge r other) = HasOtherRoot edge (edge_before x y n edge k r) other

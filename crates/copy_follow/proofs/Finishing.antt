@@ -16,7 +16,7 @@ use Rattle.tlog_tiles.proofs.EdgeLemmas.{hashes_of}
 use Rattle.mirror_sources.specs.Recorded.{KeepsRecord, AddsToRecord}
 use Rattle.mirror_sources.specs.Honest.{true_bytes}
 use Rattle.mirror_folders.specs.Shelf.{Put}
-use Rattle.log_paths.specs.FileLaws.{IsFileOf, IsWidestIn}
+use Rattle.mirror_folders.specs.FileLaws.{IsFileOf, IsWidestIn}
 use Rattle.copy_follow.specs.Standing.{RecordsStands}
 use Rattle.log_reader.specs.Verified.{HasLeaves}
 use Rattle.copy_follow.specs.Growing.{Obtains, IsBelow, IsKnown, IsCutShort, IsNewFile, Tip}

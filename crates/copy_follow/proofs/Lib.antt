@@ -31,6 +31,8 @@ pub mod OneHonest
 pub mod Mending
 pub mod MendedFiles
 pub mod Cuts
+pub mod Lacking
+pub mod Naming
 pub mod Ends
 pub mod Runs
 pub mod Kept

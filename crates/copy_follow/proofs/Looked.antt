@@ -11,6 +11,7 @@ use Rattle.tlog_tiles.specs.declared.paths.Path.TheVariants.{Checkpoint}
 use Rattle.mirror_folders.specs.Shelf.{HasPut}
 use Rattle.copy_follow.specs.RunStanding.{EachStays, IsCopyOfRun, PrunedAs, PrunedUnder, StandsAfter, StandsAs, StandsOrNone, StandsUnder}
 use Rattle.copy_follow.specs.declared.follow_fault.FollowFault.{FollowFault}
+use Rattle.copy_follow.specs.declared.follow_fault.FollowFault.TheVariants.{Source}
 use Rattle.copy_follow.specs.declared.run.Outcome.{Outcome}
 use Rattle.copy_follow.specs.declared.run.Outcome.TheVariants as turn
 use Rattle.copy_follow.proofs.Ending.{ends_so}
@@ -39,6 +40,24 @@ after_later digest origin c x y z t (Err e) is stands kept h = tt
 after_later digest origin c x y z t (Ok u) is stands kept h =
     let stays : StandsAfter digest origin c x y turn.Contradicts = subst (StandsAfter digest origin c x y) is stands in
     h digest origin x z (stays_later digest origin x y z stays kept)
+
+-- the same of a candidate that was not had, whatever came of its proof
+pub after_lacked : (digest : List ℕ → List ℕ) (origin : List ℕ) (c : Candidate) (x y z : Option (List Put)) {E : Type 0}
+    (t : Outcome) (fault : FollowFault) (r : Result Outcome E) → t ≡ turn.NotHad fault → StandsAfter digest origin c x y t →
+    KeepsRecord y z →
+    IfOk r (λ t. (digest : List ℕ → List ℕ) (origin : List ℕ) (candidate : Candidate) (old new : Option (List Put)) →
+    EachStays digest origin old new → StandsAfter digest origin candidate old new t) →
+    IfOk r (λ t. StandsAfter digest origin c x z t)
+after_lacked digest origin c x y z t fault (Err e) is stands kept h = tt
+after_lacked digest origin c x y z t fault (Ok u) is stands kept h =
+    let stays : StandsAfter digest origin c x y (turn.NotHad fault) = subst (StandsAfter digest origin c x y) is stands in
+    h digest origin c x z (stays_later digest origin x y z stays kept)
+
+pub source_lacked : {E : Type 0} (so : Type 0) (t : Outcome) (fault : FollowFault) (r : Result Outcome E) → t ≡ turn.NotHad fault →
+    (t ≡ turn.NotHad Source → so) → IfOk r (λ u. u ≡ turn.NotHad Source → fault ≡ Source) →
+    IfOk r (λ u. u ≡ turn.NotHad Source → so)
+source_lacked so t fault (Err e) is given h = tt
+source_lacked so t fault (Ok u) is given h = λ same. given (subst (λ f. t ≡ turn.NotHad f) (h same) is)
 
 pub counts_later : {T : Type 0} (old mid new : ℕ) (r : Result T FollowFault) → mid ≡ old → CountsFollow mid new r → CountsFollow old new r
 counts_later old mid new r is h = subst (λ n. CountsFollow n new r) is h

@@ -22,10 +22,10 @@ use Rattle.mirror_sources.specs.Files.{full_of, width_named}
 use Rattle.mirror_sources.specs.Honest.{true_bytes}
 use Rattle.mirror_sources.specs.Recorded.{AddsToRecord, KeepsRecord}
 use Rattle.mirror_folders.specs.Shelf.{HasPut, Put, RecordsRead, Stands}
-use Rattle.log_paths.specs.FileLaws.{IsWidestIn}
-use Rattle.log_paths.specs.Holding.{IsMoment}
-use Rattle.log_paths.proofs.AllFiles.{files_are_all}
-use Rattle.log_paths.proofs.Standing.{stands_more}
+use Rattle.mirror_folders.specs.FileLaws.{IsWidestIn}
+use Rattle.mirror_folders.specs.Holding.{IsMoment}
+use Rattle.mirror_folders.proofs.AllFiles.{files_are_all}
+use Rattle.mirror_folders.proofs.Standing.{stands_more}
 use Rattle.log_reader.specs.EdgeRows.{Edge, HasWidths, LeadsTo, RowIsTrue, edge_tile, row_at}
 use Rattle.log_reader.specs.Holding.{IsTreeFile}
 use Rattle.mirror_model.specs.Heads.{IsHead}
@@ -408,7 +408,7 @@ had_log digest size root edge x y small leads h =
     }
 
 -- a tree without entries
-no_file : (path : Path) → IsTreeFile 0 path → ⊥
+pub no_file : (path : Path) → IsTreeFile 0 path → ⊥
 no_file Checkpoint file = file
 no_file (Tile level index width) file =
     never_within (Tile level index width)

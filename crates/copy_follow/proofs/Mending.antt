@@ -1,8 +1,8 @@
 -- Files mended one after another: how many were put, from where they were taken, and that they are true.
-use Rattle.std.proofs.Common.{◌≡◌, ◌≢◌, ◌⊎◌, ℕ, ◌+◌, ◌*◌, ◌^◌, ◌<◌, ◌≤◌, max, List, [], ◌∷◌, ◌++◌, length, take, drop, All}
+use Rattle.std.proofs.Common.{◌≡◌, ◌≢◌, ◌⊎◌, ℕ, ◌+◌, ◌*◌, ◌^◌, ◌<◌, ◌≤◌, max, List, [], ◌∷◌, ◌++◌, length, All}
 use Rattle.std.proofs.Common.{inl, inr, Option, Some, None, refl, sym, ap, subst, ◌∙◌, arith, length-append}
 use Rattle.std.proofs.lemmas.Nat.{mul-le}
-use Rattle.std.proofs.lemmas.List.{length-map, take-append-drop}
+use Rattle.std.proofs.lemmas.List.{length-map}
 use Rattle.std.proofs.lemmas.List.Elements.{All-append, All-cons, All-nil}
 use Rattle.tlog_shape.proofs.Levels.{level_positive}
 use Rattle.tlog_hash.specs.Rows.{level_row, part}
@@ -16,7 +16,7 @@ use Rattle.mirror_model.specs.Strings.{IsDigest}
 use Rattle.mirror_sources.specs.Recorded.{AddsToRecord, KeepsRecord}
 use Rattle.mirror_folders.specs.Shelf.{HasPut, Put, RecordsRead, Stands}
 use Rattle.mirror_sources.specs.Files.{full_of, width_named}
-use Rattle.log_reader.specs.Holding.{GoesOn, HasFullLength}
+use Rattle.log_reader.specs.Holding.{GoesOn}
 use Rattle.log_reader.specs.Verified.{Verifies}
 use Rattle.log_reader.specs.declared.verify.FullFile.TheVariants as kind
 use Rattle.copy_places.specs.PlaceGets.{AsksPlaces}
@@ -175,14 +175,6 @@ module _ (level index : ℕ) (digest : List ℕ → List ℕ) (row known : List 
   }
 
 -- ---- a full file that begins with the bytes of its partial one
-
-pub goes_on : (path : Path) (bytes full : List ℕ) → HasFullLength path full → length bytes ≤ length full →
-    take (length bytes) full ≡ bytes → GoesOn path bytes full
-goes_on path bytes full long le is = record {
-  rest = drop (length bytes) full;
-  bytes_are = sym (take-append-drop (length bytes) full) ∙ ap (λ (l : List ℕ). l ++ drop (length bytes) full) is;
-  long = long;
-}
 
 pub had_way : (a b c : Option (List Put)) (path : Path) (bytes full : List ℕ) → width_named path < 256 → RecordsRead a path None →
     KeepsRecord a b → RecordsRead b (full_of path) (Some full) → KeepsRecord b c → GoesOn path bytes full → RecordsHad a c path bytes

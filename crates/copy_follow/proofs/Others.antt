@@ -14,7 +14,7 @@ use Rattle.copy_follow.specs.declared.bring_fault.BringFault.TheVariants.{Contra
 use Rattle.copy_follow.specs.declared.bring_fault.BringFault.TheVariants.{ShelfFault, OutOfMemory}
 use Rattle.copy_places.specs.declared.places.Places.{Places}
 use Rattle.copy_follow.proofs.Growth.{left_then}
-use Rattle.log_paths.proofs.FoundOnce.{read_more, read_once}
+use Rattle.mirror_folders.proofs.FoundOnce.{read_more, read_once}
 use Rattle.copy_follow.proofs.WholeMoments.{new_no_checkpoint, none_found}
 
 -- a fault that is not about a missing file is a fault of a call

@@ -19,12 +19,12 @@ use Rattle.mirror_model.specs.TrueLaws.{AreShort}
 use Rattle.mirror_sources.specs.Files.{full_of}
 use Rattle.mirror_sources.specs.Honest.{true_bytes}
 use Rattle.mirror_folders.specs.Shelf.{HasPut, Put, Stands}
-use Rattle.log_paths.specs.Files.{paths_of, served_bytes}
-use Rattle.log_paths.specs.FileLaws.{IsWidestIn}
-use Rattle.log_paths.specs.Holding.{HoldsFiles}
-use Rattle.log_paths.proofs.AllFiles.{files_are_all, full_widest, partial_widest, widest_before, widest_last}
-use Rattle.log_paths.proofs.Standing.{has_after}
-use Rattle.log_paths.proofs.Standing.{put_has, stands_more}
+use Rattle.mirror_folders.specs.Files.{paths_of, served_bytes}
+use Rattle.mirror_folders.specs.FileLaws.{IsWidestIn}
+use Rattle.mirror_folders.specs.Holding.{HoldsFiles}
+use Rattle.mirror_folders.proofs.AllFiles.{files_are_all, full_widest, partial_widest, widest_before, widest_last}
+use Rattle.mirror_folders.proofs.Standing.{has_after}
+use Rattle.mirror_folders.proofs.Standing.{put_has, stands_more}
 use Rattle.log_reader.specs.Holding.{GoesOn, IsTreeFile}
 use Rattle.copy_follow.specs.Copies.{IsCopy}
 use Rattle.copy_follow.specs.Growing.{IsNewFile}
@@ -379,6 +379,10 @@ module _ (digest : List ℕ → List ℕ) (hash : IsDigest digest) (m : ℕ) (kn
   put_true path other bytes has =
       elim (puts (path, bytes) has) [ inl new ↦ new.bytes_are | inr last ↦ absurd (other last) ]
 
+  put_within : (path : Path) → path ≢ Checkpoint → (bytes : List ℕ) → Contains so_far (path, bytes) → IsWithin (length next) path
+  put_within path other bytes has =
+      elim (puts (path, bytes) has) [ inl new ↦ new.within | inr last ↦ absurd (other last) ]
+
   pub given_later : (path : Path) → IsTreeFile (length known) path → HasGivenWay digest known held path →
       HasGivenWay digest known now path
   given_later path file way =
@@ -410,6 +414,7 @@ module _ (digest : List ℕ → List ℕ) (hash : IsDigest digest) (m : ℕ) (kn
                   (λ other has. put_true (full_of path) tile other has));
               begins = subst (λ (b : List ℕ). GoesOn path b bytes)
                   (ap (λ (l : List (List ℕ)). true_bytes digest l path) next_is ∙ bytes_front digest known more path within)
-                  (full_begins digest hash next short (length known) path within);
+                  (full_begins digest hash next short (length known) path within
+                  (put_within (full_of path) tile there.0 there.1));
             }
       ]

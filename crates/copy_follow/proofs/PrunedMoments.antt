@@ -11,8 +11,8 @@ use Rattle.mirror_model.specs.TrueLaws.{AreShort}
 use Rattle.mirror_sources.specs.Honest.{true_bytes}
 use Rattle.mirror_sources.specs.Recorded.{AddsToRecord, KeepsRecord}
 use Rattle.mirror_folders.specs.Shelf.{Put}
-use Rattle.log_paths.specs.Holding.{IsMoment}
-use Rattle.log_paths.specs.Files.{paths_of}
+use Rattle.mirror_folders.specs.Holding.{IsMoment}
+use Rattle.mirror_folders.specs.Files.{paths_of}
 use Rattle.log_reader.specs.EdgeRows.{Edge, hash_of_edge}
 use Rattle.copy_follow.specs.Copies.{IsCopy}
 use Rattle.copy_follow.specs.Edges.{BringsToEdge, IsCopyBrought, PutsNote}

@@ -16,10 +16,10 @@ use Rattle.mirror_sources.specs.Recorded.{AddsToRecord}
 use Rattle.mirror_sources.specs.Files.{full_of}
 use Rattle.mirror_sources.specs.Honest.{true_bytes}
 use Rattle.mirror_folders.specs.Shelf.{Put, HasPut, Stands, RecordsRead}
-use Rattle.log_paths.specs.Holding.{IsMoment}
-use Rattle.log_paths.specs.Files.{paths_of, served_bytes}
-use Rattle.log_paths.proofs.AllFiles.{files_are_all}
-use Rattle.log_paths.proofs.Standing.{stands_more, has_after}
+use Rattle.mirror_folders.specs.Holding.{IsMoment}
+use Rattle.mirror_folders.specs.Files.{paths_of, served_bytes}
+use Rattle.mirror_folders.proofs.AllFiles.{files_are_all}
+use Rattle.mirror_folders.proofs.Standing.{stands_more, has_after}
 use Rattle.log_reader.specs.Holding.{IsTreeFile}
 use Rattle.copy_follow.specs.Copies.{IsCopy}
 use Rattle.copy_follow.specs.Moments.{AtEachMoment, InTheEnd, IsBroughtTo, IsGrownCopy, KeepsCopy, PutsBeyond}

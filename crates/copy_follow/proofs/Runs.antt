@@ -11,11 +11,11 @@ use Rattle.tlog_tiles.specs.declared.paths.Path.TheVariants.{Checkpoint, Tile, E
 use Rattle.tlog_tiles.specs.Tiles.{IsWithin}
 use Rattle.mirror_sources.specs.Recorded.{AddsToRecord, KeepsRecord}
 use Rattle.mirror_folders.specs.Shelf.{Put, HasPut, Stands}
-use Rattle.log_paths.specs.Holding.{IsMoment, HoldsFiles}
-use Rattle.log_paths.specs.FileLaws.{IsFileOf}
-use Rattle.log_paths.specs.Files.{served_bytes}
-use Rattle.log_paths.proofs.AllFiles.{files_are_all}
-use Rattle.log_paths.proofs.Standing.{stands_more}
+use Rattle.mirror_folders.specs.Holding.{IsMoment, HoldsFiles}
+use Rattle.mirror_folders.specs.FileLaws.{IsFileOf}
+use Rattle.mirror_folders.specs.Files.{served_bytes}
+use Rattle.mirror_folders.proofs.AllFiles.{files_are_all}
+use Rattle.mirror_folders.proofs.Standing.{stands_more}
 use Rattle.copy_places.proofs.Prefixes.{within_more}
 use Rattle.copy_follow.specs.Copies.{IsCopy}
 use Rattle.copy_follow.specs.Moments.{AtEachMoment, IsGrownCopy, KeepsCopy, PutsBeyond}

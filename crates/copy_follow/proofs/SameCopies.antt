@@ -11,8 +11,8 @@ use Rattle.mirror_model.specs.Strings.{IsDigest}
 use Rattle.mirror_model.proofs.OneLists.{only}
 use Rattle.mirror_model.proofs.StringSets.{has_from_listed, held_from_all}
 use Rattle.mirror_folders.specs.Shelf.{Put, Stands}
-use Rattle.log_paths.specs.Files.{paths_of, served_bytes}
-use Rattle.log_paths.specs.Holding.{HoldsFiles}
+use Rattle.mirror_folders.specs.Files.{paths_of, served_bytes}
+use Rattle.mirror_folders.specs.Holding.{HoldsFiles}
 use Rattle.copy_follow.specs.Copies.{CopiesAreSame}
 use Rattle.copy_follow.proofs.CopyMoments.{copy_files}
 use Rattle.copy_follow.proofs.TipReads.{stands_one}

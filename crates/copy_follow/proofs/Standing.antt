@@ -7,7 +7,7 @@ use Rattle.mirror_model.specs.Heads.{IsHead}
 use Rattle.mirror_model.proofs.HeadNotes.{head_once}
 use Rattle.mirror_sources.specs.Recorded.{KeepsRecord}
 use Rattle.mirror_folders.specs.Shelf.{Put, HasPut, Stands, RecordsRead}
-use Rattle.log_paths.proofs.AllFiles.{files_are_all}
+use Rattle.mirror_folders.proofs.AllFiles.{files_are_all}
 use Rattle.copy_follow.specs.Copies.{IsCopy}
 use Rattle.copy_follow.specs.Moments.{CopyStays, InTheEnd, IsBroughtTo, IsGrownCopy}
 use Rattle.copy_follow.specs.Pruned.{HadSize, IsGrownPruned, IsPrunedCopy, LeavesPruned}

@@ -4,7 +4,7 @@ use Rattle.std.proofs.lemmas.List.{append-nil}
 use Rattle.tlog_tiles.specs.declared.paths.Path.TheVariants.{Checkpoint}
 use Rattle.mirror_sources.specs.Recorded.{AddsToRecord, KeepsRecord}
 use Rattle.mirror_folders.specs.Shelf.{Put, HasPut}
-use Rattle.log_paths.specs.Holding.{IsMoment}
+use Rattle.mirror_folders.specs.Holding.{IsMoment}
 use Rattle.log_reader.specs.EdgeRows.{Edge}
 use Rattle.copy_follow.specs.Copies.{IsCopy}
 use Rattle.copy_follow.specs.Edges.{BringsToEdge, PutsNote}

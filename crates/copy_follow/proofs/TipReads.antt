@@ -19,7 +19,7 @@ use Rattle.mirror_model.specs.Heads.{IsHead}
 use Rattle.mirror_model.specs.Strings.{IsDigest}
 use Rattle.mirror_model.proofs.HeadNotes.{head_once}
 use Rattle.mirror_folders.specs.Shelf.{HasPut, Put, Stands}
-use Rattle.log_paths.proofs.Standing.{put_has}
+use Rattle.mirror_folders.proofs.Standing.{put_has}
 use Rattle.copy_follow.specs.Found.{IsBundleRead, IsEdgeRead, IsRowRead, IsTipRead, RecordsPartial}
 use Rattle.copy_follow.specs.Pruned.{HasGivenWay, IsPrunedCopy}
 use Rattle.copy_follow.proofs.PrunedFiles.{copies_are_pruned, file_within}

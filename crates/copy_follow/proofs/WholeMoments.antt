@@ -17,12 +17,12 @@ use Rattle.mirror_model.specs.Edge.{edge_levels}
 use Rattle.mirror_model.specs.Heads.{IsHead}
 use Rattle.mirror_sources.specs.Recorded.{AddsToRecord, KeepsRecord}
 use Rattle.mirror_folders.specs.Shelf.{Put, Stands, HasPut}
-use Rattle.log_paths.specs.Files.{served_bytes}
-use Rattle.log_paths.specs.FileLaws.{IsFileOf}
-use Rattle.log_paths.specs.Holding.{IsMoment}
-use Rattle.log_paths.specs.Holding.{HoldsFiles}
-use Rattle.log_paths.proofs.AllFiles.{files_are_all, upto_hashes}
-use Rattle.log_paths.proofs.Standing.{stands_more}
+use Rattle.mirror_folders.specs.Files.{served_bytes}
+use Rattle.mirror_folders.specs.FileLaws.{IsFileOf}
+use Rattle.mirror_folders.specs.Holding.{IsMoment}
+use Rattle.mirror_folders.specs.Holding.{HoldsFiles}
+use Rattle.mirror_folders.proofs.AllFiles.{files_are_all, upto_hashes}
+use Rattle.mirror_folders.proofs.Standing.{stands_more}
 use Rattle.copy_follow.specs.Copies.{IsCopy}
 use Rattle.log_reader.specs.EdgeRows.{Edge, hash_of_edge, row_at}
 use Rattle.copy_follow.specs.Edges.{BringsToEdge, IsCopyBrought, PutsNote}

@@ -11,9 +11,9 @@ use Rattle.mirror_model.specs.Heads.{IsHead}
 use Rattle.mirror_model.specs.Strings.{IsDigest}
 use Rattle.mirror_model.specs.TrueLaws.{AreShort}
 use Rattle.mirror_folders.specs.Shelf.{Put, Stands}
-use Rattle.log_paths.specs.Files.{paths_of}
-use Rattle.log_paths.specs.Holding.{IsMoment}
-use Rattle.log_paths.specs.Holding.{HoldsFiles, HoldsLog}
+use Rattle.mirror_folders.specs.Files.{paths_of}
+use Rattle.mirror_folders.specs.Holding.{IsMoment}
+use Rattle.mirror_folders.specs.Holding.{HoldsFiles, HoldsLog}
 use Rattle.copy_follow.specs.Growing.{Obtains, IsKnown, Tip, empty_tip}
 use Rattle.log_reader.specs.EdgeRows.{Edge, row_at}
 use Rattle.copy_follow.specs.Edges.{IsCopyBrought}

@@ -8,7 +8,7 @@ use Rattle.log_reader.specs.EdgeRows.{Edge, RowIsTrue, edge_tile}
 use Rattle.mirror_sources.specs.Recorded.{AddsToRecord, KeepsRecord}
 use Rattle.mirror_sources.specs.Honest.{true_bytes}
 use Rattle.mirror_folders.specs.Shelf.{Put}
-use Rattle.log_paths.specs.FileLaws.{IsFileOf}
+use Rattle.mirror_folders.specs.FileLaws.{IsFileOf}
 use Rattle.copy_follow.specs.Standing.{RecordsStands}
 use Rattle.copy_follow.specs.Growing.{Tip, Obtains, HoldsBelow, IsCutShort}
 

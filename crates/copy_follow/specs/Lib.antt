@@ -15,6 +15,8 @@ pub mod OneHonest
 pub mod Damaged
 pub mod Compared
 pub mod Repaired
+pub mod Lacked
+pub mod Named
 pub mod Runs
 pub mod RunStanding
 pub mod Blame

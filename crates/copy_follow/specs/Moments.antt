@@ -4,8 +4,8 @@ use Rattle.tlog_tiles.specs.declared.paths.Path.TheVariants.{Checkpoint}
 use Rattle.tlog_tiles.specs.Tiles.{IsWithin}
 use Rattle.mirror_sources.specs.Recorded.{AddsToRecord}
 use Rattle.mirror_folders.specs.Shelf.{Put, HasPut}
-use Rattle.log_paths.specs.Holding.{IsMoment}
-use Rattle.log_paths.specs.Holding.{HoldsFiles}
+use Rattle.mirror_folders.specs.Holding.{IsMoment}
+use Rattle.mirror_folders.specs.Holding.{HoldsFiles}
 use Rattle.copy_follow.specs.Copies.{IsCopy}
 
 -- "so" holds at each moment of a call that puts file after file

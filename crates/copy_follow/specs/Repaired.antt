@@ -12,7 +12,7 @@ use Rattle.mirror_sources.specs.Files.{full_of, width_named}
 use Rattle.mirror_sources.specs.Honest.{true_bytes}
 use Rattle.mirror_sources.specs.Recorded.{AddsToRecord}
 use Rattle.mirror_folders.specs.Shelf.{HasPut, Put, Stands}
-use Rattle.log_paths.specs.Holding.{IsMoment}
+use Rattle.mirror_folders.specs.Holding.{IsMoment}
 use Rattle.log_reader.specs.EdgeRows.{Edge, RowIsTrue, edge_tile, row_at}
 use Rattle.log_reader.specs.Holding.{GoesOn, IsTreeFile}
 use Rattle.copy_places.specs.Giving.{IsFirstOf}

@@ -1,5 +1,5 @@
 //! A copy that is brought to a larger candidate.
-ghost use Rattle.std.specs.Prelude.{◌≡◌, ◌≢◌, ◌⊎◌, ◌<◌, ℕ, Err, IfErr, IfOk, IfSome, IsErr, List, Option, Some, option_map, ⊤};
+ghost use Rattle.std.specs.Prelude.{◌≡◌, ◌≢◌, ◌⊎◌, ◌<◌, ℕ, Err, Ok, IfErr, IfOk, IfSome, IsErr, List, Option, Some, option_map, ⊤};
 ghost use Rattle.tlog_tiles.specs.declared.paths.Path.TheVariants.{Checkpoint};
 ghost use Rattle.mirror_folders.specs.Shelf.{Put, RecordsRead};
 ghost use Rattle.mirror_sources.specs.Recorded.{KeepsRecord};
@@ -18,6 +18,7 @@ ghost use Rattle.copy_follow.specs.Ending.{EndsAt, EndsRun, IsOfConflict, IsOfOt
 ghost use Rattle.copy_follow.specs.OneHonestRun.{IsBroughtOr, IsHonestTurn};
 ghost use Rattle.copy_follow.specs.Runs.{KeepsUnder};
 ghost use Rattle.copy_follow.specs.Turning.{ShowsTurn};
+ghost use Rattle.tlog_proof.specs.declared.proof.Proof.{Proof};
 ghost use Rattle.copy_follow.specs.RunStanding.{EachStays, HasStanding, HoldsNoCopy, HoldsNoSmaller, IsHeadOf, StandsAfter};
 ghost use Rattle.copy_follow.specs.TurnsTaken.{IsLargerThan, SaysTurn};
 
@@ -159,6 +160,29 @@ pub(crate) fn contradict<H: TreeHash, D: ReadableShelf, S: Source + Drop>(
     outcome_of(found)
 }
 
+// The fork, if its proof was made; else the candidate was not had, as before.
+fn fork_or(fault: FollowFault, asked: Result<Outcome, FollowFault>) -> Result<Outcome, FollowFault>
+    ensures fork { (proof : Option Proof) → asked ≡ Ok (Outcome.Forks proof) → result ≡ asked }
+    ensures source { IfOk result (λ turn. turn ≡ Outcome.NotHad FollowFault.Source
+        → fault ≡ FollowFault.Source) }
+    ensures after { IfOk result (λ turn. (digest : List ℕ → List ℕ) (origin : List ℕ)
+        (candidate : Candidate) (old new : Option (List Put)) → EachStays digest origin old new
+        → StandsAfter digest origin candidate old new turn) }
+    ensures shows { (digest : List ℕ → List ℕ) (copy : Option Candidate) (candidate : Candidate)
+        → IfOk asked (ShowsTurn digest copy candidate)
+        → IfOk result (ShowsTurn digest copy candidate) }
+    ensures says { IfOk result (λ turn. (digest : List ℕ → List ℕ) (copy candidate : Candidate)
+        → copy.size.0 < candidate.size.0 → SaysTurn digest (Some copy) candidate turn) }
+    ensures ends { IfErr asked (EndsRun ⊥ ⊥) → IfErr result (EndsRun ⊥ ⊥) }
+    ensures counted { (old new : ℕ) → CountsFollow old new asked → CountsFollow old new result }
+{
+    match asked {
+        Ok(Outcome::Forks(proof)) => Ok(Outcome::Forks(proof)),
+        Ok(_) => Ok(Outcome::NotHad(fault)),
+        Err(error) => Err(error),
+    }
+}
+
 /// The turn of a candidate that is larger than the copy. No place is asked twice for a path, also if it is a fork.
 pub(crate) fn take_larger<H: TreeHash, D: ReadableShelf, S: Source + Drop>(
     alloc: Global,
@@ -194,6 +218,11 @@ pub(crate) fn take_larger<H: TreeHash, D: ReadableShelf, S: Source + Drop>(
     };
     match turn {
         Outcome::Contradicts => contradict::<H, D, S>(alloc, shelf, places, copy, candidate),
+        // A file of the growth that nobody has may be none of the proof's: the bundle in which the copy ends is its row's part.
+        Outcome::NotHad(fault) => {
+            let asked = contradict::<H, D, S>(alloc, shelf, places, copy, candidate);
+            fork_or(fault, asked)
+        }
         turn => Ok(turn),
     }
 }

@@ -1,5 +1,5 @@
 //! The partial bundle at the right edge.
-ghost use Rattle.std.specs.Prelude.{◌≢◌, ◌*◌, ◌^◌, ◌<◌, ◌≤◌, [], ℕ, List, IfErr, IfOk, IfSome, Some, length, take};
+ghost use Rattle.std.specs.Prelude.{◌≢◌, ◌*◌, ◌^◌, ◌<◌, ◌≤◌, [], ℕ, List, IfErr, IfNone, IfOk, IfSome, Some, length, take};
 ghost use Rattle.tlog_shape.specs.Edge.{edge_index_of};
 ghost use Rattle.mirror_sources.specs.Files.{full_of};
 ghost use Rattle.mirror_sources.specs.Recorded.{KeepsRecord};
@@ -11,6 +11,7 @@ ghost use Rattle.copy_places.specs.PlaceGets.{AsksPlaces};
 ghost use Rattle.copy_follow.specs.Conflicts.{ConflictPutsNothing, IsNoConflict};
 ghost use Rattle.log_reader.specs.Verified.{HasLeaves};
 ghost use Rattle.copy_follow.specs.Growing.{IsKnown};
+ghost use Rattle.copy_follow.specs.Lacked.{IsRecorded};
 ghost use Rattle.log_reader.specs.EdgeRows.{HasWidths};
 ghost use Rattle.copy_follow.specs.Edges.{BringsEdgeBundle};
 ghost use Rattle.copy_places.specs.TruePlaces.{HasTruePlace};
@@ -49,6 +50,9 @@ pub(crate) fn edge_bundle_on_shelf<H: TreeHash, D: ReadableShelf>(
     ensures counted { CountsShelf (D.failed shelf.old) (D.failed shelf.new) result }
     ensures taken { IfOk result (λ found. IfSome found
         (λ bytes. PartOf (WasPut (D.puts shelf.old)) path.now bytes.items)) }
+    ensures none { IfOk result (λ found. IfNone found ((bytes : List ℕ)
+        → IsRecorded (D.puts shelf.old) path.now bytes
+        → ¬ HasLeaves H.digest (length row.now) bytes row.now)) }
 {
     let Some(bytes) = read_partial(alloc, shelf, path)? else {
         return Ok(None);

@@ -1,5 +1,5 @@
 //! A full file that verifies, from the shelf or from a place.
-ghost use Rattle.std.specs.Prelude.{◌≡◌, ℕ, List, IfErr, IfOk, IfSome};
+ghost use Rattle.std.specs.Prelude.{◌≡◌, ℕ, List, IfErr, IfNone, IfOk, IfSome};
 ghost use Rattle.mirror_sources.specs.Recorded.{KeepsRecord};
 ghost use Rattle.mirror_model.specs.TrueLaws.{AreShort};
 ghost use Rattle.log_reader.specs.Verified.{Verifies};
@@ -8,7 +8,8 @@ ghost use Rattle.copy_places.specs.PlaceGets.{AsksPlaces};
 ghost use Rattle.copy_places.specs.TruePlaces.{HasTruePlace, IsFileUnder};
 ghost use Rattle.copy_follow.specs.Conflicts.{IsNoConflict};
 ghost use Rattle.copy_follow.specs.Faults.{BlamesPlaces, CountsShelf, IsOfNoPlace};
-ghost use Rattle.copy_follow.specs.Suffices.{IsNoLack};
+ghost use Rattle.copy_follow.specs.Lacked.{IsFoundNowhere, IsRecorded};
+ghost use Rattle.copy_follow.specs.Suffices.{IsNoLack, IsSpared};
 ghost use Rattle.copy_follow.specs.Taken.{MayTake, WasPut};
 
 use crate::bring_fault::{BringFault, fault_of};
@@ -36,6 +37,9 @@ fn file_on_shelf<H: TreeHash, D: ReadableShelf>(
     ensures counted { CountsShelf (D.failed shelf.old) (D.failed shelf.new) result }
     ensures taken { IfOk result (λ found. IfSome found
         (λ f. WasPut (D.puts shelf.old) path.now f.bytes.items)) }
+    ensures none { IfOk result (λ found. IfNone found ((bytes : List ℕ)
+        → IsRecorded (D.puts shelf.old) path.now bytes → (row : List (List ℕ))
+        → ¬ Verifies H.digest kind hash.now bytes row)) }
 {
     let Some(bytes) = shelf.read(path)? else {
         return Ok(None);
@@ -95,16 +99,22 @@ pub(crate) fn look_for<H: TreeHash, D: ReadableShelf, S: Source + Drop>(
     ensures found { IfOk result (λ found. IfSome found
         (λ f. Verifies H.digest kind hash.now f.bytes.items f.row.items)) }
     ensures same { KeepsRecord (D.puts shelf.old) (D.puts shelf.new) }
+    ensures spared { IfErr result IsSpared }
     ensures counted { CountsShelf (D.failed shelf.old) (D.failed shelf.new) result }
     ensures asks { AsksPlaces S.may_answer S.failed S.asked (λ p. p ≡ path.now)
         places.old places.new }
     ensures taken { IfOk result (λ found. IfSome found
         (λ f. MayTake S.may_answer places.old (D.puts shelf.old) path.now f.bytes.items)) }
+    ensures none { IfOk result (λ found. IfNone found (IsFoundNowhere H.digest S.may_answer
+        places.old places.new (D.puts shelf.old) kind path.now hash.now)) }
 {
-    match find::<H, D, S>(alloc, shelf, places, kind, path, hash, bundles) {
-        Ok(found) => Ok(Some(found)),
-        Err(BringFault::NoFile) => Ok(None),
-        Err(BringFault::Source) => Ok(None),
-        Err(fault) => Err(fault),
+    match file_on_shelf::<H, D>(alloc, shelf, kind, path, hash) {
+        Ok(Some(found)) => return Ok(Some(found)),
+        Ok(None) => {}
+        Err(fault) => return Err(fault),
+    }
+    match file_at_places::<H, S>(alloc, places, kind, path, hash, bundles) {
+        Ok(found) => Ok(found),
+        Err(_) => Err(BringFault::OutOfMemory),
     }
 }

@@ -11,11 +11,7 @@ use mirror_folders::ReadableShelf;
 use tlog_tiles::Path;
 
 // Whether the shelf has these bytes at the path.
-pub(crate) fn stands<D: ReadableShelf>(
-    shelf: &mut D,
-    path: &Path,
-    bytes: &[u8],
-) -> Result<bool, BringFault>
+fn stands<D: ReadableShelf>(shelf: &mut D, path: &Path, bytes: &[u8]) -> Result<bool, BringFault>
     ensures fault { IfErr result IsNoConflict }
     ensures counted { CountsShelf (D.failed shelf.old) (D.failed shelf.new) result }
     ensures places { IfErr result IsOfNoPlace }

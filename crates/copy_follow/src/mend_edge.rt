@@ -1,6 +1,6 @@
 //! The files of a copy mended, from its edge rows down.
-ghost use Rattle.std.specs.Prelude.{◌≡◌, ◌*◌, ◌^◌, ◌<◌, ◌≤◌, ℕ, List, IfOk, IfSome, IsTrue, length};
-ghost use Rattle.tlog_shape.specs.Edge.{edge_index_of};
+ghost use Rattle.std.specs.Prelude.{◌≡◌, ◌*◌, ◌^◌, ◌<◌, ◌≤◌, ℕ, List, IfErr, IfNone, IfOk, IfSome, IsTrue, OnOk, length};
+ghost use Rattle.tlog_shape.specs.Edge.{edge_index_of, width_of};
 ghost use Rattle.tlog_tiles.specs.declared.paths.Path.TheVariants.{Entries};
 ghost use Rattle.log_reader.specs.EdgeRows.{HasWidths, LeadsTo, RowIsTrue};
 ghost use Rattle.copy_places.specs.Asked.{IsEdgeTile, IsPathOrFull};
@@ -8,22 +8,28 @@ ghost use Rattle.copy_places.specs.Giving.{IsEdgeFrom, PartOf};
 ghost use Rattle.copy_places.specs.PlaceGets.{AsksPlaces};
 ghost use Rattle.log_reader.specs.Verified.{HasLeaves};
 ghost use Rattle.mirror_sources.specs.Recorded.{KeepsRecord};
+ghost use Rattle.copy_places.specs.TrueAnswers.{HasTrueLeaves, IsRootOf};
+ghost use Rattle.copy_places.specs.TruePlaces.{HasTruePlace};
+ghost use Rattle.mirror_model.specs.TrueLaws.{AreShort};
 ghost use Rattle.copy_follow.specs.Asked.{IsNewFull};
+ghost use Rattle.copy_follow.specs.Damaged.{IsEdgeWrong};
 ghost use Rattle.copy_follow.specs.Edges.{IsEdgeBrought};
 ghost use Rattle.copy_follow.specs.Faults.{CountsShelf};
 ghost use Rattle.copy_follow.specs.Growing.{IsKnown, empty_tip};
+ghost use Rattle.copy_follow.specs.Lacked.{GoesDown, GoesOverAll, IsHadOrLacked, IsRecorded};
+ghost use Rattle.copy_follow.specs.Named.{NamesDamaged};
 ghost use Rattle.copy_follow.specs.Repaired.{AreEndsClear, BeginsBundle, CountsPuts, IsClearLog, IsEachHad, IsEdgeCut, IsEndHad, IsOfEdge, MayBeAskedToRepair, Mends, MendsEdgeTile, MendsEdgeTiles, PutsTrue};
-ghost use Rattle.copy_follow.specs.Suffices.{IsEdgeTrue};
+ghost use Rattle.copy_follow.specs.Suffices.{IsEdgeTrue, IsSpared};
 ghost use Rattle.copy_follow.specs.Taken.{FilesAreClear, MayTake};
 
 use crate::bring_fault::BringFault;
-use crate::edge_bundle::find_edge_bundle;
-use crate::find_edge::find_edge;
-use crate::mend::mend_partial;
+use crate::edge_bundle::edge_bundle_on_shelf;
+use crate::find_edge::edge_on_shelf;
+use crate::mend::{mend_partial, note_lack};
 use crate::mend_tiles::{both, mend_row};
 use crate::repaired::Repaired;
 use crate::wider::{edge_in_wider_ones, end_in_wider_ones};
-use copy_places::Places;
+use copy_places::{Places, bundle_at_places, edge_at_places};
 use log_reader::{EdgeRows, edge_path};
 use mirror_folders::ReadableShelf;
 use mirror_sources::Source;
@@ -42,6 +48,7 @@ fn mend_levels<H: TreeHash, D: ReadableShelf, S: Source + Drop>(
 ) -> Result<bool, BringFault>
     requires size { edge.now.size < 2 ^ 63 }
     requires widths { HasWidths edge.now }
+    ensures spared { IfErr result IsSpared }
     ensures counted { CountsShelf (D.failed shelf.old) (D.failed shelf.new) result }
     ensures mends { Mends S.may_answer S.failed S.asked (IsNewFull 0) places.old places.new
         (D.puts shelf.old) (D.puts shelf.new) repaired.old.put repaired.new.put }
@@ -49,6 +56,16 @@ fn mend_levels<H: TreeHash, D: ReadableShelf, S: Source + Drop>(
         → FilesAreClear H.digest log (MayTake S.may_answer places.old (D.puts shelf.old))
         → IsEdgeTrue H.digest log edge.now
         → PutsTrue H.digest log (D.puts shelf.old) (D.puts shelf.new) }
+    ensures goes_on { IfOk result (λ all. (log : List (List ℕ)) → AreShort log
+        → FilesAreClear H.digest log (MayTake S.may_answer places.old (D.puts shelf.old))
+        → IsEdgeTrue H.digest log edge.now
+        → GoesDown H.digest log S.may_answer places.old places.new (D.puts shelf.old)
+        (D.puts shelf.new) 1) }
+    ensures names { IfOk result (λ all. (log : List (List ℕ)) → AreShort log
+        → FilesAreClear H.digest log (MayTake S.may_answer places.old (D.puts shelf.old))
+        → IsEdgeTrue H.digest log edge.now
+        → NamesDamaged H.digest log (D.puts shelf.old) repaired.old.damaged.items
+        repaired.new.damaged.items) }
     ensures whole { IfOk result (λ all. IsTrue all → (known : List (List ℕ))
         → IsKnown H.digest empty_tip 0 known
         → IsEdgeBrought H.digest empty_tip edge.now known 1 (D.puts shelf.old)
@@ -88,6 +105,7 @@ fn mend_edge_tile<H: TreeHash, D: ReadableShelf>(
 ) -> Result<(), BringFault>
     requires level { level ≤ 7 }
     requires widths { HasWidths edge.now }
+    ensures spared { IfErr result IsSpared }
     ensures counted { CountsShelf (D.failed shelf.old) (D.failed shelf.new) result }
     ensures counts { CountsPuts repaired.old.put repaired.new.put
         (D.puts shelf.old) (D.puts shelf.new) }
@@ -95,6 +113,10 @@ fn mend_edge_tile<H: TreeHash, D: ReadableShelf>(
         → RowIsTrue H.digest edge.now entries level
         → MendsEdgeTile H.digest edge.now entries (D.puts shelf.old) (D.puts shelf.new)
         level result }
+    ensures names { OnOk result ((log : List (List ℕ)) → length log ≡ edge.now.size
+        → RowIsTrue H.digest edge.now log level
+        → NamesDamaged H.digest log (D.puts shelf.old) repaired.old.damaged.items
+        repaired.new.damaged.items) }
 {
     let row = edge.row(level);
     if row.is_empty() {
@@ -116,12 +138,17 @@ fn mend_edge_tiles<H: TreeHash, D: ReadableShelf>(
     repaired: &mut Repaired,
 ) -> Result<(), BringFault>
     requires widths { HasWidths edge.now }
+    ensures spared { IfErr result IsSpared }
     ensures counted { CountsShelf (D.failed shelf.old) (D.failed shelf.new) result }
     ensures counts { CountsPuts repaired.old.put repaired.new.put
         (D.puts shelf.old) (D.puts shelf.new) }
     ensures puts { (entries : List (List ℕ)) → length entries ≡ edge.now.size
         → ((level : ℕ) → level ≤ 7 → RowIsTrue H.digest edge.now entries level)
         → MendsEdgeTiles H.digest edge.now entries (D.puts shelf.old) (D.puts shelf.new) result }
+    ensures names { OnOk result ((log : List (List ℕ)) → length log ≡ edge.now.size
+        → ((level : ℕ) → level ≤ 7 → RowIsTrue H.digest edge.now log level)
+        → NamesDamaged H.digest log (D.puts shelf.old) repaired.old.damaged.items
+        repaired.new.damaged.items) }
 {
     for level in 0..8u32 {
         match mend_edge_tile::<H, D>(alloc, shelf, edge, level, repaired) {
@@ -140,6 +167,7 @@ fn edge_found<H: TreeHash, D: ReadableShelf, S: Source + Drop>(
     size: u64,
     root: &Hash,
 ) -> Result<Option<EdgeRows>, BringFault>
+    ensures spared { IfErr result IsSpared }
     ensures counted { CountsShelf (D.failed shelf.old) (D.failed shelf.new) result }
     ensures same { KeepsRecord (D.puts shelf.old) (D.puts shelf.new) }
     ensures asks { AsksPlaces S.may_answer S.failed S.asked (IsEdgeTile size)
@@ -148,12 +176,19 @@ fn edge_found<H: TreeHash, D: ReadableShelf, S: Source + Drop>(
         (λ edge. LeadsTo H.digest size root.now edge)) }
     ensures taken { IfOk result (λ found. IfSome found
         (λ edge. IsEdgeFrom (MayTake S.may_answer places.old (D.puts shelf.old)) size edge)) }
+    ensures none { IfOk result (λ found. IfNone found (
+        IsEdgeWrong (D.puts shelf.old) size H.digest root.now
+        × ((log : List (List ℕ)) → IsRootOf H.digest log size root.now
+        → ¬ HasTruePlace H.digest log S.may_answer places.old places.new))) }
 {
-    match find_edge::<H, D, S>(alloc, shelf, places, size, root) {
-        Ok(edge) => Ok(Some(edge)),
-        Err(BringFault::NoFile) => Ok(None),
-        Err(BringFault::Source) => Ok(None),
-        Err(fault) => Err(fault),
+    match edge_on_shelf::<H, D>(alloc, shelf, size, root) {
+        Ok(Some(edge)) => return Ok(Some(edge)),
+        Ok(None) => {}
+        Err(fault) => return Err(fault),
+    }
+    match edge_at_places::<H, S>(alloc, places, size, root) {
+        Ok(found) => Ok(found),
+        Err(_) => Err(BringFault::OutOfMemory),
     }
 }
 
@@ -166,6 +201,7 @@ fn end_found<H: TreeHash, D: ReadableShelf, S: Source + Drop>(
     row: &[Hash],
 ) -> Result<Option<Vec<u8>>, BringFault>
     requires { length row.now ≤ 256 }
+    ensures spared { IfErr result IsSpared }
     ensures counted { CountsShelf (D.failed shelf.old) (D.failed shelf.new) result }
     ensures same { KeepsRecord (D.puts shelf.old) (D.puts shelf.new) }
     ensures asks { AsksPlaces S.may_answer S.failed S.asked (IsPathOrFull path.now)
@@ -174,12 +210,20 @@ fn end_found<H: TreeHash, D: ReadableShelf, S: Source + Drop>(
         (λ bytes. HasLeaves H.digest (length row.now) bytes.items row.now)) }
     ensures taken { IfOk result (λ found. IfSome found (λ bytes. PartOf
         (MayTake S.may_answer places.old (D.puts shelf.old)) path.now bytes.items)) }
+    ensures none { IfOk result (λ found. IfNone found (
+        ((bytes : List ℕ) → IsRecorded (D.puts shelf.old) path.now bytes
+        → ¬ HasLeaves H.digest (length row.now) bytes row.now)
+        × ((log : List (List ℕ)) → AreShort log → HasTrueLeaves H.digest log path.now row.now
+        → ¬ HasTruePlace H.digest log S.may_answer places.old places.new))) }
 {
-    match find_edge_bundle::<H, D, S>(alloc, shelf, places, path, row) {
-        Ok(bytes) => Ok(Some(bytes)),
-        Err(BringFault::NoFile) => Ok(None),
-        Err(BringFault::Source) => Ok(None),
-        Err(fault) => Err(fault),
+    match edge_bundle_on_shelf::<H, D>(alloc, shelf, path, row) {
+        Ok(Some(bytes)) => return Ok(Some(bytes)),
+        Ok(None) => {}
+        Err(fault) => return Err(fault),
+    }
+    match bundle_at_places::<H, S>(alloc, places, path, row) {
+        Ok(found) => Ok(found),
+        Err(_) => Err(BringFault::OutOfMemory),
     }
 }
 
@@ -192,6 +236,7 @@ pub(crate) fn look_for_edge<H: TreeHash, D: ReadableShelf, S: Source + Drop>(
     size: u64,
     root: &Hash,
 ) -> Result<Option<EdgeRows>, BringFault>
+    ensures spared { IfErr result IsSpared }
     ensures counted { CountsShelf (D.failed shelf.old) (D.failed shelf.new) result }
     ensures same { KeepsRecord (D.puts shelf.old) (D.puts shelf.new) }
     ensures asks { AsksPlaces S.may_answer S.failed S.asked (IsOfEdge size)
@@ -200,6 +245,10 @@ pub(crate) fn look_for_edge<H: TreeHash, D: ReadableShelf, S: Source + Drop>(
         (λ edge. LeadsTo H.digest size root.now edge)) }
     ensures taken { IfOk result (λ found. IfSome found
         (λ edge. IsEdgeCut (MayTake S.may_answer places.old (D.puts shelf.old)) size edge)) }
+    ensures none { IfOk result (λ found. IfNone found (
+        IsEdgeWrong (D.puts shelf.old) size H.digest root.now
+        × ((log : List (List ℕ)) → IsRootOf H.digest log size root.now
+        → ¬ HasTruePlace H.digest log S.may_answer places.old places.new))) }
 {
     match edge_found::<H, D, S>(alloc, shelf, places, size, root) {
         Ok(Some(edge)) => return Ok(Some(edge)),
@@ -224,6 +273,7 @@ fn look_for_end<H: TreeHash, D: ReadableShelf, S: Source + Drop>(
 ) -> Result<Option<Vec<u8>>, BringFault>
     requires width { length row.now ≤ 256 }
     requires path { path.now ≡ Entries (edge_index_of size 0) (length row.now) }
+    ensures spared { IfErr result IsSpared }
     ensures counted { CountsShelf (D.failed shelf.old) (D.failed shelf.new) result }
     ensures same { KeepsRecord (D.puts shelf.old) (D.puts shelf.new) }
     ensures asks { AsksPlaces S.may_answer S.failed S.asked (IsOfEdge size)
@@ -233,6 +283,11 @@ fn look_for_end<H: TreeHash, D: ReadableShelf, S: Source + Drop>(
     ensures taken { IfOk result (λ found. IfSome found
         (λ bytes. BeginsBundle (MayTake S.may_answer places.old (D.puts shelf.old))
         (edge_index_of size 0) bytes.items)) }
+    ensures none { IfOk result (λ found. IfNone found (
+        ((bytes : List ℕ) → IsRecorded (D.puts shelf.old) path.now bytes
+        → ¬ HasLeaves H.digest (length row.now) bytes row.now)
+        × ((log : List (List ℕ)) → AreShort log → HasTrueLeaves H.digest log path.now row.now
+        → ¬ HasTruePlace H.digest log S.may_answer places.old places.new))) }
 {
     match end_found::<H, D, S>(alloc, shelf, places, path, row) {
         Ok(Some(bytes)) => return Ok(Some(bytes)),
@@ -256,6 +311,7 @@ fn mend_end<H: TreeHash, D: ReadableShelf, S: Source + Drop>(
 ) -> Result<bool, BringFault>
     requires widths { HasWidths edge.now }
     requires some { 1 ≤ edge.now.size }
+    ensures spared { IfErr result IsSpared }
     ensures counted { CountsShelf (D.failed shelf.old) (D.failed shelf.new) result }
     ensures asks { AsksPlaces S.may_answer S.failed S.asked (IsOfEdge edge.now.size)
         places.old places.new }
@@ -265,6 +321,16 @@ fn mend_end<H: TreeHash, D: ReadableShelf, S: Source + Drop>(
         → AreEndsClear H.digest log (MayTake S.may_answer places.old (D.puts shelf.old))
         → IsEdgeTrue H.digest log edge.now
         → PutsTrue H.digest log (D.puts shelf.old) (D.puts shelf.new) }
+    ensures goes_on { IfOk result (λ all. (log : List (List ℕ)) → AreShort log
+        → AreEndsClear H.digest log (MayTake S.may_answer places.old (D.puts shelf.old))
+        → IsEdgeTrue H.digest log edge.now → 1 ≤ width_of (length log) 0
+        → IsHadOrLacked H.digest log S.may_answer places.old places.new (D.puts shelf.old)
+        (D.puts shelf.new) (Entries (edge_index_of (length log) 0) (width_of (length log) 0))) }
+    ensures names { IfOk result (λ all. (log : List (List ℕ)) → AreShort log
+        → AreEndsClear H.digest log (MayTake S.may_answer places.old (D.puts shelf.old))
+        → IsEdgeTrue H.digest log edge.now
+        → NamesDamaged H.digest log (D.puts shelf.old) repaired.old.damaged.items
+        repaired.new.damaged.items) }
     ensures whole { IfOk result (λ all. IsTrue all → (known : List (List ℕ))
         → IsKnown H.digest empty_tip (edge_index_of edge.now.size 0 * 256) known
         → IsEndHad H.digest edge.now known (D.puts shelf.old) (D.puts shelf.new)) }
@@ -287,10 +353,10 @@ fn mend_end<H: TreeHash, D: ReadableShelf, S: Source + Drop>(
         row,
     ) {
         Ok(Some(bytes)) => bytes,
-        Ok(None) => {
-            repaired.note_lacked(&path);
-            return Ok(false);
-        }
+        Ok(None) => match note_lack(shelf, &path, repaired) {
+            Ok(()) => return Ok(false),
+            Err(fault) => return Err(fault),
+        },
         Err(fault) => return Err(fault),
     };
     match mend_partial(shelf, &path, &bytes, repaired) {
@@ -311,6 +377,7 @@ pub(crate) fn mend_all<H: TreeHash, D: ReadableShelf, S: Source + Drop>(
     requires size { edge.now.size < 2 ^ 63 }
     requires some { 1 ≤ edge.now.size }
     requires widths { HasWidths edge.now }
+    ensures spared { IfErr result IsSpared }
     ensures counted { CountsShelf (D.failed shelf.old) (D.failed shelf.new) result }
     ensures asks { AsksPlaces S.may_answer S.failed S.asked (MayBeAskedToRepair edge.now.size)
         places.old places.new }
@@ -320,6 +387,16 @@ pub(crate) fn mend_all<H: TreeHash, D: ReadableShelf, S: Source + Drop>(
         → IsClearLog H.digest log (MayTake S.may_answer places.old (D.puts shelf.old))
         → IsEdgeTrue H.digest log edge.now
         → PutsTrue H.digest log (D.puts shelf.old) (D.puts shelf.new) }
+    ensures goes_on { IfOk result (λ all. (log : List (List ℕ)) → AreShort log
+        → IsClearLog H.digest log (MayTake S.may_answer places.old (D.puts shelf.old))
+        → IsEdgeTrue H.digest log edge.now
+        → GoesOverAll H.digest log S.may_answer places.old places.new (D.puts shelf.old)
+        (D.puts shelf.new)) }
+    ensures names { IfOk result (λ all. (log : List (List ℕ)) → AreShort log
+        → IsClearLog H.digest log (MayTake S.may_answer places.old (D.puts shelf.old))
+        → IsEdgeTrue H.digest log edge.now
+        → NamesDamaged H.digest log (D.puts shelf.old) repaired.old.damaged.items
+        repaired.new.damaged.items) }
     ensures whole { IfOk result (λ all. IsTrue all
         → IsEachHad H.digest edge.now (D.puts shelf.old) (D.puts shelf.new)) }
 {

@@ -1,15 +1,18 @@
 //! Full tiles mended, with all files below them. A file that nobody has does not end the walk.
-ghost use Rattle.std.specs.Prelude.{◌≡◌, ◌+◌, ◌*◌, ◌^◌, ◌<◌, ◌≤◌, ℕ, List, IfOk, IsTrue, length};
+ghost use Rattle.std.specs.Prelude.{◌≡◌, ◌+◌, ◌*◌, ◌^◌, ◌<◌, ◌≤◌, ℕ, List, IfErr, IfOk, IsTrue, length};
+ghost use Rattle.mirror_model.specs.TrueLaws.{AreShort};
 ghost use Rattle.copy_follow.specs.Asked.{IsNewFull};
 ghost use Rattle.copy_follow.specs.Faults.{CountsShelf};
 ghost use Rattle.copy_follow.specs.Growing.{IsBrought, IsKnown, IsRowBrought, empty_tip};
+ghost use Rattle.copy_follow.specs.Lacked.{GoesAlong, GoesBelow};
+ghost use Rattle.copy_follow.specs.Named.{NamesDamaged};
 ghost use Rattle.copy_follow.specs.Repaired.{Mends, PutsTrue};
-ghost use Rattle.copy_follow.specs.Suffices.{IsTileHash, IsTileRow};
+ghost use Rattle.copy_follow.specs.Suffices.{IsSpared, IsTileHash, IsTileRow};
 ghost use Rattle.copy_follow.specs.Taken.{FilesAreClear, MayTake};
 
 use crate::bring_fault::BringFault;
 use crate::find::look_for;
-use crate::mend::mend;
+use crate::mend::{mend, note_lack};
 use crate::repaired::Repaired;
 use copy_places::Places;
 use log_reader::FullFile;
@@ -37,6 +40,7 @@ fn mend_bundle<H: TreeHash, D: ReadableShelf, S: Source + Drop>(
     repaired: &mut Repaired,
 ) -> Result<bool, BringFault>
     requires { (index + 1) * 256 ≤ 2 ^ 63 }
+    ensures spared { IfErr result IsSpared }
     ensures counted { CountsShelf (D.failed shelf.old) (D.failed shelf.new) result }
     ensures mends { Mends S.may_answer S.failed S.asked (IsNewFull 0) places.old places.new
         (D.puts shelf.old) (D.puts shelf.new) repaired.old.put repaired.new.put }
@@ -44,6 +48,16 @@ fn mend_bundle<H: TreeHash, D: ReadableShelf, S: Source + Drop>(
         → FilesAreClear H.digest log (MayTake S.may_answer places.old (D.puts shelf.old))
         → IsTileHash H.digest log 0 index hash.now
         → PutsTrue H.digest log (D.puts shelf.old) (D.puts shelf.new) }
+    ensures goes_on { IfOk result (λ all. (log : List (List ℕ)) → AreShort log
+        → FilesAreClear H.digest log (MayTake S.may_answer places.old (D.puts shelf.old))
+        → IsTileHash H.digest log 0 index hash.now
+        → GoesBelow H.digest log S.may_answer places.old places.new (D.puts shelf.old)
+        (D.puts shelf.new) 0 index) }
+    ensures names { IfOk result (λ all. (log : List (List ℕ)) → AreShort log
+        → FilesAreClear H.digest log (MayTake S.may_answer places.old (D.puts shelf.old))
+        → IsTileHash H.digest log 0 index hash.now
+        → NamesDamaged H.digest log (D.puts shelf.old) repaired.old.damaged.items
+        repaired.new.damaged.items) }
     ensures whole { IfOk result (λ all. IsTrue all → (known : List (List ℕ))
         → IsKnown H.digest empty_tip (index * 256) known
         → IsBrought H.digest empty_tip 0 index hash.now known (D.puts shelf.old)
@@ -60,10 +74,10 @@ fn mend_bundle<H: TreeHash, D: ReadableShelf, S: Source + Drop>(
         bundles,
     ) {
         Ok(Some(found)) => found,
-        Ok(None) => {
-            repaired.note_lacked(&path);
-            return Ok(false);
-        }
+        Ok(None) => match note_lack(shelf, &path, repaired) {
+            Ok(()) => return Ok(false),
+            Err(fault) => return Err(fault),
+        },
         Err(fault) => return Err(fault),
     };
     let bytes = match write_row(alloc, &found.row) {
@@ -99,6 +113,7 @@ fn mend_tile<H: TreeHash, D: ReadableShelf, S: Source + Drop>(
 ) -> Result<bool, BringFault>
     requires level { level ≤ 6 }
     requires fits { (index + 1) * 256 ^ (level + 1) ≤ 2 ^ 63 }
+    ensures spared { IfErr result IsSpared }
     ensures counted { CountsShelf (D.failed shelf.old) (D.failed shelf.new) result }
     ensures mends { Mends S.may_answer S.failed S.asked (IsNewFull 0) places.old places.new
         (D.puts shelf.old) (D.puts shelf.new) repaired.old.put repaired.new.put }
@@ -106,6 +121,16 @@ fn mend_tile<H: TreeHash, D: ReadableShelf, S: Source + Drop>(
         → FilesAreClear H.digest log (MayTake S.may_answer places.old (D.puts shelf.old))
         → IsTileHash H.digest log level index hash.now
         → PutsTrue H.digest log (D.puts shelf.old) (D.puts shelf.new) }
+    ensures goes_on { IfOk result (λ all. (log : List (List ℕ)) → AreShort log
+        → FilesAreClear H.digest log (MayTake S.may_answer places.old (D.puts shelf.old))
+        → IsTileHash H.digest log level index hash.now
+        → GoesBelow H.digest log S.may_answer places.old places.new (D.puts shelf.old)
+        (D.puts shelf.new) level index) }
+    ensures names { IfOk result (λ all. (log : List (List ℕ)) → AreShort log
+        → FilesAreClear H.digest log (MayTake S.may_answer places.old (D.puts shelf.old))
+        → IsTileHash H.digest log level index hash.now
+        → NamesDamaged H.digest log (D.puts shelf.old) repaired.old.damaged.items
+        repaired.new.damaged.items) }
     ensures whole { IfOk result (λ all. IsTrue all → (known : List (List ℕ))
         → IsKnown H.digest empty_tip (index * 256 ^ (level + 1)) known
         → IsBrought H.digest empty_tip level index hash.now known (D.puts shelf.old)
@@ -129,10 +154,10 @@ fn mend_tile<H: TreeHash, D: ReadableShelf, S: Source + Drop>(
         bundles,
     ) {
         Ok(Some(found)) => found,
-        Ok(None) => {
-            repaired.note_lacked(&path);
-            return Ok(false);
-        }
+        Ok(None) => match note_lack(shelf, &path, repaired) {
+            Ok(()) => return Ok(false),
+            Err(fault) => return Err(fault),
+        },
         Err(fault) => return Err(fault),
     };
     let all = match mend_row::<H, D, S>(
@@ -163,6 +188,7 @@ pub(crate) fn mend_row<H: TreeHash, D: ReadableShelf, S: Source + Drop>(
     requires level { level ≤ 7 }
     requires width { length row.now ≤ 256 }
     requires fits { (256 * index + length row.now) * 256 ^ level ≤ 2 ^ 63 }
+    ensures spared { IfErr result IsSpared }
     ensures counted { CountsShelf (D.failed shelf.old) (D.failed shelf.new) result }
     ensures mends { Mends S.may_answer S.failed S.asked (IsNewFull 0) places.old places.new
         (D.puts shelf.old) (D.puts shelf.new) repaired.old.put repaired.new.put }
@@ -170,6 +196,16 @@ pub(crate) fn mend_row<H: TreeHash, D: ReadableShelf, S: Source + Drop>(
         → FilesAreClear H.digest log (MayTake S.may_answer places.old (D.puts shelf.old))
         → IsTileRow H.digest log level index row.now
         → PutsTrue H.digest log (D.puts shelf.old) (D.puts shelf.new) }
+    ensures goes_on { IfOk result (λ all. (log : List (List ℕ)) → AreShort log
+        → FilesAreClear H.digest log (MayTake S.may_answer places.old (D.puts shelf.old))
+        → IsTileRow H.digest log level index row.now
+        → GoesAlong H.digest log S.may_answer places.old places.new (D.puts shelf.old)
+        (D.puts shelf.new) level index (length row.now)) }
+    ensures names { IfOk result (λ all. (log : List (List ℕ)) → AreShort log
+        → FilesAreClear H.digest log (MayTake S.may_answer places.old (D.puts shelf.old))
+        → IsTileRow H.digest log level index row.now
+        → NamesDamaged H.digest log (D.puts shelf.old) repaired.old.damaged.items
+        repaired.new.damaged.items) }
     ensures whole { IfOk result (λ all. IsTrue all → (known : List (List ℕ))
         → IsKnown H.digest empty_tip (index * 256 ^ (level + 1)) known
         → IsRowBrought H.digest empty_tip level index row.now known (D.puts shelf.old)

@@ -1,13 +1,17 @@
 //! A copy whose missing and false files are put anew.
-ghost use Rattle.std.specs.Prelude.{◌≡◌, ◌^◌, ◌<◌, [], ℕ, List, Some, IfOk, IsTrue, OnOk, length};
+ghost use Rattle.std.specs.Prelude.{◌≡◌, ◌^◌, ◌<◌, [], ℕ, List, Some, IfErr, IfOk, IsTrue, OnOk, length};
 ghost use Rattle.tlog_hash.specs.Tree.{mth};
 ghost use Rattle.tlog_tiles.specs.declared.paths.Path.TheVariants.{Checkpoint};
 ghost use Rattle.mirror_model.specs.Heads.{IsHead};
+ghost use Rattle.mirror_model.specs.TrueLaws.{AreShort};
 ghost use Rattle.mirror_folders.specs.Shelf.{RecordsRead};
 ghost use Rattle.copy_places.specs.PlaceGets.{AsksPlaces};
 ghost use Rattle.mirror_sources.specs.Recorded.{KeepsRecord};
 ghost use Rattle.copy_follow.specs.Faults.{CountsFault, CountsShelf};
+ghost use Rattle.copy_follow.specs.Lacked.{AtOkOrLack, GoesOverAll};
+ghost use Rattle.copy_follow.specs.Named.{NamesDamaged};
 ghost use Rattle.copy_follow.specs.Repaired.{AsksToRepair, CountsPuts, HasLog, IsClearLog, IsLack, IsRepaired, MayBeAskedToRepair, PutsTrue};
+ghost use Rattle.copy_follow.specs.Suffices.{IsSpared};
 ghost use Rattle.copy_follow.specs.Taken.{MayTake};
 
 use crate::bring_fault::BringFault;
@@ -25,6 +29,7 @@ use tlog_tiles::Path;
 
 // Goes on if the shelf's checkpoint is that note.
 fn check_note<D: ReadableShelf>(shelf: &mut D, note: &[u8]) -> Result<(), BringFault>
+    ensures spared { IfErr result IsSpared }
     ensures counted { CountsShelf (D.failed shelf.old) (D.failed shelf.new) result }
     ensures same { KeepsRecord (D.puts shelf.old) (D.puts shelf.new) }
     ensures read { OnOk result (RecordsRead (D.puts shelf.old) Checkpoint (Some note.now)) }
@@ -55,6 +60,7 @@ fn lack_of<S: Source + Drop>(places: &Places<S>) -> BringFault
 
 // A copy without entries has no file but its checkpoint.
 fn mend_empty<H: TreeHash>(root: &Hash) -> Result<bool, BringFault>
+    ensures spared { IfErr result IsSpared }
     ensures counted { (n : ℕ) → CountsShelf n n result }
     ensures empty { IfOk result (λ all. root.now ≡ H.digest []) }
 {
@@ -76,6 +82,7 @@ fn mend_copy<H: TreeHash, D: ReadableShelf, S: Source + Drop>(
     repaired: &mut Repaired,
 ) -> Result<bool, BringFault>
     requires { size < 2 ^ 63 }
+    ensures spared { IfErr result IsSpared }
     ensures counted { CountsShelf (D.failed shelf.old) (D.failed shelf.new) result }
     ensures asks { AsksPlaces S.may_answer S.failed S.asked (MayBeAskedToRepair size)
         places.old places.new }
@@ -84,6 +91,16 @@ fn mend_copy<H: TreeHash, D: ReadableShelf, S: Source + Drop>(
     ensures keeps { (log : List (List ℕ)) → length log ≡ size → mth H.digest log ≡ root.now
         → IsClearLog H.digest log (MayTake S.may_answer places.old (D.puts shelf.old))
         → PutsTrue H.digest log (D.puts shelf.old) (D.puts shelf.new) }
+    ensures goes_on { IfOk result (λ all. (log : List (List ℕ)) → AreShort log
+        → length log ≡ size → mth H.digest log ≡ root.now
+        → IsClearLog H.digest log (MayTake S.may_answer places.old (D.puts shelf.old))
+        → GoesOverAll H.digest log S.may_answer places.old places.new (D.puts shelf.old)
+        (D.puts shelf.new)) }
+    ensures names { IfOk result (λ all. (log : List (List ℕ)) → AreShort log
+        → length log ≡ size → mth H.digest log ≡ root.now
+        → IsClearLog H.digest log (MayTake S.may_answer places.old (D.puts shelf.old))
+        → NamesDamaged H.digest log (D.puts shelf.old) repaired.old.damaged.items
+        repaired.new.damaged.items) }
     ensures whole { IfOk result (λ all. IsTrue all
         → HasLog H.digest size root.now (D.puts shelf.old) (D.puts shelf.new)) }
 {
@@ -113,6 +130,7 @@ fn mend_noted<H: TreeHash, D: ReadableShelf, S: Source + Drop>(
     repaired: &mut Repaired,
 ) -> Result<bool, BringFault>
     requires { IsHead note.now origin.now size root.now }
+    ensures spared { IfErr result IsSpared }
     ensures counted { CountsShelf (D.failed shelf.old) (D.failed shelf.new) result }
     ensures asks { AsksPlaces S.may_answer S.failed S.asked (MayBeAskedToRepair size)
         places.old places.new }
@@ -121,6 +139,16 @@ fn mend_noted<H: TreeHash, D: ReadableShelf, S: Source + Drop>(
     ensures keeps { (log : List (List ℕ)) → length log ≡ size → mth H.digest log ≡ root.now
         → IsClearLog H.digest log (MayTake S.may_answer places.old (D.puts shelf.old))
         → PutsTrue H.digest log (D.puts shelf.old) (D.puts shelf.new) }
+    ensures goes_on { IfOk result (λ all. (log : List (List ℕ)) → AreShort log
+        → length log ≡ size → mth H.digest log ≡ root.now
+        → IsClearLog H.digest log (MayTake S.may_answer places.old (D.puts shelf.old))
+        → GoesOverAll H.digest log S.may_answer places.old places.new (D.puts shelf.old)
+        (D.puts shelf.new)) }
+    ensures names { IfOk result (λ all. (log : List (List ℕ)) → AreShort log
+        → length log ≡ size → mth H.digest log ≡ root.now
+        → IsClearLog H.digest log (MayTake S.may_answer places.old (D.puts shelf.old))
+        → NamesDamaged H.digest log (D.puts shelf.old) repaired.old.damaged.items
+        repaired.new.damaged.items) }
     ensures whole { IfOk result (λ all. IsTrue all
         → IsRepaired H.digest origin.now note.now (D.puts shelf.old) (D.puts shelf.new)) }
 {
@@ -151,7 +179,7 @@ fn mend_noted<H: TreeHash, D: ReadableShelf, S: Source + Drop>(
 /// A file that nobody has stays as it is, and so does all below a tile that nobody has. The rest is repaired.
 ///
 /// ```text
-/// let mut repaired = Repaired::new();
+/// let mut repaired = Repaired::new(alloc);
 /// repair_copy::<Sha256Tree, MemShelf, ListSource<Sha256Tree>>(alloc, "ex", &mut shelf, &mut places, &note, &mut repaired)?;
 /// repaired.put() // 1
 /// ```
@@ -181,6 +209,16 @@ pub fn repair_copy<H: TreeHash, D: ReadableShelf, S: Source + Drop>(
         → IsHead note.now origin.now (length log) (mth H.digest log)
         → IsClearLog H.digest log (MayTake S.may_answer places.old (D.puts shelf.old))
         → PutsTrue H.digest log (D.puts shelf.old) (D.puts shelf.new) }
+    ensures goes_on { AtOkOrLack result ((log : List (List ℕ)) → AreShort log
+        → IsHead note.now origin.now (length log) (mth H.digest log)
+        → IsClearLog H.digest log (MayTake S.may_answer places.old (D.puts shelf.old))
+        → GoesOverAll H.digest log S.may_answer places.old places.new (D.puts shelf.old)
+        (D.puts shelf.new)) }
+    ensures names { AtOkOrLack result ((log : List (List ℕ)) → AreShort log
+        → IsHead note.now origin.now (length log) (mth H.digest log)
+        → IsClearLog H.digest log (MayTake S.may_answer places.old (D.puts shelf.old))
+        → NamesDamaged H.digest log (D.puts shelf.old) repaired.old.damaged.items
+        repaired.new.damaged.items) }
     ensures whole { OnOk result
         (IsRepaired H.digest origin.now note.now (D.puts shelf.old) (D.puts shelf.new)) }
 {

@@ -151,10 +151,10 @@ bundle_cut entries index width le = ap bundle_text (take-take width 256 (drop (2
 
 module _ (digest : List ℕ → List ℕ) (hash : IsDigest digest) (entries : List (List ℕ)) (short : AreShort entries) where
   -- a full file begins with the partial file
-  pub full_begins : (n : ℕ) (path : Path) → IsWithin n path →
+  pub full_begins : (n : ℕ) (path : Path) → IsWithin n path → IsWithin (length entries) (full_of path) →
       GoesOn path (true_bytes digest entries path) (true_bytes digest entries (full_of path))
-  full_begins n Checkpoint within = absurd within
-  full_begins n (Tile level index width) within =
+  full_begins n Checkpoint within whole = absurd within
+  full_begins n (Tile level index width) within whole =
       let full = tile_bytes digest entries level index 256 in
       let row = (served_is_read digest hash entries short).tile level index 256 in
       record {
@@ -162,14 +162,14 @@ module _ (digest : List ℕ → List ℕ) (hash : IsDigest digest) (entries : Li
         bytes_are = sym (take-append-drop (32 * width) full)
             ∙ ap (λ (l : List ℕ). l ++ drop (32 * width) full)
             (tile_cut digest hash entries level index width full within.upto refl);
-        long = length-row_text (level_row digest entries level (256 * index) 256) row.sizes ∙ ap (λ k. 32 * k) row.count;
+        whole = length-row_text (level_row digest entries level (256 * index) 256) row.sizes ∙ ap (λ k. 32 * k) row.count;
       }
-  full_begins n (Entries index width) within =
+  full_begins n (Entries index width) within whole =
       let es = part (256 * index) 256 entries in
       record {
         rest = bundle_text (drop width es);
         bytes_are = ap bundle_text (sym (take-append-drop width es))
             ∙ (flat_map-append entry_text (take width es) (drop width es)
             ∙ ap (λ (l : List ℕ). l ++ bundle_text (drop width es)) (bundle_cut entries index width within.upto));
-        long = tt;
+        whole = (es, (served_is_read digest hash entries short).bundle index 256 whole);
       }

@@ -26,4 +26,5 @@ pub mod Points
 pub mod LineLists
 pub mod Lines
 pub mod WayFiles
+pub mod ReadFiles
 pub mod GivenFiles

@@ -1,11 +1,10 @@
 -- The way down from the edge of the larger tree, step by step, and the files in memory for it.
-use Rattle.std.proofs.Common.{◌≡◌, ◌≢◌, inl, inr, ℕ, ◌+◌, ◌*◌, ◌/◌, ◌%◌, ◌^◌, ◌<◌, ◌≤◌, List, [], ◌∷◌, All, length, get_or}
+use Rattle.std.proofs.Common.{◌≡◌, ◌≢◌, inl, inr, ℕ, ◌+◌, ◌*◌, ◌/◌, ◌%◌, ◌^◌, ◌<◌, ◌≤◌, List, [], ◌∷◌, ◌++◌, All, length, get_or}
 use Rattle.std.proofs.Common.{Option, Some, None, OnOk, Ok, Err, Result, refl, sym, ap, subst, ◌∙◌, arith}
-use Rattle.std.specs.Prelude.{option_map}
 use Rattle.std.specs.List.{AllByRecursion, Contains}
 use Rattle.std.proofs.Math.Nat.{div-mul-le_self}
 use Rattle.std.proofs.lemmas.Bool.{cases_lt}
-use Rattle.std.proofs.lemmas.List.Elements.{All-append, All-cons, All-from_recursion, All-nil, All-weaker, Contains-append_right}
+use Rattle.std.proofs.lemmas.List.Elements.{All-append, All-cons, All-contains, All-from_recursion, All-nil, All-weaker, Contains-append_left, Contains-append_right}
 use Rattle.std.proofs.lemmas.Nat.{le-div}
 use Rattle.tlog_text.specs.Hash.{Is32Bytes}
 use Rattle.tlog_shape.specs.Edge.{edge_index_of, width_of}
@@ -17,12 +16,12 @@ use Rattle.tlog_tiles.specs.declared.paths.Path.TheVariants.{Tile}
 use Rattle.tlog_tiles.specs.Row.{row_text}
 use Rattle.tlog_tiles.proofs.EdgeLemmas.{hashes_of}
 use Rattle.mirror_model.specs.Strings.{IsDigest}
-use Rattle.mirror_model.specs.TrueLaws.{AreShort}
 use Rattle.mirror_sources.specs.Honest.{true_bytes}
 use Rattle.mirror_sources.specs.Recorded.{KeepsRecord}
+use Rattle.mirror_sources.specs.Source.{File}
 use Rattle.mirror_folders.specs.Shelf.{Put, RecordsRead}
-use Rattle.log_reader.specs.EdgeRows.{Edge, edge_tile, row_at}
-use Rattle.log_reader.specs.Holding.{IsHeldAnswer, IsSourceOf}
+use Rattle.log_reader.specs.EdgeRows.{Edge, RowIsTrue, row_at}
+use Rattle.log_reader.specs.Holding.{HasFullTiles}
 use Rattle.log_reader.specs.Truth.{IsListClear}
 use Rattle.log_reader.specs.Ways.{AreHashesOf, HasEdgeHashes, IsRowUnder, IsWay, way_strings}
 use Rattle.log_reader.specs.declared.verify.FullFile.{FullFile}
@@ -33,8 +32,7 @@ use Rattle.copy_places.specs.declared.end_tiles.EndTile.{EndTile}
 use Rattle.copy_places.proofs.AskingEnds.{kept_later}
 use Rattle.copy_places.specs.Nobodys.{IsFileOf, IsNobodys, IsReadInVain, IsRowNobodys, LacksRow}
 use Rattle.copy_places.specs.ReadFiles.{IsRead}
-use Rattle.copy_places.specs.WayFiles.{AddsTile, AreWayFiles, IsEdgeFile, IsOnWay, IsReadFile, IsTileFile, IsWayFile}
-use Rattle.copy_places.specs.declared.proof_files.ReadFile.{ReadFile}
+use Rattle.copy_places.specs.WayFiles.{AreWayFiles, HasWanted, IsOnWay, IsWayFile}
 
 -- ---- indices
 
@@ -97,63 +95,30 @@ module _ (digest : List ℕ → List ℕ) (old new : Option (List Put)) (kept : 
 
 -- ---- files
 
-pub files_more : (P : ReadFile → Type 0) (path : Path) (row : List (List ℕ)) (old new : List ReadFile) → All P old →
-    AddsTile path row old new → ((file : ReadFile) → IsTileFile path row file → P file) → All P new
-files_more P path row old new all adds one =
-    subst (All P) (sym adds.new_is)
-    (All-append P old (adds.file ∷ []) all (All-cons P adds.file [] (one adds.file adds.is) (All-nil P)))
+lower_file : (level index : ℕ) (row : List (List ℕ)) (way : List (List (List ℕ))) (file : File) →
+    IsWayFile (level + 1) (index / 256) way file → IsWayFile level index (row ∷ way) file
+lower_file level index row way file is = inr is
 
-pub ok_weaker : {T E : Type 0} (r : Result T E) (P Q : Type 0) → (P → Q) → OnOk r P → OnOk r Q
-ok_weaker (Ok x) P Q f h = f h
-ok_weaker (Err e) P Q f h = tt
-
--- the tile of a level of the edge is added
-pub edge_tile_added : (edge : Edge) (level : ℕ) (path : Path) (row : List (List ℕ)) (old new : List ReadFile) → level ≤ 7 →
-    path ≡ edge_tile edge level → row ≡ row_at edge level → AddsTile path row old new → All (IsEdgeFile edge) old →
-    All (IsEdgeFile edge) new
-edge_tile_added edge level path row old new low path_is row_is adds all =
-    files_more (IsEdgeFile edge) path row old new all adds (λ file is. record {
-      level = level;
-      low = low;
-      is = subst (λ p. IsTileFile p (row_at edge level) file) path_is (subst (λ r. IsTileFile path r file) row_is is);
-    })
-
-module _ (edge : Edge) where
-  pub edge_files : (level index : ℕ) (way : List (List (List ℕ))) (files : List ReadFile) → All (IsEdgeFile edge) files →
-      All (IsReadFile edge level index way) files
-  edge_files level index way files all =
-      All-weaker (IsEdgeFile edge) (IsReadFile edge level index way) (λ file is. inl is) files all
-
-  only_edge : (level index : ℕ) (file : ReadFile) → IsReadFile edge level index [] file → IsEdgeFile edge file
-  only_edge level index file (inl is) = is
-  only_edge level index file (inr is) = absurd is
-
-  -- without a way all files are those of the edge
-  pub no_way_files : (level index : ℕ) (way : List (List (List ℕ))) (files : List ReadFile) → way ≡ [] →
-      All (IsReadFile edge level index way) files → All (IsEdgeFile edge) files
-  no_way_files level index way files none all =
-      All-weaker (IsReadFile edge level index []) (IsEdgeFile edge) (λ file is. only_edge level index file is) files
-      (subst (λ w. All (IsReadFile edge level index w) files) none all)
-
-  lower_file : (level index : ℕ) (row : List (List ℕ)) (way : List (List (List ℕ))) (file : ReadFile) →
-      IsReadFile edge (level + 1) (index / 256) way file → IsReadFile edge level index (row ∷ way) file
-  lower_file level index row way file (inl is) = inl is
-  lower_file level index row way file (inr is) = inr (inr is)
+-- without a way there are no files
+no_way_files : (level index below at : ℕ) (way : List (List (List ℕ))) (files : List File) → way ≡ [] →
+    All (IsWayFile level index way) files → All (IsWayFile below at []) files
+no_way_files level index below at way files none all =
+    subst (λ w. All (IsWayFile level index w) files) none all
 
 module _ (digest : List ℕ → List ℕ) (first : ℕ) (edge : Edge) where
   -- the way begins at the edge
-  pub way_begun : (row : List (List ℕ)) (files : List ReadFile) → first < 2 ^ 64 → edge.size < 2 ^ 64 → row ≡ row_at edge 7 →
-      All (IsEdgeFile edge) files → IsOnWay digest first edge 7 row files
-  way_begun row files few small is all = record {
+  pub way_begun : (row : List (List ℕ)) (files : List File) → first < 2 ^ 64 → edge.size < 2 ^ 64 → row ≡ row_at edge 7 →
+      files ≡ [] → IsOnWay digest first edge 7 row files
+  way_begun row files few small is none = record {
     way = [];
     is_way = (omega arith, no_index first few ∙ sym (no_index edge.size small));
     row_is = is;
     at_edge = λ same. refl;
-    are = edge_files edge 7 (edge_index_of first 7) [] files all;
+    are = subst (All (IsWayFile 7 (edge_index_of first 7) [])) (sym none) (All-nil (IsWayFile 7 (edge_index_of first 7) []));
   }
 
   -- a step to the next tile of the edge
-  pub way_at_edge : (level : ℕ) (above row : List (List ℕ)) (files : List ReadFile) → level ≤ 7 →
+  pub way_at_edge : (level : ℕ) (above row : List (List ℕ)) (files : List File) → level ≤ 7 →
       edge_index_of first level ≡ edge_index_of edge.size level → row ≡ row_at edge level →
       IsOnWay digest first edge (level + 1) above files → IsOnWay digest first edge level row files
   way_at_edge level above row files low same is w =
@@ -164,15 +129,14 @@ module _ (digest : List ℕ → List ℕ) (first : ℕ) (edge : Edge) where
         is_way = (low, same);
         row_is = is;
         at_edge = λ e. refl;
-        are = edge_files edge level (edge_index_of first level) [] files
-            (no_way_files edge (level + 1) (edge_index_of first (level + 1)) w.way files
-            (w.at_edge (omega (arith, same, up, over))) w.are);
+        are = no_way_files (level + 1) (edge_index_of first (level + 1)) level (edge_index_of first level) w.way files
+            (w.at_edge (omega (arith, same, up, over))) w.are;
       }
 
   -- a step to a full tile
-  pub way_lower : (level : ℕ) (above row : List (List ℕ)) (old new : List ReadFile) →
+  pub way_lower : (level : ℕ) (above row : List (List ℕ)) (old new : List File) →
       edge_index_of first level ≢ edge_index_of edge.size level → IsRowUnder digest above (edge_index_of first level % 256) row →
-      AddsTile (Tile level (edge_index_of first level) 256) row old new → IsOnWay digest first edge (level + 1) above old →
+      new ≡ old ++ (Tile level (edge_index_of first level) 256, row_text row) ∷ [] → IsOnWay digest first edge (level + 1) above old →
       IsOnWay digest first edge level row new
   way_lower level above row old new differ under adds w =
       let index = edge_index_of first level in
@@ -184,14 +148,16 @@ module _ (digest : List ℕ → List ℕ) (first : ℕ) (edge : Edge) where
         );
         row_is = refl;
         at_edge = λ same. absurd (differ same);
-        are = files_more (IsReadFile edge level index (row ∷ w.way)) (Tile level index 256) row old new
-            (All-weaker (IsReadFile edge (level + 1) (index / 256) w.way) (IsReadFile edge level index (row ∷ w.way))
-            (λ file is. lower_file edge level index row w.way file is) old
-            (subst (λ i. All (IsReadFile edge (level + 1) i w.way) old) up w.are))
-            adds (λ file is. inr (inl is));
+        are = subst (All (IsWayFile level index (row ∷ w.way))) (sym adds)
+            (All-append (IsWayFile level index (row ∷ w.way)) old ((Tile level index 256, row_text row) ∷ [])
+            (All-weaker (IsWayFile (level + 1) (index / 256) w.way) (IsWayFile level index (row ∷ w.way))
+            (λ file is. lower_file level index row w.way file is) old
+            (subst (λ i. All (IsWayFile (level + 1) i w.way) old) up w.are))
+            (All-cons (IsWayFile level index (row ∷ w.way)) (Tile level index 256, row_text row) [] (inl refl)
+            (All-nil (IsWayFile level index (row ∷ w.way)))));
       }
 
-  pub way_files : (level : ℕ) (row : List (List ℕ)) (files : List ReadFile) → IsOnWay digest first edge level row files →
+  pub way_files : (level : ℕ) (row : List (List ℕ)) (files : List File) → IsOnWay digest first edge level row files →
       AreWayFiles digest edge files
   way_files level row files w = record {
     level = level;
@@ -202,7 +168,7 @@ module _ (digest : List ℕ → List ℕ) (first : ℕ) (edge : Edge) where
   }
 
   -- the row above has the hash of the full tile
-  pub hash_within : HasEdgeHashes edge → (level : ℕ) (above : List (List ℕ)) (files : List ReadFile) → first < edge.size →
+  pub hash_within : HasEdgeHashes edge → (level : ℕ) (above : List (List ℕ)) (files : List File) → first < edge.size →
       edge_index_of first level ≢ edge_index_of edge.size level → IsOnWay digest first edge (level + 1) above files →
       edge_index_of first level % 256 < length above
   hash_within hashes level above files less differ w =
@@ -217,7 +183,7 @@ module _ (digest : List ℕ → List ℕ) (first : ℕ) (edge : Edge) where
 
   -- nobody has the next row
   pub row_lacking : HasEdgeHashes edge → (old new : Option (List Put)) → KeepsRecord old new → (tiles : List EndTile) (m n : ℕ) →
-      m ≡ n → (level : ℕ) → level ≤ 6 → (above : List (List ℕ)) (files : List ReadFile) → first < edge.size →
+      m ≡ n → (level : ℕ) → level ≤ 6 → (above : List (List ℕ)) (files : List File) → first < edge.size →
       edge_index_of first level ≢ edge_index_of edge.size level →
       ((below : ℕ) × (below ≤ level) × (1 ≤ width_of first below)) → IsOnWay digest first edge (level + 1) above files →
       (edge_index_of first level % 256 < length above → IsRowNobodys digest new tiles m level (edge_index_of first level)
@@ -238,18 +204,17 @@ module _ (digest : List ℕ → List ℕ) (first : ℕ) (edge : Edge) where
 module _ (digest : List ℕ → List ℕ) (hash : IsDigest digest) (entries : List (List ℕ)) (edge : Edge) (hashes : HasEdgeHashes edge)
     (small : edge.size < 2 ^ 64) where
   -- the file has the true bytes of its path
-  abbrev IsTrueFile : ReadFile → Type 0
-  IsTrueFile file = option_map (λ b. b.items) file.found ≡ Some (true_bytes digest entries file.path)
+  abbrev IsTrueFile : File → Type 0
+  IsTrueFile file = file.1 ≡ true_bytes digest entries file.0
 
-  tile_true : (level index width : ℕ) (row : List (List ℕ)) (file : ReadFile) → IsTileFile (Tile level index width) row file →
+  tile_true : (level index width : ℕ) (row : List (List ℕ)) (file : File) → file ≡ (Tile level index width, row_text row) →
       row ≡ level_row digest entries level (256 * index) width → IsTrueFile file
   tile_true level index width row file is true =
-      is.bytes_are
-      ∙ (ap (λ (r : List (List ℕ)). Some (row_text r)) true ∙ ap (λ p. Some (true_bytes digest entries p)) (sym is.path_is))
+      ap (λ (f : File). f.1) is ∙ (ap row_text true ∙ ap (λ (f : File). true_bytes digest entries f.0) (sym is))
 
   module _ (whole : List (List (List ℕ))) (clear : IsListClear digest edge whole entries) where
     way_true : (level index : ℕ) (way : List (List (List ℕ))) → IsWay digest edge level index way →
-        ((y : List ℕ) → Contains (way_strings digest way) y → Contains (way_strings digest whole) y) → (file : ReadFile) →
+        ((y : List ℕ) → Contains (way_strings digest way) y → Contains (way_strings digest whole) y) → (file : File) →
         IsWayFile level index way file → IsTrueFile file
     way_true level index [] w all file is = absurd is
     way_true level index (row ∷ above) w all file (inl is) =
@@ -261,34 +226,77 @@ module _ (digest : List ℕ → List ℕ) (hash : IsDigest digest) (entries : Li
         way_true (level + 1) (index / 256) above w.1
         (λ y m. all y (Contains-append_right (joins digest row) (way_strings digest above) y m)) file is
 
-    edge_true : (file : ReadFile) → IsEdgeFile edge file → IsTrueFile file
-    edge_true file e =
-        let index = edge_index_of edge.size e.level in
-        let t = true_way digest hash entries edge hashes small whole clear e.level index [] (e.low, refl) (λ y m. let lt = m.1 in absurd (omega (arith, lt))) in
-        tile_true e.level index (width_of edge.size e.level) (row_at edge e.level) file e.is
-        (t.is ∙ ap (λ n. level_row digest entries e.level (256 * index) n) (hashes e.level e.low).count)
+    -- the rows of the edge are true
+    pub edge_true : (level : ℕ) → level ≤ 7 → RowIsTrue digest edge entries level
+    edge_true level low =
+        let index = edge_index_of edge.size level in
+        let t = true_way digest hash entries edge hashes small whole clear level index [] (low, refl) (λ y m. let lt = m.1 in absurd (omega (arith, lt))) in
+        t.is ∙ ap (λ n. level_row digest entries level (256 * index) n) (hashes level low).count
 
-    file_true : (level index : ℕ) → IsWay digest edge level index whole → (file : ReadFile) →
-        IsReadFile edge level index whole file → IsTrueFile file
-    file_true level index w file (inl is) = edge_true file is
-    file_true level index w file (inr is) = way_true level index whole w (λ y m. m) file is
+    given : (files : List File) → All IsTrueFile files → (path : Path) (answer : Option (List ℕ)) → IsRead files path answer →
+        answer ≡ Some (true_bytes digest entries path)
+    given files all path None read = absurd read
+    given files all path (Some bytes) read = ap Some (All-contains IsTrueFile files (path, bytes) all read)
 
-    held : (path : Path) (answer : Option (List ℕ)) → answer ≡ Some (true_bytes digest entries path) →
-        (may : Path → Option (List ℕ) → Type 0) → IsHeldAnswer digest entries may path answer
-    held path None is may = absurd (cc is)
-    held path (Some bytes) is may = cc is
-
-    some_file : (files : List ReadFile) (at : ℕ) → at < length files → ReadFile
-    some_file [] at lt = absurd (omega (arith, lt))
-    some_file (file ∷ files) at lt = file
-
-    pub files_of_log : AreShort entries → (level index : ℕ) → IsWay digest edge level index whole → (files : List ReadFile) →
-        All (IsReadFile edge level index whole) files → IsSourceOf digest entries (IsRead files)
-    files_of_log short level index w files all = record {
-      short = short;
-      files = λ path tree answer read.
-          let d = some_file files read.at read.file.listed in
-          let true = file_true level index w (get_or files read.at d) (all read.at d read.file.listed) in
-          held path answer
-          (sym (read.found_is d) ∙ (true ∙ ap (λ p. Some (true_bytes digest entries p)) (read.file.is d))) (IsRead files);
+    -- the full tiles that were read are those of the log
+    pub tiles_of_log : (level index : ℕ) → IsWay digest edge level index whole → (files : List File) →
+        All (IsWayFile level index whole) files → HasFullTiles digest entries (IsRead files)
+    tiles_of_log level index w files all = record {
+      tiles = λ l i low fits answer read.
+          given files
+          (All-weaker (IsWayFile level index whole) IsTrueFile (λ file is. way_true level index whole w (λ y m. m) file is) files all)
+          (Tile l i 256) answer read;
     }
+
+-- ---- the files that a proof wants
+
+-- no tile that the proof wants is above the greatest level
+pub wanted_begun : (first n : ℕ) (files : List File) → HasWanted first n 7 files
+wanted_begun first n files level from wanted = absurd (omega (arith, from, wanted.low))
+
+-- the first entries end in the tile of the edge
+pub wanted_at_edge : (first n level : ℕ) (files : List File) → edge_index_of first level ≡ edge_index_of n level →
+    HasWanted first n (level + 1) files → HasWanted first n level files
+wanted_at_edge first n level files same has l from wanted =
+    elim (cases_lt level l) [
+      | inl above ↦ has l (omega (arith, above)) wanted
+      | inr upto ↦
+          let here : l ≡ level = omega (arith, from, upto) in
+          absurd (omega (arith, wanted.is_full, same, ap (λ k. edge_index_of first k) here, ap (λ k. edge_index_of n k) here))
+    ]
+
+-- the tile of the level was added
+pub wanted_added : (first n level : ℕ) (bytes : List ℕ) (old new : List File) →
+    new ≡ old ++ (Tile level (edge_index_of first level) 256, bytes) ∷ [] → HasWanted first n (level + 1) old →
+    HasWanted first n level new
+wanted_added first n level bytes old new adds has l from wanted =
+    let tile : ℕ → Path = λ k. Tile k (edge_index_of first k) 256 in
+    let last : File = (tile level, bytes) in
+    elim (cases_lt level l) [
+      | inl above ↦
+          let there = has l (omega (arith, above)) wanted in
+          record {
+            bytes = there.bytes;
+            listed = subst (λ (fs : List File). Contains fs (tile l, there.bytes)) (sym adds)
+                (Contains-append_left old (last ∷ []) (tile l, there.bytes) there.listed);
+          }
+      | inr upto ↦
+          let here : level ≡ l = omega (arith, from, upto) in
+          record {
+            bytes = bytes;
+            listed = subst (λ (fs : List File). Contains fs (tile l, bytes)) (sym adds)
+                (subst (λ k. Contains (old ++ last ∷ []) (tile k, bytes)) here
+                (Contains-append_right old (last ∷ []) last (0, omega arith, refl)));
+          }
+    ]
+
+-- the first entries end where the tile of the level begins: no lower one is wanted
+pub wanted_no_lower : (first n level : ℕ) (files : List File) → ((below : ℕ) → below ≤ level → width_of first below ≡ 0) →
+    HasWanted first n (level + 1) files → HasWanted first n 0 files
+wanted_no_lower first n level files none has l from wanted =
+    elim (cases_lt level l) [
+      | inl above ↦ has l (omega (arith, above)) wanted
+      | inr upto ↦
+          let some = wanted.inside.2 in
+          absurd (omega (arith, some, none wanted.inside.0 (omega (arith, wanted.inside.1, upto))))
+    ]

@@ -1,5 +1,5 @@
 -- The faults of a call that looks for a proof.
-use Rattle.std.specs.Prelude.{◌≡◌, ℕ, Result, Ok, Err}
+use Rattle.std.specs.Prelude.{◌≡◌, ℕ, Result, Ok, Err, ⊤}
 use Rattle.mirror_sources.specs.Recorded.{one_more}
 use Rattle.mirror_folders.specs.declared.shelf.ShelfError.{ShelfError}
 use Rattle.mirror_folders.specs.declared.shelf.ShelfError.TheVariants as shelf
@@ -18,3 +18,10 @@ CountsAsk old new (Err NoFile) = new ≡ old
 CountsAsk old new (Err ShelfFault) = new ≡ one_more old
 CountsAsk old new (Err OtherFiles) = new ≡ old
 CountsAsk old new (Err OutOfMemory) = new ≡ old
+
+-- the shelf failed, or memory was refused
+abbrev pub IsOfShelf : AskFault → Type 0
+IsOfShelf NoFile = ⊥
+IsOfShelf ShelfFault = ⊤
+IsOfShelf OtherFiles = ⊥
+IsOfShelf OutOfMemory = ⊤

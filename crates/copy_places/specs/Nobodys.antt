@@ -22,6 +22,7 @@ use Rattle.copy_places.specs.KeptRows.{LackMix}
 use Rattle.copy_places.specs.declared.end_tiles.EndTile.{EndTile}
 use Rattle.copy_places.specs.declared.place.PlaceAnswer.{PlaceAnswer}
 use Rattle.copy_places.specs.Forks.{HasPoint}
+use Rattle.copy_places.specs.declared.candidate.Candidate.{Candidate}
 
 -- ---- what nobody has
 
@@ -149,3 +150,7 @@ GivenFilesAreHad =
     (large : Point) → large.size < 2 ^ 64 → (why : CannotBeHad digest puts tiles count first large) →
     (entries : List (List ℕ)) → AreShort entries → HasPoint digest large entries →
     IsReasonClear digest puts tiles count why entries → ¬ AreFilesGiven digest entries tiles count first
+
+-- the sizes are those of two candidates
+abbrev pub IsOfEnds : Candidate → Candidate → ℕ × ℕ → Type 0
+IsOfEnds smaller larger sizes = (sizes.0 ≡ smaller.size.0) × (sizes.1 ≡ larger.size.0)

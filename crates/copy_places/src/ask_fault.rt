@@ -14,7 +14,7 @@ pub enum AskFault {
     NoFile,
     /// The shelf failed.
     ShelfFault,
-    /// The places keep the answers for two other sizes, or the proof needs a file that was not looked for.
+    /// The places keep the answers for two other sizes.
     OtherFiles,
     /// Memory was refused.
     OutOfMemory,

@@ -1,5 +1,5 @@
 //! Verified full files, from the shelf or from a place.
-ghost use Rattle.std.specs.Prelude.{◌≡◌, ◌≢◌, ◌≤◌, IfErr, IfNone, IfOk, IfSome, length};
+ghost use Rattle.std.specs.Prelude.{◌≡◌, ◌≤◌, IfErr, IfNone, IfOk, IfSome, length};
 ghost use Rattle.tlog_shape.specs.Edge.{edge_index_of};
 ghost use Rattle.tlog_hash.specs.Tree.{fold_of};
 ghost use Rattle.mirror_sources.specs.Recorded.{KeepsRecord};
@@ -7,7 +7,7 @@ ghost use Rattle.log_reader.specs.Verified.{Verifies};
 ghost use Rattle.copy_places.specs.AskedEnds.{AsksEnds};
 ghost use Rattle.copy_places.specs.EndTiles.{IsEndTile};
 ghost use Rattle.log_reader.specs.declared.verify.FullFile.TheVariants.{Tile};
-ghost use Rattle.copy_places.specs.Faults.{CountsAsk};
+ghost use Rattle.copy_places.specs.Faults.{CountsAsk, IsOfShelf};
 ghost use Rattle.copy_places.specs.Nobodys.{IsFileOf, IsNobodys, IsReadInVain, IsRowNobodys};
 
 use crate::ask_fault::AskFault;
@@ -29,7 +29,7 @@ fn file_on_shelf<H: TreeHash, D: ReadableShelf>(
 ) -> Result<Option<Found>, AskFault>
     ensures same { KeepsRecord (D.puts shelf.old) (D.puts shelf.new) }
     ensures counted { CountsAsk (D.failed shelf.old) (D.failed shelf.new) result }
-    ensures sure { IfErr result (λ fault. fault ≢ AskFault.NoFile) }
+    ensures sure { IfErr result IsOfShelf }
     ensures found { IfOk result (λ found. IfSome found
         (λ f. Verifies H.digest kind hash.now f.bytes.items f.row.items)) }
     ensures none { IfOk result (λ found. IfNone found (IsReadInVain (D.puts shelf.old) path.now
@@ -53,7 +53,7 @@ fn find_file<H: TreeHash, D: ReadableShelf, S: Source + Drop>(
     requires { IsEndTile places.old.ends.sizes path.now }
     ensures same { KeepsRecord (D.puts shelf.old) (D.puts shelf.new) }
     ensures counted { CountsAsk (D.failed shelf.old) (D.failed shelf.new) result }
-    ensures sure { IfErr result (λ fault. fault ≢ AskFault.NoFile) }
+    ensures sure { IfErr result IsOfShelf }
     ensures goes { AsksEnds S.may_answer S.failed S.asked places.old places.new }
     ensures found { IfOk result (λ found. IfSome found
         (λ f. Verifies H.digest kind hash.now f.bytes.items f.row.items)) }
@@ -79,7 +79,7 @@ fn row_of_tile<H: TreeHash, D: ReadableShelf, S: Source + Drop>(
     requires end { index ≡ edge_index_of places.old.ends.sizes.0 level }
     ensures same { KeepsRecord (D.puts shelf.old) (D.puts shelf.new) }
     ensures counted { CountsAsk (D.failed shelf.old) (D.failed shelf.new) result }
-    ensures sure { IfErr result (λ fault. fault ≢ AskFault.NoFile) }
+    ensures sure { IfErr result IsOfShelf }
     ensures goes { AsksEnds S.may_answer S.failed S.asked places.old places.new }
     ensures row { IfOk result (λ found. IfSome found
         (λ row. fold_of H.digest row.items ≡ hash.now)) }
@@ -110,7 +110,7 @@ fn row_of_leaves<H: TreeHash, D: ReadableShelf, S: Source + Drop>(
     requires { index ≡ edge_index_of places.old.ends.sizes.0 0 }
     ensures same { KeepsRecord (D.puts shelf.old) (D.puts shelf.new) }
     ensures counted { CountsAsk (D.failed shelf.old) (D.failed shelf.new) result }
-    ensures sure { IfErr result (λ fault. fault ≢ AskFault.NoFile) }
+    ensures sure { IfErr result IsOfShelf }
     ensures goes { AsksEnds S.may_answer S.failed S.asked places.old places.new }
     ensures row { IfOk result (λ found. IfSome found
         (λ row. fold_of H.digest row.items ≡ hash.now)) }
@@ -138,7 +138,7 @@ pub(crate) fn find_row<H: TreeHash, D: ReadableShelf, S: Source + Drop>(
     requires end { index ≡ edge_index_of places.old.ends.sizes.0 level }
     ensures same { KeepsRecord (D.puts shelf.old) (D.puts shelf.new) }
     ensures counted { CountsAsk (D.failed shelf.old) (D.failed shelf.new) result }
-    ensures sure { IfErr result (λ fault. fault ≢ AskFault.NoFile) }
+    ensures sure { IfErr result IsOfShelf }
     ensures goes { AsksEnds S.may_answer S.failed S.asked places.old places.new }
     ensures row { IfOk result (λ found. IfSome found
         (λ row. fold_of H.digest row.items ≡ hash.now)) }

@@ -1,43 +1,79 @@
 //! The files of a log for a proof, in memory.
-ghost use Rattle.std.specs.Prelude.{◌≡◌, ◌∷◌, ◌++◌, ◌≤◌, [], All, IfOk, IfSome, OnOk, option_map};
-ghost use Rattle.copy_places.specs.ReadFiles.{IsReadAt};
-ghost use Rattle.copy_places.specs.WayFiles.{AddsTile, IsEdgeFile};
+ghost use Rattle.std.specs.Prelude.{◌≡◌, ◌≢◌, ◌∷◌, ◌++◌, ◌<◌, [], ℕ, Contains, IfNone, IfSome, OnOk, get_or, length};
+ghost use Rattle.copy_places.specs.declared.proof_files.ReadFile.{ReadFile};
+ghost use Rattle.tlog_tiles.specs.Row.{row_text};
+ghost use Rattle.copy_places.specs.ReadFiles.{IsThere};
 
-use log_reader::{EdgeRows, edge_path};
 use mirror_sources::{Source, SourceFault};
 use std::alloc::{AllocError, Global};
+use std::marker::Model;
 use tlog_hash::Hash;
 use tlog_tiles::{Path, write_row};
 
-/// What was found at a path. None: there is no file.
+/// A file.
 #[derive(Drop)]
 pub(crate) struct ReadFile {
     path: Path,
-    found: Option<Vec<u8>>,
+    bytes: Vec<u8>,
 }
 
-/// The files that were read. A get of another path fails.
+/// The files that were read.
 #[derive(Drop)]
 pub(crate) struct ReadFiles {
-    alloc: Global,
     files: Vec<ReadFile>,
-    failures: u64,
 }
 
-// A copy of what was found.
-fn copy_of(alloc: Global, found: &Option<Vec<u8>>) -> Result<Option<Vec<u8>>, AllocError>
-    ensures { IfOk result (λ copy. option_map (λ b. b.items) copy
-        ≡ option_map (λ b. b.items) found.now) }
-{
-    match found {
-        Some(bytes) => Ok(Some(Vec::from_slice(alloc, bytes)?)),
-        None => Ok(None),
+impl Model for ReadFiles {
+    ghost use Rattle.std.specs.Prelude.{List, map};
+    ghost use Rattle.mirror_sources.specs.Source.{File};
+
+    ghost Value = { List File };
+
+    ghost view = { λ a. map (λ f. (f.path, f.bytes.items)) a.files.items };
+}
+
+impl ReadFiles {
+    /// No files yet.
+    pub(crate) fn new(alloc: Global) -> ReadFiles
+        ensures { result ≡ [] }
+    {
+        ReadFiles {
+            files: Vec::new(alloc),
+        }
+    }
+
+    /// Adds the tile of a row.
+    pub(crate) fn add_row(
+        &mut self,
+        alloc: Global,
+        path: Path,
+        row: &[Hash],
+    ) -> Result<(), AllocError>
+        ensures { OnOk result (self.new ≡ self.old ++ (path, row_text row.now) ∷ []) }
+    {
+        let bytes = write_row(alloc, row)?;
+        self.files.push(ReadFile { path, bytes })?;
+        Ok(())
+    }
+
+    // The bytes of the file of a path. None: no file has it.
+    fn find(&self, path: &Path) -> Option<&[u8]>
+        ensures some { IfSome result (λ bytes. Contains self.now (path.now, bytes.now)) }
+        ensures none { IfNone result (¬ IsThere self.now path.now) }
+    {
+        match index_of(&self.files, path) {
+            Some(i) => Some(self.files[i].bytes.as_slice()),
+            None => None,
+        }
     }
 }
 
-// The index of the file at a path. None: it was not read.
+// The index of the first file of a path.
 fn index_of(files: &[ReadFile], path: &Path) -> Option<usize>
-    ensures { IfSome result (IsReadAt files.now path.now) }
+    ensures some { IfSome result (λ i. (i < length files.now)
+        × ((d : ReadFile) → (get_or files.now i d).path ≡ path.now)) }
+    ensures none { IfNone result ((i : ℕ) (d : ReadFile) → i < length files.now
+        → (get_or files.now i d).path ≢ path.now) }
 {
     for i in 0..files.len() {
         if files[i].path == *path {
@@ -47,88 +83,75 @@ fn index_of(files: &[ReadFile], path: &Path) -> Option<usize>
     None
 }
 
-impl Source for ReadFiles {
+/// A source of the files that were read. A get of another path fails.
+#[derive(Drop)]
+pub(crate) struct ReadSource {
+    alloc: Global,
+    files: ReadFiles,
+    asked: Vec<Path>,
+    failures: u64,
+}
+
+impl Model for ReadSource {
+    ghost use Rattle.copy_places.specs.ReadFiles.{FailsUnread, Reading};
+
+    ghost Value = { Reading };
+
+    ghost view = { λ a. record {
+      files = a.files;
+      asked = a.asked.items;
+      failures = a.failures;
+    } };
+
+    ghost invariant = { λ a. FailsUnread (record {
+      files = a.files;
+      asked = a.asked.items;
+      failures = a.failures;
+    }) };
+}
+
+impl ReadSource {
+    /// A source of these files.
+    pub(crate) fn new(alloc: Global, files: ReadFiles) -> ReadSource
+        ensures files { result.files ≡ files }
+        ensures asked { result.asked ≡ [] }
+        ensures failures { result.failures ≡ 0 }
+    {
+        ReadSource {
+            alloc,
+            files,
+            asked: Vec::new(alloc),
+            failures: 0,
+        }
+    }
+}
+
+impl Source for ReadSource {
+    ghost use Rattle.std.specs.Prelude.{Some};
     ghost use Rattle.copy_places.specs.ReadFiles.{IsRead};
 
-    ghost may_answer = { λ s. IsRead s.files.items };
+    ghost may_answer = { λ s. IsRead s.files };
+
+    ghost asked = { λ s. Some s.asked };
+
+    ghost files = { λ s. Some s.files };
 
     ghost failed = { λ s. s.failures };
 
     fn get(&mut self, path: &Path) -> Result<Option<Vec<u8>>, SourceFault> {
-        match index_of(&self.files, path) {
-            Some(i) => Ok(copy_of(self.alloc, &self.files[i].found)?),
+        let found = match self.files.find(path) {
+            Some(bytes) => Vec::from_slice(self.alloc, bytes)?,
             None => {
+                self.asked.push(*path)?;
                 self.failures = self.failures.saturating_add(1);
-                Err(SourceFault::Failed)
+                return Err(SourceFault::Failed);
             }
-        }
+        };
+        self.asked.push(*path)?;
+        Ok(Some(found))
     }
 
     fn failures(&self) -> u64 {
         self.failures
     }
-}
-
-impl ReadFiles {
-    /// No files yet.
-    pub(crate) fn new(alloc: Global) -> ReadFiles
-        ensures { result.files.items ≡ [] }
-    {
-        ReadFiles {
-            alloc,
-            files: Vec::new(alloc),
-            failures: 0,
-        }
-    }
-
-    /// Adds a file.
-    pub(crate) fn add(&mut self, path: Path, found: Option<Vec<u8>>) -> Result<(), AllocError>
-        ensures { OnOk result (self.new.files.items ≡ self.old.files.items
-            ++ record { path = path; found = found } ∷ []) }
-    {
-        self.files.push(ReadFile { path, found })?;
-        Ok(())
-    }
-}
-
-/// Adds the tile of a row.
-pub(crate) fn add_row(
-    alloc: Global,
-    files: &mut ReadFiles,
-    path: Path,
-    row: &[Hash],
-) -> Result<(), AllocError>
-    ensures { OnOk result (AddsTile path row.now files.old.files.items files.new.files.items) }
-{
-    let bytes = write_row(alloc, row)?;
-    files.add(path, Some(bytes))
-}
-
-// Adds the partial tile of a level, if the edge has one.
-fn add_edge_row(
-    alloc: Global,
-    files: &mut ReadFiles,
-    edge: &EdgeRows,
-    level: u32,
-) -> Result<(), AllocError>
-    requires { level ≤ 7 }
-    ensures { OnOk result (All (IsEdgeFile edge.now) files.old.files.items
-        → All (IsEdgeFile edge.now) files.new.files.items) }
-{
-    let row = edge.row(level);
-    if row.is_empty() {
-        return Ok(());
-    }
-    add_row(alloc, files, edge_path(edge.size(), level), row)
-}
-
-/// The partial tiles of an edge.
-pub(crate) fn files_of_edge(alloc: Global, edge: &EdgeRows) -> Result<ReadFiles, AllocError>
-    ensures { IfOk result (λ files. All (IsEdgeFile edge.now) files.files.items) }
-{
-    let mut files = ReadFiles::new(alloc);
-    for level in 0..8u32 {
-        add_edge_row(alloc, &mut files, edge, level)?;
-    }
-    Ok(files)
 }

@@ -1,13 +1,15 @@
 //! Proofs of forks.
-ghost use Rattle.std.specs.Prelude.{◌≡◌, ◌↔◌, ◌<◌, ℕ, All, Err, IfNone, IfOk, IfSome, IsTrue, List, None, Ok, OnOk, Some, length, take, ⊤};
+ghost use Rattle.std.specs.Prelude.{◌≡◌, ◌≢◌, ◌↔◌, ◌<◌, ◌^◌, ℕ, All, Err, IfNone, IfOk, IfSome, IsTrue, List, None, Ok, OnOk, Some, length, take, ⊤};
 ghost use Rattle.tlog_proof.specs.Made.{Holds, asked_proof};
 ghost use Rattle.tlog_proof.specs.declared.proof.Ask.TheVariants.{Consistency};
 ghost use Rattle.tlog_proof.specs.Text.{HasHashes};
 ghost use Rattle.mirror_sources.specs.Source.{StaysWithin};
 ghost use Rattle.mirror_sources.specs.Recorded.{KeepsRecord};
 ghost use Rattle.log_reader.specs.Faults.{CountsFailure};
-ghost use Rattle.log_reader.specs.Holding.{IsSourceOf, ReadsLog};
+ghost use Rattle.log_reader.specs.EdgeRows.{LeadsTo, hash_of_edge};
+ghost use Rattle.log_reader.specs.Holding.{HasFullTiles, ReadsLog};
 ghost use Rattle.log_reader.specs.Proving.{IsConsistencyTo};
+ghost use Rattle.log_reader.specs.Ways.{HasEdgeHashes};
 ghost use Rattle.copy_places.specs.AskedOnce.{AsksMore};
 ghost use Rattle.copy_places.specs.AskedEnds.{AsksEnds};
 ghost use Rattle.copy_places.specs.Faults.{CountsAsk};
@@ -15,18 +17,19 @@ ghost use Rattle.copy_places.specs.Agreeing.{Agrees};
 ghost use Rattle.copy_places.specs.Candidates.{point_of};
 ghost use Rattle.copy_places.specs.Checked.{HasFirstRoot};
 ghost use Rattle.copy_places.specs.Forks.{HasPoint};
-ghost use Rattle.copy_places.specs.Nobodys.{CannotBeHad};
+ghost use Rattle.copy_places.specs.Nobodys.{CannotBeHad, IsOfEnds};
 ghost use Rattle.copy_places.specs.ReadFiles.{IsRead};
 ghost use Rattle.copy_places.specs.Requests.{AsksAny};
 ghost use Rattle.copy_places.specs.Shown.{ShowsLarger};
+ghost use Rattle.copy_places.specs.WayFiles.{HasWanted, IsLogOfEdge};
 
 use crate::ask_fault::AskFault;
 use crate::candidate::Candidate;
 use crate::hash_sizes::{hash_len, see_edge, see_path};
-use crate::proof_files::{ReadFiles, files_of_edge};
+use crate::proof_files::{ReadFiles, ReadSource};
 use crate::way::add_way;
 use crate::{Places, kept_edge};
-use log_reader::{LogReader, ReadFault};
+use log_reader::{EdgeRows, LogReader, ReadFault};
 use mirror_folders::ReadableShelf;
 use mirror_sources::Source;
 use std::alloc::Global;
@@ -173,30 +176,70 @@ pub fn fork_proof<H: TreeHash, S: Source>(
     checked_proof::<H, S>(alloc, files, small, large)
 }
 
-// The proof from files in memory. None: they show no fork.
+// The proof from the first entries to all, from an edge that leads to the root, and from the full tiles that it wants.
+fn proof_of_files<H: TreeHash>(
+    alloc: Global,
+    edge: EdgeRows,
+    root: Hash,
+    files: ReadFiles,
+    first: u64,
+) -> Result<Proof, AskFault>
+    requires hashes { HasEdgeHashes edge }
+    requires leads { hash_of_edge H.digest edge ≡ root }
+    requires some { 0 < first }
+    requires less { first < edge.size }
+    requires small { edge.size < 2 ^ 64 }
+    requires wanted { HasWanted first edge.size 0 files }
+    ensures memory { (n : ℕ) → CountsAsk n n result }
+    ensures never { result ≢ Err AskFault.OtherFiles }
+    ensures log { result ≡ Err AskFault.NoFile → (entries : List (List ℕ))
+        → IsLogOfEdge H.digest edge root entries
+        → ¬ HasFullTiles H.digest entries (IsRead files) }
+    ensures asked { IfOk result (IsConsistencyTo first edge.size root) }
+    ensures holds { IfOk result (Holds H.digest) }
+{
+    let mut source = ReadSource::new(alloc, files);
+    let mut reader: LogReader<H> = LogReader::of_edge(alloc, edge, root)?;
+    match reader.consistency(alloc, &mut source, first) {
+        Ok(proof) => Ok(proof),
+        Err(ReadFault::NoFile(_)) => Err(AskFault::NoFile),
+        Err(ReadFault::FalseFile(_)) => Err(AskFault::NoFile),
+        Err(ReadFault::Collision) => Err(AskFault::NoFile),
+        // The source has each file that is requested.
+        Err(ReadFault::Source) => Err(AskFault::OtherFiles),
+        Err(ReadFault::OutOfMemory) => Err(AskFault::OutOfMemory),
+    }
+}
+
+// The same, if its first root is not that of the smaller candidate. The edge is that of the larger one.
 fn read_proof<H: TreeHash>(
     alloc: Global,
-    mut files: ReadFiles,
+    edge: EdgeRows,
+    files: ReadFiles,
     smaller: &Candidate,
     larger: &Candidate,
 ) -> Result<Option<Proof>, AskFault>
+    requires hashes { HasEdgeHashes edge }
+    requires leads { LeadsTo H.digest larger.now.size.0 larger.now.root edge }
+    requires less { smaller.now.size.0 < larger.now.size.0 }
+    requires wanted { HasWanted smaller.now.size.0 edge.size 0 files }
     ensures memory { (n : ℕ) → CountsAsk n n result }
+    ensures never { result ≢ Err AskFault.OtherFiles }
     ensures log { result ≡ Err AskFault.NoFile → (entries : List (List ℕ))
-        → HasPoint H.digest (point_of larger.now) entries
-        → ¬ IsSourceOf H.digest entries (IsRead files.files.items) }
+        → IsLogOfEdge H.digest edge larger.now.root entries
+        → ¬ HasFullTiles H.digest entries (IsRead files) }
     ensures proof { IfOk result (λ found. IfSome found
         (λ proof. ShowsLarger H.digest smaller.now larger.now (Some proof))) }
     ensures agrees { IfOk result (λ found. found ≡ None → 0 < smaller.now.size.0
         → smaller.now.size.0 < larger.now.size.0
         → Agrees H.digest (point_of smaller.now) (point_of larger.now)) }
 {
-    match fork_proof::<H, ReadFiles>(alloc, &mut files, smaller, larger) {
-        Ok(found) => Ok(found),
-        Err(ReadFault::NoFile(_)) => Err(AskFault::NoFile),
-        Err(ReadFault::FalseFile(_)) => Err(AskFault::NoFile),
-        Err(ReadFault::Collision) => Err(AskFault::NoFile),
-        Err(ReadFault::Source) => Err(AskFault::OtherFiles),
-        Err(ReadFault::OutOfMemory) => Err(AskFault::OutOfMemory),
+    if smaller.size.0 == 0 {
+        return Ok(None);
+    }
+    match proof_of_files::<H>(alloc, edge, larger.root, files, smaller.size.0) {
+        Ok(proof) => Ok(differing(proof, &smaller.root)),
+        Err(fault) => Err(fault),
     }
 }
 
@@ -219,6 +262,7 @@ fn find_proof<H: TreeHash, D: ReadableShelf, S: Source + Drop>(
     ensures agrees { IfOk result (λ found. found ≡ None → 0 < smaller.now.size.0
         → smaller.now.size.0 < larger.now.size.0
         → Agrees H.digest (point_of smaller.now) (point_of larger.now)) }
+    ensures never { result ≢ Err AskFault.OtherFiles }
     ensures lacks { result ≡ Err AskFault.NoFile → CannotBeHad H.digest (D.puts shelf.old)
         places.new.ends.tiles.items (length places.old.list.items) smaller.now.size.0
         (point_of larger.now) }
@@ -227,11 +271,11 @@ fn find_proof<H: TreeHash, D: ReadableShelf, S: Source + Drop>(
         return Err(AskFault::NoFile);
     };
     see_edge(&edge);
-    let mut files = files_of_edge(alloc, &edge)?;
+    let mut files = ReadFiles::new(alloc);
     if !add_way::<H, D, S>(alloc, shelf, places, smaller.size.0, &edge, &mut files)? {
         return Err(AskFault::NoFile);
     }
-    read_proof::<H>(alloc, files, smaller, larger)
+    read_proof::<H>(alloc, edge, files, smaller, larger)
 }
 
 /// The proof that a larger candidate contradicts a smaller one, whoever holds which of its files. It is for after a copy was to be brought
@@ -251,7 +295,7 @@ fn find_proof<H: TreeHash, D: ReadableShelf, S: Source + Drop>(
 ///
 /// - `NoFile`: nobody has one of these files, or those that were had are of no log.
 /// - `ShelfFault`: the shelf failed.
-/// - `OtherFiles`: the sizes are not those of `Places::ends`, or the proof needs a file that was not looked for.
+/// - `OtherFiles`: the sizes are not those of `Places::ends`.
 /// - `OutOfMemory`: memory was refused.
 pub fn ask_proof<H: TreeHash, D: ReadableShelf, S: Source + Drop>(
     alloc: Global,
@@ -269,6 +313,8 @@ pub fn ask_proof<H: TreeHash, D: ReadableShelf, S: Source + Drop>(
     ensures agrees { IfOk result (λ found. found ≡ None → 0 < smaller.now.size.0
         → smaller.now.size.0 < larger.now.size.0
         → Agrees H.digest (point_of smaller.now) (point_of larger.now)) }
+    ensures other { result ≡ Err AskFault.OtherFiles
+        → ¬ IsOfEnds smaller.now larger.now places.old.ends.sizes }
     ensures lacks { result ≡ Err AskFault.NoFile → CannotBeHad H.digest (D.puts shelf.old)
         places.new.ends.tiles.items (length places.old.list.items) smaller.now.size.0
         (point_of larger.now) }

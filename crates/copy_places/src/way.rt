@@ -1,18 +1,18 @@
 //! The full tiles in which the smaller tree ends, from below the edge of the larger tree down.
-ghost use Rattle.std.specs.Prelude.{◌≡◌, ◌≢◌, ◌<◌, ◌≤◌, ℕ, All, IfErr, IfOk, IsFalse, IsTrue, length};
+ghost use Rattle.std.specs.Prelude.{◌≡◌, ◌<◌, ◌≤◌, [], ℕ, IfErr, IfOk, IsFalse, IsTrue, length};
 ghost use Rattle.tlog_shape.specs.Edge.{width_of};
 ghost use Rattle.log_reader.specs.Ways.{HasEdgeHashes};
 ghost use Rattle.mirror_sources.specs.Recorded.{KeepsRecord};
 ghost use Rattle.copy_places.specs.AskedEnds.{AsksEnds};
-ghost use Rattle.copy_places.specs.Faults.{CountsAsk};
+ghost use Rattle.copy_places.specs.Faults.{CountsAsk, IsOfShelf};
 ghost use Rattle.copy_places.specs.Nobodys.{LacksRow};
-ghost use Rattle.copy_places.specs.WayFiles.{AreWayFiles, IsEdgeFile, StepsDown};
+ghost use Rattle.copy_places.specs.WayFiles.{AreWayFiles, HasWanted, StepsDown};
 
 use crate::Places;
 use crate::ask_fault::AskFault;
 use crate::find_row::find_row;
 use crate::hash_sizes::see_path;
-use crate::proof_files::{ReadFiles, add_row};
+use crate::proof_files::ReadFiles;
 use log_reader::EdgeRows;
 use mirror_folders::ReadableShelf;
 use mirror_sources::Source;
@@ -36,7 +36,9 @@ enum Step {
 
 // Whether a tree ends where its tile of that level begins.
 fn is_whole(size: u64, level: u32) -> bool
-    ensures { IsFalse result → (below : ℕ) × (below ≤ level) × (1 ≤ width_of size below) }
+    requires { level ≤ 7 }
+    ensures no { IsFalse result → (below : ℕ) × (below ≤ level) × (1 ≤ width_of size below) }
+    ensures yes { IsTrue result → (below : ℕ) → below ≤ level → width_of size below ≡ 0 }
 {
     for below in 0..8u32 {
         if below <= level && edge_width(size, below) > 0 {
@@ -60,7 +62,7 @@ fn step_down<H: TreeHash, D: ReadableShelf, S: Source + Drop>(
     requires first { first ≡ places.old.ends.sizes.0 }
     ensures same { KeepsRecord (D.puts shelf.old) (D.puts shelf.new) }
     ensures counted { CountsAsk (D.failed shelf.old) (D.failed shelf.new) result }
-    ensures sure { IfErr result (λ fault. fault ≢ AskFault.NoFile) }
+    ensures sure { IfErr result IsOfShelf }
     ensures goes { AsksEnds S.may_answer S.failed S.asked places.old places.new }
     ensures step { IfOk result (StepsDown H.digest (D.puts shelf.old) places.new.ends.tiles.items
         (length places.old.list.items) first size level above.now) }
@@ -84,8 +86,7 @@ fn step_down<H: TreeHash, D: ReadableShelf, S: Source + Drop>(
     }
 }
 
-/// Adds the full tiles of the proof to the files of the edge: each is found by its hash in the row above it. False: nobody has one of
-/// them.
+/// Adds the full tiles of the proof to the files: each is found by its hash in the row above it. False: nobody has one of them.
 pub(crate) fn add_way<H: TreeHash, D: ReadableShelf, S: Source + Drop>(
     alloc: Global,
     shelf: &mut D,
@@ -97,15 +98,17 @@ pub(crate) fn add_way<H: TreeHash, D: ReadableShelf, S: Source + Drop>(
     requires first { first ≡ places.old.ends.sizes.0 }
     requires less { first < edge.now.size }
     requires hashes { HasEdgeHashes edge.now }
-    requires files { All (IsEdgeFile edge.now) files.old.files.items }
+    requires files { files.old ≡ [] }
     ensures same { KeepsRecord (D.puts shelf.old) (D.puts shelf.new) }
     ensures counted { CountsAsk (D.failed shelf.old) (D.failed shelf.new) result }
-    ensures sure { IfErr result (λ fault. fault ≢ AskFault.NoFile) }
+    ensures sure { IfErr result IsOfShelf }
     ensures goes { AsksEnds S.may_answer S.failed S.asked places.old places.new }
     ensures lacks { IfOk result (λ had. IsFalse had → LacksRow H.digest (D.puts shelf.old)
         places.new.ends.tiles.items (length places.old.list.items) first edge.now) }
     ensures files { IfOk result (λ had. IsTrue had
-        → AreWayFiles H.digest edge.now files.new.files.items) }
+        → AreWayFiles H.digest edge.now files.new) }
+    ensures wanted { IfOk result (λ had. IsTrue had
+        → HasWanted first edge.now.size 0 files.new) }
 {
     let size = edge.size();
     let mut above = Vec::from_slice(alloc, edge.row(7))?;
@@ -119,7 +122,7 @@ pub(crate) fn add_way<H: TreeHash, D: ReadableShelf, S: Source + Drop>(
                     index: edge_index(first, level),
                     width: 256,
                 };
-                add_row(alloc, files, path, &row)?;
+                files.add_row(alloc, path, &row)?;
                 above = row;
             }
             Step::Unneeded => return Ok(true),

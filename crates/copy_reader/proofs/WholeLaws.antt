@@ -12,10 +12,10 @@ use Rattle.mirror_model.specs.TrueLaws.{AreShort}
 use Rattle.mirror_sources.specs.Files.{full_of}
 use Rattle.mirror_sources.specs.Honest.{true_bytes}
 use Rattle.mirror_folders.specs.Shelf.{Put, Stands, RecordsRead}
-use Rattle.log_paths.specs.FileLaws.{IsWidestIn}
-use Rattle.log_paths.specs.Holding.{HoldsLog}
-use Rattle.log_paths.proofs.AllFiles.{files_are_all, full_widest, partial_widest}
-use Rattle.log_paths.proofs.FoundOnce.{read_once}
+use Rattle.mirror_folders.specs.FileLaws.{IsWidestIn}
+use Rattle.mirror_folders.specs.Holding.{HoldsLog}
+use Rattle.mirror_folders.proofs.AllFiles.{files_are_all, full_widest, partial_widest}
+use Rattle.mirror_folders.proofs.FoundOnce.{read_once}
 use Rattle.log_reader.specs.Holding.{GoesOn, IsFullAnswer, IsHeldAnswer, IsTreeFile}
 use Rattle.copy_reader.specs.WholeCopies.{CopiesAreWhole, EachFileStands, HasFilesOf, HasGivenWay, IsWholeCopy}
 

@@ -6,3 +6,13 @@ pub mod Shown
 pub mod Proofs
 pub mod Statuses
 pub mod Damage
+pub mod AuditFaults
+pub mod Answering
+pub mod Audits
+pub mod Covering
+pub mod Edges
+pub mod WholeLogs
+pub mod Order
+pub mod Found
+pub mod First
+pub mod Stops

@@ -9,7 +9,7 @@ use Rattle.mirror_model.specs.Heads.{IsHead}
 use Rattle.mirror_model.specs.TrueLaws.{AreShort}
 use Rattle.mirror_sources.specs.Files.{full_of, width_named}
 use Rattle.mirror_sources.specs.Honest.{true_bytes}
-use Rattle.log_paths.specs.Holding.{HoldsLog}
+use Rattle.mirror_folders.specs.Holding.{HoldsLog}
 use Rattle.log_reader.specs.Holding.{GoesOn, IsReaderOf, IsSourceOf, IsTreeFile}
 use Rattle.log_reader.specs.Ways.{Reader}
 use Rattle.copy_reader.specs.declared.fault.CopyFault.{CopyFault}

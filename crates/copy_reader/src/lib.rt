@@ -8,19 +8,33 @@
 //! ```
 #![tactic(auto)]
 
+mod ahead;
+mod ask;
+mod audit_bundle;
+mod audit_fault;
+mod audit_laws;
 mod bundle;
+mod edge;
+mod edge_bundle;
+mod edge_rows;
 mod fault;
 mod laws;
+mod log;
 mod opened;
+mod part;
 mod proof_text;
 mod proving;
 mod root;
 mod shelf_source;
 mod status;
+mod tiles;
 
+pub use audit_fault::AuditFault;
+pub use audit_laws::verified_files_law;
 pub use bundle::read_bundle;
 pub use fault::CopyFault;
 pub use laws::whole_copies_law;
+pub use log::{Audited, audit};
 pub use opened::{open_reader, open_shelf};
 pub use proof_text::read_proof_text;
 pub use root::read_root;

@@ -13,6 +13,7 @@ pub mod FullTiles
 pub mod TruePrefixes
 pub mod TrueBundles
 pub mod NodeNumbers
+pub mod Requested
 pub mod NodeHashes
 pub mod Asked
 pub mod ShownBundles
@@ -20,3 +21,6 @@ pub mod FirstHashes
 pub mod FullNodes
 pub mod FalseFiles
 pub mod FalseEdges
+pub mod Asking
+pub mod TrueSources
+pub mod Mixing

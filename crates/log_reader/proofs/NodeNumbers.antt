@@ -15,11 +15,11 @@ use Rattle.log_reader.specs.Nodes.{IsNodeRange}
 -- ---- powers of two
 
 -- the whole is a multiple of the size
-record IsMultiple (size whole : ℕ) : Type 0 where
-  times : ℕ
-  is : whole ≡ times * size
+pub record IsMultiple (size whole : ℕ) : Type 0 where
+  pub times : ℕ
+  pub is : whole ≡ times * size
 
-power_positive : (k : ℕ) → IsPowerOfTwo k → 0 < k
+pub power_positive : (k : ℕ) → IsPowerOfTwo k → 0 < k
 power_positive k p = omega (arith, p.is, pow_pos p.exponent)
 
 power_multiple : (low high : ℕ) → IsPowerOfTwo low → IsPowerOfTwo high → low ≤ high → IsMultiple low high
@@ -53,16 +53,16 @@ quotient_power low high times p q le is =
           (is ∙ (q.is ∙ (ap (λ e. 2 ^ e) gap ∙ (pow-add 2 (j - i) i ∙ ap (λ k. 2 ^ (j - i) * k) (sym p.is)))));
     }
 
-multiple_aligned : (size whole : ℕ) → 0 < size → IsMultiple size whole → whole % size ≡ 0
+pub multiple_aligned : (size whole : ℕ) → 0 < size → IsMultiple size whole → whole % size ≡ 0
 multiple_aligned size whole some m =
     let sum : m.times * size ≡ m.times * size + 0 = omega arith in
     ap (λ n. n % size) (m.is ∙ sum) ∙ mod-mul-add m.times size 0 some
 
-aligned_multiple : (size start : ℕ) → start % size ≡ 0 → IsMultiple size start
+pub aligned_multiple : (size start : ℕ) → start % size ≡ 0 → IsMultiple size start
 aligned_multiple size start aligned = record { times = start / size; is = omega (arith, div-add-mod' start size, aligned) }
 
 -- a multiple of a power of two is a multiple of each smaller power of two
-aligned_smaller : (low high start : ℕ) → IsPowerOfTwo low → IsPowerOfTwo high → low ≤ high → start % high ≡ 0 →
+pub aligned_smaller : (low high start : ℕ) → IsPowerOfTwo low → IsPowerOfTwo high → low ≤ high → start % high ≡ 0 →
     start % low ≡ 0
 aligned_smaller low high start p q le aligned =
     let a = aligned_multiple high start aligned in
@@ -72,7 +72,7 @@ aligned_smaller low high start p q le aligned =
       is = a.is ∙ (ap (λ k. a.times * k) b.is ∙ omega arith);
     })
 
-block_power : (level : ℕ) → IsPowerOfTwo (256 ^ level)
+pub block_power : (level : ℕ) → IsPowerOfTwo (256 ^ level)
 block_power level = record { exponent = 8 * level; is = level_power level }
 
 -- ---- nodes of a tree
@@ -148,7 +148,7 @@ module _ (len level : ℕ) (some : 0 < len) (small : len < 2 ^ 64) (top : IsTop 
   only_tile : len / 256 ^ (level + 1) ≡ 0
   only_tile = none_above (7 - level) (level + 1) (omega (arith, top.within)) (omega arith)
 
-  top_above : len < 256 ^ (level + 1)
+  pub top_above : len < 256 ^ (level + 1)
   top_above =
       let c = 256 ^ (level + 1) in
       let after : len < len / c * c + c = lt-div-mul-add (level_positive (level + 1)) in

@@ -218,7 +218,7 @@ module _ (digest : List ℕ → List ℕ) (hash : IsDigest digest) (entries : Li
         module _ (bytes text : List ℕ) (m : may (Tile level i 256) (Some bytes)) (text_is : text ≡ bytes) (w : ℕ) (same : w ≡ wide)
           where
             pub part_fits : 32 * w ≤ length text
-            part_fits = omega (arith, ap length text_is, (part_goes bytes m).long, same)
+            part_fits = omega (arith, ap length text_is, (part_goes bytes m).whole, same)
 
             pub part_row : (part : List ℕ) → part ≡ slice_range text 0 (32 * w) →
                 IsRow w part (level_row digest entries level (256 * at) wide)

@@ -1,10 +1,11 @@
 -- A source that has the files of a log, and a reader of that log: the reads are true, and no file is refused (C2SP tlog-tiles, "Merkle
 -- Tree", "Log Entries" and "Partial Tiles").
 use Rattle.std.specs.Prelude.{◌≡◌, ℕ, ◌+◌, ◌-◌, ◌*◌, ◌/◌, ◌^◌, ◌<◌, ◌≤◌, min, List, [], ◌∷◌, ◌++◌, length, take}
-use Rattle.std.specs.Prelude.{Option, Some, None, Result, Ok, Err, ⊤}
+use Rattle.std.specs.Prelude.{Option, Some, None, Result, Ok, Err}
 use Rattle.tlog_shape.specs.Edge.{IsPartialTile, IsTile, edge_index_of, width_of}
 use Rattle.tlog_hash.specs.Rows.{level_row, part}
 use Rattle.tlog_hash.specs.Tree.{mth}
+use Rattle.tlog_tiles.specs.Cut.{HasFormat}
 use Rattle.tlog_tiles.specs.declared.paths.Path.{Path}
 use Rattle.tlog_tiles.specs.declared.paths.Path.TheVariants.{Checkpoint, Tile, Entries}
 use Rattle.mirror_model.specs.TrueLaws.{AreShort}
@@ -21,17 +22,11 @@ IsTreeFile n Checkpoint = ⊥
 IsTreeFile n (Tile level index width) = (level ≤ 7) × IsTile n level index width
 IsTreeFile n (Entries index width) = IsTile n 0 index width
 
--- the bytes have the length of a full file of that kind: a full tile has 256 hashes
-abbrev pub HasFullLength : Path → List ℕ → Type 0
-HasFullLength Checkpoint bytes = ⊥
-HasFullLength (Tile level index width) bytes = length bytes ≡ 32 * 256
-HasFullLength (Entries index width) bytes = ⊤
-
--- the full file of a partial path: it begins with the bytes of the partial one
+-- the full file of a partial path: 256 hashes or entries, of which the first are the partial one
 pub record GoesOn (path : Path) (first bytes : List ℕ) : Type 0 where
   pub rest : List ℕ
   pub bytes_are : bytes ≡ first ++ rest
-  pub long : HasFullLength path bytes
+  pub whole : HasFormat (full_of path) bytes
 
 -- the partial bundle of n entries
 pub record IsEnd (n index width : ℕ) : Type 0 where

@@ -11,6 +11,7 @@ ghost use Rattle.log_reader.specs.FalseFiles.{NamesFalseIfFile};
 ghost use Rattle.log_reader.specs.Holding.{ReadsTilesOf};
 ghost use Rattle.log_reader.specs.Nodes.{IsNodeRange, IsSubproofAdded};
 ghost use Rattle.log_reader.specs.Proving.{IsConsistencyTo};
+ghost use Rattle.log_reader.specs.Requested.{IsProofTile, IsTileOverNode, IsWholeOrLeft, RequestsOnly};
 
 use crate::checked::checked;
 use crate::fault::ReadFault;
@@ -37,6 +38,8 @@ fn add_whole<H: TreeHash, S: Source>(
     ensures root { reader.new.root ≡ reader.old.root }
     ensures later { StaysWithin (S.may_answer source.old) (S.may_answer source.new) }
     ensures kept { KeepsRecord (S.files source.old) (S.files source.new) }
+    ensures asks { RequestsOnly (S.asked source.old) (S.asked source.new)
+        (IsTileOverNode reader.old.edge.size node.0 node.1) }
     ensures counted { CountsFailure (S.failed source.old) (S.failed source.new) result }
     ensures names { IfErr result
         (NamesFalseIfFile H.digest (S.may_answer source.old) reader.old.edge) }
@@ -67,11 +70,14 @@ fn add_subproof<H: TreeHash, S: Source>(
     requires some { 0 < first }
     requires within { first ≤ node.1 }
     requires node { IsNodeRange reader.old.edge.size node.0 node.1 }
+    requires whole { first ≡ node.1 → IsWholeOrLeft reader.old.edge.size node.0 node.1 }
     requires small { node.0 + node.1 < 2 ^ 64 }
     ensures edge { reader.new.edge ≡ reader.old.edge }
     ensures root { reader.new.root ≡ reader.old.root }
     ensures later { StaysWithin (S.may_answer source.old) (S.may_answer source.new) }
     ensures kept { KeepsRecord (S.files source.old) (S.files source.new) }
+    ensures asks { RequestsOnly (S.asked source.old) (S.asked source.new)
+        (IsProofTile reader.old.edge.size (node.0 + first)) }
     ensures counted { CountsFailure (S.failed source.old) (S.failed source.new) result }
     ensures names { IfErr result
         (NamesFalseIfFile H.digest (S.may_answer source.old) reader.old.edge) }
@@ -97,7 +103,8 @@ fn add_subproof<H: TreeHash, S: Source>(
 
 impl<H: TreeHash> LogReader<H> {
     /// The proof that the tree of the first entries is a prefix of the tree of all (RFC 6962, section 2.1.2). It is checked before it is
-    /// returned, so it holds for all answers of the source. For a proof to a smaller size, use `prefix`.
+    /// returned, so it holds for all answers of the source. For a proof to a smaller size, use `prefix`. It requests only full tiles
+    /// inside which the first entries end.
     ///
     /// ```text
     /// reader.consistency(alloc, &mut source, 257)?                                     // from 257 entries to all
@@ -123,6 +130,8 @@ impl<H: TreeHash> LogReader<H> {
         ensures holds { IfOk result (Holds H.digest) }
         ensures later { StaysWithin (S.may_answer source.old) (S.may_answer source.new) }
         ensures kept { KeepsRecord (S.files source.old) (S.files source.new) }
+        ensures asks { RequestsOnly (S.asked source.old) (S.asked source.new)
+            (IsProofTile self.old.edge.size first) }
         ensures counted { CountsFailure (S.failed source.old) (S.failed source.new) result }
         ensures names { IfErr result
             (NamesFalseIfFile H.digest (S.may_answer source.old) self.old.edge) }

@@ -3,6 +3,7 @@ ghost use Rattle.std.specs.Prelude.{◌≡◌, ◌⊎◌, IfErr, IfOk, None, Som
 ghost use Rattle.mirror_sources.specs.Source.{StaysWithin};
 ghost use Rattle.mirror_sources.specs.Recorded.{KeepsRecord};
 ghost use Rattle.log_reader.specs.Faults.{CountsFailure, IsFailure, found_in};
+ghost use Rattle.log_reader.specs.Requested.{RequestsOnly};
 ghost use Rattle.log_reader.specs.declared.fault.ReadFault.TheVariants.{NoFile};
 
 use crate::fault::ReadFault;
@@ -21,6 +22,8 @@ pub(crate) fn get_file<S: Source>(
         ⊎ ((fault ≡ NoFile lacking) × S.may_answer source.old path.now None)) }
     ensures later { StaysWithin (S.may_answer source.old) (S.may_answer source.new) }
     ensures kept { KeepsRecord (S.files source.old) (S.files source.new) }
+    ensures asks { RequestsOnly (S.asked source.old) (S.asked source.new)
+        (λ p. p ≡ path.now) }
     ensures counted { CountsFailure (S.failed source.old) (S.failed source.new) result }
 {
     match source.get(path)? {

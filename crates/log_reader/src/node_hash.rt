@@ -11,6 +11,7 @@ ghost use Rattle.log_reader.specs.Faults.{CountsFailure};
 ghost use Rattle.log_reader.specs.FalseFiles.{NamesFalseIfFile};
 ghost use Rattle.log_reader.specs.Holding.{ReadsTilesOf};
 ghost use Rattle.log_reader.specs.Nodes.{IsHashFrom, IsNodeRange};
+ghost use Rattle.log_reader.specs.Requested.{IsTileOverNode, RequestsOnly};
 
 use crate::edge_root::on_top;
 use crate::fault::ReadFault;
@@ -51,6 +52,8 @@ fn perfect_hash<H: TreeHash, S: Source>(
     ensures root { reader.new.root ≡ reader.old.root }
     ensures later { StaysWithin (S.may_answer source.old) (S.may_answer source.new) }
     ensures kept { KeepsRecord (S.files source.old) (S.files source.new) }
+    ensures asks { RequestsOnly (S.asked source.old) (S.asked source.new)
+        (IsTileOverNode reader.old.edge.size start len) }
     ensures counted { CountsFailure (S.failed source.old) (S.failed source.new) result }
     ensures names { IfErr result
         (NamesFalseIfFile H.digest (S.may_answer source.old) reader.old.edge) }
@@ -98,6 +101,8 @@ pub(crate) fn node_hash<H: TreeHash, S: Source>(
     ensures root { reader.new.root ≡ reader.old.root }
     ensures later { StaysWithin (S.may_answer source.old) (S.may_answer source.new) }
     ensures kept { KeepsRecord (S.files source.old) (S.files source.new) }
+    ensures asks { RequestsOnly (S.asked source.old) (S.asked source.new)
+        (IsTileOverNode reader.old.edge.size start len) }
     ensures counted { CountsFailure (S.failed source.old) (S.failed source.new) result }
     ensures names { IfErr result
         (NamesFalseIfFile H.digest (S.may_answer source.old) reader.old.edge) }
@@ -126,6 +131,8 @@ pub(crate) fn add_node<H: TreeHash, S: Source>(
     ensures root { reader.new.root ≡ reader.old.root }
     ensures later { StaysWithin (S.may_answer source.old) (S.may_answer source.new) }
     ensures kept { KeepsRecord (S.files source.old) (S.files source.new) }
+    ensures asks { RequestsOnly (S.asked source.old) (S.asked source.new)
+        (IsTileOverNode reader.old.edge.size node.0 node.1) }
     ensures counted { CountsFailure (S.failed source.old) (S.failed source.new) result }
     ensures names { IfErr result
         (NamesFalseIfFile H.digest (S.may_answer source.old) reader.old.edge) }

@@ -12,6 +12,7 @@ ghost use Rattle.log_reader.specs.EdgeRows.{hash_of_edge};
 ghost use Rattle.log_reader.specs.Ways.{HasEdgeHashes, IsRowUnder, IsShownRow, row_of_way};
 
 use crate::edge_files::read_edge;
+use crate::edge_rows::EdgeRows;
 use crate::fault::ReadFault;
 use crate::full_row::FullRow;
 use crate::hashed_edge::HashedEdge;
@@ -100,6 +101,27 @@ impl<H: TreeHash> LogReader<H> {
     {
         let edge = read_edge::<H, S>(alloc, source, size, root)?;
         Ok(LogReader::over(alloc, edge, *root))
+    }
+
+    /// A reader of the log with that edge, whose rows have to lead to the root. No read of it requests a file of the edge.
+    ///
+    /// ```text
+    /// LogReader::<Sha256Tree>::of_edge(alloc, edge, root)?   // edge: rows of 257 entries, for which `leads_to` is true
+    /// ```
+    ///
+    /// # Errors
+    ///
+    /// `AllocError`: memory was refused.
+    pub fn of_edge(alloc: Global, edge: EdgeRows, root: Hash) -> Result<LogReader<H>, AllocError>
+        requires hashes { HasEdgeHashes edge }
+        requires leads { hash_of_edge H.digest edge ≡ root }
+        ensures edge { IfOk result (λ reader. reader.edge ≡ edge) }
+        ensures root { IfOk result (λ reader. reader.root ≡ root) }
+        ensures place { IfOk result (λ reader. (reader.level ≡ 0)
+            × (reader.index ≡ edge_index_of edge.size 0) × (reader.way ≡ [])) }
+    {
+        let edge = HashedEdge::new(alloc, edge)?;
+        Ok(LogReader::over(alloc, edge, root))
     }
 
     /// A reader of the log with that edge, which leads to the root.

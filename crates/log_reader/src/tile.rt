@@ -6,6 +6,7 @@ ghost use Rattle.mirror_sources.specs.Recorded.{KeepsRecord};
 ghost use Rattle.log_reader.specs.Faults.{CountsFailure};
 ghost use Rattle.log_reader.specs.FalseFiles.{NamesFull};
 ghost use Rattle.log_reader.specs.Holding.{HasFullTiles, IsTileHash, ReadsTrue};
+ghost use Rattle.log_reader.specs.Requested.{RequestsOnly};
 ghost use Rattle.log_reader.specs.Verified.{IsVerifiedRow, Verifies};
 ghost use Rattle.log_reader.specs.declared.verify.FullFile.TheVariants.{Tile};
 
@@ -52,6 +53,8 @@ pub(crate) fn read_tile<H: TreeHash, S: Source>(
     ensures row { IfOk result (λ row. IsVerifiedRow H.digest hash.now row) }
     ensures later { StaysWithin (S.may_answer source.old) (S.may_answer source.new) }
     ensures kept { KeepsRecord (S.files source.old) (S.files source.new) }
+    ensures asks { RequestsOnly (S.asked source.old) (S.asked source.new)
+        (λ p. p ≡ Path.Tile level index 256) }
     ensures counted { CountsFailure (S.failed source.old) (S.failed source.new) result }
     ensures names { IfErr result (NamesFull H.digest (S.may_answer source.old) Tile hash.now
         (Path.Tile level index 256)) }

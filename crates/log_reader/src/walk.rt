@@ -7,6 +7,7 @@ ghost use Rattle.mirror_sources.specs.Recorded.{KeepsRecord};
 ghost use Rattle.log_reader.specs.Faults.{CountsFailure};
 ghost use Rattle.log_reader.specs.FalseFiles.{NamesFalse};
 ghost use Rattle.log_reader.specs.Holding.{IsBelow, IsReaderOf, HasFullTiles, ReadsTilesOf, ReadsTrue, row_width, true_row};
+ghost use Rattle.log_reader.specs.Requested.{IsTileOver, RequestsOnly};
 ghost use Rattle.log_reader.specs.Ways.{IsRowUnder, IsShownRow, row_of_way};
 
 use crate::fault::ReadFault;
@@ -44,6 +45,8 @@ fn read_below<H: TreeHash, S: Source>(
         (row_of_way reader.now.edge reader.now.level reader.now.way) (index % 256) row) }
     ensures later { StaysWithin (S.may_answer source.old) (S.may_answer source.new) }
     ensures kept { KeepsRecord (S.files source.old) (S.files source.new) }
+    ensures asks { RequestsOnly (S.asked source.old) (S.asked source.new)
+        (λ p. p ≡ Path.Tile level index 256) }
     ensures counted { CountsFailure (S.failed source.old) (S.failed source.new) result }
     ensures names { IsBelow reader.now level index
         → IfErr result (NamesFalse H.digest (S.may_answer source.old) reader.now.edge) }
@@ -79,6 +82,9 @@ pub(crate) fn go_to<H: TreeHash, S: Source>(
     ensures there { OnOk result ((reader.new.level ≡ level) × (reader.new.index ≡ index)) }
     ensures later { StaysWithin (S.may_answer source.old) (S.may_answer source.new) }
     ensures kept { KeepsRecord (S.files source.old) (S.files source.new) }
+    ensures asks { (at : ℕ) → edge_index_of at level ≡ index
+        → RequestsOnly (S.asked source.old) (S.asked source.new)
+        (IsTileOver reader.old.edge.size at level) }
     ensures counted { CountsFailure (S.failed source.old) (S.failed source.new) result }
     ensures names { IfErr result (NamesFalse H.digest (S.may_answer source.old) reader.old.edge) }
     ensures honest { ReadsTilesOf H.digest reader.old reader.new (S.may_answer source.old) result

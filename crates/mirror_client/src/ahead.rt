@@ -1,22 +1,23 @@
 //! Requests that are sent ahead, before their replies are needed.
-ghost use Rattle.std.specs.Prelude.{[], ◌≡◌, ◌<◌, ◌≤◌, ◌/◌, Contains, IfOk, IfSome, length, option_map, slice_index_or, vec_len};
-ghost use Rattle.std.specs.Io.KnownBytes.{Appends};
+ghost use Rattle.std.specs.Prelude.{[], ◌≡◌, ◌<◌, ◌≤◌, ◌/◌, Contains, IfOk, IfSome, length, OnOk, option_map, slice_index_or, take, vec_len};
+ghost use Rattle.std.specs.Io.KnownBytes.{Appends, Consumes};
 ghost use Rattle.mirror_client.specs.Request.{request_text};
+ghost use Rattle.mirror_client.specs.declared.limits.TheConstants.{MOST_TAKEN};
 ghost use Rattle.mirror_sources.specs.Source.{IsShortAnswer};
 
 use crate::dial::Dial;
 use crate::exchange::{receive_watched, send_request};
-use crate::failed::Miss;
+use crate::failed::{Miss, Reason};
 use crate::limits::{MAX_REPLY_LEN, MOST_TAKEN, STATUS_END};
 use crate::refusal::begins_busy;
 use crate::site::Site;
 use crate::tempo::Tempo;
 use crate::times::micros;
-use byte_streams::{WatchedStream, read_all};
+use byte_streams::{StreamFault, WatchedStream, read_all};
 use mirror_sources::SourceFault;
 use std::alloc::Global;
-use std::io;
 use std::io::{Read, Write};
+use std::{io, mem};
 use tlog_tiles::Path;
 
 /// How far a request that is sent ahead is.
@@ -40,8 +41,8 @@ pub(crate) struct Sent<S: Drop> {
 
 /// The requests that are out: they were sent ahead, and their replies were not read yet.
 ///
-/// At most `most` are out at once, and after refusals of a busy server fewer, `fair`. If the server refuses connections,
-/// at most `room` are out, until `widen` is called.
+/// At most `most` are out at once, and after refusals fewer, `fair`. If the server refuses connections, at most `room` are
+/// out, until `widen` is called.
 #[derive(Drop)]
 pub(crate) struct Ahead<S: Drop> {
     pub(crate) sent: Vec<Sent<S>>,
@@ -106,6 +107,28 @@ fn peek<D: Dial>(dial: &mut D, one: &mut Sent<D::Stream>) -> Option<bool>
         Ok(0) => None,
         Ok(_) => Some(begins_busy(&front)),
         Err(_) => None,
+    }
+}
+
+// Reads the reply to its end, and drops it; at most one byte more than a reply can have.
+fn skip_reply<R: Read>(alloc: Global, reader: &mut R) -> Result<(), StreamFault>
+    ensures { OnOk result (IfSome (R.remaining reader.old)
+        (λ bytes. Consumes (R.remaining reader.old) (R.remaining reader.new)
+        (take MOST_TAKEN bytes))) }
+{
+    read_all(alloc, reader, MOST_TAKEN, u64::MAX)?;
+    Ok(())
+}
+
+// Waits until the reply is over or the connection fails. `false` if the other end is silent until the time limit.
+fn is_over<S: Read + Drop>(alloc: Global, stream: S) -> bool {
+    let mut stream = WatchedStream::new(stream);
+    match skip_reply(alloc, &mut stream) {
+        Ok(()) => true,
+        Err(fault) => {
+            let reason = Reason::of_stream(stream.read_error(fault));
+            !Miss::Failed(reason).is_silence()
+        }
     }
 }
 
@@ -315,19 +338,19 @@ impl<S: Read + Write + Drop> Ahead<S> {
     }
 
     /// Waits until the server has finished with all requests that were sent, and drops their replies. Once one is silent
-    /// until its time is over, it waits for no other. It closes each connection.
+    /// until its time is over, it waits for no other. It closes each connection. From now on half as many may be out.
     pub(crate) fn finish(&mut self, alloc: Global)
         ensures none { self.new.sent.items ≡ [] }
         ensures most { self.new.most ≡ self.old.most }
+        ensures half { self.new.fair ≡ self.old.fair / 2 }
     {
-        for one in &mut self.sent {
-            if one.stage == Stage::Asked
-                && read_all(alloc, &mut one.stream, MOST_TAKEN, u64::MAX).is_err()
-            {
+        self.sent.retain(|one| one.stage == Stage::Asked);
+        for one in mem::replace(&mut self.sent, Vec::new(alloc)) {
+            if !is_over(alloc, one.stream) {
                 break;
             }
         }
-        self.sent.clear();
+        self.halve();
     }
 
     /// Closes all requests that are out.
@@ -369,6 +392,16 @@ impl<S: Read + Write + Drop> Ahead<S> {
         ensures room { self.new.room ≤ self.new.fair }
     {
         self.tempo.refused(micros(dial.now()));
+        self.halve();
+    }
+
+    // Half as many requests may be out from now on.
+    fn halve(&mut self)
+        ensures sent { self.new.sent ≡ self.old.sent }
+        ensures most { self.new.most ≡ self.old.most }
+        ensures half { self.new.fair ≡ self.old.fair / 2 }
+        ensures room { self.new.room ≤ self.new.fair }
+    {
         self.fair /= 2;
         self.room = self.room.min(self.fair);
     }

@@ -30,9 +30,10 @@ use tlog_tiles::Path;
 /// becomes the limit, until a get comes while none is out.
 ///
 /// If the reply to a request that was sent ahead fails, the source requests the file again, while other requests are
-/// out. If that fails too, it waits until those are finished, and requests the file once more. So other requests never
-/// make a get fail, and only the last failure counts. A server that is silent until the time limit is asked once more
-/// only if it has begun another reply in the meantime; else the get fails, and all requests that are out are closed.
+/// out. If that fails too, it waits until those are finished, and requests the file once more; from then on half as many
+/// are out. So other requests never make a get fail, and only the last failure counts. A server that is silent until the
+/// time limit is asked once more only if it has begun another reply in the meantime; else the get fails, and all requests
+/// that are out are closed.
 ///
 /// A server that answers with the status 429 or 503 is busy. The source then waits for the seconds that `Retry-After`
 /// names (at least 1), or else for 1, 2, 4, 8, 16, 30, 30 and so on, where a good reply begins anew, and asks again.

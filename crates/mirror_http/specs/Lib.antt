@@ -6,8 +6,8 @@ pub use Rattle.mirror_client.specs.Source
 pub use Rattle.mirror_client.specs.Waits
 pub use Rattle.mirror_client.specs.Tempo
 pub use Rattle.mirror_client.specs.Laws as ClientLaws
-pub use Rattle.mirror_server.specs.Resource
-pub use Rattle.mirror_server.specs.Response
-pub use Rattle.mirror_server.specs.Answered
-pub use Rattle.mirror_server.specs.Looks
-pub use Rattle.mirror_server.specs.Laws as ServerLaws
+pub mod Resource
+pub mod Response
+pub mod Laws
+pub mod Looks
+pub mod Answered

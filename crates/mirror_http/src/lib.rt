@@ -1,6 +1,5 @@
-//! Logs and mirrors over HTTP (RFC 9112), as one crate: a client that requests a log's files from a site, and a mirror
-//! that answers one request. It has no code of its own: the client is that of `mirror_client`, and the server is that
-//! of `mirror_server`.
+//! Logs and mirrors over HTTP (RFC 9112): a mirror that answers one request, and the client of `mirror_client`, which
+//! requests a log's files from a site.
 //!
 //! ```text
 //! // A pull over HTTP, with one connection for each file.
@@ -13,9 +12,25 @@
 //! ```
 #![tactic(auto)]
 
+mod body;
+mod fault;
+mod head;
+mod laws;
+mod limits;
+mod reply;
+mod request;
+mod resource;
+mod serve;
+
+pub use fault::HttpFault;
+pub use laws::{one_resource_law, one_response_law, request_limits_law};
+pub use limits::{MAX_REQUEST_FIELDS, MAX_REQUEST_LEN};
 pub use mirror_client::{
     Dial, FailedGet, HttpSource, MAX_FIELDS, MAX_HEAD_LEN, MAX_HOST_LEN, MAX_PREFIX_LEN,
     MAX_REPLY_LEN, MAX_WAIT, Pace, Reason, ReplyFault, Site, SiteFault, TcpDial, get_request,
     limits_law, one_reply_law, read_reply, waits_law,
 };
-pub use mirror_server::{HttpFault, Resource, answer, one_resource_law, one_response_law};
+pub use reply::{reply_to, server_error_reply};
+pub use request::{Request, read_request};
+pub use resource::Resource;
+pub use serve::answer;

@@ -19,3 +19,5 @@ pub mod Growth
 pub mod Repeated
 pub mod TrueReplies
 pub mod LeftPulls
+pub mod Texts
+pub mod Answering

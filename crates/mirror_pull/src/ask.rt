@@ -2,7 +2,6 @@
 ghost use Rattle.std.specs.Prelude.{◌≡◌, ◌↔◌, IsTrue, IfOk, Contains, option_map, ◌++◌, ◌∷◌, []};
 ghost use Rattle.tlog_text.specs.Answers.{seen};
 ghost use Rattle.mirror_pull.specs.Asking.{AsksPaths, BlamesSource};
-ghost use Rattle.mirror_sources.specs.Files.{full_of, width_named};
 ghost use Rattle.mirror_pull.specs.Taking.{EndsBeforeHead, EndsAfterHead};
 ghost use Rattle.mirror_pull.specs.Replying.{AskFollows};
 ghost use Rattle.mirror_sources.specs.Source.{StaysWithin};
@@ -11,32 +10,6 @@ use crate::asked::AskedPaths;
 use crate::fault::PullFault;
 use mirror_sources::Source;
 use tlog_tiles::Path;
-
-/// The path of the full tile or bundle with the same level and index.
-pub(crate) fn full_path(path: Path) -> Path
-    ensures { result ≡ full_of path }
-{
-    match path {
-        Path::Checkpoint => Path::Checkpoint,
-        Path::Tile { level, index, .. } => Path::Tile {
-            level,
-            index,
-            width: 256,
-        },
-        Path::Entries { index, .. } => Path::Entries { index, width: 256 },
-    }
-}
-
-/// The number of hashes or entries in the file of the path.
-pub(crate) fn path_width(path: Path) -> u32
-    ensures { result ≡ width_named path }
-{
-    match path {
-        Path::Checkpoint => 0,
-        Path::Tile { width, .. } => width,
-        Path::Entries { width, .. } => width,
-    }
-}
 
 /// Whether the path was requested before.
 pub(crate) fn is_asked(asked: &AskedPaths, path: &Path) -> bool

@@ -8,7 +8,7 @@ ghost use Rattle.mirror_pull.specs.Taking.{EndsBeforeHead};
 ghost use Rattle.mirror_pull.specs.Replying.{RowFollows, RowsFollow};
 ghost use Rattle.mirror_sources.specs.Source.{StaysWithin};
 
-use crate::ask::{ask, full_path, path_width};
+use crate::ask::ask;
 use crate::asked::AskedPaths;
 use crate::fault::PullFault;
 use mirror_sources::Source;
@@ -36,13 +36,13 @@ fn edge_row<S: Source>(
     if let Some(bytes) = ask(source, asked, path)? {
         return Ok(bytes);
     }
-    let Some(mut bytes) = ask(source, asked, full_path(path))? else {
+    let Some(mut bytes) = ask(source, asked, path.full())? else {
         return Err(PullFault::NoEdge);
     };
     if bytes.len() != FULL_TILE {
         return Err(PullFault::NoEdge);
     }
-    bytes.truncate(32 * path_width(path) as usize);
+    bytes.truncate(32 * path.width() as usize);
     Ok(bytes)
 }
 

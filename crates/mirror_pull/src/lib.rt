@@ -11,7 +11,9 @@ mod ask;
 mod asked;
 mod edge;
 mod fault;
+mod head;
 mod laws;
+mod list;
 mod pulling;
 mod rounds;
 
@@ -19,6 +21,6 @@ pub use fault::PullFault;
 pub use laws::{
     fetched_once_law, front_round_law, front_rounds_law, no_round_law, pull_growth_law,
 };
-pub use list_source::ListSource;
+pub use list::ListSource;
 pub use mirror_sources::{Source, SourceFault};
 pub use pulling::{Pulled, pull};

@@ -8,7 +8,7 @@ ghost use Rattle.mirror_pull.specs.Replying.{ListsLeft, PathFollows, PathsFollow
 ghost use Rattle.mirror_pull.specs.Answering.{refused_of, refused_of_fault};
 ghost use Rattle.mirror_sources.specs.Source.{StaysWithin};
 
-use crate::ask::{ask, full_path, is_asked};
+use crate::ask::{ask, is_asked};
 use crate::asked::AskedPaths;
 use crate::fault::PullFault;
 use mirror_model::{TakeFault, walk_law};
@@ -84,7 +84,7 @@ fn take_path<H: TreeHash, S: Source>(
     if let Some(bytes) = ask(source, asked, path)? {
         return take_found(alloc, mirror, path, &bytes);
     }
-    let full = full_path(path);
+    let full = path.full();
     match ask(source, asked, full)? {
         Some(bytes) => take_found(alloc, mirror, full, &bytes),
         None => Ok(false),

@@ -1,5 +1,5 @@
 //! A state with colliding strings.
-use mirror_state::{LoadFault, load_bytes};
+use mirror_files::{LoadFault, load_bytes};
 use std::alloc::Global;
 use std::test::Fail;
 use tlog_hash::{Sha256Tree, SumTree, TreeHash};

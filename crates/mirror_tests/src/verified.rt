@@ -2,8 +2,8 @@
 ghost use Rattle.std.specs.Prelude.{codes, true};
 
 use crate::pulls::list;
+use mirror_files::{load_bytes, save};
 use mirror_pull::pull;
-use mirror_state::{load_bytes, save};
 use signed_note::Verifier;
 use std::alloc::Global;
 use std::cell::Cell;

@@ -15,3 +15,12 @@ pub mod SliceSteps
 pub mod Settles
 pub mod KnownSteps
 pub mod EmptySets
+pub mod EdgeRows
+pub mod EdgeSteps
+pub mod RowSteps
+pub mod LeafRows
+pub mod FileSteps
+pub mod LeafSteps
+pub mod HeldLeaves
+pub mod ServedParts
+pub mod BestNotes

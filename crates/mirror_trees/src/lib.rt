@@ -15,26 +15,49 @@
 //! ```
 #![tactic(auto)]
 
+mod best;
 mod building;
 mod built;
+mod bundle;
 mod counting;
+mod edge;
+mod files;
+mod held_note;
+mod holding;
 mod known;
 mod laws;
+mod leaves;
 mod levels;
 mod mark_key;
 mod marks;
 mod missing;
 mod prefix;
+mod ranges;
+mod room;
+mod rows;
+mod served_laws;
 mod settling;
+mod top_ranges;
 mod unit;
 
+pub use best::{best_leaves, best_of, first_with};
 pub use building::{add_above, add_entries, add_row};
 pub use built::{check_built, is_built};
+pub use bundle::entries_at;
+pub use edge::take_edge;
+pub use files::files_of;
+pub use held_note::HeldNote;
+pub use holding::holds_edge;
 pub use known::HeldTrees;
 pub use laws::{forks_go_on_law, known_law, prefix_of_prefix_law, settled_law, slices_law};
+pub use leaves::{Leaves, leaves_of, part_at};
 pub use levels::{clear_of, next_missing};
 pub use marks::Marks;
 pub use missing::missing_of;
 pub use prefix::is_prefix;
+pub use ranges::range_hash;
+pub use rows::row_at;
+pub use served_laws::served_list_law;
 pub use settling::settle;
+pub use top_ranges::TopRanges;
 pub use unit::unit_of;

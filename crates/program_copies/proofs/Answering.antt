@@ -6,12 +6,12 @@ use Rattle.signed_note.specs.declared.key_line.KeyLine.{KeyLine}
 use Rattle.tlog_tiles.specs.declared.paths.Path.{Path}
 use Rattle.tlog_tiles.specs.declared.paths.Path.TheVariants.{Checkpoint, Tile, Entries}
 use Rattle.mirror_folders.specs.Shelf.{Put}
-use Rattle.mirror_server.specs.Answered.{IsRequestOf}
-use Rattle.mirror_server.specs.Response.{server_error}
-use Rattle.mirror_server.specs.declared.fault.HttpFault.TheVariants.{ReadFault, WriteFault, OutOfMemory}
-use Rattle.mirror_server.specs.declared.request.Request.{Request}
-use Rattle.mirror_server.specs.declared.resource.Resource.{Resource}
-use Rattle.mirror_server.specs.declared.resource.Resource.TheVariants.{File, Status, Forks, Missing, Proof}
+use Rattle.mirror_http.specs.Answered.{IsRequestOf}
+use Rattle.mirror_http.specs.Response.{server_error}
+use Rattle.mirror_http.specs.declared.fault.HttpFault.TheVariants.{ReadFault, WriteFault, OutOfMemory}
+use Rattle.mirror_http.specs.declared.request.Request.{Request}
+use Rattle.mirror_http.specs.declared.resource.Resource.{Resource}
+use Rattle.mirror_http.specs.declared.resource.Resource.TheVariants.{File, Status, Forks, Missing, Proof}
 use Rattle.mirror_sources.specs.Recorded.{KeepsRecord, one_more}
 use Rattle.copy_reader.specs.Faults.{CountsRead}
 use Rattle.copy_reader.specs.WholeCopies.{IsShelfFailure}

@@ -6,9 +6,9 @@ use Rattle.tlog_tiles.specs.declared.paths.Path.TheVariants.{Checkpoint}
 use Rattle.signed_note.specs.declared.key_line.KeyLine.{KeyLine}
 use Rattle.mirror_model.specs.Heads.{IsHead}
 use Rattle.mirror_model.proofs.HeadNotes.{head_once}
-use Rattle.mirror_server.specs.declared.fault.HttpFault.TheVariants.{ReadFault, WriteFault, OutOfMemory}
-use Rattle.mirror_server.specs.declared.request.Request.TheVariants.{Get}
-use Rattle.mirror_server.specs.declared.resource.Resource.{Resource}
+use Rattle.mirror_http.specs.declared.fault.HttpFault.TheVariants.{ReadFault, WriteFault, OutOfMemory}
+use Rattle.mirror_http.specs.declared.request.Request.TheVariants.{Get}
+use Rattle.mirror_http.specs.declared.resource.Resource.{Resource}
 use Rattle.mirror_sources.specs.Recorded.{KeepsRecord}
 use Rattle.mirror_folders.specs.Shelf.{Put, RecordsRead}
 use Rattle.copy_reader.specs.WholeCopies.{IsDamaged}

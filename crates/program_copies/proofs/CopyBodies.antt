@@ -15,12 +15,12 @@ use Rattle.mirror_model.specs.View.{nothing, View}
 use Rattle.mirror_model.proofs.HeadNotes.{head_once}
 use Rattle.mirror_model.proofs.StringSets.{has_from_listed, listed_from_has, no_clash_within}
 use Rattle.mirror_folders.specs.Shelf.{HasPut, Put, Stands}
-use Rattle.mirror_server.specs.Answered.{IsBodyFor}
-use Rattle.mirror_server.specs.Response.{IsBody, IsServedProofText}
-use Rattle.mirror_server.specs.declared.request.Request.{Request}
-use Rattle.mirror_server.specs.declared.request.Request.TheVariants.{Nothing, Unreadable, OtherMethod, Unknown, Get}
-use Rattle.mirror_server.specs.declared.resource.Resource.{Resource}
-use Rattle.mirror_server.specs.declared.resource.Resource.TheVariants.{File, Status, Forks, Missing, Proof}
+use Rattle.mirror_http.specs.Answered.{IsBodyFor}
+use Rattle.mirror_http.specs.Response.{IsBody, IsServedProofText}
+use Rattle.mirror_http.specs.declared.request.Request.{Request}
+use Rattle.mirror_http.specs.declared.request.Request.TheVariants.{Nothing, Unreadable, OtherMethod, Unknown, Get}
+use Rattle.mirror_http.specs.declared.resource.Resource.{Resource}
+use Rattle.mirror_http.specs.declared.resource.Resource.TheVariants.{File, Status, Forks, Missing, Proof}
 use Rattle.copy_reader.specs.WholeCopies.{HasFilesOf}
 use Rattle.copy_reader.specs.Proofs.{IsMadeOf}
 use Rattle.copy_reader.proofs.GivenProofs.{made_within}

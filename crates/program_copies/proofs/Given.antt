@@ -2,7 +2,7 @@
 use Rattle.std.proofs.Common.{◌≡◌, ℕ, List, Option, Err}
 use Rattle.signed_note.specs.Keys.{Key}
 use Rattle.mirror_folders.specs.Shelf.{Put}
-use Rattle.program_files.specs.Named.{NamedFile}
+use Rattle.program_io.specs.Named.{NamedFile}
 use Rattle.program_reports.specs.declared.reports.Report.{Report as Printout}
 use Rattle.program_copies.specs.Comparisons.{GivesHeads, ReportsCompared}
 use Rattle.program_copies.specs.Printed.{CountsAsk}

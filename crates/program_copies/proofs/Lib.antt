@@ -3,7 +3,6 @@ pub mod AsMirror
 pub mod MirrorProofs
 pub mod Reading
 pub mod Widths
-pub mod FirstEntries
 pub mod ShelfFiles
 pub mod OneViews
 pub mod TrueFiles
@@ -16,3 +15,17 @@ pub mod Answering
 pub mod OpenedHeads
 pub mod MadeKeys
 pub mod Damages
+pub mod Parts
+pub mod Cuts
+pub mod ShownBundles
+pub mod CopyFaults
+pub mod CopySteps
+pub mod WholeSteps
+pub mod ServedSteps
+pub mod TrueEntries
+mod Lines
+pub mod Noted
+mod Putting
+mod Serving
+mod Whys
+pub mod Repaired

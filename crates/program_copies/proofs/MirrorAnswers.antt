@@ -1,10 +1,10 @@
 -- The reply from a copy is that of a mirror with its view.
 use Rattle.std.proofs.Common.{◌≡◌, ℕ, List, Option, sym, subst}
 use Rattle.signed_note.specs.declared.key_line.KeyLine.{KeyLine}
-use Rattle.mirror_server.specs.Answered.{IsBodyFor, IsRequestOf, reply_with}
-use Rattle.mirror_server.specs.Response.{IsBody, Response}
-use Rattle.mirror_server.specs.declared.request.Request.{Request}
-use Rattle.mirror_server.proofs.Replying.{responds}
+use Rattle.mirror_http.specs.Answered.{IsBodyFor, IsRequestOf, reply_with}
+use Rattle.mirror_http.specs.Response.{IsBody, Response}
+use Rattle.mirror_http.specs.declared.request.Request.{Request}
+use Rattle.mirror_http.proofs.Replying.{responds}
 use Rattle.mirror_model.specs.View.{nothing, View}
 use Rattle.program_copies.specs.CopyLaws.{CopiesAnswerAsMirrors, copy_view}
 use Rattle.program_copies.proofs.CopyBodies.{body_of_copy, body_of_empty}

@@ -4,9 +4,9 @@ use Rattle.signed_note.specs.declared.key_line.KeyLine.{KeyLine}
 use Rattle.tlog_tiles.specs.declared.paths.Path.TheVariants.{Checkpoint}
 use Rattle.mirror_folders.specs.Shelf.{Put, RecordsRead}
 use Rattle.mirror_model.specs.Heads.{IsHead, IsOpenHead}
-use Rattle.mirror_server.specs.declared.fault.HttpFault.TheVariants.{ReadFault, WriteFault, OutOfMemory}
-use Rattle.mirror_server.specs.declared.request.Request.TheVariants.{Get}
-use Rattle.mirror_server.specs.declared.resource.Resource.{Resource}
+use Rattle.mirror_http.specs.declared.fault.HttpFault.TheVariants.{ReadFault, WriteFault, OutOfMemory}
+use Rattle.mirror_http.specs.declared.request.Request.TheVariants.{Get}
+use Rattle.mirror_http.specs.declared.resource.Resource.{Resource}
 use Rattle.program_copies.specs.CopyAnswers.{BlamesAnswer, CountsMade, IsReadFailure}
 use Rattle.program_copies.specs.CopyHeads.{CopyHead, OpensNow}
 use Rattle.program_copies.specs.NewHeads.{RefusesHead}

@@ -6,7 +6,7 @@ use Rattle.std.proofs.lemmas.Bool.{cases_lt}
 use Rattle.std.proofs.lemmas.List.{get_or-append_right, length-append}
 use Rattle.tlog_tiles.specs.declared.paths.Path.{Path}
 use Rattle.mirror_folders.specs.Shelf.{HasPut, Put, Stands}
-use Rattle.log_paths.proofs.Standing.{put_has}
+use Rattle.mirror_folders.proofs.Standing.{put_has}
 
 module _ (puts : List Put) (path : Path) (a b : List ℕ) where
   later_put : (p : Stands puts path a) (q : Stands puts path b) → length p.before < length q.before →

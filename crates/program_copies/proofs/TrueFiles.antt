@@ -1,35 +1,33 @@
 -- Shown tiles and bundles are those of each list of entries of their size and root.
-use Rattle.std.proofs.Common.{◌≡◌, ℕ, zero, suc, ◌+◌, ◌-◌, ◌*◌, ◌^◌, ◌<◌, ◌≤◌, List, ◌∷◌, ◌++◌, length, take, drop, map}
+use Rattle.std.proofs.Common.{◌≡◌, ℕ, zero, suc, ◌+◌, ◌-◌, ◌*◌, ◌/◌, ◌^◌, ◌<◌, ◌≤◌, List, [], ◌∷◌, ◌++◌, length, take, drop, map}
 use Rattle.std.proofs.Common.{refl, sym, ap, subst, ◌∙◌, inl, inr, arith}
 use Rattle.std.specs.FinSet as set
-use Rattle.std.specs.List.{flat_map}
-use Rattle.std.proofs.Math.Seq.{take-add}
 use Rattle.std.proofs.lemmas.List.{length-map, length-take-le, map-append, take-append-drop, take_at}
 use Rattle.std.proofs.lemmas.List.Elements.{All-take}
 use Rattle.std.proofs.lemmas.List.Concat.{flat_map-append}
-use Rattle.tlog_shape.specs.Edge.{width_of}
+use Rattle.tlog_shape.specs.Edge.{edge_index_of, width_of}
 use Rattle.tlog_hash.specs.Rows.{level_row, part, ranges}
 use Rattle.tlog_hash.specs.Tree.{mth, strings}
 use Rattle.tlog_hash.proofs.Folds.{length-ranges}
 use Rattle.tlog_tiles.specs.Bundle.{bundle_text, entry_text, IsBundle}
-use Rattle.tlog_tiles.specs.Laws.{IsRead}
+use Rattle.tlog_tiles.specs.Cut.{HasEntries, IsFileCut}
 use Rattle.tlog_tiles.specs.Row.{row_text}
 use Rattle.tlog_tiles.specs.Tiles.{bundle_bytes, IsTileWithin, tile_bytes}
-use Rattle.tlog_tiles.proofs.BundleLemmas.{bundle_one}
+use Rattle.tlog_tiles.specs.declared.paths.Path.TheVariants.{Entries}
+use Rattle.tlog_tiles.proofs.Cuts.{bundles_begin, cuts_are_first}
 use Rattle.tlog_tiles.proofs.EdgeLemmas.{hashes_of}
-use Rattle.tlog_tiles.proofs.TileLemmas.{served_is_read}
 use Rattle.node_store.specs.Strings.{NoClash}
 use Rattle.mirror_model.specs.Strings.{IsDigest}
 use Rattle.mirror_model.specs.TrueLaws.{AreShort}
-use Rattle.log_paths.proofs.AllFiles.{upto_hashes}
 use Rattle.log_reader.specs.EdgeRows.{Edge}
 use Rattle.log_reader.specs.Holding.{row_width}
 use Rattle.log_reader.specs.Truth.{IsTrueBundle, read_strings}
-use Rattle.log_reader.specs.Ways.{IsShownBundle, row_of_way}
+use Rattle.log_reader.specs.Ways.{HasEdgeHashes, IsShownBundle, IsWay, row_of_way}
 use Rattle.log_reader.proofs.ShownBundles.{shown_bundles_are_true}
+use Rattle.log_reader.proofs.TrueReads.{width_at_edge, width_full}
 use Rattle.log_reader.proofs.Truths.{shown_rows_are_true}
-use Rattle.program_copies.specs.GivenFiles.{bundle_strings, IsEdgeTo, IsFirstEntries, IsShownPart, IsShownTile}
-use Rattle.program_copies.proofs.Widths.{row_reaches}
+use Rattle.program_copies.specs.GivenFiles.{bundle_strings, IsEdgeTo, IsShownPart, IsShownTile}
+use Rattle.program_copies.proofs.Widths.{row_reaches, row_within}
 
 -- ---- narrower and wider
 
@@ -65,38 +63,12 @@ module _ (digest : List ℕ → List ℕ) (hash : IsDigest digest) (entries : Li
   abbrev n : ℕ
   n = length entries
 
-  read : IsRead digest entries
-  read = served_is_read digest hash entries short
-
-  -- a wider bundle begins with the bytes of a narrower one
-  pub first_bundle : (index w wide : ℕ) → IsTileWithin (length entries) 0 index w → w ≤ wide →
-      IsFirstEntries w (bundle_bytes entries index wide) (bundle_bytes entries index w)
-  first_bundle index w wide within le =
-      let l = drop (256 * index) entries in
-      let sum : wide ≡ w + (wide - w) = omega arith in
-      let cut : take wide l ≡ take w l ++ take (wide - w) (drop w l) =
-      ap (λ k. take k l) sum ∙ take-add w (wide - w) l in
-      record {
-        rest = bundle_text (take (wide - w) (drop w l));
-        parts = ap bundle_text cut ∙ flat_map-append entry_text (take w l) (take (wide - w) (drop w l));
-        entries = part (256 * index) w entries;
-        is_bundle = read.bundle index w within;
-      }
-
-  -- so the bytes that are taken from a wider bundle are the bundle
-  bundle_taken : (index w wide : ℕ) (body : List ℕ) → IsTileWithin (length entries) 0 index w → w ≤ wide →
-      IsFirstEntries w (bundle_bytes entries index wide) body → body ≡ bundle_bytes entries index w
-  bundle_taken index w wide body within le first =
-      let true_one = first_bundle index w wide within le in
-      let bundle = first.is_bundle in
-      let true_bundle = true_one.is_bundle in
-      let same : flat_map entry_text first.entries ++ first.rest
-      ≡ flat_map entry_text true_one.entries ++ true_one.rest =
-      ap (λ x. x ++ first.rest) (sym bundle.text)
-      ∙ (sym first.parts ∙ (true_one.parts ∙ ap (λ x. x ++ true_one.rest) true_bundle.text)) in
-      let one = bundle_one first.entries true_one.entries first.rest true_one.rest
-      (bundle.count ∙ sym true_bundle.count) bundle.fits true_bundle.fits same in
-      bundle.text ∙ (ap bundle_text one.0 ∙ sym true_bundle.text)
+  -- the bytes that are cut from a true bundle are those of the narrower one
+  bundle_taken : (index w wide : ℕ) (body : List ℕ) → IsTileWithin (length entries) 0 index wide → w ≤ wide →
+      IsFileCut (Entries index w) wide (bundle_bytes entries index wide) body → body ≡ bundle_bytes entries index w
+  bundle_taken index w wide body within le cut =
+      cuts_are_first.one (Entries index w) wide (bundle_bytes entries index wide) body (bundle_bytes entries index w) cut
+      (bundles_begin digest hash entries short index w wide le within)
 
   -- ---- what is shown is true
 
@@ -135,38 +107,57 @@ module _ (digest : List ℕ → List ℕ) (hash : IsDigest digest) (entries : Li
     part_is_true index width body within is clear =
         let w = row_width n 0 index in
         let t = bundle_is_true index is.bundle is.shown clear in
-        bundle_taken index width w body within (row_reaches n 0 index width within)
-        (subst (λ (b : List ℕ). IsFirstEntries width b body) t.text is.first)
+        bundle_taken index width w body (row_within n 0 index width within) (row_reaches n 0 index width within)
+        (subst (λ (b : List ℕ). IsFileCut (Entries index width) w b body) t.text
+        (subst (λ m. IsFileCut (Entries index width) (row_width m 0 index) is.bundle body) to.size_is is.first))
 
 -- ---- what is shown has its narrower ones
 
-cut_there : (w width : ℕ) (bundle : List ℕ) (es : List (List ℕ)) → IsBundle w bundle es → width ≤ w →
-    IsFirstEntries width bundle (bundle_text (take width es))
-cut_there w width bundle es is le =
+cut_there : (index w width : ℕ) (bundle : List ℕ) → HasEntries w bundle → width ≤ w →
+    ((part : List ℕ) → IsFileCut (Entries index width) w bundle part → ⊥) → ⊥
+cut_there index w width bundle (es, is) le none =
     let whole : take width es ++ drop width es ≡ es = take-append-drop width es in
-    record {
+    none (bundle_text (take width es)) (record {
+      whole = (es, is);
+      own = (
+        take width es,
+        record {
+          count = length-take-le width es (omega (arith, is.count, le));
+          fits = All-take (λ e. length e < 2 ^ 16) width es is.fits;
+          text = refl;
+        },
+      );
       rest = bundle_text (drop width es);
       parts = is.text ∙ (ap bundle_text (sym whole) ∙ flat_map-append entry_text (take width es) (drop width es));
-      entries = take width es;
-      is_bundle = record {
-        count = length-take-le width es (omega (arith, is.count, le));
-        fits = All-take (λ e. length e < 2 ^ 16) width es is.fits;
-        text = refl;
-      };
-    }
+    })
 
--- a shown bundle has its first entries
-pub shown_has : (digest : List ℕ → List ℕ) (edge : Edge) (index width : ℕ) (bundle : List ℕ) →
-    IsTileWithin edge.size 0 index width → IsShownBundle digest edge index bundle →
-    ((part : List ℕ) → IsFirstEntries width bundle part → ⊥) → ⊥
-shown_has digest edge index width bundle within (inl end) none =
-    let leaves = end.has_leaves in
-    let w = width_of edge.size 0 in
-    let top = upto_hashes edge.size 0 index width within in
-    let hashes = hashes_of edge.size 0 in
-    none (bundle_text (take width leaves.entries))
-    (cut_there w width bundle leaves.entries leaves.is_bundle (omega (arith, top, hashes, end.index_is)))
-shown_has digest edge index width bundle within (inr full) none =
-    let leaves = full.has_leaves in
-    none (bundle_text (take width leaves.entries))
-    (cut_there 256 width bundle leaves.entries leaves.is_bundle within.upto)
+module _ (digest : List ℕ → List ℕ) (edge : Edge) (hashes : HasEdgeHashes edge) where
+  -- a shown row has only hashes of the tree
+  row_upto : (level index : ℕ) (way : List (List (List ℕ))) → IsWay digest edge level index way →
+      256 * index + length (row_of_way edge level way) ≤ edge.size / 256 ^ level
+  row_upto level index [] w = omega (arith, w.1, hashes_of edge.size level, (hashes level w.0).count)
+  row_upto level index (row ∷ above) w =
+      omega (arith, row_upto (level + 1) (index / 256) above w.1, w.0.within, w.0.hashes.count, hashes_of edge.size level)
+
+  -- a shown bundle has all entries of the tree at its index
+  shown_whole : (index : ℕ) (bundle : List ℕ) → IsShownBundle digest edge index bundle →
+      HasEntries (row_width edge.size 0 index) bundle
+  shown_whole index bundle (inl end) =
+      let leaves = end.has_leaves in
+      let at : row_width edge.size 0 index ≡ width_of edge.size 0 =
+      ap (row_width edge.size 0) end.index_is ∙ width_at_edge edge.size 0 in
+      (leaves.entries, subst (λ w. IsBundle w bundle leaves.entries) (sym at) leaves.is_bundle)
+  shown_whole index bundle (inr full) =
+      let leaves = full.has_leaves in
+      let upto = row_upto 1 (index / 256) full.shown.way full.shown.is_way in
+      let before : index < edge_index_of edge.size 0 = omega (arith, upto, full.within, ap length full.shown.row_is) in
+      (leaves.entries, subst (λ w. IsBundle w bundle leaves.entries) (sym (width_full edge.size 0 index before)) leaves.is_bundle)
+
+  -- so it has its first entries
+  pub shown_has : (index width wider : ℕ) (bundle file : List ℕ) → IsTileWithin edge.size 0 index width →
+      IsShownBundle digest edge index bundle → wider ≡ row_width edge.size 0 index → file ≡ bundle →
+      ((part : List ℕ) → IsFileCut (Entries index width) wider file part → ⊥) → ⊥
+  shown_has index width wider bundle file within shown wide same none =
+      let whole : HasEntries wider bundle = subst (λ w. HasEntries w bundle) (sym wide) (shown_whole index bundle shown) in
+      cut_there index wider width file (subst (HasEntries wider) (sym same) whole)
+      (omega (arith, wide, row_reaches edge.size 0 index width within)) none

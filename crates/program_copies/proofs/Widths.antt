@@ -7,11 +7,11 @@ use Rattle.std.proofs.lemmas.Bool.Decides.{eqb_tells}
 use Rattle.tlog_shape.specs.Edge.{width_of, edge_index_of, IsTile}
 use Rattle.tlog_tiles.specs.Tiles.{IsTileWithin}
 use Rattle.tlog_tiles.proofs.EdgeLemmas.{hashes_of}
-use Rattle.log_paths.specs.Since.{width_at}
-use Rattle.log_paths.proofs.AllFiles.{upto_hashes}
-use Rattle.log_paths.proofs.FilePaths.{tile_within}
+use Rattle.mirror_folders.specs.Since.{width_at}
+use Rattle.mirror_folders.proofs.AllFiles.{upto_hashes}
+use Rattle.mirror_folders.proofs.FilePaths.{tile_within}
 use Rattle.log_reader.specs.Holding.{row_width}
-use Rattle.log_paths.proofs.PlaceWidths.{width_edge, width_found, width_full, width_none}
+use Rattle.mirror_folders.proofs.PlaceWidths.{width_edge, width_found, width_full, width_none}
 
 pub within_upto : (n level index width : ℕ) → IsTileWithin n level index width → width ≤ width_at n level index
 within_upto n level index width h =
@@ -65,6 +65,14 @@ row_reaches n level index width h =
     let top = upto_hashes n level index width h in
     let upto = h.upto in
     omega (arith, top, upto)
+
+-- so the tree has the tile with all hashes of its row
+pub row_within : (n level index width : ℕ) → IsTileWithin n level index width →
+    IsTileWithin n level index (row_width n level index)
+row_within n level index width h =
+    let top = upto_hashes n level index width h in
+    let some : 1 ≤ row_width n level index = omega (arith, row_reaches n level index width h, h.some) in
+    tile_within n level index (row_width n level index) h.level_fits some (omega arith) (omega (arith, top))
 
 -- the answer of the search for a width
 pub widest_found : (n level index : ℕ) (found : Option ℕ) → IfSome found (λ width. IsTile n level index width) →

@@ -4,10 +4,10 @@ use Rattle.tlog_tiles.specs.Tiles.{IsTileWithin}
 use Rattle.tlog_tiles.specs.declared.paths.Path.TheVariants.{Checkpoint, Tile, Entries}
 use Rattle.mirror_folders.specs.Shelf.{Put}
 use Rattle.mirror_model.specs.Forks.{Point}
-use Rattle.mirror_server.specs.declared.request.Request.{Request}
-use Rattle.mirror_server.specs.declared.request.Request.TheVariants.{Nothing, Unreadable, OtherMethod, Unknown, Get}
-use Rattle.mirror_server.specs.declared.resource.Resource.{Resource}
-use Rattle.mirror_server.specs.declared.resource.Resource.TheVariants.{File, Status, Forks, Missing, Proof}
+use Rattle.mirror_http.specs.declared.request.Request.{Request}
+use Rattle.mirror_http.specs.declared.request.Request.TheVariants.{Nothing, Unreadable, OtherMethod, Unknown, Get}
+use Rattle.mirror_http.specs.declared.resource.Resource.{Resource}
+use Rattle.mirror_http.specs.declared.resource.Resource.TheVariants.{File, Status, Forks, Missing, Proof}
 use Rattle.copy_reader.specs.Proofs.{IsWithin}
 use Rattle.copy_reader.specs.Statuses.{copy_status}
 use Rattle.program_copies.specs.CopyHeads.{CopyHead}

@@ -3,12 +3,12 @@ use Rattle.std.specs.Prelude.{◌≡◌, ◌≢◌, ℕ, ◌<◌, ◌≤◌, Lis
 use Rattle.signed_note.specs.Keys.{Key}
 use Rattle.mirror_folders.specs.Shelf.{Put}
 use Rattle.mirror_trees.specs.Marked.{point_of}
-use Rattle.mirror_reports.specs.Compared.{IsCompared, compared_point, compared_text}
-use Rattle.mirror_reports.specs.declared.compare.Compared.{Compared}
-use Rattle.mirror_reports.specs.declared.compare.Compared.TheVariants.{Same, Fork, Larger}
+use Rattle.tlog_mirror.specs.Compared.{IsCompared, compared_point, compared_text}
+use Rattle.tlog_mirror.specs.declared.compared.Compared.{Compared}
+use Rattle.tlog_mirror.specs.declared.compared.Compared.TheVariants.{Same, Fork, Larger}
 use Rattle.mirror_model.specs.Origin.{IsOrigin}
-use Rattle.program_files.specs.Named.{NamedFile}
-use Rattle.program_states.specs.HeadFiles.{ReadsHeads}
+use Rattle.program_io.specs.Named.{NamedFile}
+use Rattle.program_io.specs.HeadFiles.{ReadsHeads}
 use Rattle.program_reports.specs.Comparisons.{compare_status}
 use Rattle.program_reports.specs.Reports.{printed}
 use Rattle.program_reports.specs.declared.reports.Report.{Report as Printout}

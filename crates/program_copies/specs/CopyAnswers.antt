@@ -4,12 +4,12 @@ use Rattle.std.specs.Io.KnownBytes.{Appends, Keeps}
 use Rattle.byte_streams.specs.Streams.{AppendsPrefix}
 use Rattle.signed_note.specs.declared.key_line.KeyLine.{KeyLine}
 use Rattle.mirror_folders.specs.Shelf.{Put}
-use Rattle.mirror_server.specs.Answered.{IsRequestOf, reply_with}
-use Rattle.mirror_server.specs.Response.{server_error}
-use Rattle.mirror_server.specs.declared.fault.HttpFault.TheVariants.{ReadFault, WriteFault, OutOfMemory}
-use Rattle.mirror_server.specs.declared.request.Request.{Request}
-use Rattle.mirror_server.specs.declared.request.Request.TheVariants.{Nothing, Unreadable, OtherMethod, Unknown, Get}
-use Rattle.mirror_server.specs.declared.resource.Resource.{Resource}
+use Rattle.mirror_http.specs.Answered.{IsRequestOf, reply_with}
+use Rattle.mirror_http.specs.Response.{server_error}
+use Rattle.mirror_http.specs.declared.fault.HttpFault.TheVariants.{ReadFault, WriteFault, OutOfMemory}
+use Rattle.mirror_http.specs.declared.request.Request.{Request}
+use Rattle.mirror_http.specs.declared.request.Request.TheVariants.{Nothing, Unreadable, OtherMethod, Unknown, Get}
+use Rattle.mirror_http.specs.declared.resource.Resource.{Resource}
 use Rattle.mirror_sources.specs.Recorded.{one_more}
 use Rattle.copy_reader.specs.WholeCopies.{IsDamaged}
 use Rattle.program_copies.specs.Bodies.{given_strings, IsBodyGiven}

@@ -11,7 +11,7 @@ use Rattle.mirror_model.specs.Heads.{IsHead}
 use Rattle.mirror_model.specs.Strings.{IsDigest}
 use Rattle.mirror_model.specs.TrueLaws.{AreShort}
 use Rattle.mirror_model.specs.View.{nothing, View}
-use Rattle.mirror_server.specs.Response.{Response}
+use Rattle.mirror_http.specs.Response.{Response}
 use Rattle.copy_reader.specs.WholeCopies.{HasFilesOf}
 use Rattle.program_copies.specs.Bodies.{AsksProof}
 use Rattle.program_copies.specs.CopyAnswers.{IsCopyReply, strings_for}
@@ -57,7 +57,7 @@ CopiesAnswerAsMirrors AreKeys =
     (is : IsCopyReply digest AreKeys last origin (Some puts) bytes reply) →
     AnswersAsMirror digest AreKeys last origin puts bytes reply is
 
--- such views are lawful, so each has one reply to the bytes of a client (`one_response_law` of mirror_server)
+-- such views are lawful, so each has one reply to the bytes of a client (`one_response_law` of mirror_http)
 pub record AreLawful (digest : List ℕ → List ℕ) (origin : List ℕ) : Type 0 where
   pub empty : IsLawful digest (nothing origin)
   pub one : (note : List ℕ) (entries : List (List ℕ)) → IsNoteOf digest origin note entries →

@@ -5,10 +5,10 @@ use Rattle.tlog_tiles.specs.declared.paths.Path.{Path}
 use Rattle.tlog_tiles.specs.declared.paths.Path.TheVariants.{Checkpoint}
 use Rattle.mirror_folders.specs.Shelf.{Put, RecordsRead}
 use Rattle.mirror_model.specs.Heads.{IsHead}
-use Rattle.mirror_server.specs.declared.request.Request.{Request}
-use Rattle.mirror_server.specs.declared.request.Request.TheVariants.{Nothing, Unreadable, OtherMethod, Unknown, Get}
-use Rattle.mirror_server.specs.declared.resource.Resource.{Resource}
-use Rattle.mirror_server.specs.declared.resource.Resource.TheVariants.{File, Status, Forks, Missing, Proof}
+use Rattle.mirror_http.specs.declared.request.Request.{Request}
+use Rattle.mirror_http.specs.declared.request.Request.TheVariants.{Nothing, Unreadable, OtherMethod, Unknown, Get}
+use Rattle.mirror_http.specs.declared.resource.Resource.{Resource}
+use Rattle.mirror_http.specs.declared.resource.Resource.TheVariants.{File, Status, Forks, Missing, Proof}
 use Rattle.log_reader.specs.EdgeRows.{Edge}
 use Rattle.log_reader.specs.FalseFiles.{IsFalseFile}
 use Rattle.copy_reader.specs.Copies.{HasCheckpoint, IsRefused}

@@ -1,5 +1,5 @@
 -- The client's faults for the faults of a body.
-use Rattle.mirror_server.specs.declared.fault.HttpFault.TheVariants as http
+use Rattle.mirror_http.specs.declared.fault.HttpFault.TheVariants as http
 use Rattle.tlog_tiles.specs.declared.paths.Path.TheVariants.{Checkpoint}
 use Rattle.copy_reader.specs.declared.fault.CopyFault.{CopyFault}
 use Rattle.copy_reader.specs.declared.fault.CopyFault.TheVariants.{BadOrigin, Head, CopyDamaged, ShelfFault, OutOfMemory}

@@ -3,21 +3,15 @@
 use Rattle.std.specs.Prelude.{◌≡◌, ◌⊎◌, ℕ, ◌≤◌, List, [], ◌++◌, length, take}
 use Rattle.std.proofs.Common.{inl, inr}
 use Rattle.tlog_hash.specs.Tree.{strings}
-use Rattle.tlog_tiles.specs.Bundle.{IsBundle}
+use Rattle.tlog_tiles.specs.Cut.{IsFileCut}
 use Rattle.tlog_tiles.specs.Row.{row_text}
 use Rattle.tlog_tiles.specs.Tiles.{IsWithin}
 use Rattle.tlog_tiles.specs.declared.paths.Path.{Path}
 use Rattle.tlog_tiles.specs.declared.paths.Path.TheVariants.{Checkpoint, Tile, Entries}
 use Rattle.log_reader.specs.EdgeRows.{Edge, hash_of_edge}
+use Rattle.log_reader.specs.Holding.{row_width}
 use Rattle.log_reader.specs.Truth.{read_strings}
 use Rattle.log_reader.specs.Ways.{HasEdgeHashes, IsShownBundle, IsShownRow}
-
--- the bundle begins with the bytes: that number of entries
-pub record IsFirstEntries (width : ℕ) (file bytes : List ℕ) : Type 0 where
-  pub rest : List ℕ
-  pub parts : file ≡ bytes ++ rest
-  pub entries : List (List ℕ)
-  pub is_bundle : IsBundle width bytes entries
 
 module _ (digest : List ℕ → List ℕ) where
   -- the edge has that size, and its rows lead to the root
@@ -37,7 +31,7 @@ module _ (digest : List ℕ → List ℕ) where
   pub record IsShownPart (edge : Edge) (index width : ℕ) (bytes : List ℕ) : Type 0 where
     pub bundle : List ℕ
     pub shown : IsShownBundle digest edge index bundle
-    pub first : IsFirstEntries width bundle bytes
+    pub first : IsFileCut (Entries index width) (row_width edge.size 0 index) bundle bytes
 
   -- the bytes of that path lead up to the edge
   abbrev pub IsShownFile : Edge → Path → List ℕ → Type 0

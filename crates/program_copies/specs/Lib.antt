@@ -12,3 +12,15 @@ pub mod GivenProofs
 pub mod Bodies
 pub mod CopyAnswers
 pub mod CopyLaws
+pub mod Texts
+pub mod Audits
+pub mod Served
+pub mod Shown
+pub mod Copied
+pub mod EntriesLaws
+pub mod Text
+pub mod Evidence
+pub mod Following
+pub mod Whys
+pub mod Places
+pub mod Repairing

@@ -2,8 +2,8 @@
 ghost use Rattle.std.specs.Prelude.{◌≡◌, ℕ, List, IfErr, IfOk, IfSome, option_map};
 ghost use Rattle.std.specs.Io.KnownBytes.{Keeps};
 ghost use Rattle.byte_streams.specs.Streams.{TakesAtMost};
-ghost use Rattle.mirror_server.specs.Answered.{FailsBeforeHead, IsRequestOf};
-ghost use Rattle.mirror_server.specs.declared.request.Request.TheVariants as Request;
+ghost use Rattle.mirror_http.specs.Answered.{FailsBeforeHead, IsRequestOf};
+ghost use Rattle.mirror_http.specs.declared.request.Request.TheVariants as Request;
 ghost use Rattle.mirror_sources.specs.Recorded.{KeepsRecord};
 ghost use Rattle.program_copies.specs.CopyAnswers.{AnswersFromCopy, BlamesAnswer, BlamesBody, CountsAnswer, CountsMade, IsCopyReply, IsGiven, IsGivenFor, IsQuiet, KeepsLast, WritesError, WritesReply};
 ghost use Rattle.program_copies.specs.Bodies.{IsBodyGiven};
@@ -17,8 +17,8 @@ use crate::reply_fault::{CopyAnswerFault, answer_fault};
 use byte_streams::write_whole;
 use log_reader::LogReader;
 use mirror_folders::ReadableShelf;
-use mirror_server::{
-    HttpFault, MAX_HEAD_LEN, Request, Resource, read_request, reply_to, server_error_reply,
+use mirror_http::{
+    HttpFault, MAX_REQUEST_LEN, Request, Resource, read_request, reply_to, server_error_reply,
 };
 use std::alloc::{AllocError, Global};
 use std::io::{Read, Write};
@@ -178,7 +178,7 @@ fn write_error<W: Write>(
 }
 
 /// Reads the first request of a client, and writes the reply from the copy on the shelf (RFC 9112). The reply is that of `answer` of
-/// `mirror_server` for a mirror with only the checkpoint's tree head, which is complete. Requests and replies have the limits
+/// `mirror_http` for a mirror with only the checkpoint's tree head, which is complete. Requests and replies have the limits
 /// of `answer`.
 ///
 /// The checkpoint is read at each call. If its bytes are not those that opened last, the keys are read, and it has to open under them. The
@@ -214,7 +214,7 @@ pub fn answer_from_copy<H: TreeHash, D: ReadableShelf, K: CopyKeys, R: Read, W: 
     ensures last { IsLastOpened (K.are_keys keys.now) origin.now kept.old kept.new }
     ensures quiet { IfErr result (λ e. IsQuiet e
         → Keeps (W.contents writer.old) (W.contents writer.new)) }
-    ensures limit { TakesAtMost MAX_HEAD_LEN (R.remaining reader.old) (R.remaining reader.new) }
+    ensures limit { TakesAtMost MAX_REQUEST_LEN (R.remaining reader.old) (R.remaining reader.new) }
     ensures fault { IfErr result (λ e. e ≡ CopyAnswerFault.Http HttpFault.ReadFault
         → FailsBeforeHead (R.remaining reader.old) (R.remaining reader.new)) }
     ensures same { KeepsRecord (D.puts shelf.old) (D.puts shelf.new) }

@@ -14,7 +14,7 @@ use crate::proving::asked_proof;
 use copy_reader::{CopyFault, status_text};
 use log_reader::LogReader;
 use mirror_folders::ReadableShelf;
-use mirror_server::Resource;
+use mirror_http::Resource;
 use std::alloc::{AllocError, Global};
 use tlog_hash::{Hash, TreeHash};
 use tlog_tiles::Path;

@@ -6,7 +6,7 @@ ghost use Rattle.copy_reader.specs.Copies.{LeavesPuts};
 ghost use Rattle.copy_reader.specs.Damage.{NamesDamage};
 ghost use Rattle.copy_reader.specs.Faults.{CountsRead};
 ghost use Rattle.copy_reader.specs.WholeCopies.{IsShelfFailure, ReadsCopyOf};
-ghost use Rattle.mirror_reports.specs.Compared.{IsCompared, compared_point, compared_text};
+ghost use Rattle.tlog_mirror.specs.Compared.{IsCompared, compared_point, compared_text};
 ghost use Rattle.program_reports.specs.Comparisons.{compare_status};
 ghost use Rattle.program_reports.specs.Reports.{printed};
 ghost use Rattle.program_copies.specs.Comparisons.{AreCompared, GivesHeads, IsComparedTo, IsComparisonOf, IsLogRead, ReportsCompared, heads_of};
@@ -19,15 +19,13 @@ use crate::printing::print_text;
 use copy_reader::{CopyFault, read_root};
 use log_reader::LogReader;
 use mirror_folders::{NamedFolders, ReadableShelf};
-use mirror_reports::{Compared, comparison_text};
-use program_files::NamedFiles;
+use program_io::{NamedFiles, read_heads};
 use program_reports::{AskFault, Report, ReportFault, comparison_status};
-use program_states::read_heads;
 use signed_note::Verifier;
 use std::alloc::{AllocError, Global};
 use std::io::Write;
 use tlog_hash::{Hash, TreeHash};
-use tlog_mirror::{Mirror, NewFault};
+use tlog_mirror::{Compared, Mirror, NewFault, comparison_text};
 
 fn is_same(first: &Hash, second: &Hash) -> bool
     ensures { IsTrue result ↔ (first.now ≡ second.now) }

@@ -3,8 +3,8 @@ ghost use Rattle.std.specs.Prelude.{◌≡◌};
 ghost use Rattle.program_copies.specs.declared.fault.CopyAskFault.TheVariants as asking;
 
 use copy_reader::CopyFault;
+use program_io::HeadFilesFault;
 use program_reports::AskFault;
-use program_states::HeadFilesFault;
 use std::fmt;
 
 /// The reason why a copy gives no report, in the order of the steps. It prints as the name of the innermost variant.

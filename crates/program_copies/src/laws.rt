@@ -22,7 +22,7 @@ pub fn proofs_law()
 {}
 
 /// The reply from a copy is that of a mirror that has only its checkpoint, complete, whatever its files are. If the shelf has no checkpoint,
-/// it is that of an empty mirror. The view is lawful, so by `one_response_law` of `mirror_server` it has no other reply.
+/// it is that of an empty mirror. The view is lawful, so by `one_response_law` of `mirror_http` it has no other reply.
 ///
 /// Premise: the checkpoint is one of these entries, and no two different strings share a digest, of those of their tree and of those on the
 /// way from the reply to the root. If a proof was asked for, the shelf has the files of the log; without them, the proof still holds.

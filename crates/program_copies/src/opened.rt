@@ -9,7 +9,7 @@ ghost use Rattle.copy_reader.specs.WholeCopies.{OpensWhole};
 use copy_reader::{CopyFault, open_shelf};
 use log_reader::LogReader;
 use mirror_folders::NamedFolders;
-use program_states::check_origin;
+use program_io::check_origin;
 use signed_note::Verifier;
 use std::alloc::Global;
 use tlog_hash::TreeHash;

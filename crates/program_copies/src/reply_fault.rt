@@ -4,8 +4,8 @@ ghost use Rattle.program_copies.specs.Faults.{by_body};
 
 use crate::keys::KeysFault;
 use copy_reader::CopyFault;
+use mirror_http::HttpFault;
 use mirror_model::TakeFault;
-use mirror_server::HttpFault;
 use tlog_tiles::Path;
 
 /// The reason why a client was not answered from a copy, or was answered by `500 Internal Server Error`.

@@ -7,7 +7,6 @@ ghost use Rattle.copy_reader.specs.Faults.{CountsRead};
 ghost use Rattle.copy_reader.specs.WholeCopies.{IsShelfFailure, ReadsCopyOf};
 ghost use Rattle.program_copies.specs.GivenFiles.{IsShownFile, IsShownPart, IsShownTile};
 
-use crate::cut::first_entries;
 use crate::row::read_row;
 use copy_reader::{CopyFault, read_bundle};
 use log_reader::LogReader;
@@ -64,9 +63,13 @@ fn read_part<H: TreeHash, D: ReadableShelf>(
         (D.puts shelf.old) result (λ entries _. ⊤) }
 {
     let bundle = read_bundle::<H, D>(alloc, shelf, reader, index)?;
-    match first_entries(&bundle, width) {
+    // The rows of its edge have the widths of their levels.
+    let _root = reader.root();
+    let wider = (reader.size() - 256 * index).min(256) as u32;
+    let path = Path::Entries { index, width };
+    match path.cut(wider, &bundle) {
         Some(first) => Ok(Vec::from_slice(alloc, first)?),
-        None => Err(CopyFault::CopyDamaged(Path::Entries { index, width })),
+        None => Err(CopyFault::CopyDamaged(path)),
     }
 }
 

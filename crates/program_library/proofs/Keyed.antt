@@ -4,21 +4,21 @@ use Rattle.signed_note.specs.Keys.{Key}
 use Rattle.signed_note.specs.KeyFiles.{ReadsKeys}
 use Rattle.signed_note.specs.declared.key_fault.KeyFileFault.{KeyFileFault}
 use Rattle.signed_note.specs.declared.key_line.KeyLine.{KeyLine}
-use Rattle.program_files.specs.Named.{NamedFile}
+use Rattle.program_io.specs.Named.{NamedFile}
 use Rattle.program_words.specs.Lines.{IsLine}
 use Rattle.program_words.specs.LineReadings.{Reads, ReadsKeyFile}
 use Rattle.program_words.specs.declared.commands.Command.{Command as Order}
 use Rattle.program_words.specs.declared.fault.CommandFault.{CommandFault}
 use Rattle.program_words.specs.declared.reading.Line.{Line}
 use Rattle.program_library.specs.Commands.{IsDoable, IsWriteFault}
-use Rattle.program_env.specs.Moment.{Moment}
-use Rattle.program_env.specs.Performing.{Ends}
+use Rattle.program_io.specs.Moment.{Moment}
+use Rattle.program_io.specs.Performing.{Ends}
 use Rattle.program_library.specs.Runs.{AreKeyBytes, FailsAtKeys, FindsKeys, ReadsKeyLines}
 use Rattle.program_library.specs.Runs.{Runs, RunsKeyed, no_lines}
 use Rattle.program_library.specs.declared.fault.RunFault.{RunFault}
 use Rattle.program_library.specs.declared.fault.RunFault.TheVariants.{Command, KeyFile, KeyLines}
 use Rattle.program_library.proofs.Doable.{asked_doable}
-use Rattle.program_env.proofs.Written.{keeps_itself}
+use Rattle.program_io.proofs.Written.{keeps_itself}
 
 -- the command of a line can be done
 doable : (words : List (List ℕ)) (command : Result Order CommandFault) → Reads words command → IfOk command IsDoable

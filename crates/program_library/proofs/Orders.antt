@@ -1,15 +1,15 @@
 -- The answers of each crate of commands, as those of a run.
 use Rattle.std.proofs.Common.{◌≡◌, ℕ, List, Option, Result, Ok, Err}
 use Rattle.std.specs.Result.{result_map_both}
-use Rattle.program_env.specs.Performing.{Ends}
+use Rattle.program_io.specs.Performing.{Ends}
 use Rattle.state_commands.specs.declared.fault.StateRunFault.{StateRunFault}
 use Rattle.state_commands.specs.Faults.{IsLate as IsStateLate}
-use Rattle.report_commands.specs.declared.fault.ReportRunFault.{ReportRunFault}
-use Rattle.report_commands.specs.Faults.{IsLate as IsReportLate}
+use Rattle.copy_commands.specs.declared.state_fault.ReportRunFault.{ReportRunFault}
+use Rattle.copy_commands.specs.StateFaults.{IsLate as IsReportLate}
 use Rattle.copy_commands.specs.declared.fault.CopyRunFault.{CopyRunFault}
 use Rattle.copy_commands.specs.Faults.{IsLate as IsCopyLate}
-use Rattle.place_commands.specs.declared.fault.PlaceRunFault.{PlaceRunFault}
-use Rattle.place_commands.specs.Faults.{IsLate as IsPlaceLate}
+use Rattle.copy_commands.specs.declared.place_fault.PlaceRunFault.{PlaceRunFault}
+use Rattle.copy_commands.specs.PlaceFaults.{IsLate as IsPlaceLate}
 use Rattle.program_library.specs.Commands.{ByCopy, ByPlace, ByReport, ByState, IsWriteFault}
 use Rattle.program_library.specs.declared.fault.RunFault.{RunFault}
 use Rattle.program_library.specs.declared.fault.RunFault.TheVariants.{Copy, Place, Report, State}

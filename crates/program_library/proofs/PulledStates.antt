@@ -14,8 +14,8 @@ use Rattle.mirror_pull.specs.Taking.{Grows, PullsTo}
 use Rattle.mirror_pull.specs.declared.fault.PullFault.{PullFault}
 use Rattle.mirror_pull.specs.declared.fault.PullFault.TheVariants as pull
 use Rattle.mirror_pull.specs.declared.pulling.Pulled.{Pulled}
-use Rattle.program_files.specs.Named.{NamedFile}
-use Rattle.program_states.specs.States.{BeginsWith}
+use Rattle.program_io.specs.Named.{NamedFile}
+use Rattle.program_io.specs.States.{BeginsWith}
 use Rattle.program_library.specs.RunLaws.{PulledStatesAreLoaded}
 
 module _ (digest : List ℕ → List ℕ) (origin : List ℕ) (keys : List Key) where

@@ -11,7 +11,7 @@ use Rattle.signed_note.specs.declared.key_fault.KeyFileFault.{KeyFileFault}
 use Rattle.signed_note.specs.declared.key_line.KeyLine.{KeyLine}
 use Rattle.signed_note.specs.declared.key_line.KeyLine.TheVariants.{Hmac, Pin}
 use Rattle.signed_note.proofs.OneKeyFile.{one_key_answer}
-use Rattle.tlog_build.specs.Signing.{first_secret}
+use Rattle.state_commands.specs.Signing.{first_secret}
 use Rattle.program_library.specs.RunLaws.{SignersAreKeys}
 
 abbrev lines_of : Result (List KeyLine) KeyFileFault → List KeyLine

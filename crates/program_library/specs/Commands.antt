@@ -3,19 +3,19 @@ use Rattle.std.specs.Prelude.{ℕ, List, Result, Ok, Err, ⊤}
 use Rattle.signed_note.specs.Keys.{Key}
 use Rattle.program_words.specs.declared.commands.Command.{Command as Order}
 use Rattle.program_words.specs.declared.commands.Command.TheVariants as order
-use Rattle.program_env.specs.Moment.{Moment}
+use Rattle.program_io.specs.Moment.{Moment}
 use Rattle.state_commands.specs.Commands.{ExecutesState, IsStateDoable}
-use Rattle.report_commands.specs.Commands.{ExecutesReport, IsReportDoable}
+use Rattle.copy_commands.specs.StateCommands.{ExecutesReport, IsReportDoable}
 use Rattle.copy_commands.specs.Commands.{ExecutesCopy}
-use Rattle.place_commands.specs.Commands.{ExecutesPlace}
+use Rattle.copy_commands.specs.PlaceCommands.{ExecutesPlace}
 use Rattle.state_commands.specs.declared.fault.StateRunFault.{StateRunFault}
 use Rattle.state_commands.specs.Faults.{IsLate as IsStateLate}
-use Rattle.report_commands.specs.declared.fault.ReportRunFault.{ReportRunFault}
-use Rattle.report_commands.specs.Faults.{IsLate as IsReportLate}
+use Rattle.copy_commands.specs.declared.state_fault.ReportRunFault.{ReportRunFault}
+use Rattle.copy_commands.specs.StateFaults.{IsLate as IsReportLate}
 use Rattle.copy_commands.specs.declared.fault.CopyRunFault.{CopyRunFault}
 use Rattle.copy_commands.specs.Faults.{IsLate as IsCopyLate}
-use Rattle.place_commands.specs.declared.fault.PlaceRunFault.{PlaceRunFault}
-use Rattle.place_commands.specs.Faults.{IsLate as IsPlaceLate}
+use Rattle.copy_commands.specs.declared.place_fault.PlaceRunFault.{PlaceRunFault}
+use Rattle.copy_commands.specs.PlaceFaults.{IsLate as IsPlaceLate}
 use Rattle.program_library.specs.declared.fault.RunFault.{RunFault}
 use Rattle.program_library.specs.declared.fault.RunFault.TheVariants.{Copy, Place, Report, State}
 
@@ -39,7 +39,7 @@ ByState Does (Ok status) = Does (Ok status)
 ByState Does (Err (State fault)) = Does (Err fault)
 ByState Does (Err other) = ⊥
 
--- the same of the commands in `report_commands`
+-- the same of the commands in `copy_commands` over a state, a bundle or a proof
 abbrev pub ByReport : (Result ℕ ReportRunFault → Type 0) → Result ℕ RunFault → Type 0
 ByReport Does (Ok status) = Does (Ok status)
 ByReport Does (Err (Report fault)) = Does (Err fault)
@@ -51,7 +51,7 @@ ByCopy Does (Ok status) = Does (Ok status)
 ByCopy Does (Err (Copy fault)) = Does (Err fault)
 ByCopy Does (Err other) = ⊥
 
--- the same of the commands in `place_commands`
+-- the same of the commands in `copy_commands` over places
 abbrev pub ByPlace : (Result ℕ PlaceRunFault → Type 0) → Result ℕ RunFault → Type 0
 ByPlace Does (Ok status) = Does (Ok status)
 ByPlace Does (Err (Place fault)) = Does (Err fault)

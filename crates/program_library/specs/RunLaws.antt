@@ -6,11 +6,11 @@ use Rattle.signed_note.specs.KeyFiles.{IsKeyFile}
 use Rattle.signed_note.specs.Verifiers.{JoinsPins, key_of}
 use Rattle.signed_note.specs.declared.key_line.KeyLine.{KeyLine}
 use Rattle.mirror_model.specs.View.{View}
-use Rattle.mirror_state.specs.Loading.{Loads}
-use Rattle.state_text.specs.StateText.{StateText}
+use Rattle.mirror_files.specs.Loading.{Loads}
+use Rattle.mirror_files.specs.StateText.{StateText}
 use Rattle.mirror_pull.specs.declared.fault.PullFault.{PullFault}
 use Rattle.mirror_pull.specs.declared.pulling.Pulled.{Pulled}
-use Rattle.program_files.specs.Named.{NamedFile}
+use Rattle.program_io.specs.Named.{NamedFile}
 use Rattle.program_words.specs.declared.place.Place.{Place}
 use Rattle.state_commands.specs.Builds.{FindsSigner}
 use Rattle.state_commands.specs.Pulls.{PullsFromFile}

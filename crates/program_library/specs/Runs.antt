@@ -7,16 +7,16 @@ use Rattle.signed_note.specs.KeyFiles.{IsKeyFile, ReadsKeys}
 use Rattle.signed_note.specs.declared.key_fault.KeyFileFault.{KeyFileFault}
 use Rattle.signed_note.specs.declared.key_line.KeyLine.{KeyLine}
 use Rattle.signed_note.specs.Verifiers.{JoinsPins, key_of}
-use Rattle.program_files.specs.Named.{NamedFile}
-use Rattle.program_files.specs.Named.{ReadsShort, HasContents}
-use Rattle.program_files.specs.declared.fault.NamedFault.{NamedFault}
+use Rattle.program_io.specs.Named.{NamedFile}
+use Rattle.program_io.specs.Named.{ReadsShort, HasContents}
+use Rattle.program_io.specs.declared.file_fault.NamedFault.{NamedFault}
 use Rattle.program_words.specs.declared.commands.Command.{Command as Order}
 use Rattle.program_words.specs.declared.fault.CommandFault.{CommandFault}
 use Rattle.program_words.specs.Program.{AsksFor}
 use Rattle.program_words.specs.LineReadings.{HasKeys, HasNoKeys, Reads, ReadsKeyFile}
 use Rattle.program_library.specs.declared.fault.RunFault.{RunFault}
 use Rattle.program_library.specs.declared.fault.RunFault.TheVariants.{Command, KeyFile, KeyLines}
-use Rattle.program_env.specs.Moment.{Moment}
+use Rattle.program_io.specs.Moment.{Moment}
 use Rattle.program_library.specs.Commands.{Executes}
 
 module _ (digest : List ℕ → List ℕ) (keys : List Key) (key_bytes : List ℕ) (words : List (List ℕ))

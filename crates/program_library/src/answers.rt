@@ -3,7 +3,7 @@ ghost use Rattle.std.specs.Prelude.{◌≡◌};
 
 use crate::fault::{Error, RunFault};
 use crate::run_env::RunEnv;
-use program_env::why::{FailedStreams, Why};
+use program_io::why::{FailedStreams, Why};
 use program_words::{BadWord, CommandFault};
 use std::alloc::Global;
 

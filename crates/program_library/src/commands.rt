@@ -5,8 +5,8 @@ ghost use Rattle.std.specs.Result.{result_map_both};
 use crate::fault::{Error, RunFault};
 use crate::keys::{Keys, key_lines};
 use crate::run_env::{RunEnv, WatchedEnv};
-use program_env::why::{FailedStreams, Why, print_why};
-use program_env::{Env, Failing, RunFiles, RunFolders};
+use program_io::why::{FailedStreams, Why, print_why};
+use program_io::{Env, Failing, RunFiles, RunFolders};
 use program_words::Command;
 use signed_note::KeyLine;
 use std::alloc::Global;
@@ -20,7 +20,7 @@ impl<'r, 'i, 'o, 'e, R, F: RunFiles, D: RunFolders, I: Read, O: Write, E: Write>
 where
     R: Files<File = File> + Clock + Eprint + Net<Stream = TcpStream, Listener = TcpListener>,
 {
-    ghost use Rattle.program_env.specs.Envs.{moment as moment_of};
+    ghost use Rattle.program_io.specs.Envs.{moment as moment_of};
 
     ghost moment = { moment_of F.puts D.held D.puts I.remaining O.contents };
 
@@ -43,9 +43,11 @@ where
         let (bytes, verifiers) = (keys.bytes, keys.verifiers);
         match command {
             Command::State(state) => of_state(state_commands::run(self, bytes, verifiers, state)),
-            Command::Report(report) => of_report(report_commands::run(self, verifiers, report)),
-            Command::Copy(copy) => of_copy(copy_commands::run(self, verifiers, copy)),
-            Command::Place(place) => of_place(place_commands::run(self, verifiers, place)),
+            Command::Report(report) => of_report(copy_commands::run_report(
+                self, verifiers, report,
+            )),
+            Command::Copy(copy) => of_copy(copy_commands::run_copy(self, verifiers, copy)),
+            Command::Place(place) => of_place(copy_commands::run_place(self, verifiers, place)),
         }
     }
 
@@ -77,7 +79,7 @@ fn of_state(answer: Result<u8, state_commands::Error>) -> Result<u8, Error>
     }
 }
 
-fn of_report(answer: Result<u8, report_commands::Error>) -> Result<u8, Error>
+fn of_report(answer: Result<u8, copy_commands::ReportError>) -> Result<u8, Error>
     ensures { result ≡ result_map_both (λ status. status) (λ fault. RunFault.Report fault) answer }
 {
     match answer {
@@ -89,7 +91,7 @@ fn of_report(answer: Result<u8, report_commands::Error>) -> Result<u8, Error>
     }
 }
 
-fn of_copy(answer: Result<u8, copy_commands::Error>) -> Result<u8, Error>
+fn of_copy(answer: Result<u8, copy_commands::CopyError>) -> Result<u8, Error>
     ensures { result ≡ result_map_both (λ status. status) (λ fault. RunFault.Copy fault) answer }
 {
     match answer {
@@ -101,7 +103,7 @@ fn of_copy(answer: Result<u8, copy_commands::Error>) -> Result<u8, Error>
     }
 }
 
-fn of_place(answer: Result<u8, place_commands::Error>) -> Result<u8, Error>
+fn of_place(answer: Result<u8, copy_commands::PlaceError>) -> Result<u8, Error>
     ensures { result ≡ result_map_both (λ status. status) (λ fault. RunFault.Place fault) answer }
 {
     match answer {

@@ -4,7 +4,7 @@ ghost use Rattle.program_library.specs.Endings.{PrintsEnding, IsFaultLine, Print
 
 use crate::fault::RunFault;
 use byte_streams::write_whole;
-use program_env::write_front;
+use program_io::write_front;
 use program_words::CommandFault;
 use std::alloc::{AllocError, Global};
 use std::io::Write;

@@ -1,9 +1,7 @@
 //! Why a run of the program was not done.
-use copy_commands::CopyRunFault;
-use place_commands::PlaceRunFault;
-use program_files::NamedFault;
+use copy_commands::{CopyRunFault, PlaceRunFault, ReportRunFault};
+use program_io::NamedFault;
 use program_words::CommandFault;
-use report_commands::ReportRunFault;
 use signed_note::KeyFileFault;
 use state_commands::StateRunFault;
 use std::fmt;
@@ -46,4 +44,4 @@ impl fmt::Debug for RunFault {
 }
 
 /// Such a fault, with the thing that it is about.
-pub type Error = program_env::Error<RunFault>;
+pub type Error = program_io::Error<RunFault>;

@@ -4,8 +4,8 @@ ghost use Rattle.tlog_text.specs.Answers.{seen};
 ghost use Rattle.program_library.specs.Runs.{FindsKeys, ReadsJoined, ReadsKeyLines};
 
 use crate::fault::{Error, RunFault};
-use program_env::RunFiles;
-use program_env::why::{Why, of_named};
+use program_io::RunFiles;
+use program_io::why::{Why, of_named};
 use signed_note::{KeyFileFault, KeyLine, Verifier, join_pins, read_keys};
 use std::alloc::Global;
 

@@ -1,7 +1,7 @@
 //! What a run needs of its environment.
 use crate::fault::Error;
 use crate::keys::Keys;
-use program_env::why::{FailedStreams, Why};
+use program_io::why::{FailedStreams, Why};
 use program_words::Command;
 use signed_note::KeyLine;
 use std::alloc::Global;
@@ -13,8 +13,8 @@ pub trait RunEnv {
     ghost use Rattle.tlog_text.specs.Answers.{seen};
     ghost use Rattle.sha2.specs.Sha256.{sha256};
     ghost use Rattle.program_library.specs.Commands.{Executes, IsDoable, IsWriteFault};
-    ghost use Rattle.program_env.specs.Performing.{Ends};
-    ghost use Rattle.program_env.specs.Moment.{Moment};
+    ghost use Rattle.program_io.specs.Performing.{Ends};
+    ghost use Rattle.program_io.specs.Moment.{Moment};
     ghost use Rattle.program_library.specs.Runs.{ReadsKeyLines};
 
     /// The parts that contracts see.

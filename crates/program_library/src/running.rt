@@ -5,9 +5,9 @@ ghost use Rattle.sha2.specs.Sha256.{sha256};
 ghost use Rattle.program_words.specs.Program.{AsksFor};
 ghost use Rattle.program_words.specs.Lines.{IsLine};
 ghost use Rattle.program_library.specs.Commands.{IsDoable, IsWriteFault};
-ghost use Rattle.program_env.specs.Performing.{Ends};
+ghost use Rattle.program_io.specs.Performing.{Ends};
 ghost use Rattle.program_library.specs.Runs.{AreKeyBytes, JoinsLines, RunsKeyed};
-ghost use Rattle.program_env.specs.Performing.{IsStatus};
+ghost use Rattle.program_io.specs.Performing.{IsStatus};
 
 use crate::answers::{printed, refused};
 use crate::fault::{Error, RunFault};

@@ -1,6 +1,6 @@
 //! The folders of the system.
 use mirror_folders::DirShelf;
-use mirror_progress::{CountingShelf, Progress, StandardError};
+use program_io::{CountingShelf, Progress, StandardError};
 use std::alloc::Global;
 use std::fs::Files;
 use std::rt::Clock;

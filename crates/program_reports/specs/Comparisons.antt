@@ -6,10 +6,10 @@ use Rattle.std.specs.Io.KnownBytes.{Appends}
 use Rattle.byte_streams.specs.Streams.{AppendsPrefix}
 use Rattle.mirror_model.specs.View.{View}
 use Rattle.mirror_trees.specs.Marked.{point_of}
-use Rattle.mirror_reports.specs.Compared.{ReportsCompared, ReportsHeld, compared_text}
+use Rattle.tlog_mirror.specs.Compared.{ReportsCompared, ReportsHeld, compared_text}
 use Rattle.mirror_model.specs.Reports.{SaysServed}
-use Rattle.mirror_reports.specs.declared.compare.Compared.{Compared}
-use Rattle.mirror_reports.specs.declared.compare.Compared.TheVariants.{Same, Fork, Larger}
+use Rattle.tlog_mirror.specs.declared.compared.Compared.{Compared}
+use Rattle.tlog_mirror.specs.declared.compared.Compared.TheVariants.{Same, Fork, Larger}
 use Rattle.program_reports.specs.Reports.{printed}
 use Rattle.program_reports.specs.declared.fault.ReportFault.{ReportFault}
 use Rattle.program_reports.specs.declared.fault.ReportFault.TheVariants.{NothingComplete}

@@ -7,11 +7,10 @@ ghost use Rattle.program_reports.specs.Comparisons.{AnswersCompared, ReportsComp
 use crate::fault::{AskFault, ReportFault};
 use crate::printing::write_report;
 use crate::reports::Report;
-use mirror_reports::{Compared, comparison_text};
 use std::alloc::Global;
 use std::io::Write;
 use tlog_hash::{Hash, TreeHash};
-use tlog_mirror::Mirror;
+use tlog_mirror::{Compared, Mirror, comparison_text};
 
 /// `compare`: a line for each of the given heads. Without given heads, a line for each held head, by size and then by root. The
 /// exit status is 3 if a head is a fork or larger.

@@ -3,7 +3,7 @@ ghost use Rattle.std.specs.Prelude.{◌≡◌, min, ◌+◌, ◌-◌, ◌^◌};
 
 use crate::given::complete;
 use crate::states::{BUNDLE, NOTE, ROW};
-use mirror_export::{ExportFault, export};
+use mirror_files::{ExportFault, export};
 use mirror_folders::{MemShelf, Shelf, ShelfError};
 use std::alloc::{AllocError, Global};
 use std::process::Abort;

@@ -1,7 +1,7 @@
 //! The key of the tests, and mirrors that are loaded from states.
 use crate::states::COMPLETE;
-use mirror_state::{LoadFault, SaveFault, load, save};
-use program_states::check_origin;
+use mirror_files::{LoadFault, SaveFault, load, save};
+use program_io::check_origin;
 use signed_note::{HmacKey, KeyFault, Verifier};
 use std::alloc::Global;
 use std::io::{Read, Write};

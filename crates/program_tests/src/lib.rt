@@ -1,7 +1,7 @@
 //! The tests of the parts of the program, from states and files to the words of the command line. They are a crate of their
 //! own, because a crate's tests are checked together with the whole crate.
 //!
-//! It holds what no run of the program can show about `mirror_state`, `mirror_folders`, `mirror_export` and
+//! It holds what no run of the program can show about `mirror_files`, `mirror_folders` and
 //! `program_library`:
 //!
 //! - readers, writers and shelves that fail;

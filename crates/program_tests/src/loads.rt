@@ -2,7 +2,7 @@
 use crate::given::{complete, keys, load_example, save_to};
 use crate::states::COMPLETE;
 use crate::streams::{FailingWriter, Strange};
-use mirror_state::{LoadFault, SaveFault};
+use mirror_files::{LoadFault, SaveFault};
 use signed_note::Verifier;
 use std::alloc::Global;
 use std::io::Read;

@@ -3,10 +3,9 @@
 use crate::exports::{assert_files, put_onto};
 use crate::given::{complete, keys, load_example, save_to};
 use crate::states::{COMPLETE, NOTE};
-use mirror_export::ExportFault;
+use mirror_files::{ExportFault, LoadFault, SaveFault};
 use mirror_folders::{DirShelf, DirSource, MemShelf, Shelf};
 use mirror_sources::{Source, SourceFault};
-use mirror_state::{LoadFault, SaveFault};
 use signed_note::Verifier;
 use std::alloc::Global;
 use std::fs;

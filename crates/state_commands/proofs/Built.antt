@@ -5,9 +5,9 @@ use Rattle.signed_note.specs.Keys.{Key}
 use Rattle.signed_note.specs.KeyKinds.{Secret, secret_key}
 use Rattle.mirror_model.specs.Origin.{IsOrigin}
 use Rattle.mirror_folders.specs.Shelf.{Put}
-use Rattle.tlog_build.specs.Building.{BuildsLogUnder}
-use Rattle.tlog_build.specs.declared.fault.BuildFault.{BuildFault}
-use Rattle.tlog_build.specs.Entries.{AreEntries}
+use Rattle.state_commands.specs.Building.{BuildsLogUnder}
+use Rattle.state_commands.specs.declared.build_fault.BuildFault.{BuildFault}
+use Rattle.state_commands.specs.Entries.{AreEntries}
 use Rattle.state_commands.specs.Builds.{BuildsInput, FindsSigner}
 
 -- the opened shelf has what the folder held

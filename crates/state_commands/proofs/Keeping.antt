@@ -7,10 +7,10 @@ use Rattle.mirror_pull.specs.Taking.{PullsTo}
 use Rattle.mirror_pull.specs.declared.fault.PullFault.{PullFault}
 use Rattle.mirror_pull.specs.declared.fault.PullFault.TheVariants as pull
 use Rattle.mirror_pull.specs.declared.pulling.Pulled.{Pulled}
-use Rattle.program_files.specs.Named.{NamedFile}
-use Rattle.program_files.specs.declared.fault.NamedFault.{NamedFault}
-use Rattle.program_states.specs.Saved.{IsSaved}
-use Rattle.program_states.specs.States.{SavesFile}
+use Rattle.program_io.specs.Named.{NamedFile}
+use Rattle.program_io.specs.declared.file_fault.NamedFault.{NamedFault}
+use Rattle.program_io.specs.Saved.{IsSaved}
+use Rattle.program_io.specs.States.{SavesFile}
 use Rattle.state_commands.specs.Pulls.{IsHeld, SavesPulled}
 
 -- a mirror loses nothing in a pull that ends early

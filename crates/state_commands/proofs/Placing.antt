@@ -7,7 +7,7 @@ use Rattle.mirror_pull.specs.declared.fault.PullFault.{PullFault}
 use Rattle.mirror_pull.specs.declared.fault.PullFault.TheVariants as pull
 use Rattle.mirror_pull.specs.declared.pulling.Pulled.{Pulled}
 use Rattle.program_words.specs.declared.place.Place.{Place}
-use Rattle.program_env.specs.PlaceWords.{PlaceWords, ServerWords, words_of}
+use Rattle.program_io.specs.PlaceWords.{PlaceWords, ServerWords, words_of}
 use Rattle.state_commands.specs.Pulls.{ReadsPlace, ReadsSource}
 
 module _ (digest : List ℕ → List ℕ) (keys : List Key) (place : Place) (start v : View) where

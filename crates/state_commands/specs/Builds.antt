@@ -6,16 +6,16 @@ use Rattle.signed_note.specs.KeyFiles.{IsKeyFile}
 use Rattle.signed_note.specs.declared.key_line.KeyLine.{KeyLine}
 use Rattle.mirror_model.specs.Origin.{IsOrigin}
 use Rattle.mirror_folders.specs.Shelf.{Put}
-use Rattle.tlog_build.specs.Building.{BuildsLogUnder}
-use Rattle.tlog_build.specs.Signing.{first_secret}
-use Rattle.tlog_build.specs.declared.fault.BuildFault.{BuildFault}
-use Rattle.program_commands.specs.Answers.{done, failed}
-use Rattle.tlog_build.specs.Entries.{AreEntries, ReadsEntries}
-use Rattle.tlog_build.specs.declared.entries.EntriesFault.{EntriesFault}
+use Rattle.state_commands.specs.Building.{BuildsLogUnder}
+use Rattle.state_commands.specs.Signing.{first_secret}
+use Rattle.state_commands.specs.declared.build_fault.BuildFault.{BuildFault}
+use Rattle.state_commands.specs.Answers.{done, failed}
+use Rattle.state_commands.specs.Entries.{AreEntries, ReadsEntries}
+use Rattle.state_commands.specs.declared.entries.EntriesFault.{EntriesFault}
 use Rattle.program_words.specs.declared.commands.build.Build.{Build as BuildWords}
 use Rattle.std.specs.Io.KnownBytes.{Keeps}
-use Rattle.program_env.specs.Origins.{RefusesOrigin}
-use Rattle.program_env.specs.Moment.{Moment}
+use Rattle.program_io.specs.Origins.{RefusesOrigin}
+use Rattle.program_io.specs.Moment.{Moment}
 use Rattle.state_commands.specs.declared.fault.StateRunFault.{StateRunFault}
 use Rattle.state_commands.specs.declared.fault.StateRunFault.TheVariants.{Build, Entries, NoSigningKey, Origin, OutOfMemory}
 

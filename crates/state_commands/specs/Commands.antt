@@ -3,8 +3,8 @@ use Rattle.std.specs.Prelude.{◌≤◌, ℕ, List, length, Result, ⊤}
 use Rattle.signed_note.specs.Keys.{Key}
 use Rattle.program_words.specs.declared.commands.StateCommand.{StateCommand}
 use Rattle.program_words.specs.declared.commands.StateCommand.TheVariants as command
-use Rattle.program_env.specs.Moment.{Moment}
-use Rattle.program_env.specs.Performing.{KeepsFiles, KeepsFolders, Performs}
+use Rattle.program_io.specs.Moment.{Moment}
+use Rattle.program_io.specs.Performing.{KeepsFiles, KeepsFolders, Performs}
 use Rattle.state_commands.specs.Builds.{DoesBuild}
 use Rattle.state_commands.specs.Export.{DoesExport, DoesUpdate}
 use Rattle.state_commands.specs.Merge.{DoesMerge}

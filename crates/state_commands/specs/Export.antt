@@ -2,13 +2,13 @@
 use Rattle.std.specs.Prelude.{◌≡◌, ℕ, List, Result, Ok, Err}
 use Rattle.std.specs.Io.KnownBytes.{Keeps}
 use Rattle.signed_note.specs.Keys.{Key}
-use Rattle.program_commands.specs.Answers.{done, failed}
-use Rattle.program_commands.specs.Exported.{ExportsFile}
-use Rattle.program_commands.specs.Updated.{UpdatesFile}
-use Rattle.program_commands.specs.declared.fault.ExportFileFault.{ExportFileFault}
-use Rattle.program_commands.specs.declared.fault.UpdateFileFault.{UpdateFileFault}
+use Rattle.state_commands.specs.Answers.{done, failed}
+use Rattle.state_commands.specs.Exported.{ExportsFile}
+use Rattle.state_commands.specs.Updated.{UpdatesFile}
+use Rattle.state_commands.specs.declared.work_fault.ExportFileFault.{ExportFileFault}
+use Rattle.state_commands.specs.declared.work_fault.UpdateFileFault.{UpdateFileFault}
 use Rattle.program_words.specs.declared.commands.export.Export.{Export as FolderWords}
-use Rattle.program_env.specs.Moment.{Moment}
+use Rattle.program_io.specs.Moment.{Moment}
 use Rattle.state_commands.specs.declared.fault.StateRunFault.{StateRunFault}
 use Rattle.state_commands.specs.declared.fault.StateRunFault.TheVariants.{Export, Update}
 

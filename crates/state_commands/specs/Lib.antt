@@ -6,3 +6,17 @@ pub mod Pulls
 pub mod Export
 pub mod Notes
 pub mod Commands
+pub mod Answers
+pub mod Gained
+pub mod Takes
+pub mod Merges
+pub mod Exported
+pub mod Updated
+pub mod NoteFiles
+pub mod NoteTexts
+pub mod NoteLaws
+pub mod Ordered
+pub mod Entries
+pub mod BuildFaults
+pub mod Signing
+pub mod Building

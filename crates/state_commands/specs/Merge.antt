@@ -2,11 +2,11 @@
 use Rattle.std.specs.Prelude.{◌≡◌, ℕ, List, Result, Ok, Err}
 use Rattle.std.specs.Io.KnownBytes.{Keeps}
 use Rattle.signed_note.specs.Keys.{Key}
-use Rattle.program_commands.specs.Answers.{done, failed}
-use Rattle.program_commands.specs.Merges.{LeavesMerged}
-use Rattle.program_commands.specs.declared.fault.MergeFilesFault.{MergeFilesFault}
+use Rattle.state_commands.specs.Answers.{done, failed}
+use Rattle.state_commands.specs.Merges.{LeavesMerged}
+use Rattle.state_commands.specs.declared.work_fault.MergeFilesFault.{MergeFilesFault}
 use Rattle.program_words.specs.declared.commands.merge.Merge.{Merge as MergeWords}
-use Rattle.program_env.specs.Moment.{Moment}
+use Rattle.program_io.specs.Moment.{Moment}
 use Rattle.state_commands.specs.declared.fault.StateRunFault.{StateRunFault}
 use Rattle.state_commands.specs.declared.fault.StateRunFault.TheVariants.{Merge}
 

@@ -16,14 +16,14 @@ use Rattle.mirror_pull.specs.declared.fault.PullFault.TheVariants as pull
 use Rattle.mirror_pull.specs.declared.pulling.Pulled.{Pulled}
 use Rattle.program_words.specs.declared.place.Place.{Place}
 use Rattle.program_reports.specs.Pulling.{IsPulledStatus, pulled_lines}
-use Rattle.program_files.specs.Named.{NamedFile}
-use Rattle.program_files.specs.Named.{FailsToPut}
-use Rattle.program_files.specs.declared.fault.NamedFault.{NamedFault}
-use Rattle.program_states.specs.Saved.{IsSaved}
-use Rattle.program_states.specs.States.{BeginsWith, SavesFile, WritesState}
+use Rattle.program_io.specs.Named.{NamedFile}
+use Rattle.program_io.specs.Named.{FailsToPut}
+use Rattle.program_io.specs.declared.file_fault.NamedFault.{NamedFault}
+use Rattle.program_io.specs.Saved.{IsSaved}
+use Rattle.program_io.specs.States.{BeginsWith, SavesFile, WritesState}
 use Rattle.program_words.specs.declared.commands.pull.Pull.{Pull as PullWords}
-use Rattle.program_env.specs.Moment.{Moment}
-use Rattle.program_env.specs.PlaceWords.{PlaceWords, words_of}
+use Rattle.program_io.specs.Moment.{Moment}
+use Rattle.program_io.specs.PlaceWords.{PlaceWords, words_of}
 use Rattle.state_commands.specs.declared.fault.StateRunFault.{StateRunFault}
 use Rattle.state_commands.specs.declared.fault.StateRunFault.TheVariants.{WriteFault, Out, OutOfMemory, Pull, State}
 

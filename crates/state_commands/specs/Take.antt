@@ -3,16 +3,16 @@ use Rattle.std.specs.Prelude.{◌≡◌, ℕ, List, ◌∷◌, map, Option, Resu
 use Rattle.std.specs.Io.KnownBytes.{Keeps}
 use Rattle.std.specs.Prelude.{option_map}
 use Rattle.signed_note.specs.Keys.{Key}
-use Rattle.program_files.specs.Named.{NamedFile}
+use Rattle.program_io.specs.Named.{NamedFile}
 use Rattle.program_words.specs.declared.commands.take.Kind.{Kind}
 use Rattle.program_words.specs.declared.commands.take.Kind.TheVariants as kind
 use Rattle.program_words.specs.declared.commands.take.Take.{Take}
-use Rattle.program_commands.specs.Takes.{LeavesTaken}
-use Rattle.program_commands.specs.declared.item.ItemFiles.{ItemFiles}
-use Rattle.program_commands.specs.declared.item.ItemFiles.TheVariants.{Head, Tile, Bundle}
-use Rattle.program_commands.specs.declared.fault.TakeFilesFault.{TakeFilesFault}
-use Rattle.program_commands.specs.Answers.{done, failed}
-use Rattle.program_env.specs.Moment.{Moment}
+use Rattle.state_commands.specs.Takes.{LeavesTaken}
+use Rattle.state_commands.specs.declared.item.ItemFiles.{ItemFiles}
+use Rattle.state_commands.specs.declared.item.ItemFiles.TheVariants.{Head, Tile, Bundle}
+use Rattle.state_commands.specs.declared.work_fault.TakeFilesFault.{TakeFilesFault}
+use Rattle.state_commands.specs.Answers.{done, failed}
+use Rattle.program_io.specs.Moment.{Moment}
 use Rattle.state_commands.specs.declared.fault.StateRunFault.{StateRunFault}
 use Rattle.state_commands.specs.declared.fault.StateRunFault.TheVariants.{Take as TakeFault}
 

@@ -1,22 +1,20 @@
 //! The command `build`: it makes a log from the entries on standard input.
 ghost use Rattle.std.specs.Prelude.{◌≡◌, map};
 ghost use Rattle.sha2.specs.Sha256.{sha256};
-ghost use Rattle.program_env.specs.Envs.{IsSameEnv, moment};
-ghost use Rattle.program_env.specs.Performing.{KeepsFiles, Performs};
+ghost use Rattle.program_io.specs.Envs.{IsSameEnv, moment};
+ghost use Rattle.program_io.specs.Performing.{KeepsFiles, Performs};
 ghost use Rattle.state_commands.specs.Faults.{IsLate};
 ghost use Rattle.state_commands.specs.Builds.{BuildsFrom, DoesBuild};
 
 use crate::fault::{Error, StateRunFault};
-use mirror_export::ExportFault;
-use mirror_progress::Task;
-use program_env::why::{Why, of_folder, of_origin};
-use program_env::{Env, RunFiles, RunFolders, report_end, report_puts};
-use program_states::check_origin;
+use crate::{BuildFault, EntriesFault, build_log, read_entries, signing_key};
+use mirror_files::ExportFault;
+use program_io::why::{Why, of_folder, of_origin};
+use program_io::{Env, RunFiles, RunFolders, Task, check_origin, report_end, report_puts};
 use program_words::commands::build::Build;
 use signed_note::{Verifier, read_keys};
 use std::alloc::Global;
 use std::io::{Read, Write};
-use tlog_build::{BuildFault, EntriesFault, build_log, read_entries, signing_key};
 use tlog_hash::Sha256Tree;
 
 /// Makes a log from the entries on the input, and writes it to the folder. The first shared secret among the lines of the key

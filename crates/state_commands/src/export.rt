@@ -1,19 +1,18 @@
 //! The commands `export` and `export --update`: they write the served files to a folder.
 ghost use Rattle.std.specs.Prelude.{map};
 ghost use Rattle.sha2.specs.Sha256.{sha256};
-ghost use Rattle.program_commands.specs.Exported.{ExportsFile};
-ghost use Rattle.program_commands.specs.Updated.{UpdatesFile};
-ghost use Rattle.program_env.specs.Envs.{IsSameEnv, moment};
-ghost use Rattle.program_env.specs.Performing.{KeepsFiles, Performs};
+ghost use Rattle.state_commands.specs.Exported.{ExportsFile};
+ghost use Rattle.state_commands.specs.Updated.{UpdatesFile};
+ghost use Rattle.program_io.specs.Envs.{IsSameEnv, moment};
+ghost use Rattle.program_io.specs.Performing.{KeepsFiles, Performs};
 ghost use Rattle.state_commands.specs.Faults.{IsLate};
 ghost use Rattle.state_commands.specs.Export.{DoesExport, DoesUpdate};
 
 use crate::fault::{Error, StateRunFault};
-use mirror_export::{ExportFault, UpdateFault};
-use mirror_progress::Task;
-use program_commands::{ExportFileFault, UpdateFileFault, run_export, run_update};
-use program_env::why::{Why, of_folder, of_state};
-use program_env::{Env, RunFiles, RunFolders, report_end, report_puts};
+use crate::{ExportFileFault, UpdateFileFault, run_export, run_update};
+use mirror_files::{ExportFault, UpdateFault};
+use program_io::why::{Why, of_folder, of_state};
+use program_io::{Env, RunFiles, RunFolders, Task, report_end, report_puts};
 use program_words::commands::export::Export;
 use signed_note::Verifier;
 use std::alloc::Global;

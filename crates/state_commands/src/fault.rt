@@ -1,13 +1,12 @@
 //! Why a command that changes states, or writes files, was not done.
-use mirror_pull::PullFault;
-use program_commands::{
-    ExportFileFault, MergeFilesFault, NotesFault, TakeFilesFault, UpdateFileFault,
+use crate::{
+    BuildFault, EntriesFault, ExportFileFault, MergeFilesFault, NotesFault, TakeFilesFault,
+    UpdateFileFault,
 };
-use program_files::NamedFault;
-use program_states::StateFault;
+use mirror_pull::PullFault;
+use program_io::{NamedFault, StateFault};
 use std::fmt;
 use thiserror::Error as FaultText;
-use tlog_build::{BuildFault, EntriesFault};
 use tlog_mirror::NewFault;
 
 /// Why a command that changes states, or writes files, was not done. It prints the name of the innermost variant.
@@ -65,4 +64,4 @@ impl fmt::Debug for StateRunFault {
 }
 
 /// Such a fault, with the thing that it is about.
-pub type Error = program_env::Error<StateRunFault>;
+pub type Error = program_io::Error<StateRunFault>;

@@ -5,24 +5,39 @@
 //! ```
 #![tactic(auto)]
 
-ghost use Rattle.std.specs.Prelude.{map};
-ghost use Rattle.sha2.specs.Sha256.{sha256};
-ghost use Rattle.program_env.specs.Envs.{IsSameEnv, moment};
-ghost use Rattle.program_env.specs.Performing.{Ends};
-ghost use Rattle.state_commands.specs.Commands.{ExecutesState, IsStateDoable};
-ghost use Rattle.state_commands.specs.Faults.{IsLate};
-
 mod build;
+mod build_fault;
+mod building;
+mod entries;
 mod export;
+mod exporting;
 mod fault;
+mod gained;
+mod item;
+mod laws;
 mod merge;
+mod merging;
+mod note_list;
+mod noted;
 mod notes;
 mod pull;
 mod pulling;
+mod putting;
+mod signing;
 mod take;
+mod taking;
+mod update;
+mod work_fault;
+
+ghost use Rattle.std.specs.Prelude.{map};
+ghost use Rattle.sha2.specs.Sha256.{sha256};
+ghost use Rattle.program_io.specs.Envs.{IsSameEnv, moment};
+ghost use Rattle.program_io.specs.Performing.{Ends};
+ghost use Rattle.state_commands.specs.Commands.{ExecutesState, IsStateDoable};
+ghost use Rattle.state_commands.specs.Faults.{IsLate};
 
 pub use fault::{Error, StateRunFault};
-use program_env::{Env, RunFiles, RunFolders};
+use program_io::{Env, RunFiles, RunFolders};
 use program_words::StateCommand;
 use signed_note::Verifier;
 use std::fs::Files;
@@ -61,3 +76,20 @@ where
         StateCommand::Notes(notes) => notes::run(env, keys, notes),
     }
 }
+
+pub use build_fault::BuildFault;
+pub use building::build_log;
+pub use entries::{EntriesFault, read_entries};
+pub use exporting::run_export;
+pub use gained::{HeldCounts, has_gained, holding_of};
+pub use item::ItemFiles;
+pub use laws::{kept_files_law, missing_files_law, standing_notes_law};
+pub use merging::run_merge;
+pub use note_list::{NoteFile, note_files};
+pub use noted::run_notes;
+pub use signing::signing_key;
+pub use taking::run_take;
+pub use update::run_update;
+pub use work_fault::{
+    ExportFileFault, MergeFilesFault, NotesFault, TakeFilesFault, UpdateFileFault,
+};

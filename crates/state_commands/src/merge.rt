@@ -1,15 +1,15 @@
 //! The command `merge`: it makes one mirror from two.
 ghost use Rattle.std.specs.Prelude.{map};
 ghost use Rattle.sha2.specs.Sha256.{sha256};
-ghost use Rattle.program_env.specs.Envs.{IsSameEnv, moment};
-ghost use Rattle.program_env.specs.Performing.{KeepsFolders, Performs};
+ghost use Rattle.program_io.specs.Envs.{IsSameEnv, moment};
+ghost use Rattle.program_io.specs.Performing.{KeepsFolders, Performs};
 ghost use Rattle.state_commands.specs.Faults.{IsLate};
 ghost use Rattle.state_commands.specs.Merge.{DoesMerge};
 
 use crate::fault::{Error, StateRunFault};
-use program_commands::{MergeFilesFault, run_merge};
-use program_env::why::{Why, of_named, of_state};
-use program_env::{Env, RunFiles, RunFolders};
+use crate::{MergeFilesFault, run_merge};
+use program_io::why::{Why, of_named, of_state};
+use program_io::{Env, RunFiles, RunFolders};
 use program_words::commands::merge::Merge;
 use signed_note::Verifier;
 use std::alloc::Global;

@@ -1,16 +1,15 @@
 //! The command `notes`: it writes each signed note to a file of a folder.
 ghost use Rattle.std.specs.Prelude.{map};
 ghost use Rattle.sha2.specs.Sha256.{sha256};
-ghost use Rattle.program_env.specs.Envs.{IsSameEnv, moment};
-ghost use Rattle.program_env.specs.Performing.{KeepsFolders, Performs};
+ghost use Rattle.program_io.specs.Envs.{IsSameEnv, moment};
+ghost use Rattle.program_io.specs.Performing.{KeepsFolders, Performs};
 ghost use Rattle.state_commands.specs.Faults.{IsLate};
 ghost use Rattle.state_commands.specs.Notes.{DoesNotes};
 
 use crate::fault::{Error, StateRunFault};
-use program_commands::{NotesFault, run_notes};
-use program_env::why::{Why, of_named, of_state};
-use program_env::{Env, RunFiles, RunFolders};
-use program_files::NamedFault;
+use crate::{NotesFault, run_notes};
+use program_io::why::{Why, of_named, of_state};
+use program_io::{Env, NamedFault, RunFiles, RunFolders};
 use program_words::commands::notes::Notes;
 use signed_note::Verifier;
 use std::alloc::Global;

@@ -7,32 +7,29 @@ ghost use Rattle.mirror_model.specs.Complete.{IsLawful};
 ghost use Rattle.mirror_model.specs.View.{View, IsSubview};
 ghost use Rattle.mirror_pull.specs.Taking.{PullsTo};
 ghost use Rattle.mirror_pull.specs.declared.fault.PullFault.TheVariants.{Source};
-ghost use Rattle.program_commands.specs.Gained.{IsHolding};
+ghost use Rattle.state_commands.specs.Gained.{IsHolding};
 ghost use Rattle.mirror_client.specs.declared.limits.TheConstants.{MAX_REPLY_LEN};
 ghost use Rattle.state_commands.specs.Faults.{IsLate};
-ghost use Rattle.program_env.specs.Envs.{IsSameEnv, moment};
+ghost use Rattle.program_io.specs.Envs.{IsSameEnv, moment};
 ghost use Rattle.mirror_sources.specs.Source.{IsShortAnswer};
-ghost use Rattle.program_env.specs.PlaceWords.{words_of};
+ghost use Rattle.program_io.specs.PlaceWords.{words_of};
 ghost use Rattle.state_commands.specs.Pulls.{IsHeld, LeavesEarly, DoesPull, ReadsPlace, ReadsSource, SavesPulled, PrintsPull, PrintsPulled};
-ghost use Rattle.program_env.specs.Performing.{IsStatus, KeepsFolders, Performs};
+ghost use Rattle.program_io.specs.Performing.{IsStatus, KeepsFolders, Performs};
 
 use crate::fault::{Error, StateRunFault};
 use crate::pulling::pull_from;
+use crate::{HeldCounts, has_gained, holding_of};
 use byte_streams::write_whole;
 use mirror_client::{Dial, HttpSource};
-use mirror_progress::{StandardError, Task};
 use mirror_pull::{PullFault, Pulled};
 use mirror_sources::Source;
-use program_commands::{HeldCounts, has_gained, holding_of};
-use program_env::places::{of_edge, of_file, of_place, of_refused, of_source, place_name};
-use program_env::why::{Why, of_named, of_state};
-use program_env::{
-    Env, Failing, PlacedSource, RunFiles, RunFolders, WatchedSource, folder_at, print_waited,
-    server_at,
+use program_io::places::{of_edge, of_file, of_place, of_refused, of_source, place_name};
+use program_io::why::{Why, of_named, of_state};
+use program_io::{
+    Env, Failing, NamedFault, PlacedSource, RunFiles, RunFolders, StandardError, Task,
+    WatchedSource, folder_at, open_to_save, print_waited, server_at, write_state,
 };
-use program_files::NamedFault;
 use program_reports::{pulled_status, pulled_text};
-use program_states::{open_to_save, write_state};
 use program_words::Place;
 use program_words::commands::pull::Pull;
 use signed_note::Verifier;

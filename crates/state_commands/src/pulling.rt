@@ -3,10 +3,9 @@ ghost use Rattle.std.specs.Prelude.{map};
 ghost use Rattle.mirror_pull.specs.Replying.{FollowsReplies};
 ghost use Rattle.mirror_pull.specs.Taking.{PullsTo};
 
-use mirror_progress::{CountingSource, Progress, StandardError, Task};
 use mirror_pull::{PullFault, Pulled, pull};
 use mirror_sources::Source;
-use program_states::checkpoint_size;
+use program_io::{CountingSource, Progress, StandardError, Task, checkpoint_size};
 use signed_note::Verifier;
 use std::alloc::Global;
 use std::rt::Clock;

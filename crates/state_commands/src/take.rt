@@ -1,17 +1,17 @@
 //! The command `take`: it takes files into a mirror.
 ghost use Rattle.std.specs.Prelude.{◌≤◌, ◌∷◌, length, map};
 ghost use Rattle.sha2.specs.Sha256.{sha256};
-ghost use Rattle.program_commands.specs.Takes.{NamesWidth};
-ghost use Rattle.program_env.specs.Envs.{IsSameEnv, moment};
-ghost use Rattle.program_env.specs.Performing.{KeepsFolders, Performs};
+ghost use Rattle.state_commands.specs.Takes.{NamesWidth};
+ghost use Rattle.program_io.specs.Envs.{IsSameEnv, moment};
+ghost use Rattle.program_io.specs.Performing.{KeepsFolders, Performs};
 ghost use Rattle.state_commands.specs.Faults.{IsLate};
 ghost use Rattle.state_commands.specs.Take.{AsksItem, DoesTake};
 
 use crate::fault::{Error, StateRunFault};
-use program_commands::{ItemFiles, TakeFilesFault, run_take};
-use program_env::served::{of_edge_count, of_edge_length, of_note};
-use program_env::why::{Why, of_named, of_state};
-use program_env::{Env, RunFiles, RunFolders};
+use crate::{ItemFiles, TakeFilesFault, run_take};
+use program_io::served::{of_edge_count, of_edge_length, of_note};
+use program_io::why::{Why, of_named, of_state};
+use program_io::{Env, RunFiles, RunFolders};
 use program_words::commands::take::{Kind, Take};
 use signed_note::Verifier;
 use std::alloc::Global;

@@ -19,14 +19,14 @@ use Rattle.mirror_model.specs.Texts.{IsForksText, forks_text}
 use Rattle.mirror_model.specs.declared.reports.Fork.{Fork}
 use Rattle.mirror_trees.proofs.PrefixSteps.{prefix_of_prefix}
 use Rattle.mirror_trees.specs.Marked.{point_of}
-use Rattle.mirror_reports.specs.Forks.{AreForksOf, Departs, IsForkOf, IsPairOf, WritesForksOf}
-use Rattle.mirror_reports.specs.Points.{by_point}
-use Rattle.mirror_reports.proofs.BranchSteps.{not_both, less_size}
-use Rattle.mirror_reports.proofs.PointLists.{mapped, source_of}
-use Rattle.mirror_served.specs.Best.{HasKept}
+use Rattle.tlog_mirror.specs.Forks.{AreForksOf, Departs, IsForkOf, IsPairOf, WritesForksOf}
+use Rattle.tlog_mirror.specs.Points.{by_point}
+use Rattle.tlog_mirror.proofs.BranchSteps.{not_both, less_size}
+use Rattle.tlog_mirror.proofs.PointLists.{mapped, source_of}
+use Rattle.mirror_trees.specs.Best.{HasKept}
 use Rattle.tlog_mirror.specs.ForksWritten.{WritesForks}
 use Rattle.tlog_mirror.specs.Kept.{state_of, IsKeptWell}
-use Rattle.mirror_served.specs.declared.held_note.HeldNote.{HeldNote}
+use Rattle.mirror_trees.specs.declared.held_note.HeldNote.{HeldNote}
 use Rattle.tlog_mirror.proofs.ServedNotes.{head_from_kept, kept_head}
 
 -- ---- the forks of the view

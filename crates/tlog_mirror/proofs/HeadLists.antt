@@ -14,10 +14,10 @@ use Rattle.mirror_model.specs.Reports.{ReportsHeads, head_point}
 use Rattle.mirror_model.specs.declared.reports.Head.{Head}
 use Rattle.tlog_mirror.specs.Kept.{state_of, IsKeptWell}
 use Rattle.mirror_trees.specs.Marked.{point_of}
-use Rattle.mirror_reports.specs.Points.{by_point, IsBuiltFlag}
-use Rattle.mirror_reports.proofs.PointLists.{mapped, source_of, sorted_out}
-use Rattle.mirror_served.specs.Best.{HasKept}
-use Rattle.mirror_served.specs.declared.held_note.HeldNote.{HeldNote}
+use Rattle.tlog_mirror.specs.Points.{by_point, IsBuiltFlag}
+use Rattle.tlog_mirror.proofs.PointLists.{mapped, source_of, sorted_out}
+use Rattle.mirror_trees.specs.Best.{HasKept}
+use Rattle.mirror_trees.specs.declared.held_note.HeldNote.{HeldNote}
 use Rattle.tlog_mirror.proofs.ServedNotes.{head_from_kept, kept_head, with_head}
 
 -- the sizes and roots of the kept notes

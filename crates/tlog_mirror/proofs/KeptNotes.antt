@@ -30,7 +30,7 @@ use Rattle.mirror_model.proofs.StringSets.{has_from_listed}
 use Rattle.mirror_model.proofs.Views.{edge_stays, marks_stay}
 use Rattle.tlog_mirror.specs.Adding.{with_note}
 use Rattle.tlog_mirror.specs.Kept.{state_of, note_bytes, IsKeptWell}
-use Rattle.mirror_served.specs.declared.held_note.HeldNote.{HeldNote}
+use Rattle.mirror_trees.specs.declared.held_note.HeldNote.{HeldNote}
 
 abbrev pub by_bytes : List ℕ → List ℕ → Ordering
 by_bytes = slice_cmp nat_cmp

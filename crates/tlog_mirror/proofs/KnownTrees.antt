@@ -4,7 +4,7 @@ use Rattle.node_store.specs.Strings.{Strings}
 use Rattle.mirror_trees.specs.HeldTrees.{AreBuilt, AreKnown}
 use Rattle.mirror_trees.specs.declared.known.HeldTrees.{HeldTrees}
 use Rattle.tlog_mirror.specs.Kept.{IsKeptWell}
-use Rattle.mirror_served.specs.declared.held_note.HeldNote.{HeldNote}
+use Rattle.mirror_trees.specs.declared.held_note.HeldNote.{HeldNote}
 
 pub all_known : {A : Type 0} (digest : List ℕ → List ℕ) (origin : List ℕ) (kept : List HeldNote) (strings : Strings)
     (known : HeldTrees) →

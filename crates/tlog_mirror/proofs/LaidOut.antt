@@ -4,8 +4,8 @@ use Rattle.mirror_model.specs.View.{View}
 use Rattle.mirror_model.specs.Complete.{IsTreeOf}
 use Rattle.mirror_model.specs.Served.{Served}
 use Rattle.tlog_mirror.specs.Kept.{note_bytes}
-use Rattle.mirror_served.specs.Tops.{IsServedAs}
-use Rattle.mirror_served.specs.declared.held_note.HeldNote.{HeldNote}
+use Rattle.mirror_trees.specs.Tops.{IsServedAs}
+use Rattle.mirror_trees.specs.declared.held_note.HeldNote.{HeldNote}
 
 -- the served note, with the entries of its tree as they were found
 pub laid_anew :

@@ -16,3 +16,14 @@ pub mod LaidOut
 pub mod PlayedEvents
 pub mod JudgedEvents
 pub mod PlayedMerges
+pub mod PointLists
+pub mod BranchSteps
+pub mod AllForks
+pub mod CalmHeads
+pub mod ForkSteps
+pub mod ReportedForks
+pub mod SentPieces
+pub mod WrittenLines
+pub mod MissingSteps
+pub mod ComparedHeads
+pub mod AnswerLines

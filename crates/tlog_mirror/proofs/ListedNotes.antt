@@ -8,7 +8,7 @@ use Rattle.mirror_model.specs.Marks.{Points, State}
 use Rattle.mirror_model.proofs.StringSets.{has_from_listed, listed_from_has}
 use Rattle.tlog_mirror.specs.Kept.{state_of, note_bytes, IsKeptWell}
 use Rattle.tlog_mirror.specs.NoteLists.{IsNoteAt}
-use Rattle.mirror_served.specs.declared.held_note.HeldNote.{HeldNote}
+use Rattle.mirror_trees.specs.declared.held_note.HeldNote.{HeldNote}
 
 module _ (digest : List ℕ → List ℕ) (origin : List ℕ) (kept : List HeldNote) (strings : Strings) (remembered : Points)
     (ok : IsKeptWell digest origin kept strings remembered) (state : State)

@@ -15,7 +15,7 @@ use Rattle.mirror_model.proofs.StringSets.{has_left, has_right, has_cases, has_f
 use Rattle.mirror_trees.proofs.BuiltTrees.{added_both, added_none}
 use Rattle.tlog_mirror.specs.Adding.{with_note, with_notes, with_strings}
 use Rattle.tlog_mirror.specs.Kept.{state_of, note_bytes, IsKeptWell}
-use Rattle.mirror_served.specs.declared.held_note.HeldNote.{HeldNote}
+use Rattle.mirror_trees.specs.declared.held_note.HeldNote.{HeldNote}
 
 -- the bytes of the first notes
 abbrev pub first_notes : ℕ → List HeldNote → List (List ℕ)

@@ -11,7 +11,7 @@ use Rattle.mirror_model.specs.Marks.{Points}
 use Rattle.mirror_model.proofs.Views.{nothing_is_lawful}
 use Rattle.mirror_trees.proofs.EmptySets.{empty_settled}
 use Rattle.tlog_mirror.specs.Kept.{note_bytes, IsKeptWell}
-use Rattle.mirror_served.specs.declared.held_note.HeldNote.{HeldNote}
+use Rattle.mirror_trees.specs.declared.held_note.HeldNote.{HeldNote}
 
 module _ (digest : List ℕ → List ℕ) (origin : List ℕ) where
   empty_well : IsOrigin origin → IsKeptWell digest origin [] set.empty set.empty

@@ -21,7 +21,7 @@ use Rattle.mirror_trees.proofs.EmptySets.{empty_settled}
 use Rattle.tlog_mirror.specs.Kept.{note_bytes, IsKeptWell}
 use Rattle.tlog_mirror.specs.Restored.{IsOpenNote, KeepsHeld, held_fault_of}
 use Rattle.tlog_mirror.specs.declared.fault.RestoreFault.{RestoreFault}
-use Rattle.mirror_served.specs.declared.held_note.HeldNote.{HeldNote}
+use Rattle.mirror_trees.specs.declared.held_note.HeldNote.{HeldNote}
 
 -- ---- a mirror of strings
 

@@ -29,13 +29,13 @@ use Rattle.mirror_model.proofs.StringSets.{listed_from_has, has_from_listed}
 use Rattle.mirror_model.proofs.HeadNotes.{head_once}
 use Rattle.tlog_mirror.specs.Kept.{state_of, note_bytes, IsKeptWell}
 use Rattle.mirror_trees.specs.Marked.{point_of}
-use Rattle.mirror_served.specs.Best.{served_cmp, kept_point, HasKept, IsBuiltAt, IsBest, IsBestOf}
-use Rattle.mirror_served.specs.Best.{IsFirstWith}
+use Rattle.mirror_trees.specs.Best.{served_cmp, kept_point, HasKept, IsBuiltAt, IsBest, IsBestOf}
+use Rattle.mirror_trees.specs.Best.{IsFirstWith}
 use Rattle.mirror_model.specs.Reports.{SaysServed}
-use Rattle.mirror_served.specs.Tops.{IsServedAs}
-use Rattle.mirror_served.specs.declared.held_note.HeldNote.{HeldNote}
+use Rattle.mirror_trees.specs.Tops.{IsServedAs}
+use Rattle.mirror_trees.specs.declared.held_note.HeldNote.{HeldNote}
 use Rattle.std.proofs.lemmas.List.{get_or_default}
-use Rattle.mirror_reports.proofs.PointLists.{size_at_most, unmapped}
+use Rattle.tlog_mirror.proofs.PointLists.{size_at_most, unmapped}
 
 -- ---- lists and orders
 

@@ -13,10 +13,10 @@ use Rattle.mirror_trees.specs.HeldTrees.{HasMark}
 use Rattle.mirror_trees.specs.Slices.{HasSlices, IsSliceOf, AreSettled}
 use Rattle.mirror_trees.proofs.Settles.{marks_are_slices}
 use Rattle.mirror_trees.specs.Marked.{point_of}
-use Rattle.mirror_served.specs.Best.{HasKept}
+use Rattle.mirror_trees.specs.Best.{HasKept}
 use Rattle.tlog_mirror.specs.Kept.{state_of, IsKeptWell}
 use Rattle.tlog_mirror.specs.Settled.{HasSlicesOf, GainsAny}
-use Rattle.mirror_served.specs.declared.held_note.HeldNote.{HeldNote}
+use Rattle.mirror_trees.specs.declared.held_note.HeldNote.{HeldNote}
 use Rattle.tlog_mirror.proofs.ServedNotes.{head_from_kept, kept_head}
 
 module _ (digest : List ℕ → List ℕ) (held : Strings) where

@@ -25,7 +25,7 @@ use Rattle.mirror_model.proofs.StringSets.{has_left, has_right, has_from_listed,
 use Rattle.std.specs.List.{Contains}
 use Rattle.std.proofs.lemmas.List.Elements.{recursion_from_All, All-contains_itself, All-weaker}
 use Rattle.tlog_mirror.specs.Adding.{added, taken_of, with_note, with_strings}
-use Rattle.mirror_served.specs.Edges.{JudgesEdge}
+use Rattle.mirror_trees.specs.Edges.{JudgesEdge}
 use Rattle.tlog_mirror.proofs.TakenItems.{allowed, same_kind, gathered, gathered_short}
 use Rattle.mirror_model.specs.Strings.{IsDigest}
 

@@ -24,7 +24,7 @@ use Rattle.mirror_model.specs.Marks.{Points, State}
 use Rattle.tlog_mirror.specs.Kept.{state_of, IsKeptWell}
 use Rattle.tlog_mirror.specs.Adding.{with_strings, tree_strings, added, taken_of}
 use Rattle.mirror_model.specs.Strings.{IsDigest}
-use Rattle.mirror_served.specs.declared.held_note.HeldNote.{HeldNote}
+use Rattle.mirror_trees.specs.declared.held_note.HeldNote.{HeldNote}
 use Rattle.node_store.proofs.Sets.{decide}
 use Rattle.mirror_model.proofs.StringSets.{has_left, has_right, has_cases, has_empty, same_strings, listed_from_has}
 use Rattle.mirror_model.proofs.Views.{edge_stays, marks_stay}

@@ -8,7 +8,7 @@ use Rattle.node_store.specs.Strings.{Strings}
 use Rattle.mirror_model.specs.Heads.{IsHead}
 use Rattle.mirror_model.specs.Marks.{Points, State, IsSound}
 use Rattle.mirror_trees.specs.Slices.{AreSettled}
-use Rattle.mirror_served.specs.declared.held_note.HeldNote.{HeldNote}
+use Rattle.mirror_trees.specs.declared.held_note.HeldNote.{HeldNote}
 
 -- the bytes of a kept note
 abbrev pub note_bytes : HeldNote → List ℕ

@@ -9,3 +9,9 @@ pub mod ForksWritten
 pub mod MissingWritten
 pub mod Opened
 pub mod Plays
+pub mod Points
+pub mod Forks
+pub mod Branches
+pub mod Compared
+pub mod Pieces
+pub mod MissingLines

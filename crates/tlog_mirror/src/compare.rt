@@ -1,12 +1,12 @@
 //! Tree heads compared with the served entries. This needs only the checkpoint, and not its entries.
 ghost use Rattle.std.specs.Prelude.{map, IfOk, IfSome, IfNone, None};
 ghost use Rattle.mirror_model.specs.Reports.{SaysServed};
-ghost use Rattle.mirror_reports.specs.Compared.{ReportsCompared, ReportsHeld};
+ghost use Rattle.tlog_mirror.specs.Compared.{ReportsCompared, ReportsHeld};
 ghost use Rattle.mirror_trees.specs.Marked.{point_of};
 
 use crate::heads::points_of;
 use crate::mirror::Mirror;
-use mirror_reports::{Compared, compare_all};
+use crate::{Compared, compare_all};
 use std::alloc::{AllocError, Global};
 use tlog_hash::{Hash, TreeHash};
 

@@ -5,9 +5,9 @@ ghost use Rattle.tlog_mirror.specs.ForksWritten.{WritesForks};
 
 use crate::heads::points_of;
 use crate::mirror::Mirror;
+use crate::{forks_of, write_forks};
 use byte_streams::StreamFault;
 use mirror_model::Fork;
-use mirror_reports::{forks_of, write_forks};
 use std::alloc::{AllocError, Global};
 use std::io::Write;
 use tlog_hash::TreeHash;

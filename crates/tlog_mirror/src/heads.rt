@@ -5,14 +5,13 @@ ghost use Rattle.std.specs.List.Sorted.{IsStrictlySortedBy};
 ghost use Rattle.mirror_model.specs.Complete.{IsComplete};
 ghost use Rattle.mirror_model.specs.Reports.{ReportsHeads};
 ghost use Rattle.mirror_trees.specs.Marked.{point_of};
-ghost use Rattle.mirror_reports.specs.Points.{by_point};
-ghost use Rattle.mirror_served.specs.Best.{HasKept};
+ghost use Rattle.tlog_mirror.specs.Points.{by_point};
+ghost use Rattle.mirror_trees.specs.Best.{HasKept};
 
+use crate::flag_heads;
 use crate::mirror::Mirror;
 use mirror_model::Head;
-use mirror_reports::flag_heads;
-use mirror_served::{HeldNote, first_with};
-use mirror_trees::is_built;
+use mirror_trees::{HeldNote, first_with, is_built};
 use std::alloc::{AllocError, Global};
 use tlog_hash::{Hash, TreeHash};
 

@@ -5,7 +5,7 @@ ghost use Rattle.std.specs.List.Sorted.{IsBinarySearchResult, IsSearchInRange};
 ghost use Rattle.std.specs.Ordering.{nat_cmp};
 ghost use Rattle.tlog_mirror.specs.Kept.{note_bytes};
 
-use mirror_served::HeldNote;
+use mirror_trees::HeldNote;
 use std::cmp::Ordering;
 
 // The place of the note with those bytes among kept notes in rising order, or the place where it would go.

@@ -4,10 +4,10 @@ ghost use Rattle.tlog_tiles.specs.Tiles.{IsTileWithin, tile_bytes, bundle_bytes}
 ghost use Rattle.tlog_mirror.specs.LaidOut.{IsLaidOut};
 
 use crate::mirror::Mirror;
-use mirror_served::{HeldNote, files_of};
+use mirror_trees::{HeldNote, files_of};
 use std::alloc::{AllocError, Global};
-use tlog_files::LogFiles;
 use tlog_hash::TreeHash;
+use tlog_tiles::LogFiles;
 
 /// The served note, and the files of its entries.
 pub(crate) struct Laid<H: TreeHash> {

@@ -14,17 +14,26 @@
 //! `play` lets takes and merges happen to several mirrors, in order.
 #![tactic(auto)]
 
+mod branches;
+mod calm;
 mod compare;
+mod compare_laws;
+mod compared;
 mod fault;
+mod flagged;
+mod fork_search;
 mod forks;
 mod heads;
 mod items;
 mod kept;
 mod laid;
+mod lines;
 mod merge;
 mod mirror;
 mod missing;
+mod pieces;
 mod plays;
+mod report_texts;
 mod restored;
 mod rows;
 mod served;
@@ -33,7 +42,12 @@ mod take_head;
 mod takes;
 mod texts;
 
+pub use compare_laws::{compare_example, compare_law};
+pub use compared::{Compared, compare_all, comparison_text};
 pub use fault::{NewFault, RestoreFault};
+pub use flagged::flag_heads;
+pub use fork_search::{forks_of, write_forks};
+pub use lines::write_missing;
 pub use mirror::Mirror;
 pub use mirror_model::{
     Bytes, Event, Fork, Head, HeadNote, Item, MergeFault, Rows, TakeFault, again_law, bundles_law,
@@ -41,5 +55,6 @@ pub use mirror_model::{
     keeping_law, lists_law, part_law, plays_law, reports_law, retry_example, retry_law, run_law,
     served_law,
 };
-pub use mirror_served::TopRanges;
+pub use mirror_trees::TopRanges;
 pub use plays::{fits, play, play_again};
+pub use report_texts::{forks_text, missing_text, status_text};

@@ -9,7 +9,7 @@ ghost use Rattle.tlog_mirror.specs.Kept.{note_bytes};
 
 use crate::mirror::Mirror;
 use mirror_model::MergeFault;
-use mirror_served::HeldNote;
+use mirror_trees::HeldNote;
 use node_store::AddFault;
 use std::alloc::{AllocError, Global};
 use tlog_hash::TreeHash;

@@ -5,10 +5,9 @@ ghost use Rattle.mirror_model.specs.Listed.{ListsMissing};
 ghost use Rattle.tlog_mirror.specs.MissingWritten.{WritesMissing};
 
 use crate::mirror::Mirror;
+use crate::write_missing;
 use byte_streams::StreamFault;
-use mirror_reports::write_missing;
-use mirror_served::first_with;
-use mirror_trees::missing_of;
+use mirror_trees::{first_with, missing_of};
 use std::alloc::{AllocError, Global};
 use std::io::Write;
 use tlog_hash::{Hash, TreeHash};

@@ -10,8 +10,7 @@ ghost use Rattle.tlog_mirror.specs.Restored.{KeepsHeld, held_fault_of, strings_a
 use crate::fault::{NewFault, RestoreFault};
 use crate::mirror::Mirror;
 use mirror_model::{HeadNote, TakeFault, is_origin};
-use mirror_served::{HeldNote, holds_edge};
-use mirror_trees::HeldTrees;
+use mirror_trees::{HeldNote, HeldTrees, holds_edge};
 use node_store::Store;
 use signed_note::Verifier;
 use std::alloc::{AllocError, Global};

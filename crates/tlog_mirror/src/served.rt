@@ -4,11 +4,11 @@ ghost use Rattle.mirror_model.specs.Served.{IsRangeHash, IsServedBundle, IsServe
 ghost use Rattle.mirror_model.specs.Reports.{SaysServed};
 ghost use Rattle.std.specs.Option.{option_map};
 ghost use Rattle.mirror_trees.specs.Marked.{point_of};
-ghost use Rattle.mirror_served.specs.Tops.{IsServedAs, IsServedTop};
+ghost use Rattle.mirror_trees.specs.Tops.{IsServedAs, IsServedTop};
 
 use crate::laid::{laid_bundle, laid_tile};
 use crate::mirror::Mirror;
-use mirror_served::{HeldNote, TopRanges, best_leaves, best_of, first_with};
+use mirror_trees::{HeldNote, TopRanges, best_leaves, best_of, first_with};
 use signed_note::Note;
 use std::alloc::{AllocError, Global};
 use tlog_hash::{Hash, TreeHash};

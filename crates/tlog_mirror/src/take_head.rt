@@ -16,7 +16,7 @@ use crate::kept::find_note;
 use crate::mirror::Mirror;
 use crate::takes::take_answer;
 use mirror_model::{HeadNote, TakeFault, open_head};
-use mirror_served::{HeldNote, take_edge};
+use mirror_trees::{HeldNote, take_edge};
 use node_store::{AddFault, Store};
 use signed_note::Verifier;
 use std::alloc::{AllocError, Global};

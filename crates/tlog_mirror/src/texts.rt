@@ -4,7 +4,7 @@ ghost use Rattle.mirror_model.specs.Heads.{HasHead};
 ghost use Rattle.mirror_model.specs.Texts.{IsForksText, IsMissingText, IsStatusText};
 
 use crate::mirror::Mirror;
-use mirror_reports::{forks_text, missing_text, status_text};
+use crate::{forks_text, missing_text, status_text};
 use std::alloc::{AllocError, Global};
 use tlog_hash::{Hash, TreeHash};
 

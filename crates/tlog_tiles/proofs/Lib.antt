@@ -9,3 +9,6 @@ pub mod GroupLemmas
 pub mod TileLemmas
 pub mod EdgeLemmas
 pub mod PathLemmas
+pub mod PieceLemmas
+pub mod FullRows
+pub mod FileLemmas

@@ -6,3 +6,4 @@ pub mod Kind
 pub mod Edge
 pub mod Tiles
 pub mod Laws
+pub mod Layout

@@ -16,10 +16,14 @@
 #![tactic(auto)]
 
 mod bundle;
+mod bundles;
 mod cut;
 mod edge;
 mod laws;
+mod levels;
+mod log_files;
 mod paths;
+mod pieces;
 mod row;
 
 pub use bundle::{BundleFault, MAX_BUNDLE_LEN, read_bundle, split_entry, write_bundle};
@@ -28,5 +32,6 @@ pub use laws::{
     bundle_length_law, cut_law, edge_law, edge_order_law, one_bundle_law, one_path_law,
     one_row_law, row_fold_law, served_law, spelling_law, true_cut_law,
 };
+pub use log_files::LogFiles;
 pub use paths::{Path, PathFault, print};
 pub use row::{RowFault, read_row, write_row};

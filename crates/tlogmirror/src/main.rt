@@ -6,7 +6,7 @@
 #![tactic(auto)]
 
 use byte_streams::WatchedStream;
-use program_files::SystemFiles;
+use program_io::SystemFiles;
 use program_library::{Env, RunFault, ending_of, print_ending, run, system_folders};
 use program_words::CommandFault;
 use std::fs::File;

@@ -2,7 +2,7 @@ use Rattle.std.specs.Prelude.{IfSome, Some, None}
 use Rattle.sha2.specs.Sha256.{sha256}
 use Rattle.mirror_sources.specs.Recorded.{KeepsRecord}
 use Rattle.program_copies.specs.CopyHeads.{IsLastOpened}
-use Rattle.program_env.specs.Exchanges.{AnswersMore}
+use Rattle.program_io.specs.Exchanges.{AnswersMore}
 use Rattle.copy_commands.specs.Clients.{IsAnswer}
 use Rattle.copy_commands.specs.KeyFiles.{AreFileKeys}
 use Rattle.copy_commands.proofs.serve.answer_all.Given as goal

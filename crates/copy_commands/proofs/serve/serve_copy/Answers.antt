@@ -1,4 +1,4 @@
-use Rattle.program_env.proofs.Listened.{line_written, none_accepted, none_opened}
+use Rattle.program_io.proofs.Listened.{line_written, none_accepted, none_opened}
 use Rattle.copy_commands.proofs.serve.serve_copy.Goals as goal
 
 pub returns-in-Err-clause-line : goal.returns-in-Err-clause-line

@@ -3,12 +3,13 @@ use Rattle.tlog_tiles.specs.declared.paths.Path.TheVariants.{Checkpoint}
 use Rattle.mirror_folders.specs.Shelf.{RecordsRead}
 use Rattle.copy_follow.specs.Faults.{IsOtherFound}
 use Rattle.std.specs.Prelude.{⊤}
+use Rattle.copy_places.specs.Requests.{PlaceFails}
 use Rattle.copy_places.specs.EndTiles.{IsKept}
 use Rattle.copy_places.proofs.AskingOnce.{each_weaker, once_more}
-use Rattle.copy_places.proofs.Requests.{any_then}
+use Rattle.copy_places.proofs.Requests.{any_then, fails_then}
 use Rattle.copy_follow.specs.RunStanding.{HasStanding, HoldsNoCopy, HoldsNoSmaller}
 use Rattle.copy_follow.proofs.Ending.{ends_so, none_at_all, none_larger, standing_read}
-use Rattle.copy_follow.proofs.Looked.{after_later, counts_later, ends_later, source_never}
+use Rattle.copy_follow.proofs.Looked.{after_lacked, after_later, counts_later, ends_later, source_lacked, source_never}
 use Rattle.copy_follow.proofs.OneHonestRun.{honest_before}
 use Rattle.copy_follow.proofs.Runs.{each_none, each_then}
 use Rattle.copy_follow.specs.declared.follow_fault.FollowFault.TheVariants.{Source}
@@ -97,3 +98,56 @@ returns-in-Contradicts-clause-suffices g c =
     g.S.Source.asked (g.D.Shelf.puts c.args.shelf.now) c.args.places.now c.bring.new.places c.contradict.new.places
     c.args.origin.now c.args.candidate.now c.bring.ensures.asks c.contradict.ensures.asks h) in
     absurd (cc (brought, c.in-Contradicts.is))
+
+pub returns-in-NotHad-clause-keeps : goal.returns-in-NotHad-clause-keeps
+returns-in-NotHad-clause-keeps g c = λ notes listed.
+    let x = g.D.Shelf.puts c.args.shelf.now in
+    let y = g.D.Shelf.puts c.bring.new.shelf in
+    let z = g.D.Shelf.puts c.contradict-asked.new.shelf in
+    each_then g.H.TreeHash.digest c.args.origin.now notes x z y (c.bring.ensures.keeps notes listed)
+    (each_none g.H.TreeHash.digest c.args.origin.now notes y z c.contradict-asked.ensures.same)
+
+pub returns-in-NotHad-clause-asks : goal.returns-in-NotHad-clause-asks
+returns-in-NotHad-clause-asks g c =
+    any_then g.S.Source.may_answer g.S.Source.failed g.S.Source.asked c.args.places.now c.bring.new.places c.contradict-asked.new.places c.bring.ensures.asks c.contradict-asked.ensures.asks
+
+pub returns-in-NotHad-clause-once : goal.returns-in-NotHad-clause-once
+returns-in-NotHad-clause-once g c =
+    once_more g.S.Source.asked c.args.places.now c.bring.new.places c.contradict-asked.new.places c.bring.ensures.once
+    c.contradict-asked.ensures.more
+
+pub returns-in-NotHad-clause-suffices : goal.returns-in-NotHad-clause-suffices
+returns-in-NotHad-clause-suffices g c =
+    λ stands h.
+    let x = g.D.Shelf.puts c.args.shelf.now in
+    let brought = c.in-Ok.ensures.suffices (subst (λ note. RecordsRead x Checkpoint (Some note)) (sym c.as_slice.ensures.value)
+    (standing_read g.H.TreeHash.digest c.args.origin.now c.args.copy.now x stands)) (honest_before g.H.TreeHash.digest g.S.Source.may_answer g.S.Source.failed
+    g.S.Source.asked (g.D.Shelf.puts c.args.shelf.now) c.args.places.now c.bring.new.places c.contradict-asked.new.places
+    c.args.origin.now c.args.candidate.now c.bring.ensures.asks c.contradict-asked.ensures.asks h) in
+    absurd (cc (brought, c.in-NotHad.is))
+
+pub returns-in-NotHad-clause-counted : goal.returns-in-NotHad-clause-counted
+returns-in-NotHad-clause-counted g c =
+    let x = g.D.Shelf.failed c.args.shelf.now in
+    let z = g.D.Shelf.failed c.contradict-asked.new.shelf in
+    c.fork_or.ensures.counted x z (counts_later x (g.D.Shelf.failed c.bring.new.shelf) z
+    c.contradict-asked.result c.in-Ok.ensures.counted c.contradict-asked.ensures.counted)
+
+pub returns-in-NotHad-clause-after : goal.returns-in-NotHad-clause-after
+returns-in-NotHad-clause-after g c =
+    after_lacked g.H.TreeHash.digest c.args.origin.now c.args.candidate.now (g.D.Shelf.puts c.args.shelf.now) (g.D.Shelf.puts c.bring.new.shelf)
+    (g.D.Shelf.puts c.contradict-asked.new.shelf) c.in-Ok.turn c.in-NotHad.fault c.fork_or.result c.in-NotHad.is c.in-Ok.ensures.after
+    c.contradict-asked.ensures.same c.fork_or.ensures.after
+
+pub returns-in-NotHad-clause-shows : goal.returns-in-NotHad-clause-shows
+returns-in-NotHad-clause-shows g c =
+    c.fork_or.ensures.shows g.H.TreeHash.digest (Some c.args.copy.now) c.args.candidate.now c.contradict-asked.ensures.shows
+
+pub returns-in-NotHad-clause-source : goal.returns-in-NotHad-clause-source
+returns-in-NotHad-clause-source g c =
+    let x = c.args.places.now in
+    let y = c.bring.new.places in
+    let z = c.contradict-asked.new.places in
+    source_lacked (PlaceFails x z) c.in-Ok.turn c.in-NotHad.fault c.fork_or.result c.in-NotHad.is
+    (λ is. fails_then g.S.Source.may_answer g.S.Source.failed g.S.Source.asked x y z (c.in-Ok.ensures.source is) c.contradict-asked.ensures.asks)
+    c.fork_or.ensures.source

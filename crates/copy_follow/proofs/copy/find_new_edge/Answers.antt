@@ -1,5 +1,5 @@
 use Rattle.std.proofs.Common.{◌≡◌, IfSome, length, subst}
-use Rattle.log_paths.specs.Since.{since_paths}
+use Rattle.mirror_folders.specs.Since.{since_paths}
 use Rattle.copy_follow.proofs.copy.find_new_edge.Goals as goal
 
 pub returns-in-Ok-clause-expected : goal.returns-in-Ok-clause-expected

@@ -1,4 +1,4 @@
-use Rattle.std.proofs.Common.{List, ℕ, refl, subst}
+use Rattle.std.proofs.Common.{List, ℕ, length, refl, subst, sym}
 use Rattle.std.proofs.lemmas.Result.{IfOk-from_err}
 use Rattle.copy_places.specs.Giving.{PartOf}
 use Rattle.copy_follow.specs.Conflicts.{IsNoConflict}
@@ -6,7 +6,21 @@ use Rattle.copy_follow.specs.Faults.{IsOfNoPlace}
 use Rattle.copy_follow.specs.Taken.{WasPut}
 use Rattle.copy_follow.specs.declared.bring_fault.BringFault.TheVariants.{OutOfMemory}
 use Rattle.copy_follow.proofs.Exits.{counted_exit, err_exit}
+use Rattle.copy_follow.proofs.Lacking.{no_part, one_part}
+use Rattle.log_reader.specs.Verified.{HasLeaves}
 use Rattle.copy_follow.proofs.edge_bundle.edge_bundle_on_shelf.Goals as goal
+
+pub returns-in_default-clause-none : goal.returns-in_default-clause-none
+returns-in_default-clause-none g c = λ bytes there v.
+    no_part (g.D.Shelf.puts c.args.shelf.now) c.args.path.now bytes (rw c.in_default.is at c.in_ok-bytes.ensures.answer) there
+
+pub returns-in-None-clause-none : goal.returns-in-None-clause-none
+returns-in-None-clause-none g c = λ bytes there v.
+    let read = rw c.in-Some.is at c.in_ok-bytes.ensures.answer in
+    let same = one_part (g.D.Shelf.puts c.args.shelf.now) c.args.path.now bytes c.in-Some.bytes.items read there in
+    let none = rw c.in-None.is at c.in_ok-found.ensures.none in
+    let row = c.args.row.now in
+    none (subst (λ (b : List ℕ). HasLeaves g.H.TreeHash.digest (length row) b row) (sym same) v)
 
 pub returns-in_err-bytes : goal.returns-in_err-bytes
 returns-in_err-bytes g c =
@@ -22,6 +36,7 @@ returns-in_err-bytes g c =
       counted = counted_exit exit.result fault exit.ensures (failed c.args.shelf.now) (failed c.args.shelf.now)
           (failed c.read_partial.new.shelf) refl step.counted;
       taken = IfOk-from_err exit.result _ exit.ensures.0;
+      none = IfOk-from_err exit.result _ exit.ensures.0;
     }
 
 pub returns-in_err-found : goal.returns-in_err-found
@@ -36,6 +51,7 @@ returns-in_err-found g c =
       counted = counted_exit exit.result OutOfMemory exit.ensures (failed c.args.shelf.now) (failed c.read_partial.new.shelf)
           (failed c.read_partial.new.shelf) c.in_ok-bytes.ensures.counted refl;
       taken = IfOk-from_err exit.result _ exit.ensures.0;
+      none = IfOk-from_err exit.result _ exit.ensures.0;
     }
 
 pub returns-in-Some-2-clause-taken : goal.returns-in-Some-2-clause-taken

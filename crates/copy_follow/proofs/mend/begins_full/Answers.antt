@@ -1,8 +1,9 @@
-use Rattle.std.proofs.Common.{rules}
-use Rattle.copy_follow.proofs.Mending.{goes_on}
+use Rattle.std.proofs.Common.{List, ℕ, subst}
+use Rattle.log_reader.specs.Holding.{GoesOn}
+use Rattle.copy_reader.proofs.Cuts.{cut_goes}
 use Rattle.copy_follow.proofs.mend.begins_full.Goals as goal
 
-pub returns-then-is_full_length : goal.returns-then-is_full_length
-returns-then-is_full_length c = λ yes.
-    let there = c.goes_on_from.ensures.0 yes in
-    goes_on c.args.path.now c.args.bytes.now c.args.full.now (c.is_full_length.ensures c.if-is_full_length.true) there.0 there.1
+pub returns-in-Some : goal.returns-in-Some
+returns-in-Some c = λ yes.
+    subst (λ (b : List ℕ). GoesOn c.args.path.now b c.args.full.now) (c.is_same.ensures.0 yes)
+    (cut_goes c.args.path.now c.args.full.now c.in-Some.part.now c.in-Some.ensures.some)

@@ -3,11 +3,13 @@ use Rattle.tlog_shape.specs.Edge.{edge_index_of}
 use Rattle.tlog_tiles.specs.declared.paths.Path.TheVariants.{Entries}
 use Rattle.copy_places.specs.Asked.{IsPathOrFull}
 use Rattle.copy_places.specs.Giving.{MayGive}
-use Rattle.copy_places.proofs.Asking.{asks_then, asks_weaker}
+use Rattle.copy_places.proofs.Asking.{asks_same, asks_then, asks_weaker}
 use Rattle.copy_places.proofs.Giving.{given_before}
 use Rattle.copy_follow.specs.Repaired.{BeginsBundle, IsOfEdge}
 use Rattle.copy_follow.specs.Taken.{MayTake}
 use Rattle.copy_follow.proofs.Cuts.{bundle_weaker, end_of, some_weaker}
+use Rattle.copy_places.proofs.TruePlaces.{place_between}
+use Rattle.copy_follow.proofs.Lacking.{none_any}
 use Rattle.copy_follow.proofs.mend_edge.look_for_end.Goals as goal
 
 pub returns-in-Ok-clause-asks : goal.returns-in-Ok-clause-asks
@@ -49,3 +51,19 @@ returns-in-Ok-clause-taken g c =
     (λ bytes h. bundle_weaker (MayGive may y) take
     (λ path b given. inr (given_before may g.S.Source.failed g.S.Source.asked (IsPathOrFull c.args.path.now) x y path b
     c.end_found.ensures.asks given)) index bytes.items h) c.in-Ok.ensures.taken
+
+pub returns-in-Ok-clause-none : goal.returns-in-Ok-clause-none
+returns-in-Ok-clause-none g c =
+    let may = g.S.Source.may_answer in
+    let failed = g.S.Source.failed in
+    let asked = g.S.Source.asked in
+    let so = IsPathOrFull c.args.path.now in
+    let x = c.args.places.now in
+    let y = c.end_found.new.places in
+    let none = rw c.in-Ok-None.field-0-is at c.in-Ok-None.ensures.none in
+    none_any c.in-Ok.found _ (
+      none.0,
+      λ log short leaves t. none.1 log short leaves
+          (place_between may failed asked g.H.TreeHash.digest log so so (IsOfEdge c.args.size) x x y c.end_in_wider_ones.new.places
+          (asks_same may failed asked so x) c.end_found.ensures.asks c.end_in_wider_ones.ensures.asks t),
+    )

@@ -1,13 +1,19 @@
-use Rattle.std.proofs.Common.{[], List, ℕ, ◌∙◌, inl, inr, refl, sym}
+use Rattle.std.proofs.Common.{[], List, ℕ, ◌∙◌, inl, inr, refl, sym, ◌<◌, ◌≤◌, length, subst, arith}
 use Rattle.copy_places.proofs.Asking.{asks_then, asks_weaker}
 use Rattle.copy_follow.specs.Asked.{IsNewFull}
 use Rattle.copy_follow.specs.Growing.{empty_tip}
-use Rattle.copy_follow.specs.Repaired.{IsOfEdge, MayBeAskedToRepair}
+use Rattle.copy_follow.specs.Repaired.{IsOfEdge, MayBeAskedToRepair, RecordsHad}
 use Rattle.copy_follow.proofs.Cuts.{ends_later}
 use Rattle.copy_follow.proofs.EdgeRows.{edge_known}
-use Rattle.copy_follow.proofs.Growth.{gathers_then}
-use Rattle.copy_follow.proofs.MendedFiles.{each_had, had_rows, known_none, tiles_kept}
+use Rattle.copy_follow.proofs.Growth.{gathers_then, gathers_none, kept_same}
+use Rattle.copy_follow.proofs.MendedFiles.{each_had, had_rows, known_none, tiles_kept, end_file, had_earlier}
 use Rattle.copy_follow.proofs.Mending.{counts_then}
+use Rattle.tlog_shape.specs.Edge.{edge_index_of, width_of}
+use Rattle.tlog_tiles.specs.declared.paths.Path.TheVariants.{Tile, Entries}
+use Rattle.mirror_sources.specs.Honest.{true_bytes}
+use Rattle.log_reader.specs.EdgeRows.{edge_tile}
+use Rattle.copy_follow.proofs.Lacking.{down_first, each_gone, had_second}
+use Rattle.copy_follow.proofs.Naming.{names_then}
 use Rattle.copy_follow.proofs.mend_edge.mend_all.Goals as goal
 
 pub returns-in-Err-clause-asks : goal.returns-in-Err-clause-asks
@@ -149,3 +155,58 @@ returns-in-Ok-mend_edge_tiles-clause-whole g c = λ yes.
     (edge_known digest empty_tip edge [] c.requires.widths x y 1 0 0 refl (known_none digest) e) in
     let p = c.in-Ok-mend_edge_tiles.ensures.puts l.next l.size_is (had_rows digest edge c.requires.size c.requires.widths x y z w e l) in
     each_had digest edge c.requires.size c.requires.widths x y z w e l p
+
+pub returns-in-Ok-mend_edge_tiles-clause-goes_on : goal.returns-in-Ok-mend_edge_tiles-clause-goes_on
+returns-in-Ok-mend_edge_tiles-clause-goes_on g c = λ log short clear is.
+    let may = g.S.Source.may_answer in
+    let failed = g.S.Source.failed in
+    let asked = g.S.Source.asked in
+    let digest = g.H.TreeHash.digest in
+    let so = IsNewFull 0 in
+    let also = IsOfEdge c.args.edge.now.size in
+    let p = c.args.places.now in
+    let q = c.mend_levels.new.places in
+    let r = c.mend_end.new.places in
+    let x = g.D.Shelf.puts c.args.shelf.now in
+    let y = g.D.Shelf.puts c.mend_levels.new.shelf in
+    let z = g.D.Shelf.puts c.mend_end.new.shelf in
+    let w = g.D.Shelf.puts c.mend_edge_tiles.new.shelf in
+    let m = c.mend_levels.ensures.mends in
+    let still = ends_later may failed asked so p q m.asks digest log x y m.taken clear.ends in
+    let one = c.mend_levels.ensures.keeps log clear.files is in
+    let two = c.mend_end.ensures.keeps log still is in
+    let tiles = c.in-Ok-mend_edge_tiles.ensures.puts log (sym is.size_is) is.rows_are in
+    let three = tiles.gathers in
+    let none = gathers_none digest 0 log x x (kept_same x) in
+    let four = gathers_then digest 0 log log log x y z one two in
+    let n = length log in
+    let small = subst (λ k. k < 9223372036854775808) is.size_is c.requires.size in
+    inl (each_gone digest log small may p r x w
+    (down_first may failed asked digest log so also p q r m.asks c.mend_end.ensures.asks x y w one
+    (gathers_then digest 0 log log log y z w two three) none 1 (c.in-Ok.ensures.goes_on log short clear.files is))
+    (λ some. had_second may failed asked digest log so also p q r m.asks c.mend_end.ensures.asks x y z one two none w
+    (Entries (edge_index_of n 0) (width_of n 0)) (end_file n some) three (c.in-Ok-mend_end.ensures.goes_on log short still is some))
+    (λ level low some. subst (λ k. let path = Tile level (edge_index_of k level) (width_of k level) in
+    RecordsHad x w path (true_bytes digest log path)) is.size_is
+    (had_earlier x z w four.puts (edge_tile c.args.edge.now level) (true_bytes digest log (edge_tile c.args.edge.now level)) four.recorded
+    (tiles.holds level (omega arith) (subst (λ k. 1 ≤ width_of k level) (sym is.size_is) some)))))
+
+pub returns-in-Ok-mend_edge_tiles-clause-names : goal.returns-in-Ok-mend_edge_tiles-clause-names
+returns-in-Ok-mend_edge_tiles-clause-names g c = λ log short clear is.
+    let digest = g.H.TreeHash.digest in
+    let x = g.D.Shelf.puts c.args.shelf.now in
+    let y = g.D.Shelf.puts c.mend_levels.new.shelf in
+    let z = g.D.Shelf.puts c.mend_end.new.shelf in
+    let m = c.mend_levels.ensures.mends in
+    let still = ends_later g.S.Source.may_answer g.S.Source.failed g.S.Source.asked (IsNewFull 0) c.args.places.now
+    c.mend_levels.new.places m.asks digest log x y m.taken clear.ends in
+    let one = c.mend_levels.ensures.keeps log clear.files is in
+    let two = c.mend_end.ensures.keeps log still is in
+    let l = c.args.repaired.now.damaged.items in
+    let h = c.mend_levels.new.repaired.damaged.items in
+    let k = c.mend_end.new.repaired.damaged.items in
+    let e = c.mend_edge_tiles.new.repaired.damaged.items in
+    names_then digest log x z l k e (gathers_then digest 0 log log log x y z one two)
+    (names_then digest log x y l h k one (c.in-Ok.ensures.names log short clear.files is)
+    (c.in-Ok-mend_end.ensures.names log short still is))
+    (c.in-Ok-mend_edge_tiles.ensures.names log (sym is.size_is) is.rows_are)

@@ -1,12 +1,14 @@
-use Rattle.std.proofs.Common.{rules, ◌≡◌, ◌⊎◌, ◌≤◌, ℕ, List, [], ◌∷◌, length, subst, ap, ◌∙◌, arith}
+use Rattle.std.proofs.Common.{rules, ◌≡◌, ◌⊎◌, ◌≤◌, ℕ, List, [], ◌∷◌, length, subst, ap, ◌∙◌, arith, refl}
 use Rattle.tlog_shape.specs.Edge.{edge_index_of, width_of}
 use Rattle.tlog_tiles.specs.Row.{row_text}
 use Rattle.tlog_tiles.specs.declared.paths.Path.TheVariants.{Tile}
-use Rattle.log_reader.specs.EdgeRows.{edge_tile, row_at}
+use Rattle.log_reader.specs.EdgeRows.{edge_tile, row_at, RowIsTrue}
 use Rattle.mirror_sources.specs.Recorded.{AddsToRecord, KeepsRecord}
 use Rattle.copy_follow.specs.Repaired.{RecordsHad}
 use Rattle.copy_follow.proofs.Growth.{gathers_none, kept_same}
 use Rattle.copy_follow.proofs.MendedFiles.{mends_tile, tile_kept, tile_none, tile_some}
+use Rattle.copy_follow.specs.Named.{NamesAt, NamesDamaged}
+use Rattle.copy_follow.proofs.Naming.{names_at, names_none, on_ok}
 use Rattle.copy_follow.proofs.mend_edge.mend_edge_tile.Goals as goal
 
 pub returns-then-is_empty-clause-puts : goal.returns-then-is_empty-clause-puts
@@ -45,3 +47,26 @@ returns-clause-puts g c = λ entries long row.
     (λ there. tile_some digest edge entries long y z level upto some_width row bytes is puts
     (subst (λ p. RecordsHad y z p bytes) path there))
     (tile_kept digest edge entries long y z level upto some_width row bytes is puts)
+
+pub returns-then-is_empty-clause-names : goal.returns-then-is_empty-clause-names
+returns-then-is_empty-clause-names g c = λ log long row.
+    let l = c.args.repaired.now.damaged.items in
+    names_none g.H.TreeHash.digest log (g.D.Shelf.puts c.args.shelf.now) l l refl
+
+pub returns-clause-names : goal.returns-clause-names
+returns-clause-names g c =
+    let digest = g.H.TreeHash.digest in
+    let edge = c.args.edge.now in
+    let level = c.args.level in
+    let y = g.D.Shelf.puts c.args.shelf.now in
+    let bytes = c.deref.result.now in
+    let l = c.args.repaired.now.damaged.items in
+    let m = c.mend_partial.new.repaired.damaged.items in
+    let is : bytes ≡ row_text (row_at edge level) =
+    c.deref.ensures.value ∙ (c.in-Ok.ensures.text ∙ ap row_text c.row-row.ensures) in
+    let path : c.edge_path-path.result ≡ edge_tile edge level =
+    c.edge_path-path.ensures ∙ ap (λ n. Tile level (edge_index_of n level) (width_of n level)) c.size.ensures in
+    on_ok c.mend_partial.result (NamesAt y c.edge_path-path.result bytes l m)
+    ((log : List (List ℕ)) → length log ≡ edge.size → RowIsTrue digest edge log level → NamesDamaged digest log y l m)
+    (λ named log long row. names_at digest log y (edge_tile edge level) bytes l m (is ∙ ap row_text row)
+    (subst (λ p. NamesAt y p bytes l m) path named)) c.mend_partial.ensures.names

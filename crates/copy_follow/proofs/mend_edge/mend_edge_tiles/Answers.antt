@@ -3,6 +3,7 @@ use Rattle.copy_follow.specs.Repaired.{AreEdgeTilesHad}
 use Rattle.copy_follow.proofs.Growth.{gathers_then, kept_same}
 use Rattle.copy_follow.proofs.MendedFiles.{tiles_first, tiles_then}
 use Rattle.copy_follow.proofs.Mending.{counts_none, counts_then}
+use Rattle.copy_follow.proofs.Naming.{names_none, names_then}
 use Rattle.copy_follow.proofs.mend_edge.mend_edge_tiles.Goals as goal
 
 pub loop-level-init : goal.loop-level-init
@@ -13,6 +14,7 @@ loop-level-init g c =
       counted = refl;
       counts = counts_none n n x x refl (kept_same x);
       puts = λ entries long rows. tiles_first g.H.TreeHash.digest c.args.edge.now entries x;
+      names = λ log long rows. names_none g.H.TreeHash.digest log x c.args.repaired.now.damaged.items c.args.repaired.now.damaged.items refl;
     }
 
 pub loop-level-preserved : goal.loop-level-preserved
@@ -29,6 +31,12 @@ loop-level-preserved g c =
           tiles_then g.H.TreeHash.digest c.args.edge.now entries long x y z c.loop-level.level upto
           (c.loop-level.invariant.puts entries long rows)
           (c.in-Ok.ensures.puts entries long (rows c.loop-level.level upto));
+      names = λ log long rows.
+          let upto : c.loop-level.level ≤ 7 = omega arith in
+          let so_far = c.loop-level.invariant.puts log long rows in
+          names_then g.H.TreeHash.digest log x y c.args.repaired.now.damaged.items c.loop-level.repaired.damaged.items
+          c.mend_edge_tile.new.repaired.damaged.items so_far.gathers (c.loop-level.invariant.names log long rows)
+          (c.in-Ok.ensures.names log long (rows c.loop-level.level upto));
     }
 
 pub returns-in-Err-clause-puts : goal.returns-in-Err-clause-puts

@@ -1,13 +1,16 @@
 use Rattle.std.proofs.Common.{◌≡◌, ◌+◌, ◌-◌, ◌*◌, ◌^◌, ◌<◌, ◌≤◌, ℕ, List, length, refl, subst, sym, ap, ◌∙◌, arith}
-use Rattle.tlog_shape.specs.Edge.{edge_index_of}
+use Rattle.tlog_shape.specs.Edge.{edge_index_of, width_of}
 use Rattle.copy_places.proofs.Asking.{asks_same}
 use Rattle.copy_follow.specs.Asked.{IsNewFull}
 use Rattle.copy_follow.specs.Edges.{IsEdgeBrought}
 use Rattle.copy_follow.specs.Growing.{IsKnown, IsRowBrought, empty_tip}
+use Rattle.copy_follow.specs.Lacked.{GoesAlong, GoesDown}
 use Rattle.copy_follow.specs.Suffices.{IsTileRow}
 use Rattle.copy_follow.proofs.EdgeRows.{edge_first, edge_known, edge_step, row_fits}
 use Rattle.copy_follow.proofs.Growth.{gathers_none, gathers_then, kept_same}
+use Rattle.copy_follow.proofs.Lacking.{down_more}
 use Rattle.copy_follow.proofs.Mending.{mends_none, mends_then}
+use Rattle.copy_follow.proofs.Naming.{names_none, names_then}
 use Rattle.copy_follow.proofs.OnePlace.{clear_later}
 use Rattle.copy_follow.proofs.Spared.{edge_row_true}
 use Rattle.copy_follow.proofs.mend_edge.mend_levels.Goals as goal
@@ -23,6 +26,8 @@ loop-done-init g c =
           (asks_same g.S.Source.may_answer g.S.Source.failed g.S.Source.asked (IsNewFull 0) p) (kept_same x) refl;
       keeps = λ log clear is. gathers_none g.H.TreeHash.digest 0 log x x (kept_same x);
       whole = λ yes known is. edge_first g.H.TreeHash.digest empty_tip c.args.edge.now known c.requires.widths x c.requires.size is;
+      goes_on = λ log short clear is level from upto. absurd (omega (arith, from, upto));
+      names = λ log short clear is. names_none g.H.TreeHash.digest log x c.args.repaired.now.damaged.items c.args.repaired.now.damaged.items refl;
     }
 
 pub mend_row-requires-clause-fits : goal.mend_row-requires-clause-fits
@@ -95,4 +100,46 @@ loop-done-preserved g c =
           let next : level ≡ 8 - (c.loop-done.done + 1) = omega arith in
           subst (λ k. IsEdgeBrought digest empty_tip edge known k x z) next
           (edge_step digest empty_tip edge known c.requires.widths x y z low level below (omega arith) (omega arith) s rowed);
+      goes_on = λ log short clear is.
+          let may = g.S.Source.may_answer in
+          let failed = g.S.Source.failed in
+          let asked = g.S.Source.asked in
+          let so = IsNewFull 0 in
+          let p = c.args.places.now in
+          let q = c.loop-done.places in
+          let r = c.mend_row.new.places in
+          let m = c.loop-done.invariant.mends in
+          let still = clear_later may failed asked so p q m.asks digest log x y m.taken clear in
+          let there = edge_row_true digest g.met.H.TreeHash.digest_length log edge c.requires.widths is level (omega arith) in
+          let placed = subst (λ i. IsTileRow digest log level i c.row.result.now) (sym at)
+          (subst (λ (r : List (List ℕ)). IsTileRow digest log level (edge_index_of edge.size level) r) (sym c.row.ensures) there) in
+          let place : c.edge_index-index.result ≡ edge_index_of (length log) level =
+          at ∙ ap (λ n. edge_index_of n level) is.size_is in
+          let count : length c.row.result.now ≡ width_of (length log) level =
+          ap length c.row.ensures ∙ (c.requires.widths level (omega arith) ∙ ap (λ n. width_of n level) is.size_is) in
+          let along = subst (λ n. GoesAlong digest log may q r y z level (edge_index_of (length log) level) n) count
+          (subst (λ i. GoesAlong digest log may q r y z level i (length c.row.result.now)) place
+          (c.in-Ok.ensures.goes_on log short still placed)) in
+          let next : level ≡ 8 - (c.loop-done.done + 1) = omega arith in
+          subst (λ k. GoesDown digest log may p r x z k) next
+          (down_more may failed asked digest log so so p q r m.asks c.mend_row.ensures.mends.asks x y z
+          (c.loop-done.invariant.keeps log clear is) (c.mend_row.ensures.keeps log still placed)
+          (gathers_none digest 0 log x x (kept_same x)) (8 - c.loop-done.done) level (omega arith)
+          (c.loop-done.invariant.goes_on log short clear is) along);
+      names = λ log short clear is.
+          let m = c.loop-done.invariant.mends in
+          let still = clear_later g.S.Source.may_answer g.S.Source.failed g.S.Source.asked (IsNewFull 0) c.args.places.now
+          c.loop-done.places m.asks digest log x y m.taken clear in
+          let there = edge_row_true digest g.met.H.TreeHash.digest_length log edge c.requires.widths is level (omega arith) in
+          let placed = subst (λ i. IsTileRow digest log level i c.row.result.now) (sym at)
+          (subst (λ (r : List (List ℕ)). IsTileRow digest log level (edge_index_of edge.size level) r) (sym c.row.ensures) there) in
+          names_then digest log x y c.args.repaired.now.damaged.items c.loop-done.repaired.damaged.items
+          c.mend_row.new.repaired.damaged.items (c.loop-done.invariant.keeps log clear is)
+          (c.loop-done.invariant.names log short clear is) (c.in-Ok.ensures.names log short still placed);
     }
+
+pub returns-clause-goes_on : goal.returns-clause-goes_on
+returns-clause-goes_on g c = λ log short clear is.
+    let end : 8 - c.loop-done.done ≡ 1 = omega arith in
+    subst (λ k. GoesDown g.H.TreeHash.digest log g.S.Source.may_answer c.args.places.now c.loop-done.places
+    (g.D.Shelf.puts c.args.shelf.now) (g.D.Shelf.puts c.loop-done.shelf) k) end (c.loop-done.invariant.goes_on log short clear is)

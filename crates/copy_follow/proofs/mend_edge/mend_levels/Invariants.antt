@@ -3,6 +3,9 @@ use Rattle.std.specs.Prelude.{IsTrue}
 use Rattle.copy_follow.specs.Asked.{IsNewFull}
 use Rattle.copy_follow.specs.Edges.{IsEdgeBrought}
 use Rattle.copy_follow.specs.Growing.{IsKnown, empty_tip}
+use Rattle.mirror_model.specs.TrueLaws.{AreShort}
+use Rattle.copy_follow.specs.Lacked.{GoesDown}
+use Rattle.copy_follow.specs.Named.{NamesDamaged}
 use Rattle.copy_follow.specs.Repaired.{Mends, PutsTrue}
 use Rattle.copy_follow.specs.Suffices.{IsEdgeTrue}
 use Rattle.copy_follow.specs.Taken.{FilesAreClear, MayTake}
@@ -20,4 +23,13 @@ invariant-loop-done g l = record {
   whole : IsTrue l.all → (known : List (List ℕ)) → IsKnown g.H.TreeHash.digest empty_tip 0 known →
       IsEdgeBrought g.H.TreeHash.digest empty_tip l.edge known (8 - l.done) (g.D.Shelf.puts l.fn.shelf)
       (g.D.Shelf.puts l.shelf);
+  goes_on : (log : List (List ℕ)) → AreShort log →
+      FilesAreClear g.H.TreeHash.digest log (MayTake g.S.Source.may_answer l.fn.places (g.D.Shelf.puts l.fn.shelf)) →
+      IsEdgeTrue g.H.TreeHash.digest log l.edge →
+      GoesDown g.H.TreeHash.digest log g.S.Source.may_answer l.fn.places l.places (g.D.Shelf.puts l.fn.shelf)
+      (g.D.Shelf.puts l.shelf) (8 - l.done);
+  names : (log : List (List ℕ)) → AreShort log →
+      FilesAreClear g.H.TreeHash.digest log (MayTake g.S.Source.may_answer l.fn.places (g.D.Shelf.puts l.fn.shelf)) →
+      IsEdgeTrue g.H.TreeHash.digest log l.edge →
+      NamesDamaged g.H.TreeHash.digest log (g.D.Shelf.puts l.fn.shelf) l.fn.repaired.damaged.items l.repaired.damaged.items;
 }

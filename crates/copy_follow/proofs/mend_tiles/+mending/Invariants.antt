@@ -2,6 +2,9 @@ use Rattle.std.proofs.Common.{◌≡◌, ◌+◌, ◌*◌, ◌^◌, ℕ, List}
 use Rattle.std.specs.Prelude.{IsTrue}
 use Rattle.copy_follow.specs.Asked.{IsNewFull}
 use Rattle.copy_follow.specs.Growing.{IsKnown, IsRowBrought, empty_tip}
+use Rattle.mirror_model.specs.TrueLaws.{AreShort}
+use Rattle.copy_follow.specs.Lacked.{GoesAlong}
+use Rattle.copy_follow.specs.Named.{NamesDamaged}
 use Rattle.copy_follow.specs.Repaired.{Mends, PutsTrue}
 use Rattle.copy_follow.specs.Suffices.{IsTileRow}
 use Rattle.copy_follow.specs.Taken.{FilesAreClear, MayTake}
@@ -26,4 +29,13 @@ invariant-mend_row-loop-i g l = record {
       IsKnown g.H.TreeHash.digest empty_tip (l.index * 256 ^ (l.level + 1)) known →
       IsRowBrought g.H.TreeHash.digest empty_tip l.level l.index l.row known (g.D.Shelf.puts l.fn.shelf)
       (g.D.Shelf.puts l.shelf) l.i;
+  goes_on : (log : List (List ℕ)) → AreShort log →
+      FilesAreClear g.H.TreeHash.digest log (MayTake g.S.Source.may_answer l.fn.places (g.D.Shelf.puts l.fn.shelf)) →
+      IsTileRow g.H.TreeHash.digest log l.level l.index l.row →
+      GoesAlong g.H.TreeHash.digest log g.S.Source.may_answer l.fn.places l.places (g.D.Shelf.puts l.fn.shelf)
+      (g.D.Shelf.puts l.shelf) l.level l.index l.i;
+  names : (log : List (List ℕ)) → AreShort log →
+      FilesAreClear g.H.TreeHash.digest log (MayTake g.S.Source.may_answer l.fn.places (g.D.Shelf.puts l.fn.shelf)) →
+      IsTileRow g.H.TreeHash.digest log l.level l.index l.row →
+      NamesDamaged g.H.TreeHash.digest log (g.D.Shelf.puts l.fn.shelf) l.fn.repaired.damaged.items l.repaired.damaged.items;
 }

@@ -1,4 +1,4 @@
-use Rattle.std.proofs.Common.{◌≡◌, ◌⊎◌, [], ◌∷◌, inl, inr, refl, subst, ap, ◌∙◌, arith}
+use Rattle.std.proofs.Common.{◌≡◌, ◌⊎◌, [], ◌∷◌, inl, inr, refl, subst, sym, ap, ◌∙◌, arith}
 use Rattle.tlog_tiles.specs.Row.{row_text}
 use Rattle.tlog_tiles.specs.declared.paths.Path.TheVariants.{Entries, Tile}
 use Rattle.mirror_sources.specs.Recorded.{AddsToRecord, KeepsRecord}
@@ -6,17 +6,30 @@ use Rattle.copy_places.proofs.Asking.{asks_weaker}
 use Rattle.copy_follow.specs.Asked.{IsNewFull}
 use Rattle.copy_follow.specs.Growing.{empty_tip}
 use Rattle.copy_follow.specs.Standing.{RecordsStands}
+use Rattle.copy_follow.specs.Lacked.{LacksBundle}
+use Rattle.copy_follow.proofs.Naming.{names_at, names_lack, names_none, names_then}
 use Rattle.copy_follow.specs.Taken.{MayTake}
 use Rattle.copy_follow.proofs.Bundles.{bundle_brought}
+use Rattle.copy_follow.proofs.Earlier.{kept_then}
 use Rattle.copy_follow.proofs.Growth.{gathers_keep, gathers_none, gathers_then}
 use Rattle.copy_follow.proofs.Mending.{bundle_found, mends_none, mends_put}
 use Rattle.copy_follow.proofs.NewFulls.{bundle_asked}
+use Rattle.copy_follow.proofs.Lacking.{bundle_nobodys, bundle_stands, stands_earlier, stands_later}
 use Rattle.copy_follow.proofs.mend_tiles.mend_bundle.Goals as goal
 
-pub returns-in-Ok-None-clause-keeps : goal.returns-in-Ok-None-clause-keeps
-returns-in-Ok-None-clause-keeps g c = λ log clear is.
-    gathers_none g.H.TreeHash.digest 0 log (g.D.Shelf.puts c.args.shelf.now) (g.D.Shelf.puts c.look_for.new.shelf)
-    c.look_for.ensures.same
+pub returns-in-Ok-clause-keeps : goal.returns-in-Ok-clause-keeps
+returns-in-Ok-clause-keeps g c = λ log clear is.
+    let x = g.D.Shelf.puts c.args.shelf.now in
+    let y = g.D.Shelf.puts c.look_for.new.shelf in
+    let z = g.D.Shelf.puts c.note_lack.new.shelf in
+    gathers_none g.H.TreeHash.digest 0 log x z (kept_then x y z c.look_for.ensures.same c.note_lack.ensures.same)
+
+pub returns-in-Err-note_lack-clause-keeps : goal.returns-in-Err-note_lack-clause-keeps
+returns-in-Err-note_lack-clause-keeps g c = λ log clear is.
+    let x = g.D.Shelf.puts c.args.shelf.now in
+    let y = g.D.Shelf.puts c.look_for.new.shelf in
+    let z = g.D.Shelf.puts c.note_lack.new.shelf in
+    gathers_none g.H.TreeHash.digest 0 log x z (kept_then x y z c.look_for.ensures.same c.note_lack.ensures.same)
 
 pub returns-in-Err-clause-keeps : goal.returns-in-Err-clause-keeps
 returns-in-Err-clause-keeps g c = λ log clear is.
@@ -94,7 +107,7 @@ returns-in-Ok-mend-2-clause-keeps g c = λ log clear is.
     let w = g.D.Shelf.puts c.mend-2.new.shelf in
     let path = Entries c.args.index 256 in
     let bytes = c.in-Ok-Some.found.bytes.items in
-    let text = c.deref-3.ensures.value ∙ (c.in-Ok.ensures.text ∙ ap row_text c.deref.ensures.value) in
+    let text = c.deref-3.ensures.value ∙ (c.in-Ok-write_row.ensures.text ∙ ap row_text c.deref.ensures.value) in
     let puts = subst (λ b. (KeepsRecord y z) ⊎ (AddsToRecord y z ((path, b) ∷ []))) c.deref-2.ensures.value c.mend.ensures.puts in
     let true = bundle_found digest g.met.H.TreeHash.digest_length log (MayTake g.S.Source.may_answer c.args.places.now x) clear
     c.args.index c.args.hash.now bytes c.in-Ok-Some.found.row.items (rw c.in-Ok-Some.field-0-is at c.in-Ok-Some.ensures.taken) (rw c.in-Ok-Some.field-0-is at c.in-Ok-Some.ensures.found) is in
@@ -116,7 +129,7 @@ returns-in-Ok-mend-2-clause-whole g c = λ yes known is.
     let found = rw c.in-Ok-Some.field-0-is at c.in-Ok-Some.ensures.found in
     let bytes = c.in-Ok-Some.found.bytes.items in
     let row = c.in-Ok-Some.found.row.items in
-    let text = c.deref-3.ensures.value ∙ (c.in-Ok.ensures.text ∙ ap row_text c.deref.ensures.value) in
+    let text = c.deref-3.ensures.value ∙ (c.in-Ok-write_row.ensures.text ∙ ap row_text c.deref.ensures.value) in
     let puts = subst (λ b. (KeepsRecord y z) ⊎ (AddsToRecord y z ((path, b) ∷ []))) c.deref-2.ensures.value c.mend.ensures.puts in
     let there = subst (λ b. RecordsStands y z path b) c.deref-2.ensures.value c.in-Ok-mend.ensures.stands in
     bundle_brought digest empty_tip index 256 (omega arith) (omega arith) known is (omega arith) bytes row found.is_row (λ same. refl)
@@ -155,7 +168,7 @@ returns-clause-keeps g c = λ log clear is.
     let w = g.D.Shelf.puts c.mend-2.new.shelf in
     let path = Entries c.args.index 256 in
     let bytes = c.in-Ok-Some.found.bytes.items in
-    let text = c.deref-3.ensures.value ∙ (c.in-Ok.ensures.text ∙ ap row_text c.deref.ensures.value) in
+    let text = c.deref-3.ensures.value ∙ (c.in-Ok-write_row.ensures.text ∙ ap row_text c.deref.ensures.value) in
     let puts = subst (λ b. (KeepsRecord y z) ⊎ (AddsToRecord y z ((path, b) ∷ []))) c.deref-2.ensures.value c.mend.ensures.puts in
     let true = bundle_found digest g.met.H.TreeHash.digest_length log (MayTake g.S.Source.may_answer c.args.places.now x) clear
     c.args.index c.args.hash.now bytes c.in-Ok-Some.found.row.items (rw c.in-Ok-Some.field-0-is at c.in-Ok-Some.ensures.taken) (rw c.in-Ok-Some.field-0-is at c.in-Ok-Some.ensures.found) is in
@@ -164,3 +177,70 @@ returns-clause-keeps g c = λ log clear is.
     (gathers_keep digest 0 log y z (path, bytes) puts true.0))
     (gathers_keep digest 0 log z w (Tile 0 c.args.index 256, c.deref-3.result.now) c.mend-2.ensures.puts
     (true.1 c.deref-3.result.now text))
+
+pub returns-in-Ok-clause-goes_on : goal.returns-in-Ok-clause-goes_on
+returns-in-Ok-clause-goes_on g c = λ log short clear is path below.
+    inr (LacksBundle c.args.index (bundle_nobodys g.H.TreeHash.digest g.met.H.TreeHash.digest_length log short g.S.Source.may_answer
+    c.args.places.now c.look_for.new.places (g.D.Shelf.puts c.args.shelf.now) c.args.index c.args.hash.now is
+    (rw c.in-Ok-None.field-0-is at c.in-Ok-None.ensures.none)) below)
+
+pub returns-in-Ok-clause-names : goal.returns-in-Ok-clause-names
+returns-in-Ok-clause-names g c = λ log short clear is.
+    let digest = g.H.TreeHash.digest in
+    let x = g.D.Shelf.puts c.args.shelf.now in
+    let none = bundle_nobodys digest g.met.H.TreeHash.digest_length log short g.S.Source.may_answer c.args.places.now
+    c.look_for.new.places x c.args.index c.args.hash.now is (rw c.in-Ok-None.field-0-is at c.in-Ok-None.ensures.none) in
+    names_lack digest log x (g.D.Shelf.puts c.look_for.new.shelf) (Entries c.args.index 256) c.args.repaired.now.damaged.items
+    c.note_lack.new.repaired.damaged.items c.look_for.ensures.same none.shelf c.in-Ok.ensures.names
+
+pub returns-in-Ok-mend-2-clause-goes_on : goal.returns-in-Ok-mend-2-clause-goes_on
+returns-in-Ok-mend-2-clause-goes_on g c = λ log short clear is path below.
+    let digest = g.H.TreeHash.digest in
+    let x = g.D.Shelf.puts c.args.shelf.now in
+    let y = g.D.Shelf.puts c.look_for.new.shelf in
+    let z = g.D.Shelf.puts c.mend.new.shelf in
+    let w = g.D.Shelf.puts c.mend-2.new.shelf in
+    let bundle = Entries c.args.index 256 in
+    let tile = Tile 0 c.args.index 256 in
+    let bytes = c.in-Ok-Some.found.bytes.items in
+    let text = c.deref-3.ensures.value ∙ (c.in-Ok-write_row.ensures.text ∙ ap row_text c.deref.ensures.value) in
+    let puts = subst (λ b. (KeepsRecord y z) ⊎ (AddsToRecord y z ((bundle, b) ∷ []))) c.deref-2.ensures.value c.mend.ensures.puts in
+    let true = bundle_found digest g.met.H.TreeHash.digest_length log (MayTake g.S.Source.may_answer c.args.places.now x) clear
+    c.args.index c.args.hash.now bytes c.in-Ok-Some.found.row.items (rw c.in-Ok-Some.field-0-is at c.in-Ok-Some.ensures.taken)
+    (rw c.in-Ok-Some.field-0-is at c.in-Ok-Some.ensures.found) is in
+    let new_bundle = true.0 in
+    let new_tile = true.1 c.deref-3.result.now text in
+    let start = gathers_none digest 0 log x y c.look_for.ensures.same in
+    let first = gathers_then digest 0 log log log x y z start (gathers_keep digest 0 log y z (bundle, bytes) puts new_bundle) in
+    let second = gathers_keep digest 0 log z w (tile, c.deref-3.result.now) c.mend-2.ensures.puts new_tile in
+    let there = subst (λ b. RecordsStands y z bundle b) (c.deref-2.ensures.value ∙ new_bundle.bytes_are) c.in-Ok-mend.ensures.stands in
+    let there_too = subst (λ b. RecordsStands z w tile b) new_tile.bytes_are c.in-Ok-mend-2.ensures.stands in
+    inl (bundle_stands digest log c.args.index x w
+    (stands_later digest log x z w bundle second (stands_earlier digest log x y z bundle start there))
+    (stands_earlier digest log x z w tile first there_too) path below)
+
+pub returns-in-Ok-mend-2-clause-names : goal.returns-in-Ok-mend-2-clause-names
+returns-in-Ok-mend-2-clause-names g c = λ log short clear is.
+    let digest = g.H.TreeHash.digest in
+    let x = g.D.Shelf.puts c.args.shelf.now in
+    let y = g.D.Shelf.puts c.look_for.new.shelf in
+    let z = g.D.Shelf.puts c.mend.new.shelf in
+    let bundle = Entries c.args.index 256 in
+    let tile = Tile 0 c.args.index 256 in
+    let bytes = c.in-Ok-Some.found.bytes.items in
+    let text = c.deref-3.ensures.value ∙ (c.in-Ok-write_row.ensures.text ∙ ap row_text c.deref.ensures.value) in
+    let puts = subst (λ b. (KeepsRecord y z) ⊎ (AddsToRecord y z ((bundle, b) ∷ []))) c.deref-2.ensures.value c.mend.ensures.puts in
+    let true = bundle_found digest g.met.H.TreeHash.digest_length log (MayTake g.S.Source.may_answer c.args.places.now x) clear
+    c.args.index c.args.hash.now bytes c.in-Ok-Some.found.row.items (rw c.in-Ok-Some.field-0-is at c.in-Ok-Some.ensures.taken)
+    (rw c.in-Ok-Some.field-0-is at c.in-Ok-Some.ensures.found) is in
+    let new_bundle = true.0 in
+    let new_tile = true.1 c.deref-3.result.now text in
+    let start = gathers_none digest 0 log x y c.look_for.ensures.same in
+    let first = gathers_then digest 0 log log log x y z start (gathers_keep digest 0 log y z (bundle, bytes) puts new_bundle) in
+    let l = c.args.repaired.now.damaged.items in
+    let m = c.mend.new.repaired.damaged.items in
+    let n = c.mend-2.new.repaired.damaged.items in
+    names_then digest log x z l m n first
+    (names_then digest log x y l l m start (names_none digest log x l l refl)
+    (names_at digest log y bundle c.deref-2.result.now l m (c.deref-2.ensures.value ∙ new_bundle.bytes_are) c.in-Ok-mend.ensures.names))
+    (names_at digest log z tile c.deref-3.result.now m n new_tile.bytes_are c.in-Ok-mend-2.ensures.names)

@@ -1,15 +1,22 @@
-use Rattle.std.proofs.Common.{◌≡◌, ◌<◌, ◌≤◌, ℕ, [], ◌∙◌, inl, refl, subst, sym, arith}
+use Rattle.std.proofs.Common.{◌≡◌, ◌<◌, ◌≤◌, ℕ, [], ◌∙◌, inl, refl, subst, sym, arith, List, length, ap}
 use Rattle.std.specs.Prelude.{IsTrue}
 use Rattle.tlog_hash.proofs.Trees.{mth-none}
 use Rattle.copy_places.specs.PlaceGets.{AsksPlaces}
 use Rattle.copy_places.proofs.Asking.{asks_same, asks_then, asks_weaker}
-use Rattle.copy_follow.specs.Repaired.{HasLog, IsEachHad, IsOfEdge, MayBeAskedToRepair}
+use Rattle.copy_follow.specs.Repaired.{HasLog, IsEachHad, IsOfEdge, MayBeAskedToRepair, IsClearLog}
 use Rattle.copy_follow.specs.Taken.{MayTake}
 use Rattle.copy_follow.proofs.Cuts.{clear_weaker, cut_edge_true, ok_weaker}
 use Rattle.copy_follow.proofs.Growth.{gathers_none, gathers_then, kept_same}
 use Rattle.copy_follow.proofs.MendedFiles.{empty_log, had_log, log_then}
 use Rattle.copy_follow.proofs.Mending.{counts_none, counts_then}
 use Rattle.copy_follow.proofs.OnePlace.{taken_kept}
+use Rattle.tlog_hash.specs.Tree.{mth}
+use Rattle.mirror_model.specs.TrueLaws.{AreShort}
+use Rattle.copy_follow.specs.Lacked.{GoesOverAll}
+use Rattle.copy_follow.specs.Suffices.{IsEdgeTrue}
+use Rattle.copy_follow.proofs.Lacking.{over_between, over_edge, over_none}
+use Rattle.copy_follow.specs.Named.{NamesDamaged}
+use Rattle.copy_follow.proofs.Naming.{names_none, names_then}
 use Rattle.copy_follow.proofs.repair.mend_copy.Goals as goal
 
 pub returns-then-size-eq0-clause-asks : goal.returns-then-size-eq0-clause-asks
@@ -130,3 +137,101 @@ pub returns-in-Ok-None-clause-counts : goal.returns-in-Ok-None-clause-counts
 returns-in-Ok-None-clause-counts g c =
     counts_none c.args.repaired.now.put c.note_lacked.new.self.put (g.D.Shelf.puts c.args.shelf.now)
     (g.D.Shelf.puts c.look_for_edge.new.shelf) c.note_lacked.ensures.put c.look_for_edge.ensures.same
+
+pub returns-then-size-eq0-clause-goes_on : goal.returns-then-size-eq0-clause-goes_on
+returns-then-size-eq0-clause-goes_on g c =
+    let digest = g.H.TreeHash.digest in
+    let may = g.S.Source.may_answer in
+    let p = c.args.places.now in
+    let x = g.D.Shelf.puts c.args.shelf.now in
+    let none : c.args.size ≡ 0 = omega arith in
+    let root = c.args.root.now in
+    ok_weaker c.mend_empty.result (λ all. root ≡ digest []) (λ all. (log : List (List ℕ)) → AreShort log → length log ≡ c.args.size →
+    mth digest log ≡ root → IsClearLog digest log (MayTake may p x) → GoesOverAll digest log may p p x x)
+    (λ all empty log short long is clear. over_none digest log may p p x x (long ∙ none)) c.mend_empty.ensures.empty
+
+pub returns-in-Ok-None-clause-goes_on : goal.returns-in-Ok-None-clause-goes_on
+returns-in-Ok-None-clause-goes_on g c = λ log short long is clear.
+    let none = rw c.in-Ok-None.field-0-is at c.in-Ok-None.ensures.none in
+    over_edge g.H.TreeHash.digest log short g.S.Source.may_answer c.args.places.now c.look_for_edge.new.places
+    (g.D.Shelf.puts c.args.shelf.now) (g.D.Shelf.puts c.look_for_edge.new.shelf) c.args.size c.args.root.now long is none.0 none.1
+
+pub returns-clause-goes_on : goal.returns-clause-goes_on
+returns-clause-goes_on g c =
+    let may = g.S.Source.may_answer in
+    let failed = g.S.Source.failed in
+    let asked = g.S.Source.asked in
+    let digest = g.H.TreeHash.digest in
+    let size = c.args.size in
+    let root = c.args.root.now in
+    let edge = c.in-Ok-Some.edge in
+    let p = c.args.places.now in
+    let q = c.look_for_edge.new.places in
+    let r = c.mend_all.new.places in
+    let x = g.D.Shelf.puts c.args.shelf.now in
+    let y = g.D.Shelf.puts c.look_for_edge.new.shelf in
+    let z = g.D.Shelf.puts c.mend_all.new.shelf in
+    let leads = rw c.in-Ok-Some.field-0-is at c.in-Ok-Some.ensures.leads in
+    let from = rw c.in-Ok-Some.field-0-is at c.in-Ok-Some.ensures.taken in
+    let small = c.requires in
+    let so = MayBeAskedToRepair size in
+    let first = asks_weaker may failed asked (IsOfEdge size) so (λ path h. inl h) p q c.look_for_edge.ensures.asks in
+    let second = subst (λ n. AsksPlaces may failed asked (MayBeAskedToRepair n) q r) leads.is_edge.size_is c.mend_all.ensures.asks in
+    ok_weaker c.mend_all.result (λ all. (log : List (List ℕ)) → AreShort log → IsClearLog digest log (MayTake may q y) →
+    IsEdgeTrue digest log edge → GoesOverAll digest log may q r y z)
+    (λ all. (log : List (List ℕ)) → AreShort log → length log ≡ size → mth digest log ≡ root →
+    IsClearLog digest log (MayTake may p x) → GoesOverAll digest log may p r x z)
+    (λ all over log short long root_is clear.
+    let is = cut_edge_true digest g.met.H.TreeHash.digest_length log (MayTake may p x) clear size (omega (arith, small)) long
+    root (sym root_is) edge leads from in
+    let still = clear_weaker digest log (MayTake may p x) (MayTake may q y)
+    (λ path bytes h. taken_kept may failed asked (IsOfEdge size) p q x y path bytes c.look_for_edge.ensures.asks
+    c.look_for_edge.ensures.same h) clear in
+    over_between may failed asked digest log so so so p q r r first second (asks_same may failed asked so r) x y z z
+    c.look_for_edge.ensures.same (gathers_none digest 0 log z z (kept_same z)) (over log short still is)) c.mend_all.ensures.goes_on
+
+pub returns-then-size-eq0-clause-names : goal.returns-then-size-eq0-clause-names
+returns-then-size-eq0-clause-names g c =
+    let digest = g.H.TreeHash.digest in
+    let x = g.D.Shelf.puts c.args.shelf.now in
+    let l = c.args.repaired.now.damaged.items in
+    let root = c.args.root.now in
+    ok_weaker c.mend_empty.result (λ all. root ≡ digest []) (λ all. (log : List (List ℕ)) → AreShort log → length log ≡ c.args.size →
+    mth digest log ≡ root → IsClearLog digest log (MayTake g.S.Source.may_answer c.args.places.now x) → NamesDamaged digest log x l l)
+    (λ all empty log short long is clear. names_none digest log x l l refl) c.mend_empty.ensures.empty
+
+pub returns-in-Ok-None-clause-names : goal.returns-in-Ok-None-clause-names
+returns-in-Ok-None-clause-names g c = λ log short long is clear.
+    names_none g.H.TreeHash.digest log (g.D.Shelf.puts c.args.shelf.now) c.args.repaired.now.damaged.items
+    c.note_lacked.new.self.damaged.items (ap (λ v. v.items) c.note_lacked.ensures.damaged)
+
+pub returns-clause-names : goal.returns-clause-names
+returns-clause-names g c =
+    let may = g.S.Source.may_answer in
+    let failed = g.S.Source.failed in
+    let asked = g.S.Source.asked in
+    let digest = g.H.TreeHash.digest in
+    let size = c.args.size in
+    let root = c.args.root.now in
+    let edge = c.in-Ok-Some.edge in
+    let p = c.args.places.now in
+    let q = c.look_for_edge.new.places in
+    let x = g.D.Shelf.puts c.args.shelf.now in
+    let y = g.D.Shelf.puts c.look_for_edge.new.shelf in
+    let leads = rw c.in-Ok-Some.field-0-is at c.in-Ok-Some.ensures.leads in
+    let from = rw c.in-Ok-Some.field-0-is at c.in-Ok-Some.ensures.taken in
+    let small = c.requires in
+    let l = c.args.repaired.now.damaged.items in
+    let m = c.mend_all.new.repaired.damaged.items in
+    ok_weaker c.mend_all.result (λ all. (log : List (List ℕ)) → AreShort log → IsClearLog digest log (MayTake may q y) →
+    IsEdgeTrue digest log edge → NamesDamaged digest log y l m)
+    (λ all. (log : List (List ℕ)) → AreShort log → length log ≡ size → mth digest log ≡ root →
+    IsClearLog digest log (MayTake may p x) → NamesDamaged digest log x l m)
+    (λ all names log short long root_is clear.
+    let is = cut_edge_true digest g.met.H.TreeHash.digest_length log (MayTake may p x) clear size (omega (arith, small)) long
+    root (sym root_is) edge leads from in
+    let still = clear_weaker digest log (MayTake may p x) (MayTake may q y)
+    (λ path bytes h. taken_kept may failed asked (IsOfEdge size) p q x y path bytes c.look_for_edge.ensures.asks
+    c.look_for_edge.ensures.same h) clear in
+    names_then digest log x y l l m (gathers_none digest 0 log x y c.look_for_edge.ensures.same) (names_none digest log x l l refl)
+    (names log short still is)) c.mend_all.ensures.names

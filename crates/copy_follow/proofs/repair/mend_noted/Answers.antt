@@ -7,6 +7,8 @@ use Rattle.copy_follow.proofs.Growth.{gathers_none, gathers_then}
 use Rattle.copy_follow.proofs.MendedFiles.{repaired_copy, repaired_then}
 use Rattle.copy_follow.proofs.Mending.{counts_none, counts_then}
 use Rattle.copy_follow.proofs.OnePlace.{taken_kept}
+use Rattle.copy_follow.proofs.Lacking.{over_between}
+use Rattle.copy_follow.proofs.Naming.{names_none, names_then}
 use Rattle.copy_follow.proofs.repair.mend_noted.Goals as goal
 
 pub returns-in-Err-clause-asks : goal.returns-in-Err-clause-asks
@@ -112,3 +114,40 @@ returns-in-Ok-check_note-clause-whole g c = λ yes.
     repaired_then digest origin note x y w c.check_note.ensures.same
     (repaired_copy digest origin note c.args.size c.args.root.now y z w c.requires (c.in-Ok-mend_copy.ensures.whole yes)
     c.in-Ok-check_note.ensures.read c.check_note-2.ensures.same)
+
+pub returns-in-Ok-check_note-clause-goes_on : goal.returns-in-Ok-check_note-clause-goes_on
+returns-in-Ok-check_note-clause-goes_on g c = λ log short long root clear.
+    let digest = g.H.TreeHash.digest in
+    let may = g.S.Source.may_answer in
+    let failed = g.S.Source.failed in
+    let asked = g.S.Source.asked in
+    let p = c.args.places.now in
+    let q = c.mend_copy.new.places in
+    let x = g.D.Shelf.puts c.args.shelf.now in
+    let y = g.D.Shelf.puts c.check_note.new.shelf in
+    let z = g.D.Shelf.puts c.mend_copy.new.shelf in
+    let w = g.D.Shelf.puts c.check_note-2.new.shelf in
+    let so = MayBeAskedToRepair c.args.size in
+    let same = asks_same may failed asked so p in
+    let still = clear_weaker digest log (MayTake may p x) (MayTake may p y)
+    (λ path bytes h. taken_kept may failed asked so p p x y path bytes same c.check_note.ensures.same h) clear in
+    over_between may failed asked digest log so so so p p q q same c.mend_copy.ensures.asks (asks_same may failed asked so q) x y z w
+    c.check_note.ensures.same (gathers_none digest 0 log z w c.check_note-2.ensures.same)
+    (c.in-Ok-mend_copy.ensures.goes_on log short long root still)
+
+pub returns-in-Ok-check_note-clause-names : goal.returns-in-Ok-check_note-clause-names
+returns-in-Ok-check_note-clause-names g c = λ log short long root clear.
+    let digest = g.H.TreeHash.digest in
+    let may = g.S.Source.may_answer in
+    let failed = g.S.Source.failed in
+    let asked = g.S.Source.asked in
+    let p = c.args.places.now in
+    let x = g.D.Shelf.puts c.args.shelf.now in
+    let y = g.D.Shelf.puts c.check_note.new.shelf in
+    let so = MayBeAskedToRepair c.args.size in
+    let still = clear_weaker digest log (MayTake may p x) (MayTake may p y)
+    (λ path bytes h. taken_kept may failed asked so p p x y path bytes (asks_same may failed asked so p) c.check_note.ensures.same h)
+    clear in
+    let l = c.args.repaired.now.damaged.items in
+    names_then digest log x y l l c.mend_copy.new.repaired.damaged.items (gathers_none digest 0 log x y c.check_note.ensures.same)
+    (names_none digest log x l l refl) (c.in-Ok-mend_copy.ensures.names log short long root still)

@@ -2,7 +2,7 @@ use Rattle.std.proofs.Common.{◌∙◌, subst, sym}
 use Rattle.copy_places.specs.Faults.{CountsAsk}
 use Rattle.copy_places.proofs.AskingEnds.{ends_then}
 use Rattle.copy_places.specs.Nobodys.{LacksRow, NoLog, NoRow}
-use Rattle.copy_places.proofs.WayFiles.{files_of_log}
+use Rattle.copy_places.proofs.WayFiles.{edge_true, tiles_of_log}
 use Rattle.copy_places.proofs.proving.find_proof.Goals as goal
 
 pub returns-in_err-add_way-clause-goes : goal.returns-in_err-add_way-clause-goes
@@ -37,15 +37,20 @@ returns-clause-lacks g c = λ e.
     let digest = g.H.TreeHash.digest in
     let edge = c.in-Some.edge in
     let leads = rw c.in-Some.is at c.in_ok-edge.ensures.leads in
-    let files = c.add_way.new.files.files.items in
+    let hashes = c.see_edge.ensures in
+    let files = c.add_way.new.files in
     let w = c.in_ok-add_way.ensures.files c.if-not-branch.false in
-    NoLog edge leads c.see_edge.ensures (record {
+    NoLog edge leads hashes (record {
       level = w.level;
       index = w.index;
       way = w.way;
       is_way = w.is_way;
       none = λ hash small entries short clear.
           c.read_proof.ensures.log e entries
-          (record { size_is = clear.size_is ∙ leads.is_edge.size_is; root_is = clear.root_is ∙ leads.root_is })
-          (files_of_log digest hash entries edge c.see_edge.ensures small w.way clear short w.level w.index w.is_way files w.are);
+          (record {
+            size_is = sym clear.size_is;
+            root_is = sym (clear.root_is ∙ leads.root_is);
+            rows = edge_true digest hash entries edge hashes small w.way clear;
+          })
+          (tiles_of_log digest hash entries edge hashes small w.way clear w.level w.index w.is_way files w.are);
     })

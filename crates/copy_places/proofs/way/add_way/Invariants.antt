@@ -1,7 +1,7 @@
 use Rattle.std.proofs.Common.{◌≡◌, ◌-◌}
 use Rattle.mirror_sources.specs.Recorded.{KeepsRecord}
 use Rattle.copy_places.specs.AskedEnds.{AsksEnds}
-use Rattle.copy_places.specs.WayFiles.{IsOnWay}
+use Rattle.copy_places.specs.WayFiles.{HasWanted, IsOnWay}
 use Rattle.copy_places.proofs.way.add_way.Given as goal
 
 -- the requests so far, and the way so far
@@ -11,5 +11,6 @@ invariant-loop-done g l = record {
   counted : g.D.Shelf.failed l.shelf ≡ g.D.Shelf.failed l.fn.shelf;
   goes : AsksEnds g.S.Source.may_answer g.S.Source.failed g.S.Source.asked l.fn.places l.places;
   end : l.first ≡ l.places.ends.sizes.0;
-  on : IsOnWay g.H.TreeHash.digest l.first l.edge (7 - l.done) l.above.items l.files.files.items;
+  on : IsOnWay g.H.TreeHash.digest l.first l.edge (7 - l.done) l.above.items l.files;
+  wanted : HasWanted l.first l.edge.size (7 - l.done) l.files;
 }

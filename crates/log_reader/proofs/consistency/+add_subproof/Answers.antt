@@ -1,4 +1,4 @@
-use Rattle.std.proofs.Common.{◌+◌, ◌-◌, ◌<◌, ◌≤◌, length, subst, sym, ap, rules, arith, refl, ◌∙◌}
+use Rattle.std.proofs.Common.{◌≡◌, ◌+◌, ◌-◌, ◌<◌, ◌≤◌, length, subst, sym, ap, rules, arith, refl, ◌∙◌}
 use Rattle.log_reader.specs.Nodes.{IsNodeRange}
 use Rattle.log_reader.proofs.FirstHashes.{left_added, right_added, whole_added}
 use Rattle.log_reader.proofs.NodeNumbers.{left_node, right_node}
@@ -7,6 +7,8 @@ use Rattle.log_reader.proofs.Exits.{counted_exit, failed_exit}
 use Rattle.log_reader.proofs.Kept.{kept_twice, stays_twice}
 use Rattle.log_reader.proofs.FalseFiles.{files_before, names_exit}
 use Rattle.log_reader.specs.FalseFiles.{NamesFalseIfFile}
+use Rattle.log_reader.specs.Requested.{IsProofTile, IsTileOverNode, IsWholeOrLeft}
+use Rattle.log_reader.proofs.Requested.{left_tiles, left_whole, requests_twice, requests_wider, right_end, right_tiles, whole_tiles}
 use Rattle.log_reader.proofs.consistency.+add_subproof.Goals as goal
 
 pub returns-then-first-len : goal.returns-then-first-len
@@ -16,6 +18,9 @@ returns-then-first-len g t c = record {
   later = c.add_whole.ensures.later;
   kept = c.add_whole.ensures.kept;
   counted = c.add_whole.ensures.counted;
+  asks = requests_wider _ _ _ _
+      (whole_tiles c.args.reader.now.edge.size c.args.node.0 c.args.node.1 c.args.first (omega (arith, c.requires.node.some)) c.if-first-len.true
+      (c.requires.whole c.if-first-len.true)) c.add_whole.ensures.asks;
   names = c.add_whole.ensures.names;
   honest = λ entries r s.
       let start = c.args.node.0 in
@@ -35,7 +40,10 @@ pub add_subproof-requires : goal.add_subproof-requires
 add_subproof-requires g t c κs within =
     let left = left_node c.args.reader.now.edge.size c.args.node.0 c.args.node.1 c.split-k.result c.requires.node (omega arith)
     c.split-k.ensures.value in
-    search (rules, left)
+    let whole : c.args.first ≡ c.split-k.result → IsWholeOrLeft c.args.reader.now.edge.size c.args.node.0 c.split-k.result =
+    λ same. left_whole c.args.reader.now.edge.size c.args.node.0 c.args.node.1 c.split-k.result c.args.first c.requires.node (omega arith)
+    c.split-k.ensures.value c.requires.some same in
+    search (rules, left, whole)
 
 pub add_node-requires : goal.add_node-requires
 add_node-requires g t c =
@@ -58,6 +66,7 @@ returns-in_err-hash g t c =
       counted = counted_exit exit.result c.add_subproof.result c.in_err-hash.field-0.0 exit.ensures c.in_err-hash.was
           (failed c.args.source.now) (failed c.args.source.now) (failed c.add_subproof.new.source) refl
           c.add_subproof.ensures.counted;
+      asks = step.asks;
       names = names_exit (NamesFalseIfFile g.H.TreeHash.digest (g.S.Source.may_answer c.args.source.now) c.args.reader.now.edge) exit.result c.in_err-hash.field-0.0 exit.ensures
           step.names;
       honest = λ entries r s.
@@ -84,6 +93,15 @@ returns-in_err-add_node g t c =
       counted = counted_exit exit.result c.add_node.result c.in_err-add_node.field-0.0 exit.ensures c.in_err-add_node.was
           (failed c.args.source.now) (failed c.add_subproof.new.source) (failed c.add_node.new.source) below.counted
           c.add_node.ensures.counted;
+      asks =
+          let n = c.args.reader.now.edge.size in
+          let start = c.args.node.0 in
+          let len = c.args.node.1 in
+          let k = c.split-k.result in
+          let first = c.args.first in
+          requests_twice _ _ _ _ below.asks (requests_wider _ _ _ _
+          (λ path h. right_tiles n start len k first c.requires.node (omega arith) c.split-k.ensures.value c.requires.some
+          c.if-first-k.true path (subst (λ m. IsTileOverNode m (start + k) (len - k) path) (ap (λ e. e.size) below.edge) h)) step.asks);
       names = names_exit (NamesFalseIfFile g.H.TreeHash.digest (g.S.Source.may_answer c.args.source.now) c.args.reader.now.edge) exit.result c.in_err-add_node.field-0.0 exit.ensures
           (files_before g.H.TreeHash.digest (g.S.Source.may_answer c.args.source.now) (g.S.Source.may_answer c.add_subproof.new.source) below.later
           c.args.reader.now.edge c.add_subproof.new.reader.edge below.edge c.in_err-add_node.field-0.0 step.names);
@@ -107,6 +125,15 @@ returns-then-first-k g t c =
       later = stays_twice low.later went.later;
       kept = kept_twice (files c.args.source.now) (files c.add_subproof.new.source) (files c.add_node.new.source) low.kept went.kept;
       counted = went.counted ∙ low.counted;
+      asks =
+          let n = c.args.reader.now.edge.size in
+          let start = c.args.node.0 in
+          let len = c.args.node.1 in
+          let k = c.split-k.result in
+          let first = c.args.first in
+          requests_twice _ _ _ _ low.asks (requests_wider _ _ _ _
+          (λ path h. right_tiles n start len k first c.requires.node (omega arith) c.split-k.ensures.value c.requires.some
+          c.if-first-k.true path (subst (λ m. IsTileOverNode m (start + k) (len - k) path) (ap (λ e. e.size) low.edge) h)) went.asks);
       names = tt;
       honest = λ entries r s.
           let may = g.S.Source.may_answer in
@@ -151,6 +178,9 @@ returns-in_err-end g t c =
       counted = counted_exit exit.result c.add_subproof-2.result c.in_err-end.field-0.0 exit.ensures c.in_err-end.was
           (failed c.args.source.now) (failed c.args.source.now) (failed c.add_subproof-2.new.source) refl
           c.add_subproof-2.ensures.counted;
+      asks = requests_wider _ _ _ _
+          (λ path h. subst (λ p. IsProofTile c.args.reader.now.edge.size p path)
+          (right_end c.args.node.0 c.split-k.result c.args.first c.if-first-k.false) h) step.asks;
       names = names_exit (NamesFalseIfFile g.H.TreeHash.digest (g.S.Source.may_answer c.args.source.now) c.args.reader.now.edge) exit.result c.in_err-end.field-0.0 exit.ensures
           step.names;
       honest = λ entries r s.
@@ -177,6 +207,18 @@ returns-in_err-left g t c =
       counted = counted_exit exit.result c.add_whole-2.result c.in_err-left.field-0.0 exit.ensures c.in_err-left.was
           (failed c.args.source.now) (failed c.add_subproof-2.new.source) (failed c.add_whole-2.new.source) below.counted
           c.add_whole-2.ensures.counted;
+      asks =
+          let n = c.args.reader.now.edge.size in
+          let start = c.args.node.0 in
+          let len = c.args.node.1 in
+          let k = c.split-k.result in
+          let first = c.args.first in
+          requests_twice _ _ _ _ (requests_wider _ _ _ _
+          (λ path h. subst (λ p. IsProofTile n p path) (right_end start k first c.if-first-k.false) h) below.asks)
+          (requests_wider _ _ _ _
+          (λ path h. left_tiles n start len k first c.requires.node (omega arith) c.split-k.ensures.value c.requires.some
+          (omega (arith, c.if-first-k.false)) (omega (arith, c.if-first-len.false, c.requires.within)) path
+          (subst (λ m. IsTileOverNode m start k path) (ap (λ e. e.size) below.edge) h)) step.asks);
       names = names_exit (NamesFalseIfFile g.H.TreeHash.digest (g.S.Source.may_answer c.args.source.now) c.args.reader.now.edge) exit.result c.in_err-left.field-0.0 exit.ensures
           (files_before g.H.TreeHash.digest (g.S.Source.may_answer c.args.source.now) (g.S.Source.may_answer c.add_subproof-2.new.source) below.later
           c.args.reader.now.edge c.add_subproof-2.new.reader.edge below.edge c.in_err-left.field-0.0 step.names);
@@ -200,6 +242,18 @@ returns g t c =
       later = stays_twice low.later went.later;
       kept = kept_twice (files c.args.source.now) (files c.add_subproof-2.new.source) (files c.add_whole-2.new.source) low.kept went.kept;
       counted = went.counted ∙ low.counted;
+      asks =
+          let n = c.args.reader.now.edge.size in
+          let start = c.args.node.0 in
+          let len = c.args.node.1 in
+          let k = c.split-k.result in
+          let first = c.args.first in
+          requests_twice _ _ _ _ (requests_wider _ _ _ _
+          (λ path h. subst (λ p. IsProofTile n p path) (right_end start k first c.if-first-k.false) h) low.asks)
+          (requests_wider _ _ _ _
+          (λ path h. left_tiles n start len k first c.requires.node (omega arith) c.split-k.ensures.value c.requires.some
+          (omega (arith, c.if-first-k.false)) (omega (arith, c.if-first-len.false, c.requires.within)) path
+          (subst (λ m. IsTileOverNode m start k path) (ap (λ e. e.size) low.edge) h)) went.asks);
       names = tt;
       honest = λ entries r s.
           let may = g.S.Source.may_answer in

@@ -17,6 +17,7 @@ returns-in_err-hash g c =
       kept = step.kept;
       counted = counted_exit exit.result c.node_hash.result c.in_err-hash.field-0.0 exit.ensures c.in_err-hash.was
           (failed c.args.source.now) (failed c.args.source.now) (failed c.node_hash.new.source) refl c.node_hash.ensures.counted;
+      asks = step.asks;
       names = names_exit (NamesFalseIfFile g.H.TreeHash.digest (g.S.Source.may_answer c.args.source.now) c.args.reader.now.edge) exit.result c.in_err-hash.field-0.0 exit.ensures
           step.names;
       honest = λ entries r s.
@@ -38,6 +39,7 @@ returns-in_err-push g c =
       later = step.later;
       kept = step.kept;
       counted = memory_exit exit.result exit.ensures (failed c.args.source.now) (failed c.node_hash.new.source) step.counted;
+      asks = step.asks;
       names = names_exit (NamesFalseIfFile g.H.TreeHash.digest (g.S.Source.may_answer c.args.source.now) c.args.reader.now.edge) exit.result OutOfMemory exit.ensures tt;
       honest = λ entries r s. record {
         reader_is = (step.honest entries r s).reader_is;
@@ -54,6 +56,7 @@ returns g c =
       later = step.later;
       kept = step.kept;
       counted = step.counted;
+      asks = step.asks;
       names = tt;
       honest = λ entries r s.
           let went = step.honest entries r s in

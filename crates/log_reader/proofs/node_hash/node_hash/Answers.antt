@@ -14,6 +14,7 @@ use Rattle.log_reader.proofs.Exits.{failed_exit, memory_exit, or_counted, or_tru
 use Rattle.log_reader.proofs.Kept.{kept_once}
 use Rattle.log_reader.proofs.FalseFiles.{names_exit, names_or}
 use Rattle.log_reader.specs.FalseFiles.{NamesFalseIfFile}
+use Rattle.log_reader.proofs.Requested.{requests_none}
 use Rattle.log_reader.proofs.node_hash.node_hash.Goals as goal
 
 pub perfect_hash-requires-clause-aligned : goal.perfect_hash-requires-clause-aligned
@@ -31,6 +32,7 @@ returns-in_err-hash g c =
       later = record { stays = λ path answer may. may };
       kept = kept_once (g.S.Source.files c.args.source.now);
       counted = memory_exit exit.result exit.ensures (failed c.args.source.now) (failed c.args.source.now) refl;
+      asks = requests_none (g.S.Source.asked c.args.source.now) _;
       names = names_exit (NamesFalseIfFile g.H.TreeHash.digest (g.S.Source.may_answer c.args.source.now) c.args.reader.now.edge) exit.result OutOfMemory exit.ensures tt;
       honest = λ entries r s. record { reader_is = r; answer = failed_exit exit.result _ OutOfMemory exit.ensures tt };
     }
@@ -43,6 +45,7 @@ returns g c = record {
   kept = kept_once (g.S.Source.files c.args.source.now);
   counted = or_counted c.in_ok-hash.hash _ c.ok_or.result c.ok_or.ensures.value (g.S.Source.failed c.args.source.now)
       (g.S.Source.failed c.args.source.now) refl refl;
+  asks = requests_none (g.S.Source.asked c.args.source.now) _;
   names = names_or (NamesFalseIfFile g.H.TreeHash.digest (g.S.Source.may_answer c.args.source.now) c.args.reader.now.edge) c.in_ok-hash.hash _ c.ok_or.result
       c.ok_or.ensures.value tt;
   honest = λ entries r s.

@@ -5,7 +5,7 @@ use Rattle.tlog_shape.specs.Split.{IsPowerOfTwo}
 use Rattle.log_reader.specs.Holding.{row_width, true_row}
 use Rattle.log_reader.specs.Ways.{row_of_way}
 use Rattle.log_reader.proofs.NodeHashes.{part_folds, row_count}
-use Rattle.log_reader.proofs.NodeNumbers.{count_is, count_power, count_some, first_aligned, fits, row_fits, start_is}
+use Rattle.log_reader.proofs.NodeNumbers.{count_is, count_power, count_some, first_aligned, fits, power_positive, row_fits, start_is, top_above}
 use Rattle.log_reader.proofs.TrueReads.{there_true}
 use Rattle.log_reader.proofs.Exits.{counted_exit, failed_exit, or_counted, or_true}
 use Rattle.std.proofs.Math.Nat.{div-mul-le_self}
@@ -13,6 +13,7 @@ use Rattle.std.proofs.lemmas.Nat.{le-div}
 use Rattle.tlog_shape.proofs.Levels.{level_positive}
 use Rattle.log_reader.proofs.FalseFiles.{names_exit, names_if, names_or}
 use Rattle.log_reader.specs.FalseFiles.{NamesFalseIfFile}
+use Rattle.log_reader.proofs.Requested.{over_node, requests_wider}
 use Rattle.log_reader.proofs.node_hash.perfect_hash.Goals as goal
 
 pub go_to-requires-clause-level : goal.go_to-requires-clause-level
@@ -61,6 +62,10 @@ returns-in_err-go_to g c =
       kept = step.kept;
       counted = counted_exit exit.result c.go_to.result c.in_err-go_to.field-0.0 exit.ensures c.in_err-go_to.was
           (failed c.args.source.now) (failed c.args.source.now) (failed c.go_to.new.source) refl c.go_to.ensures.counted;
+      asks = requests_wider _ _ _ _
+          (over_node c.args.reader.now.edge.size c.args.start c.args.len c.top_level-level.result
+          (top_above c.args.len c.top_level-level.result (power_positive c.args.len c.requires.power) c.ranges.len.fits c.top_level-level.ensures))
+          (step.asks c.args.start (sym c.edge_index.ensures));
       names = names_exit (NamesFalseIfFile g.H.TreeHash.digest (g.S.Source.may_answer c.args.source.now) c.args.reader.now.edge) exit.result c.in_err-go_to.field-0.0 exit.ensures
           (names_if g.H.TreeHash.digest (g.S.Source.may_answer c.args.source.now) c.args.reader.now.edge c.in_err-go_to.field-0.0 step.names);
       honest = λ entries r s.
@@ -82,6 +87,10 @@ returns g c =
       kept = step.kept;
       counted = or_counted c.node.result _ c.ok_or.result c.ok_or.ensures.value (failed c.args.source.now)
           (failed c.go_to.new.source) step.counted step.counted;
+      asks = requests_wider _ _ _ _
+          (over_node c.args.reader.now.edge.size c.args.start c.args.len c.top_level-level.result
+          (top_above c.args.len c.top_level-level.result (power_positive c.args.len c.requires.power) c.ranges.len.fits c.top_level-level.ensures))
+          (step.asks c.args.start (sym c.edge_index.ensures));
       names = names_or (NamesFalseIfFile g.H.TreeHash.digest (g.S.Source.may_answer c.args.source.now) c.args.reader.now.edge) c.node.result _ c.ok_or.result
           c.ok_or.ensures.value tt;
       honest = λ entries r s.

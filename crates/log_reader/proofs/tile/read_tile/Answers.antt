@@ -23,6 +23,7 @@ returns-in_err-bytes g c =
       honest = λ entries t s. lacks_exit exit.result _ c.in_err-bytes.field-0.0 _ exit.ensures step.lacks
           (tile_there g.H.TreeHash.digest g.met.H.TreeHash.digest_length entries (g.S.Source.may_answer c.args.source.now) s
           c.args.level c.args.index c.args.hash.now t);
+      asks = step.asks;
       names =
           let digest = g.H.TreeHash.digest in
           let may = g.S.Source.may_answer c.args.source.now in
@@ -43,6 +44,7 @@ returns g c =
       kept = step.kept;
       counted = found_counted c.verified_row.result _ c.or_false.result c.or_false.ensures (failed c.args.source.now)
           (failed c.get_file.new.source) step.counted;
+      asks = step.asks;
       names =
           let digest = g.H.TreeHash.digest in
           let may = g.S.Source.may_answer c.args.source.now in

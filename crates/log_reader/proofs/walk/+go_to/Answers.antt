@@ -9,6 +9,8 @@ use Rattle.log_reader.proofs.Kept.{kept_once, kept_twice, stays_twice}
 use Rattle.log_reader.proofs.TrueReads.{is_below, row_below, tiles_later, went_down, went_to_edge}
 use Rattle.log_reader.proofs.FalseFiles.{names_before, names_exit}
 use Rattle.log_reader.specs.FalseFiles.{NamesFalse}
+use Rattle.log_reader.specs.Requested.{IsTileOver}
+use Rattle.log_reader.proofs.Requested.{over_here, over_higher, over_up, requests_none, requests_twice, requests_wider}
 use Rattle.log_reader.proofs.walk.+go_to.Goals as goal
 
 pub go_to-requires : goal.go_to-requires
@@ -34,6 +36,7 @@ returns-then-is_at g t c = record {
   later = record { stays = λ path answer may. may };
   kept = kept_once (g.S.Source.files c.args.source.now);
   counted = refl;
+  asks = λ at is. requests_none (g.S.Source.asked c.args.source.now) _;
   names = tt;
   honest = λ entries r s. record { reader_is = c.climb.ensures.honest entries r; answer = tt };
 }
@@ -61,6 +64,10 @@ returns-in_err-go_to g t c =
       kept = step.kept;
       counted = counted_exit exit.result c.go_to.result c.in_err-go_to.field-0.0 exit.ensures c.in_err-go_to.was
           (failed c.args.source.now) (failed c.args.source.now) (failed c.go_to.new.source) refl c.go_to.ensures.counted;
+      asks = λ at is. requests_wider _ _ _ _
+          (λ path h. over_higher c.args.reader.now.edge.size at c.args.level path
+          (subst (λ e. IsTileOver e.size at (c.args.level + 1) path) c.climb.ensures.edge h))
+          (step.asks at (over_up at c.args.level c.args.index is));
       names =
           let digest = g.H.TreeHash.digest in
           let may = g.S.Source.may_answer c.args.source.now in
@@ -91,6 +98,19 @@ returns-in_err-row g t c =
       counted = counted_exit exit.result c.read_below.result c.in_err-row.field-0.0 exit.ensures c.in_err-row.was
           (failed c.args.source.now) (failed c.go_to.new.source) (failed c.read_below.new.source) up.counted
           c.read_below.ensures.counted;
+      asks = λ at is. requests_twice _ _ _ _ (requests_wider _ _ _ _
+          (λ path h. over_higher c.args.reader.now.edge.size at c.args.level path
+          (subst (λ e. IsTileOver e.size at (c.args.level + 1) path) c.climb.ensures.edge h))
+          (up.asks at (over_up at c.args.level c.args.index is)))
+          (requests_wider _ _ _ _
+          (λ path h. over_here c.args.reader.now.edge.size at c.args.level c.args.index is (omega (
+            arith,
+            c.if-index-end.false,
+            c.edge_index-end.ensures,
+            c.size.ensures,
+            ap (λ e. edge_index_of e.size c.args.level) c.climb.ensures.edge,
+            ap (λ m. edge_index_of m c.args.level) c.size.ensures,
+          )) path h) step.asks);
       names =
           let digest = g.H.TreeHash.digest in
           let may = g.S.Source.may_answer in
@@ -127,6 +147,19 @@ returns-in_err-down g t c =
       kept = kept_twice (files c.args.source.now) (files c.go_to.new.source) (files c.read_below.new.source) up.kept step.kept;
       counted = memory_exit exit.result exit.ensures (failed c.args.source.now) (failed c.read_below.new.source)
           (step.counted ∙ up.counted);
+      asks = λ at is. requests_twice _ _ _ _ (requests_wider _ _ _ _
+          (λ path h. over_higher c.args.reader.now.edge.size at c.args.level path
+          (subst (λ e. IsTileOver e.size at (c.args.level + 1) path) c.climb.ensures.edge h))
+          (up.asks at (over_up at c.args.level c.args.index is)))
+          (requests_wider _ _ _ _
+          (λ path h. over_here c.args.reader.now.edge.size at c.args.level c.args.index is (omega (
+            arith,
+            c.if-index-end.false,
+            c.edge_index-end.ensures,
+            c.size.ensures,
+            ap (λ e. edge_index_of e.size c.args.level) c.climb.ensures.edge,
+            ap (λ m. edge_index_of m c.args.level) c.size.ensures,
+          )) path h) step.asks);
       names = names_exit (NamesFalse g.H.TreeHash.digest (g.S.Source.may_answer c.args.source.now) c.args.reader.now.edge)
           exit.result OutOfMemory exit.ensures tt;
       honest = λ entries r s. record {
@@ -151,6 +184,19 @@ returns g t c =
       later = stays_twice went.later step.later;
       kept = kept_twice (files c.args.source.now) (files c.go_to.new.source) (files c.read_below.new.source) went.kept step.kept;
       counted = step.counted ∙ went.counted;
+      asks = λ at is. requests_twice _ _ _ _ (requests_wider _ _ _ _
+          (λ path h. over_higher c.args.reader.now.edge.size at c.args.level path
+          (subst (λ e. IsTileOver e.size at (c.args.level + 1) path) c.climb.ensures.edge h))
+          (went.asks at (over_up at c.args.level c.args.index is)))
+          (requests_wider _ _ _ _
+          (λ path h. over_here c.args.reader.now.edge.size at c.args.level c.args.index is (omega (
+            arith,
+            c.if-index-end.false,
+            c.edge_index-end.ensures,
+            c.size.ensures,
+            ap (λ e. edge_index_of e.size c.args.level) c.climb.ensures.edge,
+            ap (λ m. edge_index_of m c.args.level) c.size.ensures,
+          )) path h) step.asks);
       names = tt;
       honest = λ entries r s.
           let up = went.honest entries (c.climb.ensures.honest entries r) s in

@@ -71,19 +71,19 @@ returns-clause-honest g c =
     let next =
     source_stays digest entries (g.S.Source.may_answer c.args.source.now) may c.in_ok-bytes.ensures.later is in
     let full =
-    full_fresh c.args.path c.full_path.result c.args.asked.now.items c.ask.new.asked.items c.full_path.ensures
+    full_fresh c.args.path c.full.result c.args.asked.now.items c.ask.new.asked.items c.full.ensures
     (gone_partial (length entries) c.args.path gone) grown fresh in
-    let answer : may c.full_path.result (Some c.in-Some-2.bytes.items) =
+    let answer : may c.full.result (Some c.in-Some-2.bytes.items) =
     rw c.in-Some-2.is at (c.in_ok-bytes-2.ensures.answer full) in
     let there : may (full_of c.args.path) (Some c.in-Some-2.bytes.items) =
-    subst (λ (q : Path). may q (Some c.in-Some-2.bytes.items)) c.full_path.ensures answer in
+    subst (λ (q : Path). may q (Some c.in-Some-2.bytes.items)) c.full.ensures answer in
     record {
       bytes_are =
-          rw c.path_width.ensures at c.truncate.ensures.items ∙
+          rw c.width.ensures at c.truncate.ensures.items ∙
           row_full digest entries may next c.args.path c.in-Some-2.bytes.items tile gone there;
-      gets = gets_full digest entries (g.S.Source.may_answer c.args.source.now) is may c.args.path c.full_path.result
+      gets = gets_full digest entries (g.S.Source.may_answer c.args.source.now) is may c.args.path c.full.result
           c.in-Some-2.bytes.items c.args.asked.now.items
-          c.ask.new.asked.items c.ask-2.new.asked.items c.in_ok-bytes.ensures.later gone none there c.full_path.ensures
+          c.ask.new.asked.items c.ask-2.new.asked.items c.in_ok-bytes.ensures.later gone none there c.full.ensures
           grown (c.in_ok-bytes-2.ensures.grown full);
     }
 
@@ -100,11 +100,11 @@ returns-in_default-2-clause-honest g c =
     let next =
     source_stays digest entries (g.S.Source.may_answer c.args.source.now) may c.in_ok-bytes.ensures.later is in
     let full =
-    full_fresh c.args.path c.full_path.result c.args.asked.now.items c.ask.new.asked.items c.full_path.ensures
+    full_fresh c.args.path c.full.result c.args.asked.now.items c.ask.new.asked.items c.full.ensures
     (gone_partial (length entries) c.args.path gone) grown fresh in
-    let answer : may c.full_path.result None = rw c.in_default-2.is at (c.in_ok-bytes-2.ensures.answer full) in
+    let answer : may c.full.result None = rw c.in_default-2.is at (c.in_ok-bytes-2.ensures.answer full) in
     absurd (full_answers digest entries may next c.args.path gone
-    (subst (λ (q : Path). may q None) c.full_path.ensures answer))
+    (subst (λ (q : Path). may q None) c.full.ensures answer))
 
 pub returns-then-len-ne-FULL_TILE-clause-honest : goal.returns-then-len-ne-FULL_TILE-clause-honest
 returns-then-len-ne-FULL_TILE-clause-honest g c =
@@ -119,12 +119,12 @@ returns-then-len-ne-FULL_TILE-clause-honest g c =
     let next =
     source_stays digest entries (g.S.Source.may_answer c.args.source.now) may c.in_ok-bytes.ensures.later is in
     let full =
-    full_fresh c.args.path c.full_path.result c.args.asked.now.items c.ask.new.asked.items c.full_path.ensures
+    full_fresh c.args.path c.full.result c.args.asked.now.items c.ask.new.asked.items c.full.ensures
     (gone_partial (length entries) c.args.path gone) grown fresh in
-    let answer : may c.full_path.result (Some c.in-Some-2.bytes.items) =
+    let answer : may c.full.result (Some c.in-Some-2.bytes.items) =
     rw c.in-Some-2.is at (c.in_ok-bytes-2.ensures.answer full) in
     let there : may (full_of c.args.path) (Some c.in-Some-2.bytes.items) =
-    subst (λ (q : Path). may q (Some c.in-Some-2.bytes.items)) c.full_path.ensures answer in
+    subst (λ (q : Path). may q (Some c.in-Some-2.bytes.items)) c.full.ensures answer in
     let long : length c.in-Some-2.bytes.items ≡ 8192 =
     full_length digest entries may next c.args.path c.in-Some-2.bytes.items tile gone there in
     absurd (c.if-len-ne-FULL_TILE.true (c.len.ensures ∙ (c.in-Some-2.bytes.ok.0 ∙ long)))
@@ -228,19 +228,19 @@ pub returns-clause-replied : goal.returns-clause-replied
 returns-clause-replied g c =
     row_cut (g.S.Source.may_answer c.args.source.now) (g.S.Source.may_answer c.ask.new.source)
     (g.S.Source.asked c.args.source.now) (g.S.Source.asked c.ask.new.source) (g.S.Source.asked c.ask-2.new.source)
-    c.args.asked.now.items c.ask.new.asked.items c.ask-2.new.asked.items c.args.path c.full_path.result _ _
-    c.in_ok-bytes.ensures.later c.full_path.ensures (ap (option_map (λ v. v.items)) c.in_default.is)
+    c.args.asked.now.items c.ask.new.asked.items c.ask-2.new.asked.items c.args.path c.full.result _ _
+    c.in_ok-bytes.ensures.later c.full.ensures (ap (option_map (λ v. v.items)) c.in_default.is)
     c.in_ok-bytes.ensures.replied c.in_ok-bytes-2.ensures.replied c.in-Some-2.bytes.items c.truncate.new.self.items
     (ap (option_map (λ v. v.items)) c.in-Some-2.is)
     (sym c.in-Some-2.bytes.ok.0 ∙ (sym c.len.ensures ∙ c.if-len-ne-FULL_TILE.false))
-    (rw c.path_width.ensures at c.truncate.ensures.items)
+    (rw c.width.ensures at c.truncate.ensures.items)
 
 pub returns-in_default-2-clause-replied : goal.returns-in_default-2-clause-replied
 returns-in_default-2-clause-replied g c = (
   λ e. row_none (g.S.Source.may_answer c.args.source.now) (g.S.Source.may_answer c.ask.new.source)
       (g.S.Source.asked c.args.source.now) (g.S.Source.asked c.ask.new.source) (g.S.Source.asked c.ask-2.new.source)
-      c.args.asked.now.items c.ask.new.asked.items c.ask-2.new.asked.items c.args.path c.full_path.result _ _
-      c.in_ok-bytes.ensures.later c.full_path.ensures (ap (option_map (λ v. v.items)) c.in_default.is)
+      c.args.asked.now.items c.ask.new.asked.items c.ask-2.new.asked.items c.args.path c.full.result _ _
+      c.in_ok-bytes.ensures.later c.full.ensures (ap (option_map (λ v. v.items)) c.in_default.is)
       c.in_ok-bytes.ensures.replied c.in_ok-bytes-2.ensures.replied
       (λ b is long. never_none b (sym (ap (option_map (λ v. v.items)) c.in_default-2.is) ∙ is)),
   λ other. absurd (other refl),
@@ -250,8 +250,8 @@ pub returns-then-len-ne-FULL_TILE-clause-replied : goal.returns-then-len-ne-FULL
 returns-then-len-ne-FULL_TILE-clause-replied g c = (
   λ e. row_none (g.S.Source.may_answer c.args.source.now) (g.S.Source.may_answer c.ask.new.source)
       (g.S.Source.asked c.args.source.now) (g.S.Source.asked c.ask.new.source) (g.S.Source.asked c.ask-2.new.source)
-      c.args.asked.now.items c.ask.new.asked.items c.ask-2.new.asked.items c.args.path c.full_path.result _ _
-      c.in_ok-bytes.ensures.later c.full_path.ensures (ap (option_map (λ v. v.items)) c.in_default.is)
+      c.args.asked.now.items c.ask.new.asked.items c.ask-2.new.asked.items c.args.path c.full.result _ _
+      c.in_ok-bytes.ensures.later c.full.ensures (ap (option_map (λ v. v.items)) c.in_default.is)
       c.in_ok-bytes.ensures.replied c.in_ok-bytes-2.ensures.replied
       (λ b is long. c.if-len-ne-FULL_TILE.true
       (c.len.ensures ∙ (c.in-Some-2.bytes.ok.0 ∙
@@ -275,7 +275,7 @@ returns-in_err-bytes-2-clause-replied g c =
       λ e. absurd (not_edge c.in_err-bytes-2.field-0.0 c.in_err-bytes-2.ensures.late e),
       λ other. row_unanswered (g.S.Source.may_answer c.args.source.now) (g.S.Source.may_answer c.ask.new.source)
           (g.S.Source.asked c.args.source.now) (g.S.Source.asked c.ask.new.source) (g.S.Source.asked c.ask-2.new.source)
-          c.args.asked.now.items c.ask.new.asked.items c.ask-2.new.asked.items c.args.path c.full_path.result _
-          c.in_ok-bytes.ensures.later c.full_path.ensures (ap (option_map (λ v. v.items)) c.in_default.is)
+          c.args.asked.now.items c.ask.new.asked.items c.ask-2.new.asked.items c.args.path c.full.result _
+          c.in_ok-bytes.ensures.later c.full.ensures (ap (option_map (λ v. v.items)) c.in_default.is)
           c.in_ok-bytes.ensures.replied _ c.in_err-bytes-2.ensures.replied,
     )

@@ -50,7 +50,7 @@ returns-in-Some-clause-gains g c =
 
 pub returns-in-Some-2-clause-gains : goal.returns-in-Some-2-clause-gains
 returns-in-Some-2-clause-gains g c =
-    gains_item g.H.TreeHash.digest _ _ c.full_path-full.result c.deref-in-Some-2.result.now _
+    gains_item g.H.TreeHash.digest _ _ c.full-full.result c.deref-in-Some-2.result.now _
     c.take_found-in-Some-2.ensures
 
 pub returns-in-Some-clause-honest : goal.returns-in-Some-clause-honest
@@ -78,14 +78,14 @@ returns-in-Some-2-clause-honest g c =
     let grown = c.in_ok-bytes.ensures.grown unasked in
     let none : may c.args.path None = rw c.in_default.is at (c.in_ok-bytes.ensures.answer unasked) in
     let full =
-    path_full_fresh digest entries size may v c.args.path before m c.full_path-full.result c.ask.new.asked.items none
-    c.full_path-full.ensures grown in
-    let answer : later c.full_path-full.result (Some c.in-Some-2.bytes.items) =
+    path_full_fresh digest entries size may v c.args.path before m c.full-full.result c.ask.new.asked.items none
+    c.full-full.ensures grown in
+    let answer : later c.full-full.result (Some c.in-Some-2.bytes.items) =
     rw c.in-Some-2.is at (c.in_ok-bytes-2.ensures.answer full) in
     path_full digest entries size may v c.args.path before m later
-    c.take_found-in-Some-2.new.mirror.view c.full_path-full.result c.ask.new.asked.items c.ask-2.new.asked.items
+    c.take_found-in-Some-2.new.mirror.view c.full-full.result c.ask.new.asked.items c.ask-2.new.asked.items
     c.in-Some-2.bytes.items c.deref-in-Some-2.result.now c.take_found-in-Some-2.result c.in_ok-bytes.ensures.later
-    none answer c.full_path-full.ensures c.deref-in-Some-2.ensures.value grown (c.in_ok-bytes-2.ensures.grown full)
+    none answer c.full-full.ensures c.deref-in-Some-2.ensures.value grown (c.in_ok-bytes-2.ensures.grown full)
     c.take_found-in-Some-2.ensures
 
 pub returns-in-None-clause-honest : goal.returns-in-None-clause-honest
@@ -100,11 +100,11 @@ returns-in-None-clause-honest g c =
     let grown = c.in_ok-bytes.ensures.grown unasked in
     let none : may c.args.path None = rw c.in_default.is at (c.in_ok-bytes.ensures.answer unasked) in
     let full =
-    path_full_fresh digest entries size may v c.args.path before m c.full_path-full.result c.ask.new.asked.items none
-    c.full_path-full.ensures grown in
-    let answer : later c.full_path-full.result None = rw c.in-None.is at (c.in_ok-bytes-2.ensures.answer full) in
-    absurd (path_neither digest entries size may v c.args.path before m later c.full_path-full.result
-    c.in_ok-bytes.ensures.later none answer c.full_path-full.ensures)
+    path_full_fresh digest entries size may v c.args.path before m c.full-full.result c.ask.new.asked.items none
+    c.full-full.ensures grown in
+    let answer : later c.full-full.result None = rw c.in-None.is at (c.in_ok-bytes-2.ensures.answer full) in
+    absurd (path_neither digest entries size may v c.args.path before m later c.full-full.result
+    c.in_ok-bytes.ensures.later none answer c.full-full.ensures)
 
 pub returns-in_err-bytes-clause-honest : goal.returns-in_err-bytes-clause-honest
 returns-in_err-bytes-clause-honest g c =
@@ -125,7 +125,7 @@ returns-in-Some-clause-late g c =
 
 pub returns-in-Some-2-clause-late : goal.returns-in-Some-2-clause-late
 returns-in-Some-2-clause-late g c =
-    late_item g.H.TreeHash.digest _ _ c.full_path-full.result c.deref-in-Some-2.result.now _
+    late_item g.H.TreeHash.digest _ _ c.full-full.result c.deref-in-Some-2.result.now _
     c.take_found-in-Some-2.ensures
 
 pub returns-in-Some-clause-counted : goal.returns-in-Some-clause-counted
@@ -135,7 +135,7 @@ returns-in-Some-clause-counted g c =
 
 pub returns-in-Some-2-clause-counted : goal.returns-in-Some-2-clause-counted
 returns-in-Some-2-clause-counted g c =
-    counts_item g.H.TreeHash.digest _ _ c.full_path-full.result c.deref-in-Some-2.result.now _ _ _
+    counts_item g.H.TreeHash.digest _ _ c.full-full.result c.deref-in-Some-2.result.now _ _ _
     (c.in_ok-bytes-2.ensures.counted ∙ c.in_ok-bytes.ensures.counted) c.take_found-in-Some-2.ensures
 
 pub returns-in_err-bytes-clause-recorded : goal.returns-in_err-bytes-clause-recorded
@@ -214,8 +214,8 @@ pub returns-in-Some-2-clause-replied : goal.returns-in-Some-2-clause-replied
 returns-in-Some-2-clause-replied g c =
     full_follows (g.S.Source.may_answer c.args.source.now) (g.S.Source.may_answer c.ask.new.source)
     (g.S.Source.asked c.args.source.now) (g.S.Source.asked c.ask.new.source) (g.S.Source.asked c.ask-2.new.source)
-    c.args.asked.now.items c.ask.new.asked.items c.ask-2.new.asked.items c.args.path c.full_path-full.result _
-    c.in_ok-bytes.ensures.later c.full_path-full.ensures (ap (option_map (λ v. v.items)) c.in_default.is)
+    c.args.asked.now.items c.ask.new.asked.items c.ask-2.new.asked.items c.args.path c.full-full.result _
+    c.in_ok-bytes.ensures.later c.full-full.ensures (ap (option_map (λ v. v.items)) c.in_default.is)
     c.in_ok-bytes.ensures.replied _ c.in-Some-2.bytes.items c.deref-in-Some-2.result.now
     g.H.TreeHash.digest c.args.mirror.now.view c.take_found-in-Some-2.new.mirror.view c.take_found-in-Some-2.result
     (ap (option_map (λ v. v.items)) c.in-Some-2.is) c.deref-in-Some-2.ensures.value c.in_ok-bytes-2.ensures.replied
@@ -225,8 +225,8 @@ pub returns-in-None-clause-replied : goal.returns-in-None-clause-replied
 returns-in-None-clause-replied g c =
     none_worked (g.S.Source.may_answer c.args.source.now) (g.S.Source.may_answer c.ask.new.source)
     (g.S.Source.asked c.args.source.now) (g.S.Source.asked c.ask.new.source) (g.S.Source.asked c.ask-2.new.source)
-    c.args.asked.now.items c.ask.new.asked.items c.ask-2.new.asked.items c.args.path c.full_path-full.result _ _
-    c.in_ok-bytes.ensures.later c.full_path-full.ensures (ap (option_map (λ v. v.items)) c.in_default.is)
+    c.args.asked.now.items c.ask.new.asked.items c.ask-2.new.asked.items c.args.path c.full-full.result _ _
+    c.in_ok-bytes.ensures.later c.full-full.ensures (ap (option_map (λ v. v.items)) c.in_default.is)
     c.in_ok-bytes.ensures.replied c.in_ok-bytes-2.ensures.replied
     g.H.TreeHash.digest c.args.mirror.now.view (ap (option_map (λ v. v.items)) c.in-None.is)
 
@@ -242,6 +242,6 @@ returns-in_err-bytes-2-clause-replied g c =
     rw (p.1, p.2)
     (full_unanswered (g.S.Source.may_answer c.args.source.now) (g.S.Source.may_answer c.ask.new.source)
     (g.S.Source.asked c.args.source.now) (g.S.Source.asked c.ask.new.source) (g.S.Source.asked c.ask-2.new.source)
-    c.args.asked.now.items c.ask.new.asked.items c.ask-2.new.asked.items c.args.path c.full_path-full.result _
-    c.in_ok-bytes.ensures.later c.full_path-full.ensures (ap (option_map (λ v. v.items)) c.in_default.is)
+    c.args.asked.now.items c.ask.new.asked.items c.ask-2.new.asked.items c.args.path c.full-full.result _
+    c.in_ok-bytes.ensures.later c.full-full.ensures (ap (option_map (λ v. v.items)) c.in_default.is)
     c.in_ok-bytes.ensures.replied g.H.TreeHash.digest c.args.mirror.now.view _ c.in_err-bytes-2.ensures.replied)

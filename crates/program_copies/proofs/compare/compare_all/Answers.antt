@@ -4,8 +4,8 @@ use Rattle.log_reader.proofs.Kept.{kept_twice}
 use Rattle.std.specs.Prelude.{All}
 use Rattle.std.proofs.lemmas.List.Elements.{All-push}
 use Rattle.copy_reader.proofs.WholeCopies.{files_later}
-use Rattle.mirror_reports.specs.Compared.{IsCompared}
-use Rattle.mirror_reports.specs.declared.compare.Compared.{Compared}
+use Rattle.tlog_mirror.specs.Compared.{IsCompared}
+use Rattle.tlog_mirror.specs.declared.compared.Compared.{Compared}
 use Rattle.copy_reader.proofs.Damage.{damage_exit}
 use Rattle.copy_reader.specs.Damage.{NamesDamage}
 use Rattle.copy_reader.specs.declared.fault.CopyFault.TheVariants.{OutOfMemory}

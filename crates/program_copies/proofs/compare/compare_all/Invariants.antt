@@ -2,7 +2,7 @@ use Rattle.std.proofs.Common.{◌≡◌, List, map, take, ℕ}
 use Rattle.std.specs.Prelude.{All}
 use Rattle.mirror_sources.specs.Recorded.{KeepsRecord}
 use Rattle.mirror_trees.specs.Marked.{point_of}
-use Rattle.mirror_reports.specs.Compared.{IsCompared, compared_point}
+use Rattle.tlog_mirror.specs.Compared.{IsCompared, compared_point}
 use Rattle.log_reader.specs.Holding.{IsReaderOf}
 use Rattle.copy_reader.specs.WholeCopies.{HasFilesOf}
 use Rattle.program_copies.specs.Comparisons.{IsComparedTo}

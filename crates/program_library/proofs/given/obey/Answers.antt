@@ -1,6 +1,6 @@
 use Rattle.std.proofs.Common.{Err, ap, inl, inr, refl}
 use Rattle.program_library.proofs.Keyed.{nothing_done}
-use Rattle.program_env.proofs.Written.{keeps_itself}
+use Rattle.program_io.proofs.Written.{keeps_itself}
 use Rattle.program_library.proofs.given.obey.Goals as goal
 
 pub run_command-requires : goal.run_command-requires

@@ -1,7 +1,7 @@
 use Rattle.std.proofs.Common.{◌∙◌, inl, map, refl}
 use Rattle.std.specs.Prelude.{string_bytes}
 use Rattle.program_library.proofs.Keyed.{line_doable}
-use Rattle.program_env.proofs.Written.{keeps_itself}
+use Rattle.program_io.proofs.Written.{keeps_itself}
 use Rattle.program_library.proofs.given.run_given.Goals as goal
 
 pub obey-answer-requires : goal.obey-answer-requires

@@ -2,7 +2,7 @@ use Rattle.std.proofs.Common.{◌∙◌, map}
 use Rattle.std.specs.Prelude.{string_bytes}
 use Rattle.program_library.specs.declared.fault.RunFault.TheVariants.{Command}
 use Rattle.program_library.proofs.Keyed.{keys_lack, line_doable}
-use Rattle.program_env.proofs.Written.{keeps_itself}
+use Rattle.program_io.proofs.Written.{keeps_itself}
 use Rattle.program_library.proofs.running.run.Goals as goal
 
 pub run_line-answer-requires : goal.run_line-answer-requires

@@ -1,6 +1,6 @@
 use Rattle.std.proofs.Common.{Err, inl, refl}
-use Rattle.program_env.proofs.Performing.{performs, performs_done}
-use Rattle.program_env.proofs.Written.{keeps_itself}
+use Rattle.program_io.proofs.Performing.{performs, performs_done}
+use Rattle.program_io.proofs.Written.{keeps_itself}
 use Rattle.state_commands.proofs.build.run.Goals as goal
 
 pub returns-in-Ok-clause-does : goal.returns-in-Ok-clause-does

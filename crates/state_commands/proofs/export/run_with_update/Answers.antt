@@ -1,7 +1,7 @@
 use Rattle.std.proofs.Common.{inl, refl}
 use Rattle.state_commands.specs.declared.fault.StateRunFault.TheVariants.{Update}
-use Rattle.program_env.proofs.Performing.{performs_done, performs_failed}
-use Rattle.program_env.proofs.Written.{keeps_itself}
+use Rattle.program_io.proofs.Performing.{performs_done, performs_failed}
+use Rattle.program_io.proofs.Written.{keeps_itself}
 use Rattle.state_commands.proofs.export.run_with_update.Goals as goal
 
 pub returns-in-Ok-clause-does : goal.returns-in-Ok-clause-does

@@ -1,5 +1,5 @@
 use Rattle.std.proofs.Common.{sym, ◌∙◌, ap, inl}
-use Rattle.program_env.specs.PlaceWords.{words_of}
+use Rattle.program_io.specs.PlaceWords.{words_of}
 use Rattle.state_commands.proofs.Placing.{folder_read, nothing_read, server_read}
 use Rattle.state_commands.proofs.pull.from_place.Goals as goal
 

@@ -2,7 +2,7 @@ use Rattle.std.proofs.Common.{◌≡◌, List, ℕ, subst, ◌∙◌}
 use Rattle.std.specs.Io.KnownBytes.{Appends}
 use Rattle.byte_streams.specs.Streams.{AppendsPrefix}
 use Rattle.program_reports.specs.Pulling.{pulled_lines}
-use Rattle.program_env.proofs.Written.{keeps_itself}
+use Rattle.program_io.proofs.Written.{keeps_itself}
 use Rattle.state_commands.proofs.pull.report_pulled.Goals as goal
 
 pub returns-in-Err-clause-answer : goal.returns-in-Err-clause-answer

@@ -1,5 +1,5 @@
 use Rattle.std.proofs.Common.{refl}
-use Rattle.program_env.proofs.Performing.{performs}
+use Rattle.program_io.proofs.Performing.{performs}
 use Rattle.state_commands.proofs.pull.run.Goals as goal
 
 pub returns-clause-does : goal.returns-clause-does

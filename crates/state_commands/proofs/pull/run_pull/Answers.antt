@@ -1,9 +1,9 @@
 use Rattle.std.proofs.Common.{List, Option, inl, inr, option_map, refl, subst}
 use Rattle.std.specs.Prelude.{IsTrue}
-use Rattle.program_files.specs.Named.{NamedFile}
+use Rattle.program_io.specs.Named.{NamedFile}
 use Rattle.state_commands.specs.Pulls.{IsHeld, PrintsPulled}
 use Rattle.state_commands.proofs.Keeping.{held_still}
-use Rattle.program_env.proofs.Written.{keeps_itself}
+use Rattle.program_io.proofs.Written.{keeps_itself}
 use Rattle.state_commands.proofs.pull.run_pull.Goals as goal
 
 pub returns-in-Err-clause-answer : goal.returns-in-Err-clause-answer

@@ -1,8 +1,8 @@
 use Rattle.std.proofs.Common.{arith, inl, refl}
 use Rattle.std.proofs.lemmas.Grind.{common_steps}
 use Rattle.state_commands.specs.declared.fault.StateRunFault.TheVariants.{Take}
-use Rattle.program_env.proofs.Performing.{performs_done, performs_failed}
-use Rattle.program_env.proofs.Written.{keeps_itself}
+use Rattle.program_io.proofs.Performing.{performs_done, performs_failed}
+use Rattle.program_io.proofs.Written.{keeps_itself}
 use Rattle.state_commands.proofs.take.run.Goals as goal
 
 pub returns-in-Ok-clause-does : goal.returns-in-Ok-clause-does

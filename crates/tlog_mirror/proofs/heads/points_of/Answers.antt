@@ -2,7 +2,7 @@ use Rattle.std.proofs.Common.{sym, subst}
 use Rattle.std.specs.Prelude.{◌↔◌}
 use Rattle.std.specs.List.{Contains}
 use Rattle.mirror_trees.specs.Marked.{point_of}
-use Rattle.mirror_served.specs.Best.{HasKept}
+use Rattle.mirror_trees.specs.Best.{HasKept}
 use Rattle.tlog_mirror.proofs.HeadLists.{kept_points}
 use Rattle.tlog_mirror.proofs.heads.points_of.Goals as goal
 

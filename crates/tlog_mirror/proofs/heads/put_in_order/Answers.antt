@@ -1,7 +1,7 @@
 use Rattle.std.proofs.lemmas.List.Filters.{dedup_is}
 use Rattle.std.proofs.lemmas.List.Kept.{IsStrictlySortedBy-dedup, Contains-dedup, Contains-from_dedup}
 use Rattle.std.proofs.lemmas.List.Sorted.{Contains-permutation, IsPermutation-sym}
-use Rattle.mirror_reports.proofs.PointLists.{pairs_total, pairs_tie, pairs_equivalence, pairs_exact}
+use Rattle.tlog_mirror.proofs.PointLists.{pairs_total, pairs_tie, pairs_equivalence, pairs_exact}
 use Rattle.tlog_mirror.proofs.heads.put_in_order.Goals as goal
 
 pub returns-clause-sorted : goal.returns-clause-sorted

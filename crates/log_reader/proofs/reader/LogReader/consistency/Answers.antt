@@ -11,6 +11,7 @@ use Rattle.log_reader.proofs.Asked.{consistency_holds, consistency_is}
 use Rattle.log_reader.proofs.NodeNumbers.{whole_node}
 use Rattle.log_reader.proofs.FalseFiles.{names_checked, names_exit}
 use Rattle.log_reader.specs.FalseFiles.{NamesFalseIfFile}
+use Rattle.log_reader.proofs.Requested.{requests_from_start}
 use Rattle.log_reader.proofs.reader.LogReader.consistency.Goals as goal
 
 pub add_subproof-requires-clause-node : goal.add_subproof-requires-clause-node
@@ -34,6 +35,7 @@ returns-in_err-first_root g c =
       counted = counted_exit exit.result c.add_subproof.result c.in_err-first_root.field-0.0 exit.ensures
           c.in_err-first_root.was (failed c.args.source.now) (failed c.args.source.now)
           (failed c.add_subproof.new.source) refl c.add_subproof.ensures.counted;
+      asks = requests_from_start c.args.self.now.edge.size c.args.first _ _ step.asks;
       names = names_exit (NamesFalseIfFile g.H.TreeHash.digest (g.S.Source.may_answer c.args.source.now) c.args.self.now.edge) exit.result c.in_err-first_root.field-0.0 exit.ensures
           step.names;
       honest = λ entries r s.
@@ -63,6 +65,7 @@ returns g c =
       kept = step.kept;
       counted = checked_counted _ c.checked.result kept.err (failed c.args.source.now) (failed c.add_subproof.new.source)
           step.counted;
+      asks = requests_from_start c.args.self.now.edge.size c.args.first _ _ step.asks;
       names = names_checked (NamesFalseIfFile g.H.TreeHash.digest (g.S.Source.may_answer c.args.source.now) c.args.self.now.edge) _ c.checked.result kept.err tt;
       honest = λ entries r s.
           let went = step.honest entries r s in

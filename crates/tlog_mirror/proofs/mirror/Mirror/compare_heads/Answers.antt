@@ -2,8 +2,8 @@ use Rattle.std.proofs.Common.{ℕ, List, subst}
 use Rattle.std.specs.Prelude.{◌↔◌, string_bytes}
 use Rattle.std.specs.List.{Contains}
 use Rattle.mirror_trees.specs.Marked.{point_of}
-use Rattle.mirror_served.specs.Best.{HasKept}
-use Rattle.mirror_reports.proofs.ComparedHeads.{held_reported}
+use Rattle.mirror_trees.specs.Best.{HasKept}
+use Rattle.tlog_mirror.proofs.ComparedHeads.{held_reported}
 use Rattle.tlog_mirror.proofs.HeadLists.{listed_points}
 use Rattle.tlog_mirror.proofs.mirror.Mirror.compare_heads.Goals as goal
 

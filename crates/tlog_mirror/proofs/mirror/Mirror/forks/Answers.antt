@@ -4,8 +4,8 @@ use Rattle.std.specs.List.{Contains}
 use Rattle.std.proofs.lemmas.Result.{IfOk-weaker}
 use Rattle.mirror_trees.specs.Marked.{point_of}
 use Rattle.mirror_model.specs.Reports.{ReportsForks}
-use Rattle.mirror_reports.specs.Forks.{AreForksOf}
-use Rattle.mirror_served.specs.Best.{HasKept}
+use Rattle.tlog_mirror.specs.Forks.{AreForksOf}
+use Rattle.mirror_trees.specs.Best.{HasKept}
 use Rattle.tlog_mirror.proofs.FoundForks.{reports_forks}
 use Rattle.tlog_mirror.proofs.KnownTrees.{all_known}
 use Rattle.tlog_mirror.proofs.mirror.Mirror.forks.Goals as goal

@@ -1,4 +1,4 @@
-use Rattle.mirror_served.proofs.ServedParts.{bundle_some, bundle_none}
+use Rattle.mirror_trees.proofs.ServedParts.{bundle_some, bundle_none}
 use Rattle.tlog_mirror.proofs.mirror.Mirror.found_bundle.Goals as goal
 
 pub returns-clause-some : goal.returns-clause-some

@@ -1,7 +1,7 @@
 use Rattle.std.proofs.Common.{None, subst}
 use Rattle.std.specs.Prelude.{string_bytes, Some}
 use Rattle.tlog_mirror.proofs.KnownTrees.{all_known}
-use Rattle.mirror_served.specs.Best.{IsBestOf}
+use Rattle.mirror_trees.specs.Best.{IsBestOf}
 use Rattle.tlog_mirror.proofs.ServedNotes.{first_served, none_served}
 use Rattle.tlog_mirror.proofs.mirror.Mirror.found_note.Goals as goal
 

@@ -3,7 +3,7 @@ use Rattle.std.specs.Prelude.{◌↔◌, string_bytes}
 use Rattle.std.specs.List.{Contains}
 use Rattle.tlog_mirror.proofs.KnownTrees.{all_known}
 use Rattle.mirror_trees.specs.Marked.{point_of}
-use Rattle.mirror_served.specs.Best.{HasKept}
+use Rattle.mirror_trees.specs.Best.{HasKept}
 use Rattle.tlog_mirror.proofs.HeadLists.{reported}
 use Rattle.tlog_mirror.proofs.mirror.Mirror.heads.Goals as goal
 

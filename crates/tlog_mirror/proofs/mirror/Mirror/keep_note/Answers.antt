@@ -7,7 +7,7 @@ use Rattle.mirror_model.specs.Heads.{IsHead}
 use Rattle.mirror_model.specs.Marks.{State}
 use Rattle.tlog_mirror.specs.Adding.{with_note}
 use Rattle.tlog_mirror.specs.Kept.{state_of, note_bytes, IsKeptWell}
-use Rattle.mirror_served.specs.declared.held_note.HeldNote.{HeldNote}
+use Rattle.mirror_trees.specs.declared.held_note.HeldNote.{HeldNote}
 use Rattle.tlog_mirror.proofs.KeptNotes.{by_bytes, found_is_kept, inserted_well, inserted_view, kept_view}
 use Rattle.tlog_mirror.proofs.mirror.Mirror.keep_note.Goals as goal
 

@@ -2,9 +2,9 @@ use Rattle.std.proofs.Common.{sym, subst}
 use Rattle.mirror_model.specs.Complete.{IsTreeOf}
 use Rattle.mirror_model.specs.Marks.{State}
 use Rattle.mirror_model.specs.Served.{Served}
-use Rattle.mirror_served.proofs.FileSteps.{at_some_and}
+use Rattle.mirror_trees.proofs.FileSteps.{at_some_and}
 use Rattle.tlog_mirror.specs.Kept.{note_bytes}
-use Rattle.mirror_served.specs.declared.held_note.HeldNote.{HeldNote}
+use Rattle.mirror_trees.specs.declared.held_note.HeldNote.{HeldNote}
 use Rattle.tlog_mirror.proofs.LaidOut.{laid_anew}
 use Rattle.tlog_mirror.proofs.mirror.Mirror.laid_now.Goals as goal
 

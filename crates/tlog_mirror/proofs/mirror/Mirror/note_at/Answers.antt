@@ -1,6 +1,6 @@
 use Rattle.std.proofs.Common.{◌≡◌, ◌<◌, ◌≤◌, List, length, get_or, subst}
 use Rattle.std.specs.Prelude.{string_bytes}
-use Rattle.mirror_served.specs.declared.held_note.HeldNote.{HeldNote}
+use Rattle.mirror_trees.specs.declared.held_note.HeldNote.{HeldNote}
 use Rattle.tlog_mirror.proofs.ListedNotes.{note_found, note_past}
 use Rattle.tlog_mirror.proofs.mirror.Mirror.note_at.Goals as goal
 

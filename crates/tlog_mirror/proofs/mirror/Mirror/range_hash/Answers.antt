@@ -1,4 +1,4 @@
-use Rattle.mirror_served.proofs.ServedParts.{range_some, range_none}
+use Rattle.mirror_trees.proofs.ServedParts.{range_some, range_none}
 use Rattle.tlog_mirror.proofs.mirror.Mirror.range_hash.Goals as goal
 
 pub returns-clause-some : goal.returns-clause-some

@@ -1,5 +1,5 @@
 use Rattle.std.proofs.Common.{refl}
-use Rattle.mirror_served.proofs.EdgeRows.{bytes_of}
+use Rattle.mirror_trees.proofs.EdgeRows.{bytes_of}
 use Rattle.tlog_mirror.proofs.OpenHeads.{judged_as_bytes, open_here, taken_as_bytes}
 use Rattle.tlog_mirror.proofs.TakenHeads.{note_judges, note_takes}
 use Rattle.tlog_mirror.proofs.mirror.Mirror.take_head.Goals as goal

@@ -1,5 +1,5 @@
 use Rattle.std.proofs.Common.{Err, refl}
-use Rattle.mirror_served.proofs.EdgeRows.{bytes_of}
+use Rattle.mirror_trees.proofs.EdgeRows.{bytes_of}
 use Rattle.tlog_mirror.proofs.TakenHeads.{edge_takes, edge_short, head_edge, whole_takes}
 use Rattle.tlog_mirror.proofs.TakenHeads.{edge_judges, open_is_head, whole_judges}
 use Rattle.mirror_trees.proofs.EmptySets.{empty_no_clash}

@@ -2,9 +2,9 @@ use Rattle.std.proofs.Common.{None, Some, ap, subst}
 use Rattle.std.specs.Prelude.{string_bytes}
 use Rattle.mirror_model.specs.Forks.{Point}
 use Rattle.mirror_model.specs.Marks.{State}
-use Rattle.mirror_served.specs.Best.{IsBestOf, IsFirstWith}
+use Rattle.mirror_trees.specs.Best.{IsBestOf, IsFirstWith}
 use Rattle.tlog_mirror.specs.Kept.{note_bytes}
-use Rattle.mirror_served.specs.Tops.{IsServedAs}
+use Rattle.mirror_trees.specs.Tops.{IsServedAs}
 use Rattle.tlog_mirror.proofs.ServedNotes.{first_served, none_served}
 use Rattle.tlog_mirror.proofs.mirror.Mirror.top_leaves.Goals as goal
 

@@ -2,7 +2,7 @@ use Rattle.std.proofs.Common.{ℕ, List, subst}
 use Rattle.std.specs.Prelude.{◌↔◌, string_bytes}
 use Rattle.std.specs.List.{Contains}
 use Rattle.mirror_trees.specs.Marked.{point_of}
-use Rattle.mirror_served.specs.Best.{HasKept}
+use Rattle.mirror_trees.specs.Best.{HasKept}
 use Rattle.tlog_mirror.proofs.FoundForks.{reports_forks, written}
 use Rattle.tlog_mirror.proofs.KnownTrees.{all_known}
 use Rattle.tlog_mirror.proofs.mirror.Mirror.write_forks.Goals as goal

@@ -1,0 +1,145 @@
+-- How a command over places ends, given the answer of its call. The answers of the commands cite one lemma each.
+use Rattle.std.proofs.Common.{◌≡◌, ◌⊎◌, inl, inr, ℕ, List, Option, Result, Ok, Err, IfErr, IfOk, Some, None, map, option_map, refl, subst}
+use Rattle.std.specs.Prelude.{⊤}
+use Rattle.std.specs.Io.KnownBytes.{Keeps}
+use Rattle.std.specs.Result.{result_map_both}
+use Rattle.signed_note.specs.Keys.{Key}
+use Rattle.tlog_tiles.specs.declared.paths.Path.{Path}
+use Rattle.copy_places.specs.declared.places.Places.{Places}
+use Rattle.program_copies.specs.Places.{MayAnswerAny, PlaceName, SeenPlace}
+use Rattle.program_copies.specs.Repairing.{RunsRepair}
+use Rattle.program_copies.specs.declared.follow_fault.FollowRunFault.{FollowRunFault}
+use Rattle.program_copies.specs.declared.follow_fault.FollowRunFault.TheVariants as follow
+use Rattle.program_copies.specs.declared.repair_fault.RepairRunFault.{RepairRunFault}
+use Rattle.program_copies.specs.declared.repair_fault.RepairRunFault.TheVariants as repair
+use Rattle.program_copies.specs.Audits.{BlamesRun, RunsAudit}
+use Rattle.program_copies.specs.declared.entries_fault.AuditRunFault.{AuditRunFault}
+use Rattle.program_copies.specs.declared.entries_fault.AuditRunFault.TheVariants as audit
+use Rattle.program_words.specs.declared.commands.audit.Audit.{Audit as AuditWords}
+use Rattle.program_words.specs.declared.commands.follow.Follow.{Follow as FollowWords}
+use Rattle.program_io.specs.Moment.{Moment}
+use Rattle.program_io.specs.Performing.{IsStatus, MayLeave, Performs, Stays}
+use Rattle.copy_commands.specs.PlaceFaults.{IsLate}
+use Rattle.copy_commands.specs.Audit.{AnswersPlace, AnswersSeen, AuditsPlace, DoesAudit}
+use Rattle.copy_commands.specs.Follow.{AnswersAmong, DoesFollow, RepairsAmong}
+use Rattle.copy_commands.specs.Places.{name_of, names_of}
+use Rattle.copy_commands.specs.declared.place_fault.PlaceRunFault.{PlaceRunFault}
+use Rattle.copy_commands.specs.declared.place_fault.PlaceRunFault.TheVariants.{Audit, Follow, Origin, OutOfMemory, Repair}
+use Rattle.program_io.proofs.Performing.{performs, performs_done}
+
+-- ---- follow
+
+-- the repair counts from 0
+pub repairs_from : (digest : List ℕ → List ℕ) {S : Type 0} (may : S → Path → Option (List ℕ) → Type 0) (failed : S → ℕ)
+    (asked : S → Option (List Path)) (keys : List Key) (old new : Moment) (places left : Places S) (c : FollowWords)
+    (failures more_failures from count : ℕ) → from ≡ 0 → (answer : Result ℕ RepairRunFault) →
+    RunsRepair digest may failed asked c.copy.log.origin.now keys places left (option_map (λ name. name.now) c.checkpoint)
+    (option_map (λ name. name.now) c.forks) (old.held c.copy.folder.now) old.puts new.puts failures more_failures
+    old.files new.files old.output new.output from count answer →
+    RepairsAmong digest may failed asked keys old new places c answer
+repairs_from digest may failed asked keys old new places left c failures more_failures from count same answer h = record {
+  left = left;
+  failures = failures;
+  more_failures = more_failures;
+  count = count;
+  runs = subst (λ n. RunsRepair digest may failed asked c.copy.log.origin.now keys places left
+      (option_map (λ name. name.now) c.checkpoint) (option_map (λ name. name.now) c.forks) (old.held c.copy.folder.now)
+      old.puts new.puts failures more_failures old.files new.files old.output new.output n count answer) same h;
+}
+
+-- the answer of the call is that of the command
+pub same_answer : (digest : List ℕ → List ℕ) {S : Type 0} (may : S → Path → Option (List ℕ) → Type 0) (failed : S → ℕ)
+    (asked : S → Option (List Path)) (keys : List Key) (old new : Moment) (places : Places S) (c : FollowWords)
+    (answer is : Result ℕ PlaceRunFault) → is ≡ result_map_both (λ status. status) (λ fault. fault) answer →
+    AnswersAmong digest may failed asked keys old new places c answer →
+    AnswersAmong digest may failed asked keys old new places c is
+same_answer digest may failed asked keys old new places c (Ok status) is same h = rw same h
+same_answer digest may failed asked keys old new places c (Err fault) is same h = rw same h
+
+module _ (digest : List ℕ → List ℕ) (keys : List Key) (old new : Moment) (c : FollowWords) (places : Places SeenPlace)
+    (named : names_of places ≡ map name_of c.places.items) where
+  abbrev Among : Result ℕ PlaceRunFault → Type 0
+  Among answer = AnswersAmong digest MayAnswerAny (λ place. place.failures) (λ place. None) keys old new places c answer
+
+  quiet : (fault : FollowRunFault) → Among (Err (Follow fault)) → (¬ IsLate (Follow fault)) → Keeps old.output new.output
+  quiet (follow.File fault) h other = h.1.runs.follows.text
+  quiet follow.CopyInUse h other = h.1.runs.follows.text
+  quiet follow.OutOfMemory h other = h.1.runs.follows.text
+  quiet (follow.Follow fault) h other = h.1.runs.follows.text
+  quiet follow.WriteFault h other = absurd (other tt)
+  quiet (follow.Evidence fault) h other = absurd (other tt)
+  quiet (follow.EvidenceAndOutput fault) h other = absurd (other tt)
+
+  quiet_repair : (fault : RepairRunFault) → Among (Err (Repair fault)) → (¬ IsLate (Repair fault)) → Keeps old.output new.output
+  quiet_repair (repair.Early fault) h other = h.1.runs.text
+  quiet_repair repair.OutOfMemory h other = h.1.runs.1.line
+  quiet_repair (repair.Repair fault) h other = absurd (other tt)
+  quiet_repair (repair.RepairAndOutput fault) h other = absurd (other tt)
+  quiet_repair (repair.Followed fault) h other = absurd (other tt)
+  quiet_repair (repair.Unprinted fault) h other = absurd (other tt)
+
+  status_of : (status : ℕ) → Among (Ok status) → (status ≡ 0) ⊎ (status ≡ 3)
+  status_of status (inl h) = h.1.runs.status
+  status_of status (inr h) = h.1.runs.does.follows.status
+
+  pub performed : (is : Result ℕ PlaceRunFault) → Among is → Performs DoesFollow IsLate MayLeave digest keys old new c is
+  performed (Ok status) h =
+      performs_done DoesFollow IsLate MayLeave digest keys old new c tt status (status_of status h)
+      (record { places = places; named = named; among = h })
+  performed (Err (Follow fault)) h =
+      performs DoesFollow IsLate MayLeave digest keys old new c tt (Err (Follow fault)) tt (quiet fault h)
+      (record { places = places; named = named; among = h })
+  performed (Err (Repair fault)) h =
+      performs DoesFollow IsLate MayLeave digest keys old new c tt (Err (Repair fault)) tt (quiet_repair fault h)
+      (record { places = places; named = named; among = h })
+  performed (Err OutOfMemory) h = absurd h
+  performed (Err (Origin fault)) h = absurd h
+  performed (Err (Audit fault)) h = absurd h
+
+-- ---- audit, over this place
+
+module _ (digest : List ℕ → List ℕ) {S : Type 0} (name : S → PlaceName) (may : S → Path → Option (List ℕ) → Type 0)
+    (asked : S → Option (List Path)) (failed : S → ℕ) (keys : List Key) (old new : Moment) (c : AuditWords) where
+  passed_on : (place : S) (answer : Result ℕ AuditRunFault) → AuditsPlace digest name may asked failed keys old new place c answer →
+      (is : Result ℕ PlaceRunFault) → is ≡ result_map_both (λ status. status) (λ fault. Audit fault) answer →
+      AnswersPlace digest name may asked failed keys old new place c is
+  passed_on place (Ok status) h is same = rw same h
+  passed_on place (Err fault) h is same = rw same h
+
+  -- the place was audited, through a source that is the place
+  pub audits : (place : S) → name place ≡ name_of c.place → (source : S) → source ≡ place →
+      (answer : Result ℕ AuditRunFault) (left : S) →
+      RunsAudit digest c.log.origin.now keys (may source) (may left) (asked source) (asked left) old.output new.output answer →
+      BlamesRun (failed source) (failed left) answer → (is : Result ℕ PlaceRunFault) →
+      is ≡ result_map_both (λ status. status) (λ fault. Audit fault) answer →
+      AnswersPlace digest name may asked failed keys old new place c is
+  audits place named source at answer left h b is same =
+      passed_on place answer (record {
+        named = named;
+        left = left;
+        audits = subst (λ s. RunsAudit digest c.log.origin.now keys (may s) (may left) (asked s) (asked left) old.output
+            new.output answer) at h;
+        blamed = subst (λ s. BlamesRun (failed s) (failed left) answer) at b;
+      }) is same
+
+-- ---- audit, over the place of the words
+
+module _ (digest : List ℕ → List ℕ) (keys : List Key) (old new : Moment) (c : AuditWords) (stays : Stays old new)
+    (place : SeenPlace) where
+  quiet_audit : (fault : AuditRunFault) → AnswersSeen digest keys old new place c (Err (Audit fault)) →
+      (¬ IsLate (Audit fault)) → Keeps old.output new.output
+  quiet_audit audit.WriteFault h other = absurd (other tt)
+  quiet_audit (audit.Audit fault) h other = h.audits.2
+
+  pub audited : (is : Result ℕ PlaceRunFault) → AnswersSeen digest keys old new place c is →
+      Performs DoesAudit IsLate Stays digest keys old new c is
+  audited (Ok status) h =
+      performs_done DoesAudit IsLate Stays digest keys old new c stays status (inl h.audits.0)
+      (record { place = place; answers = h })
+  audited (Err (Audit fault)) h =
+      performs DoesAudit IsLate Stays digest keys old new c stays (Err (Audit fault)) tt (quiet_audit fault h)
+      (record { place = place; answers = h })
+  audited (Err OutOfMemory) h = absurd h
+  audited (Err (Origin fault)) h = absurd h
+  audited (Err (Follow fault)) h = absurd h
+  audited (Err (Repair fault)) h = absurd h

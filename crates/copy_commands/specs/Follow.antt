@@ -1,0 +1,63 @@
+-- The command `follow`: the meaning of each answer for the places, the given note, the folder of the copy, the output and the evidence.
+use Rattle.std.specs.Prelude.{◌≡◌, ◌⊎◌, ℕ, List, Option, None, Result, Ok, Err, IsFalse, IsTrue, map, option_map, ⊤}
+use Rattle.signed_note.specs.Keys.{Key}
+use Rattle.tlog_tiles.specs.declared.paths.Path.{Path}
+use Rattle.copy_places.specs.declared.places.Places.{Places}
+use Rattle.program_words.specs.declared.commands.follow.Follow.{Follow as FollowWords}
+use Rattle.program_copies.specs.Following.{RunsFollow}
+use Rattle.program_copies.specs.Places.{MayAnswerAny, SeenPlace}
+use Rattle.program_copies.specs.Repairing.{RunsRepair}
+use Rattle.program_copies.specs.declared.follow_fault.FollowRunFault.{FollowRunFault}
+use Rattle.program_copies.specs.declared.repair_fault.RepairRunFault.{RepairRunFault}
+use Rattle.program_io.specs.Moment.{Moment}
+use Rattle.program_io.specs.Origins.{RefusesOrigin}
+use Rattle.program_io.specs.Performing.{DoesNothing}
+use Rattle.copy_commands.specs.Places.{name_of, names_of}
+use Rattle.copy_commands.specs.declared.place_fault.PlaceRunFault.{PlaceRunFault}
+use Rattle.copy_commands.specs.declared.place_fault.PlaceRunFault.TheVariants.{Follow, OutOfMemory, Origin, Repair}
+
+module _ (digest : List ℕ → List ℕ) {S : Type 0} (may : S → Path → Option (List ℕ) → Type 0) (failed : S → ℕ)
+    (asked : S → Option (List Path)) (keys : List Key) (old new : Moment) (places : Places S) where
+  -- these places were followed with this answer. A moment has no count of the folder's failures, so that is some number
+  pub record FollowsAmong (c : FollowWords) (answer : Result ℕ FollowRunFault) : Type 0 where
+    pub left : Places S
+    pub failures : ℕ
+    pub more_failures : ℕ
+    pub runs :
+        RunsFollow digest may c.copy.log.origin.now keys places left (option_map (λ name. name.now) c.checkpoint)
+        (option_map (λ name. name.now) c.forks) (old.held c.copy.folder.now) old.puts new.puts failures more_failures
+        old.files new.files old.output new.output answer
+
+  -- the same after a repair, which put so many files
+  pub record RepairsAmong (c : FollowWords) (answer : Result ℕ RepairRunFault) : Type 0 where
+    pub left : Places S
+    pub failures : ℕ
+    pub more_failures : ℕ
+    pub count : ℕ
+    pub runs :
+        RunsRepair digest may failed asked c.copy.log.origin.now keys places left (option_map (λ name. name.now) c.checkpoint)
+        (option_map (λ name. name.now) c.forks) (old.held c.copy.folder.now) old.puts new.puts failures more_failures
+        old.files new.files old.output new.output 0 count answer
+
+  -- the meaning of each answer for these places, whose words are right: the copy is repaired first if the words ask for it
+  abbrev pub AnswersAmong : FollowWords → Result ℕ PlaceRunFault → Type 0
+  AnswersAmong c (Ok status) = (IsFalse c.repair × FollowsAmong c (Ok status)) ⊎ (IsTrue c.repair × RepairsAmong c (Ok status))
+  AnswersAmong c (Err (Follow fault)) = IsFalse c.repair × FollowsAmong c (Err fault)
+  AnswersAmong c (Err (Repair fault)) = IsTrue c.repair × RepairsAmong c (Err fault)
+  AnswersAmong c (Err other) = ⊥
+
+module _ (digest : List ℕ → List ℕ) (keys : List Key) (old new : Moment) where
+  -- the places that the words name were followed, each and in their order, with this answer. A place of the system may answer anything, and
+  -- records nothing but its failures
+  pub record FollowsOne (c : FollowWords) (answer : Result ℕ PlaceRunFault) : Type 0 where
+    pub places : Places SeenPlace
+    pub named : names_of places ≡ map name_of c.places.items
+    pub among : AnswersAmong digest MayAnswerAny (λ place. place.failures) (λ place. None) keys old new places c answer
+
+  abbrev pub DoesFollow : FollowWords → Result ℕ PlaceRunFault → Type 0
+  DoesFollow c (Ok status) = FollowsOne c (Ok status)
+  DoesFollow c (Err (Follow fault)) = FollowsOne c (Err (Follow fault))
+  DoesFollow c (Err (Repair fault)) = FollowsOne c (Err (Repair fault))
+  DoesFollow c (Err (Origin fault)) = RefusesOrigin c.copy.log.origin.now fault × DoesNothing old new
+  DoesFollow c (Err OutOfMemory) = DoesNothing old new
+  DoesFollow c (Err other) = ⊥

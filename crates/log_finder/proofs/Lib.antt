@@ -1,4 +1,0 @@
-pub mod Refusing
-pub mod Asking
-pub mod TrueSources
-pub mod Mixing

@@ -1,9 +1,0 @@
-pub mod FilePaths
-pub mod AllFiles
-pub mod Filters
-pub mod PlaceWidths
-pub mod NewFiles
-pub mod Standing
-pub mod FoundOnce
-pub mod PathLists
-pub mod Totals

@@ -1,6 +1,0 @@
-pub mod Files
-pub mod FileLaws
-pub mod Since
-pub mod SinceLaws
-pub mod Holding
-pub mod Total

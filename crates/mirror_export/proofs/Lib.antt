@@ -1,9 +1,0 @@
-pub mod Prefixes
-pub mod Orders
-pub mod Moments
-pub mod Exported
-pub mod UpdateMoments
-pub mod Points
-pub mod Updated
-pub mod UpdateSteps
-pub mod UpdateWhole

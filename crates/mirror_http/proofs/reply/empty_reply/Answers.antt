@@ -1,0 +1,5 @@
+use Rattle.std.proofs.Common.{ap, ◌∙◌}
+use Rattle.mirror_http.proofs.reply.empty_reply.Goals as goal
+
+pub returns : goal.returns
+returns c = ap (λ v. v.items) c.into_bytes.ensures.value ∙ c.in_ok-text.ensures.ok

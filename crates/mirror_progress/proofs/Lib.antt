@@ -1,5 +1,0 @@
-mod Written
-mod Appended
-mod Commas
-mod Printed
-mod Reports

@@ -1,7 +1,0 @@
-use Rattle.mirror_progress.proofs.Written.{front_written}
-use Rattle.mirror_progress.proofs.progress.write_line.Goals as goal
-
-pub returns : goal.returns
-returns g c =
-    front_written c.write_whole.result (g.W.Write.contents c.args.writer.now)
-    (g.W.Write.contents c.write_whole.new.writer) c.args.line.now c.write_whole.ensures.ok c.write_whole.ensures.err

@@ -1,4 +1,0 @@
-use Rattle.mirror_reports.proofs.lines.+write_groups.Given as goal
-
-abbrev pub decreases-write_groups : goal.decreases-write_groups
-decreases-write_groups g l = l.number

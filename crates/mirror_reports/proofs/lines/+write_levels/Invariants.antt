@@ -1,4 +1,0 @@
-use Rattle.mirror_reports.proofs.lines.+write_levels.Given as goal
-
-abbrev pub decreases-write_levels : goal.decreases-write_levels
-decreases-write_levels g l = l.levels

@@ -1,6 +1,0 @@
-pub mod Points
-pub mod Forks
-pub mod Branches
-pub mod Compared
-pub mod Pieces
-pub mod MissingLines

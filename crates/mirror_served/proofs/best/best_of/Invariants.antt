@@ -1,7 +1,0 @@
-use Rattle.std.proofs.Common.{drop}
-use Rattle.mirror_served.specs.Best.{IsBestOf}
-use Rattle.mirror_served.proofs.best.best_of.Given as goal
-
--- the best so far is the best of those from here on
-abbrev pub invariant-loop-at : goal.invariant-loop-at
-invariant-loop-at g l = IsBestOf g.H.TreeHash.digest l.store (drop l.at l.kept) l.best

@@ -1,5 +1,0 @@
-use Rattle.std.proofs.Common.{◌-◌}
-use Rattle.mirror_served.proofs.holding.+holds_edge_from.Given as goal
-
-abbrev pub decreases-holds_edge_from : goal.decreases-holds_edge_from
-decreases-holds_edge_from g l = 8 - l.level

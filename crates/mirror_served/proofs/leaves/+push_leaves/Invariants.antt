@@ -1,4 +1,0 @@
-use Rattle.mirror_served.proofs.leaves.+push_leaves.Given as goal
-
-abbrev pub decreases-push_leaves : goal.decreases-push_leaves
-decreases-push_leaves g l = l.size

@@ -1,4 +1,0 @@
-use Rattle.mirror_served.proofs.rows.+push_row.Given as goal
-
-abbrev pub decreases-push_row : goal.decreases-push_row
-decreases-push_row g l = l.size

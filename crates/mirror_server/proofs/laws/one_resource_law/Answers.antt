@@ -1,5 +1,0 @@
-use Rattle.mirror_server.proofs.OneResource.{one_resource}
-use Rattle.mirror_server.proofs.laws.one_resource_law.Goals as goal
-
-pub returns : goal.returns
-returns c = one_resource

@@ -1,5 +1,0 @@
-use Rattle.std.proofs.Common.{rules}
-use Rattle.mirror_server.proofs.resource.is_spelled.Goals as goal
-
-pub returns-then-is_ok-clause-spelled : goal.returns-then-is_ok-clause-spelled
-returns-then-is_ok-clause-spelled c = search rules

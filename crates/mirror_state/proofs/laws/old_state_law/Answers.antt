@@ -1,5 +1,0 @@
-use Rattle.mirror_state.proofs.OneLoad.{old_is_saved_as_new}
-use Rattle.mirror_state.proofs.laws.old_state_law.Goals as goal
-
-pub returns : goal.returns
-returns c = old_is_saved_as_new

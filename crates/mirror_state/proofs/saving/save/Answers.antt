@@ -1,5 +1,0 @@
-use Rattle.mirror_state.proofs.Saved.{keeps_itself}
-use Rattle.mirror_state.proofs.saving.save.Goals as goal
-
-pub returns-in-Err : goal.returns-in-Err
-returns-in-Err g c = keeps_itself (g.W.Write.contents c.args.writer.now)

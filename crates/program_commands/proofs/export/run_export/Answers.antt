@@ -1,4 +1,0 @@
-use Rattle.program_commands.proofs.export.run_export.Goals as goal
-
-pub returns-in-Ok-clause-answer : goal.returns-in-Ok-clause-answer
-returns-in-Ok-clause-answer g c = c.export_into-done.ensures.answer _ _ _ _ c.in-Ok.ensures

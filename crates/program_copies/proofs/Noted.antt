@@ -1,0 +1,303 @@
+-- The facts about the note, the copy, the output and the evidence of a run.
+use Rattle.std.proofs.Common.{◌≡◌, inr, ℕ, List, IfErr, Option, Some, None, Result, Ok, Err, sym, subst, ◌∙◌}
+use Rattle.std.specs.Io.KnownBytes.{Keeps}
+use Rattle.std.proofs.lemmas.List.Elements.{All-weaker}
+use Rattle.std.proofs.lemmas.Option.{none-some}
+use Rattle.tlog_tiles.specs.declared.paths.Path.{Path}
+use Rattle.signed_note.specs.Keys.{Key}
+use Rattle.mirror_folders.specs.Shelf.{Put}
+use Rattle.copy_places.specs.declared.places.Places.{Places}
+use Rattle.copy_places.specs.Requests.{IsGivenOrMayGive}
+use Rattle.copy_places.specs.GatheredFrom.{AreCandidates}
+use Rattle.copy_places.specs.Candidates.{note_of}
+use Rattle.copy_places.specs.declared.candidate.Candidate.{Candidate}
+use Rattle.copy_follow.specs.Blame.{CountsFollowFault}
+use Rattle.copy_follow.specs.Ending.{EndsFor}
+use Rattle.copy_follow.specs.OneHonestRun.{IsHonestAmong, IsHonestRun, ReachesLog, ReachesSize}
+use Rattle.copy_follow.specs.Runs.{FollowsCandidates}
+use Rattle.copy_follow.specs.Says.{Says}
+use Rattle.copy_follow.specs.RunStanding.{IsFollowed}
+use Rattle.copy_follow.specs.declared.follow_fault.FollowFault.{FollowFault}
+use Rattle.copy_follow.specs.declared.follow_fault.FollowFault.TheVariants as following
+use Rattle.copy_follow.specs.declared.report.Followed.{Followed}
+use Rattle.program_io.specs.Named.{HasContents, NamedFile}
+use Rattle.program_copies.specs.Following.{AreRunCandidates, CopyFollowed, CountsRun, EndsFollowing, Follows, FollowsIn, IsNoteOf, HonestSuffices, PrintsSettled, ReachesIn, ReachesRun, ReadsGiven, ReadsNote, PrintsDone, SettlesRun, SufficesForRun}
+use Rattle.program_copies.specs.declared.follow_fault.FollowRunFault.{FollowRunFault}
+use Rattle.program_copies.specs.declared.follow_fault.FollowRunFault.TheVariants.{File, CopyInUse, OutOfMemory, Follow, WriteFault, Evidence, EvidenceAndOutput}
+
+-- the given note is that of the named file
+pub note_had : {S : Type 0} (may : S → Path → Option (List ℕ) → Type 0) (recorded : Option (List NamedFile))
+    (name : Option (List ℕ)) (places : Places S) (given : Option (List ℕ)) → ReadsNote recorded name (Ok given) →
+    (note : List ℕ) → IsGivenOrMayGive may given places note → IsNoteOf may recorded name places note
+note_had may recorded None places None reads note had = had
+note_had may recorded None places (Some bytes) reads note had = absurd (none-some bytes (sym reads))
+note_had may recorded (Some name) places None reads note had = absurd reads
+note_had may recorded (Some name) places (Some bytes) reads note had =
+    subst (λ (given : List ℕ). HasContents recorded name given) (sym had) reads
+
+-- the named note was read before the result was written
+pub given_recorded : (recorded : Option (List NamedFile)) (name given : Option (List ℕ)) → ReadsNote recorded name (Ok given) →
+    (origin : List ℕ) (keys : List Key) (forks : Option (List ℕ)) (done : Followed) (from left : Option (List NamedFile))
+    (old new : Option (List ℕ)) (r : Result ℕ FollowRunFault) → PrintsDone origin keys forks done from left old new r →
+    ReadsGiven recorded name r
+given_recorded recorded name given reads origin keys forks done from left old new (Ok status) tells = (given, reads)
+given_recorded recorded name given reads origin keys forks done from left old new (Err (File fault)) tells = absurd tells
+given_recorded recorded name given reads origin keys forks done from left old new (Err CopyInUse) tells = absurd tells
+given_recorded recorded name given reads origin keys forks done from left old new (Err OutOfMemory) tells = absurd tells
+given_recorded recorded name given reads origin keys forks done from left old new (Err (Follow fault)) tells = (given, reads)
+given_recorded recorded name given reads origin keys forks done from left old new (Err WriteFault) tells = (given, reads)
+given_recorded recorded name given reads origin keys forks done from left old new (Err (Evidence fault)) tells = (given, reads)
+given_recorded recorded name given reads origin keys forks done from left old new (Err (EvidenceAndOutput fault)) tells = (given, reads)
+
+module _ (digest : List ℕ → List ℕ) (origin : List ℕ) (keys : List Key) (so other : List ℕ → Type 0)
+    (weaker : (note : List ℕ) → so note → other note) (held before put : Option (List Put))
+    (forks : Option (List ℕ)) (recorded left : Option (List NamedFile)) (old new : Option (List ℕ)) where
+  follows_had : FollowsCandidates digest origin keys so held put → FollowsCandidates digest origin keys other held put
+  follows_had follows = record {
+    candidates = follows.candidates;
+    opened = follows.opened;
+    had = All-weaker (λ candidate. so (note_of candidate)) (λ candidate. other (note_of candidate))
+        (λ candidate. weaker (note_of candidate)) follows.candidates follows.had;
+    keeps = follows.keeps;
+    pruned = follows.pruned;
+  }
+
+  copy_had : (done : Followed) → CopyFollowed digest origin keys so held put done →
+      CopyFollowed digest origin keys other held put done
+  copy_had done copy = record { whole = follows_had copy.whole; brought = copy.brought; forks = copy.forks }
+
+  -- the copy was followed, and then the result was written
+  pub follows_recorded : (done : Followed) (r : Result ℕ FollowRunFault) → CopyFollowed digest origin keys so held put done →
+      PrintsDone origin keys forks done recorded left old new r →
+      Follows digest origin keys other forks held before put recorded left old new r
+  follows_recorded done (Ok status) copy tells = record { done = done; copy = copy_had done copy; tells = tells }
+  follows_recorded done (Err (File fault)) copy tells = absurd tells
+  follows_recorded done (Err CopyInUse) copy tells = absurd tells
+  follows_recorded done (Err OutOfMemory) copy tells = absurd tells
+  follows_recorded done (Err (Follow fault)) copy tells =
+      record { copy = follows_had copy.whole; text = tells.text; files = tells.files }
+  follows_recorded done (Err WriteFault) copy tells = record { done = done; copy = copy_had done copy; tells = tells }
+  follows_recorded done (Err (Evidence fault)) copy tells = record { done = done; copy = copy_had done copy; tells = tells }
+  follows_recorded done (Err (EvidenceAndOutput fault)) copy tells = record { done = done; copy = copy_had done copy; tells = tells }
+
+  -- the copy was not followed, and nothing was written
+  pub follows_ended : (fault : FollowRunFault) → FollowsIn digest origin keys so held before put (Err fault) →
+      Keeps old new → left ≡ recorded → Follows digest origin keys other forks held before put recorded left old new (Err fault)
+  follows_ended (File fault) copy text files = absurd copy
+  follows_ended CopyInUse copy text files = record { copy = copy; text = text; files = files }
+  follows_ended OutOfMemory copy text files = record { copy = copy; text = text; files = files }
+  follows_ended (Follow fault) copy text files = record { copy = follows_had copy; text = text; files = files }
+  follows_ended WriteFault copy text files = absurd copy
+  follows_ended (Evidence fault) copy text files = absurd copy
+  follows_ended (EvidenceAndOutput fault) copy text files = absurd copy
+
+  -- a fact about a run with notes for which "so" holds is a fact for each weaker condition
+  pub follows_weaker : (r : Result ℕ FollowRunFault) →
+      Follows digest origin keys so forks held before put recorded left old new r →
+      Follows digest origin keys other forks held before put recorded left old new r
+  follows_weaker (Ok status) h = record { done = h.done; copy = copy_had h.done h.copy; tells = h.tells }
+  follows_weaker (Err (File fault)) h = record { copy = h.copy; text = h.text; files = h.files }
+  follows_weaker (Err CopyInUse) h = record { copy = h.copy; text = h.text; files = h.files }
+  follows_weaker (Err OutOfMemory) h = record { copy = h.copy; text = h.text; files = h.files }
+  follows_weaker (Err (Follow fault)) h = record { copy = follows_had h.copy; text = h.text; files = h.files }
+  follows_weaker (Err WriteFault) h = record { done = h.done; copy = copy_had h.done h.copy; tells = h.tells }
+  follows_weaker (Err (Evidence fault)) h = record { done = h.done; copy = copy_had h.done h.copy; tells = h.tells }
+  follows_weaker (Err (EvidenceAndOutput fault)) h = record { done = h.done; copy = copy_had h.done h.copy; tells = h.tells }
+
+module _ (origin : List ℕ) (keys : List Key) (forks : Option (List ℕ)) (done : Followed)
+    (recorded left : Option (List NamedFile)) (old new : Option (List ℕ)) where
+  -- the output after a run counts no failure
+  pub recorded_counts : (r : Result ℕ FollowRunFault) (count counted : ℕ) → PrintsDone origin keys forks done recorded left old new r →
+      counted ≡ count → CountsRun count counted r
+  recorded_counts (Ok status) count counted tells same = same
+  recorded_counts (Err (File fault)) count counted tells same = same
+  recorded_counts (Err CopyInUse) count counted tells same = same
+  recorded_counts (Err OutOfMemory) count counted tells same = same
+  recorded_counts (Err (Follow fault)) count counted tells same =
+      subst (λ (f : FollowFault). CountsFollowFault count counted f) (sym tells.fault_is) same
+  recorded_counts (Err WriteFault) count counted tells same = same
+  recorded_counts (Err (Evidence fault)) count counted tells same = same
+  recorded_counts (Err (EvidenceAndOutput fault)) count counted tells same = same
+
+-- a fact about the gathered candidates holds for the candidates of the run, and for the printed result
+module _ {S : Type 0} (digest : List ℕ → List ℕ) (origin : List ℕ) (keys : List Key)
+    (may : S → Path → Option (List ℕ) → Type 0) (places left_places : Places S) (files : Option (List NamedFile))
+    (name given : Option (List ℕ)) (held put : Option (List Put)) (forks : Option (List ℕ)) (done : Followed)
+    (recorded left : Option (List NamedFile)) (old new : Option (List ℕ)) (reads : ReadsNote files name (Ok given))
+    (says : Says digest origin (AreCandidates may origin keys places left_places given) held put done) where
+  abbrev Settled : Result ℕ FollowRunFault → Type 0
+  Settled r =
+      PrintsSettled digest origin keys (AreRunCandidates may origin keys places left_places files name) held put forks
+      recorded left old new r
+
+  settled : (r : Result ℕ FollowRunFault) → PrintsDone origin keys forks done recorded left old new r → Settled r
+  settled r tells = record {
+    done = done;
+    says = record {
+      candidates = says.candidates;
+      gathered = record { given = given; reads = reads; are = says.gathered };
+      rising = says.rising;
+      settles = says.settles;
+      first = says.first;
+      found = says.found;
+      lines = says.lines;
+      noted = says.noted;
+    };
+    tells = tells;
+  }
+
+  pub says_printed : (r : Result ℕ FollowRunFault) → PrintsDone origin keys forks done recorded left old new r →
+      SettlesRun digest origin keys (AreRunCandidates may origin keys places left_places files name) held put forks
+      recorded left old new r
+  says_printed (Ok status) tells = settled (Ok status) tells
+  says_printed (Err (File fault)) tells = tt
+  says_printed (Err CopyInUse) tells = tt
+  says_printed (Err OutOfMemory) tells = tt
+  says_printed (Err (Follow fault)) tells = tt
+  says_printed (Err WriteFault) tells = settled (Err WriteFault) tells
+  says_printed (Err (Evidence fault)) tells = settled (Err (Evidence fault)) tells
+  says_printed (Err (EvidenceAndOutput fault)) tells = settled (Err (EvidenceAndOutput fault)) tells
+
+-- the copy was not followed
+pub says_ended : (digest : List ℕ → List ℕ) (origin : List ℕ) (keys : List Key) (so : List Candidate → Type 0)
+    (held put : Option (List Put)) (forks : Option (List ℕ)) (recorded left : Option (List NamedFile))
+    (old new : Option (List ℕ)) (before : Option (List Put)) (such : List ℕ → Type 0) (fault : FollowRunFault) →
+    FollowsIn digest origin keys such held before put (Err fault) →
+    SettlesRun digest origin keys so held put forks recorded left old new (Err fault)
+says_ended digest origin keys so held put forks recorded left old new before such (File fault) copy = tt
+says_ended digest origin keys so held put forks recorded left old new before such CopyInUse copy = tt
+says_ended digest origin keys so held put forks recorded left old new before such OutOfMemory copy = tt
+says_ended digest origin keys so held put forks recorded left old new before such (Follow fault) copy = tt
+says_ended digest origin keys so held put forks recorded left old new before such WriteFault copy = absurd copy
+says_ended digest origin keys so held put forks recorded left old new before such (Evidence fault) copy = absurd copy
+says_ended digest origin keys so held put forks recorded left old new before such (EvidenceAndOutput fault) copy = absurd copy
+
+-- ---- the reasons why `follow` ends
+
+module _ (digest : List ℕ → List ℕ) {S : Type 0} (may : S → Path → Option (List ℕ) → Type 0) (origin : List ℕ)
+    (keys : List Key) (held : Option (List Put)) (x y : Places S) (recorded : Option (List NamedFile)) (name : Option (List ℕ))
+    (given : Option (List ℕ)) (reads : ReadsNote recorded name (Ok given)) where
+  memory_ends : (g : Option (List ℕ)) → EndsFor digest may origin keys held x y g following.OutOfMemory
+  memory_ends None = tt
+  memory_ends (Some note) = tt
+
+  pub ends_so : (fault : FollowFault) → EndsFor digest may origin keys held x y given fault →
+      EndsFollowing digest may origin keys held x y recorded name fault
+  ends_so fault ends = record { given = given; reads = reads; ends = ends }
+
+  -- memory for the text was refused, after the copy was followed
+  pub ends_recorded : (forks : Option (List ℕ)) (done : Followed) (from left : Option (List NamedFile)) (old new : Option (List ℕ))
+      (r : Result ℕ FollowRunFault) → PrintsDone origin keys forks done from left old new r →
+      IfErr r (λ e. (fault : FollowFault) → e ≡ Follow fault →
+      EndsFollowing digest may origin keys held x y recorded name fault)
+  ends_recorded forks done from left old new (Ok status) tells = tt
+  ends_recorded forks done from left old new (Err (File f)) tells = λ fault e. absurd tells
+  ends_recorded forks done from left old new (Err CopyInUse) tells = λ fault e. absurd tells
+  ends_recorded forks done from left old new (Err OutOfMemory) tells = λ fault e. absurd tells
+  ends_recorded forks done from left old new (Err (Follow f)) tells = λ fault e.
+      let same : f ≡ fault = cc in
+      ends_so fault
+      (subst (λ g. EndsFor digest may origin keys held x y given g) (sym tells.fault_is ∙ same) (memory_ends given))
+  ends_recorded forks done from left old new (Err WriteFault) tells = λ fault e. absurd cc
+  ends_recorded forks done from left old new (Err (Evidence f)) tells = λ fault e. absurd cc
+  ends_recorded forks done from left old new (Err (EvidenceAndOutput f)) tells = λ fault e. absurd cc
+
+-- ---- one honest place
+
+module _ (digest : List ℕ → List ℕ) {S : Type 0} (may : S → Path → Option (List ℕ) → Type 0) (origin : List ℕ)
+    (keys : List Key) (held put : Option (List Put)) (x y : Places S) (recorded : Option (List NamedFile))
+    (name : Option (List ℕ)) (old new : Option (List ℕ)) (given : Option (List ℕ))
+    (reads : ReadsNote recorded name (Ok given)) where
+  abbrev Greatest : Type 0
+  Greatest = IsHonestRun digest may held x y origin (AreCandidates may origin keys x y given)
+
+  abbrev Among : Type 0
+  Among = IsHonestAmong digest may put x y origin held (AreCandidates may origin keys x y given)
+
+  abbrev Suffices : Result ℕ FollowRunFault → Type 0
+  Suffices r = SufficesForRun digest may origin keys held put x y recorded name old new r
+
+  -- the output after the copy was followed
+  reaches_told : (so : Followed → Type 0) (forks : Option (List ℕ)) (done : Followed) (from left : Option (List NamedFile))
+      (r : Result ℕ FollowRunFault) → IsFollowed digest origin held put done → so done →
+      PrintsDone origin keys forks done from left old new r → ReachesRun digest origin held put old new so r
+  reaches_told so forks done from left (Ok status) brought is tells =
+      record { done = done; brought = brought; is_so = is; written = tells.whole.text }
+  reaches_told so forks done from left (Err (File f)) brought is tells = tt
+  reaches_told so forks done from left (Err CopyInUse) brought is tells = tt
+  reaches_told so forks done from left (Err OutOfMemory) brought is tells = tt
+  reaches_told so forks done from left (Err (Follow f)) brought is tells = inr tells.fault_is
+  reaches_told so forks done from left (Err WriteFault) brought is tells =
+      record { done = done; brought = brought; is_so = is; written = tells.text }
+  reaches_told so forks done from left (Err (Evidence f)) brought is tells =
+      record { done = done; brought = brought; is_so = is; written = tells.text }
+  reaches_told so forks done from left (Err (EvidenceAndOutput f)) brought is tells =
+      record { done = done; brought = brought; is_so = is; written = tells.text }
+
+  for_run : (r : Result ℕ FollowRunFault) → HonestSuffices digest may origin keys held put x y recorded name old new r →
+      Suffices r
+  for_run (Ok status) h = h
+  for_run (Err (File f)) h = tt
+  for_run (Err CopyInUse) h = h
+  for_run (Err OutOfMemory) h = h
+  for_run (Err (Follow f)) h = h
+  for_run (Err WriteFault) h = h
+  for_run (Err (Evidence f)) h = h
+  for_run (Err (EvidenceAndOutput f)) h = h
+
+  -- the copy was followed, and then the result was written
+  pub suffices_recorded : (forks : Option (List ℕ)) (done : Followed) (from left : Option (List NamedFile))
+      (r : Result ℕ FollowRunFault) → IsFollowed digest origin held put done →
+      ((h : Greatest) → ReachesLog digest h.entries h.size (Ok done)) → ((h : Among) → ReachesSize h.size (Ok done)) →
+      PrintsDone origin keys forks done from left old new r → Suffices r
+  suffices_recorded forks done from left r brought log size tells = for_run r (record {
+    given = given;
+    reads = reads;
+    suffices = λ h. reaches_told (λ f. ReachesLog digest h.entries h.size (Ok f)) forks done from left r brought (log h) tells;
+    reaches = λ h. reaches_told (λ f. ReachesSize h.size (Ok f)) forks done from left r brought (size h) tells;
+  })
+
+  ended_in : (so : Followed → Type 0) (fault : FollowRunFault) → ReachesIn so (Err fault) →
+      ReachesRun digest origin held put old new so (Err fault)
+  ended_in so (File f) h = tt
+  ended_in so CopyInUse h = tt
+  ended_in so OutOfMemory h = tt
+  ended_in so (Follow f) h = h
+  ended_in so WriteFault h = absurd h
+  ended_in so (Evidence f) h = absurd h
+  ended_in so (EvidenceAndOutput f) h = absurd h
+
+  -- the copy was not followed, and nothing was written
+  pub suffices_ended : (fault : FollowRunFault) →
+      ((h : Greatest) → ReachesIn (λ f. ReachesLog digest h.entries h.size (Ok f)) (Err fault)) →
+      ((h : Among) → ReachesIn (λ f. ReachesSize h.size (Ok f)) (Err fault)) → Suffices (Err fault)
+  suffices_ended fault log size = for_run (Err fault) (record {
+    given = given;
+    reads = reads;
+    suffices = λ h. ended_in (λ f. ReachesLog digest h.entries h.size (Ok f)) fault (log h);
+    reaches = λ h. ended_in (λ f. ReachesSize h.size (Ok f)) fault (size h);
+  })
+
+-- the folder has the same content
+module _ (digest : List ℕ → List ℕ) {S : Type 0} (may : S → Path → Option (List ℕ) → Type 0) (origin : List ℕ)
+    (x y : Places S) (so : List Candidate → Type 0) (r : Result Followed FollowFault) where
+  pub greatest_same : (a b : Option (List Put)) → b ≡ a →
+      ((h : IsHonestRun digest may b x y origin so) → ReachesLog digest h.entries h.size r) →
+      (h : IsHonestRun digest may a x y origin so) → ReachesLog digest h.entries h.size r
+  greatest_same a b same f =
+      subst (λ o. (h : IsHonestRun digest may o x y origin so) → ReachesLog digest h.entries h.size r) same f
+
+  pub among_same : (a b last put : Option (List Put)) → b ≡ a → last ≡ put →
+      ((h : IsHonestAmong digest may put x y origin b so) → ReachesSize h.size r) →
+      (h : IsHonestAmong digest may last x y origin a so) → ReachesSize h.size r
+  among_same a b last put same kept f =
+      subst (λ o. (h : IsHonestAmong digest may o x y origin a so) → ReachesSize h.size r) (sym kept)
+      (subst (λ o. (h : IsHonestAmong digest may put x y origin o so) → ReachesSize h.size r) same f)
+
+-- the copy at each moment, between two calls that put nothing
+pub whole_same : (digest : List ℕ → List ℕ) (origin : List ℕ) (keys : List Key) (so : List ℕ → Type 0)
+    (a b put last : Option (List Put)) → b ≡ a → last ≡ put → FollowsCandidates digest origin keys so b put →
+    FollowsCandidates digest origin keys so a last
+whole_same digest origin keys so a b put last same kept f =
+    subst (λ o. FollowsCandidates digest origin keys so o last) same
+    (subst (λ o. FollowsCandidates digest origin keys so b o) (sym kept) f)

@@ -1,0 +1,372 @@
+//! The command `follow`: brings a copy in a folder to the newest checkpoint of some places.
+ghost use Rattle.std.specs.Prelude.{◌≡◌, ◌⊎◌, All, IfErr, IfOk, Ok, map, option_map};
+ghost use Rattle.tlog_text.specs.Answers.{seen};
+ghost use Rattle.copy_places.specs.Requests.{IsGivenOrMayGive};
+ghost use Rattle.copy_places.specs.GatheredFrom.{AreCandidates};
+ghost use Rattle.copy_places.specs.Shown.{ShowsLine};
+ghost use Rattle.copy_follow.specs.Blame.{CountsFollow};
+ghost use Rattle.copy_follow.specs.Ending.{EndsFor};
+ghost use Rattle.copy_follow.specs.declared.follow_fault.FollowFault.{FollowFault};
+ghost use Rattle.copy_follow.specs.OneHonestRun.{IsHonestAmong, IsHonestRun, ReachesLog, ReachesSize};
+ghost use Rattle.copy_follow.specs.Runs.{FollowsCandidates};
+ghost use Rattle.copy_follow.specs.Says.{Says};
+ghost use Rattle.copy_follow.specs.RunStanding.{IsFollowed};
+ghost use Rattle.program_copies.specs.Following.{AreRunCandidates, CountsRun, EndsFollowing, Follows, FollowsIn, IsNoteOf, PrintsDone, ReachesIn, ReadsGiven, ReadsNote, RunsFollow, SettlesRun, SufficesForRun};
+
+use crate::evidence::write_evidence;
+use crate::follow_fault::FollowRunFault;
+use crate::hold::{Hold, HoldFault};
+use crate::text::{followed_status, followed_text};
+use byte_streams::write_whole;
+use copy_follow::{FollowFault, Followed, follow};
+use copy_places::Places;
+use mirror_sources::Source;
+use program_io::{CountedFolders, NamedFault, NamedFiles, Task};
+use signed_note::Verifier;
+use std::alloc::Global;
+use std::io::Write;
+use tlog_hash::TreeHash;
+
+/// The log to follow, and the folders of the result.
+#[derive(Clone, Copy)]
+pub struct Following<'a> {
+    /// The origin of the log.
+    pub origin: &'a str,
+    /// The folder of the copy.
+    pub folder: &'a str,
+    /// The file of the note to follow, if the places are not asked for checkpoints.
+    pub checkpoint: Option<&'a str>,
+    /// The folder for the evidence of forks, if any.
+    pub forks: Option<&'a str>,
+    /// Whether lines of progress are written.
+    pub progress: bool,
+}
+
+/// The given note: the bytes of its file, if one is named.
+pub(crate) fn read_given<F: NamedFiles>(
+    files: &F,
+    name: Option<&str>,
+) -> Result<Option<Vec<u8>>, NamedFault>
+    ensures { ReadsNote (F.puts files.now) (option_map (λ name. name.now) name.entry)
+        (seen (option_map (λ bytes. bytes.items)) result) }
+{
+    let Some(name) = name else {
+        return Ok(None);
+    };
+    match files.read(name) {
+        Ok(bytes) => Ok(Some(bytes)),
+        Err(fault) => Err(fault),
+    }
+}
+
+// Begins the lines of progress, if they are requested.
+fn begin_lines<D: CountedFolders>(folders: &mut D, progress: bool)
+    ensures puts { D.puts folders.new ≡ D.puts folders.old }
+    ensures failed { D.failed folders.new ≡ D.failed folders.old }
+{
+    if progress {
+        folders.begin(Task::Follow);
+    }
+}
+
+// Ends the lines of progress of an answer, if they are requested.
+fn end_lines<D: CountedFolders>(
+    folders: &mut D,
+    progress: bool,
+    done: &Result<Followed, FollowFault>,
+)
+    ensures puts { D.puts folders.new ≡ D.puts folders.old }
+    ensures failed { D.failed folders.new ≡ D.failed folders.old }
+{
+    if progress {
+        if let Ok(done) = done {
+            if let Some(copy) = &done.copy {
+                folders.end_followed(done.old, copy.0);
+            }
+        }
+    }
+}
+
+// Follows the places into the open folder, with lines of progress if they are requested.
+fn follow_reporting<H: TreeHash, D: CountedFolders, S: Source + Drop>(
+    folders: &mut D,
+    alloc: Global,
+    keys: &[Box<dyn Verifier>],
+    following: &Following<'_>,
+    places: &mut Places<S>,
+    given: Option<Vec<u8>>,
+) -> Result<Followed, FollowFault>
+    ensures whole { FollowsCandidates H.digest following.now.origin.now
+        (map (λ k. key k) keys.now)
+        (IsGivenOrMayGive S.may_answer (option_map (λ v. v.items) given) places.old)
+        (D.puts folders.old) (D.puts folders.new) }
+    ensures brought { IfOk result (IsFollowed H.digest following.now.origin.now
+        (D.puts folders.old) (D.puts folders.new)) }
+    ensures forks { IfOk result (λ done. All (ShowsLine H.digest) done.forks.items) }
+    ensures says { IfOk result (Says H.digest following.now.origin.now
+        (AreCandidates S.may_answer following.now.origin.now (map (λ k. key k) keys.now)
+        places.old places.new (option_map (λ v. v.items) given))
+        (D.puts folders.old) (D.puts folders.new)) }
+    ensures ends { IfErr result (EndsFor H.digest S.may_answer following.now.origin.now
+        (map (λ k. key k) keys.now) (D.puts folders.old) places.old places.new
+        (option_map (λ v. v.items) given)) }
+    ensures counted { CountsFollow (D.failed folders.old) (D.failed folders.new) result }
+    ensures suffices { (h : IsHonestRun H.digest S.may_answer (D.puts folders.old) places.old
+        places.new following.now.origin.now (AreCandidates S.may_answer following.now.origin.now
+        (map (λ k. key k) keys.now) places.old places.new (option_map (λ v. v.items) given)))
+        → ReachesLog H.digest h.entries h.size result }
+    ensures reaches { (h : IsHonestAmong H.digest S.may_answer (D.puts folders.new) places.old
+        places.new following.now.origin.now (D.puts folders.old)
+        (AreCandidates S.may_answer following.now.origin.now (map (λ k. key k) keys.now)
+        places.old places.new (option_map (λ v. v.items) given))) → ReachesSize h.size result }
+{
+    begin_lines::<D>(folders, following.progress);
+    let done = follow::<H, D, S>(alloc, following.origin, keys, folders, places, given);
+    end_lines::<D>(folders, following.progress, &done);
+    done
+}
+
+/// Holds and opens the folder.
+pub(crate) fn open_held<D: CountedFolders, L: Hold>(
+    folders: &mut D,
+    folder: &str,
+    hold: &mut L,
+) -> Result<(), HoldFault>
+    ensures opened { IfOk result (λ _. D.puts folders.new ≡ D.held folders.old folder.now) }
+    ensures same { IfErr result (λ _. D.puts folders.new ≡ D.puts folders.old) }
+    ensures counted { D.failed folders.new ≡ D.failed folders.old }
+{
+    match hold.hold(folder) {
+        Ok(()) => {}
+        Err(fault) => return Err(fault),
+    }
+    match folders.open(folder) {
+        Ok(()) => Ok(()),
+        Err(_) => Err(HoldFault::OutOfMemory),
+    }
+}
+
+// Holds and opens the folder, and follows the places into it.
+fn follow_into<H: TreeHash, D: CountedFolders, S: Source + Drop, L: Hold>(
+    folders: &mut D,
+    alloc: Global,
+    keys: &[Box<dyn Verifier>],
+    following: &Following<'_>,
+    places: &mut Places<S>,
+    hold: &mut L,
+    given: Option<Vec<u8>>,
+) -> Result<Followed, FollowRunFault>
+    ensures follows { FollowsIn H.digest following.now.origin.now
+        (map (λ k. key k) keys.now)
+        (IsGivenOrMayGive S.may_answer (option_map (λ v. v.items) given) places.old)
+        (D.held folders.old following.now.folder.now) (D.puts folders.old) (D.puts folders.new)
+        result }
+    ensures says { IfOk result (Says H.digest following.now.origin.now
+        (AreCandidates S.may_answer following.now.origin.now (map (λ k. key k) keys.now)
+        places.old places.new (option_map (λ v. v.items) given))
+        (D.held folders.old following.now.folder.now) (D.puts folders.new)) }
+    ensures ends { IfErr result (λ e. (fault : FollowFault) → e ≡ FollowRunFault.Follow fault
+        → EndsFor H.digest S.may_answer following.now.origin.now (map (λ k. key k) keys.now)
+        (D.held folders.old following.now.folder.now) places.old places.new
+        (option_map (λ v. v.items) given) fault) }
+    ensures counted { CountsRun (D.failed folders.old) (D.failed folders.new) result }
+    ensures suffices { (h : IsHonestRun H.digest S.may_answer
+        (D.held folders.old following.now.folder.now) places.old places.new
+        following.now.origin.now (AreCandidates S.may_answer following.now.origin.now
+        (map (λ k. key k) keys.now) places.old places.new (option_map (λ v. v.items) given)))
+        → ReachesIn (λ done. ReachesLog H.digest h.entries h.size (Ok done)) result }
+    ensures reaches { (h : IsHonestAmong H.digest S.may_answer (D.puts folders.new) places.old
+        places.new following.now.origin.now (D.held folders.old following.now.folder.now)
+        (AreCandidates S.may_answer following.now.origin.now (map (λ k. key k) keys.now)
+        places.old places.new (option_map (λ v. v.items) given)))
+        → ReachesIn (λ done. ReachesSize h.size (Ok done)) result }
+{
+    match open_held::<D, L>(folders, following.folder, hold) {
+        Ok(()) => {}
+        Err(HoldFault::CopyInUse) => return Err(FollowRunFault::CopyInUse),
+        Err(HoldFault::OutOfMemory) => return Err(FollowRunFault::OutOfMemory),
+    }
+    match follow_reporting::<H, D, S>(folders, alloc, keys, following, places, given) {
+        Ok(done) => Ok(done),
+        Err(fault) => Err(FollowRunFault::Follow(fault)),
+    }
+}
+
+// Puts the evidence of the result's forks, and then writes its text, whether or not the evidence was put. Returns the exit status.
+fn report_done<F: NamedFiles, W: Write>(
+    files: &mut F,
+    alloc: Global,
+    keys: &[Box<dyn Verifier>],
+    following: &Following<'_>,
+    done: &Followed,
+    output: &mut W,
+) -> Result<u8, FollowRunFault>
+    ensures tells { PrintsDone following.now.origin.now (map (λ k. key k) keys.now)
+        (option_map (λ name. name.now) following.now.forks) done.now
+        (F.puts files.old) (F.puts files.new) (W.contents output.old) (W.contents output.new)
+        result }
+    ensures status { IfOk result (λ status. (status ≡ 0) ⊎ (status ≡ 3)) }
+{
+    let Ok(text) = followed_text(alloc, done) else {
+        return Err(FollowRunFault::Follow(FollowFault::OutOfMemory));
+    };
+    match write_evidence(
+        files,
+        alloc,
+        following.origin,
+        keys,
+        following.forks,
+        &done.forks,
+    ) {
+        Ok(()) => match write_whole(output, text.as_bytes()) {
+            Ok(()) => Ok(followed_status(done)),
+            Err(_) => Err(FollowRunFault::WriteFault),
+        },
+        Err(fault) => match write_whole(output, text.as_bytes()) {
+            Ok(()) => Err(FollowRunFault::Evidence(fault)),
+            Err(_) => Err(FollowRunFault::EvidenceAndOutput(fault)),
+        },
+    }
+}
+
+/// Follows the places into the open folder, and reports the result, after the named note was read.
+pub(crate) fn follow_open<
+    H: TreeHash,
+    F: NamedFiles,
+    D: CountedFolders,
+    S: Source + Drop,
+    W: Write,
+>(
+    files: &mut F,
+    folders: &mut D,
+    alloc: Global,
+    keys: &[Box<dyn Verifier>],
+    following: &Following<'_>,
+    places: &mut Places<S>,
+    given: Option<Vec<u8>>,
+    output: &mut W,
+) -> Result<u8, FollowRunFault>
+    requires { ReadsNote (F.puts files.old)
+        (option_map (λ name. name.now) following.now.checkpoint)
+        (Ok (option_map (λ v. v.items) given)) }
+    ensures { RunsFollow H.digest S.may_answer following.now.origin.now
+        (map (λ k. key k) keys.now) places.old places.new
+        (option_map (λ name. name.now) following.now.checkpoint)
+        (option_map (λ name. name.now) following.now.forks) (D.puts folders.old)
+        (D.puts folders.old) (D.puts folders.new) (D.failed folders.old) (D.failed folders.new)
+        (F.puts files.old) (F.puts files.new) (W.contents output.old) (W.contents output.new)
+        result }
+{
+    match follow_reporting::<H, D, S>(folders, alloc, keys, following, places, given) {
+        Ok(done) => report_done(files, alloc, keys, following, &done, output),
+        Err(fault) => Err(FollowRunFault::Follow(fault)),
+    }
+}
+
+// Reads the named note, follows the places, and reports the result.
+fn follow_and_report<
+    H: TreeHash,
+    F: NamedFiles,
+    D: CountedFolders,
+    S: Source + Drop,
+    L: Hold,
+    W: Write,
+>(
+    files: &mut F,
+    folders: &mut D,
+    alloc: Global,
+    keys: &[Box<dyn Verifier>],
+    following: &Following<'_>,
+    places: &mut Places<S>,
+    hold: &mut L,
+    output: &mut W,
+) -> Result<u8, FollowRunFault>
+    ensures follows { Follows H.digest following.now.origin.now
+        (map (λ k. key k) keys.now)
+        (IsNoteOf S.may_answer (F.puts files.old)
+        (option_map (λ name. name.now) following.now.checkpoint) places.old)
+        (option_map (λ name. name.now) following.now.forks)
+        (D.held folders.old following.now.folder.now) (D.puts folders.old) (D.puts folders.new)
+        (F.puts files.old) (F.puts files.new) (W.contents output.old) (W.contents output.new)
+        result }
+    ensures says { SettlesRun H.digest following.now.origin.now (map (λ k. key k) keys.now)
+        (AreRunCandidates S.may_answer following.now.origin.now (map (λ k. key k) keys.now)
+        places.old places.new (F.puts files.old)
+        (option_map (λ name. name.now) following.now.checkpoint))
+        (D.held folders.old following.now.folder.now) (D.puts folders.new)
+        (option_map (λ name. name.now) following.now.forks) (F.puts files.old) (F.puts files.new)
+        (W.contents output.old) (W.contents output.new) result }
+    ensures ends { IfErr result (λ e. (fault : FollowFault) → e ≡ FollowRunFault.Follow fault
+        → EndsFollowing H.digest S.may_answer following.now.origin.now (map (λ k. key k) keys.now)
+        (D.held folders.old following.now.folder.now) places.old places.new (F.puts files.old)
+        (option_map (λ name. name.now) following.now.checkpoint) fault) }
+    ensures given { ReadsGiven (F.puts files.old)
+        (option_map (λ name. name.now) following.now.checkpoint) result }
+    ensures counted { CountsRun (D.failed folders.old) (D.failed folders.new) result }
+    ensures status { IfOk result (λ status. (status ≡ 0) ⊎ (status ≡ 3)) }
+    ensures suffices { SufficesForRun H.digest S.may_answer following.now.origin.now
+        (map (λ k. key k) keys.now) (D.held folders.old following.now.folder.now)
+        (D.puts folders.new) places.old places.new (F.puts files.old)
+        (option_map (λ name. name.now) following.now.checkpoint) (W.contents output.old)
+        (W.contents output.new) result }
+{
+    let given = match read_given(files, following.checkpoint) {
+        Ok(given) => given,
+        Err(fault) => return Err(FollowRunFault::File(fault)),
+    };
+    match follow_into::<H, D, S, L>(folders, alloc, keys, following, places, hold, given) {
+        Ok(done) => report_done(files, alloc, keys, following, &done, output),
+        Err(fault) => Err(fault),
+    }
+}
+
+/// Brings the copy in the folder to the newest checkpoint that the places give, as `copy_follow::follow` does. Then, if a folder for
+/// evidence is named, writes the evidence of each fork: both notes as `SIZE-ROOT-0.note`, and the proof, which the command `check` reads, as
+/// `SMALL-ROOT-LARGE-ROOT.proof`. A file that stands there stays if it serves: it is the proof, the note, or another note of that size and root
+/// that opens under the keys. Else it is replaced. Last writes the result to the output, in the form of `followed_text`, also if the evidence
+/// was not written. Returns the exit status: 3 if there is a fork, or a larger candidate to which the copy could not be brought, else 0.
+///
+/// If the file of a note is named, that note is the only candidate, and no place is asked for its checkpoint. Once it was read, the folder of
+/// the copy is held, before it is read.
+///
+/// ```text
+/// let following = Following { origin: "ex", folder: "log", checkpoint: None, forks: Some("forks"), progress: false };
+/// let mut hold = SystemHold::new(&rt, alloc);
+/// run_follow::<Sha256Tree, _, _, _, _, _>(&mut files, &mut folders, alloc, &keys, &following, &mut places, &mut hold, &mut output)? // 0
+/// ```
+///
+/// # Errors
+///
+/// In this order. `File`: the named file of a note could not be read. `CopyInUse`: another run holds the folder. `OutOfMemory`: memory for the
+/// folder's name was refused. Nothing is put at these three. `Follow`, with the faults of `copy_follow::follow`: files that were put before stay; or memory for the text was
+/// refused, and no evidence is put. `Evidence`: not all of the evidence was put or flushed, but the output was written.
+/// `EvidenceAndOutput`: neither was. `WriteFault`: the output could not be written, but the evidence was.
+pub fn run_follow<
+    H: TreeHash,
+    F: NamedFiles,
+    D: CountedFolders,
+    S: Source + Drop,
+    L: Hold,
+    W: Write,
+>(
+    files: &mut F,
+    folders: &mut D,
+    alloc: Global,
+    keys: &[Box<dyn Verifier>],
+    following: &Following<'_>,
+    places: &mut Places<S>,
+    hold: &mut L,
+    output: &mut W,
+) -> Result<u8, FollowRunFault>
+    ensures { RunsFollow H.digest S.may_answer following.now.origin.now
+        (map (λ k. key k) keys.now) places.old places.new
+        (option_map (λ name. name.now) following.now.checkpoint)
+        (option_map (λ name. name.now) following.now.forks)
+        (D.held folders.old following.now.folder.now) (D.puts folders.old) (D.puts folders.new)
+        (D.failed folders.old) (D.failed folders.new) (F.puts files.old) (F.puts files.new)
+        (W.contents output.old) (W.contents output.new) result }
+{
+    follow_and_report::<H, F, D, S, L, W>(
+        files, folders, alloc, keys, following, places, hold, output,
+    )
+}

@@ -1,5 +1,0 @@
-use Rattle.std.proofs.Common.{arith}
-use Rattle.program_files.proofs.system.not_long.Goals as goal
-
-pub returns : goal.returns
-returns c = omega arith

@@ -1,6 +1,0 @@
-use Rattle.std.specs.Prelude.{string_bytes}
-use Rattle.program_follow.specs.Whys.{AreWhyLines}
-use Rattle.program_follow.proofs.why.follow_why.Given as goal
-
-abbrev pub invariant-loop-place : goal.invariant-loop-place
-invariant-loop-place g l = AreWhyLines (string_bytes l.text)

@@ -1,6 +1,0 @@
-pub mod Text
-pub mod Evidence
-pub mod Following
-pub mod Whys
-pub mod Places
-pub mod Repairing

@@ -1,0 +1,14 @@
+use Rattle.std.proofs.Common.{subst}
+use Rattle.byte_streams.specs.Streams.{AppendsPrefix}
+use Rattle.program_io.specs.ProgressView.{ProgressView}
+use Rattle.program_io.specs.ProgressText.{line_of, grown_text}
+use Rattle.program_io.specs.declared.task.Task.TheVariants.{Follow}
+use Rattle.program_io.proofs.progress.Progress.report_followed.Goals as goal
+
+pub returns-clause-line : goal.returns-clause-line
+returns-clause-line g c =
+    let contents = g.W.Write.contents in
+    let text = grown_text Follow c.args.old c.args.size c.self.inside.counts in
+    subst (λ (t : ProgressView _). AppendsPrefix (contents t.writer) (contents c.write_made.new.writer)
+    (line_of (grown_text Follow c.args.old c.args.size t.counts))) c.self.view_is
+    (c.write_made.ensures (line_of text) c.followed_line-line.ensures.text)

@@ -1,4 +1,0 @@
-mod Asking
-mod Compares
-mod Writing
-mod Serving

@@ -1,9 +1,0 @@
-use Rattle.program_env.specs.Exchanges.{AnswersMore}
-use Rattle.report_commands.specs.Clients.{IsAnswer}
-use Rattle.report_commands.proofs.serve.serve_all.Given as goal
-
--- each iteration so far answered one client
-abbrev pub invariant-loop : goal.invariant-loop
-invariant-loop g l =
-    AnswersMore (IsAnswer g.H.TreeHash.digest l.mirror.view) l.counter (g.S.Clients.exchanges l.fn.clients)
-    (g.S.Clients.exchanges l.clients)

@@ -1,9 +1,0 @@
-use Rattle.std.proofs.Common.{map, take}
-use Rattle.state_text.specs.Opening.{AreOpened}
-use Rattle.state_text.proofs.opening.open_all.Given as goal
-
--- the notes so far are opened
-abbrev pub invariant-loop-note : goal.invariant-loop-note
-invariant-loop-note g l =
-    AreOpened l.origin (map (λ k. (goal.Verifier-dyn g (k.vtable, k.value)).key k.value) l.keys)
-    (take l.note-index (map (λ n. n.now) l.notes)) l.heads.items

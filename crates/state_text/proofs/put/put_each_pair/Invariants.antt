@@ -1,9 +1,0 @@
-use Rattle.std.proofs.Common.{map, take, Ok}
-use Rattle.state_text.specs.declared.items.Form.TheVariants.{Hashes}
-use Rattle.state_text.specs.Items.{items_text}
-use Rattle.state_text.specs.Putting.{pair_bytes, Puts}
-use Rattle.state_text.proofs.put.put_each_pair.Given as goal
-
-abbrev pub invariant-loop-left : goal.invariant-loop-left
-invariant-loop-left g l = Puts (g.W.Write.contents l.fn.writer) (g.W.Write.contents l.writer) l.fn.page l.page
-    (items_text Hashes (map pair_bytes (take l.left-index l.pairs))) (Ok tt)

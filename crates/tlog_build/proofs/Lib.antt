@@ -1,3 +1,0 @@
-mod EntryLists
-pub mod Logs
-mod PutPaths

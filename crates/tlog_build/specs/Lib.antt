@@ -1,4 +1,0 @@
-pub mod Entries
-pub mod Faults
-pub mod Signing
-pub mod Building

@@ -1,0 +1,24 @@
+use Rattle.std.proofs.Common.{◌≡◌, List, length, subst, sym, rules}
+use Rattle.std.proofs.lemmas.Result.{IfOk-weaker}
+use Rattle.tlog_mirror.specs.Branches.{AreCalm, all_forks}
+use Rattle.tlog_mirror.specs.Forks.{AreForksOf}
+use Rattle.tlog_mirror.specs.declared.branches.Branch.{Branch}
+use Rattle.tlog_mirror.proofs.ReportedForks.{found_forks}
+use Rattle.tlog_mirror.proofs.fork_search.forks_of.Goals as goal
+
+pub returns : goal.returns
+returns g c =
+    let marks = c.as_mut_slice.result.now in
+    let branches = c.in_ok-branches.branches.items in
+    let calm = c.as_slice-2.result.now in
+    let are_calm =
+    subst (λ (bs : List Branch). AreCalm bs calm) c.as_slice.ensures.value
+    (subst (AreCalm c.as_slice.result.now) (sym c.as_slice-2.ensures.value) c.in_ok-calm.ensures.calm) in
+    let len : length c.as_mut_slice.result.now ≡ length c.as_slice-3.result.now = search rules in
+    IfOk-weaker c.list_forks.result (λ forks. forks.items ≡ all_forks calm 0 marks c.as_slice-3.result.now)
+    (λ forks. AreForksOf g.H.TreeHash.digest c.args.store.now c.args.points.now forks.items)
+    (λ forks is. subst (AreForksOf g.H.TreeHash.digest c.args.store.now c.args.points.now) (sym is)
+    (found_forks g.H.TreeHash.digest c.args.store.now c.args.points.now c.requires.rising
+    branches c.in_ok-branches.ensures.each c.in_ok-branches.ensures.heads c.as_slice-3.result.now
+    c.as_slice-3.ensures.value calm are_calm marks len))
+    c.list_forks.ensures
