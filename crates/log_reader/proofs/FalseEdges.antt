@@ -5,7 +5,8 @@ use Rattle.tlog_tiles.specs.Row.{IsRow}
 use Rattle.tlog_tiles.specs.declared.paths.Path.{Path}
 use Rattle.tlog_tiles.specs.declared.paths.Path.TheVariants.{Tile}
 use Rattle.mirror_sources.specs.Source.{StaysWithin}
-use Rattle.log_reader.specs.FalseEdges.{HasNoRow, IsFalseEdge, IsFalsePart, IsPartGiven, IsRowGiven, LacksPart, NamesFalseEdge, NamesFalsePart, NamesNoPart, full_path, part_path}
+use Rattle.log_reader.specs.EdgeRows.{Edge, row_at}
+use Rattle.log_reader.specs.FalseEdges.{HasNoRow, IsEdgeGiven, IsFalseEdge, IsFalsePart, IsPartGiven, IsRowGiven, LacksPart, NamesFalseEdge, NamesFalsePart, NamesNoPart, full_path, part_path}
 use Rattle.log_reader.specs.Faults.{IsFailure}
 use Rattle.log_reader.specs.declared.fault.ReadFault.{ReadFault}
 use Rattle.log_reader.specs.declared.fault.ReadFault.TheVariants.{NoFile, FalseFile, Collision, Source, OutOfMemory}
@@ -78,6 +79,9 @@ module _ (old new : Path → Option (List ℕ) → Type 0) (size : ℕ)
   row_given level some row (inr h) =
       inr (gives (part_path size level) (some_part level some) None h.0, start_given level row h.1)
 
+  pub rows_given : (edge : Edge) → IsEdgeGiven new size edge → IsEdgeGiven old size edge
+  rows_given edge h = λ level low some. row_given level some (row_at edge level) (h level low some)
+
   pub parts_given : (fault : ReadFault) → NamesFalsePart new size fault → NamesFalsePart old size fault
   parts_given (NoFile named) h = (h.0, part_given h.0 named h.1)
   parts_given (FalseFile named) h = (h.0, part_given h.0 named h.1)
@@ -93,7 +97,7 @@ module _ (old new : Path → Option (List ℕ) → Type 0) (size : ℕ)
       edge = h.edge;
       size_is = h.size_is;
       widths = h.widths;
-      rows = λ level low some. row_given level some _ (h.rows level low some);
+      rows = rows_given h.edge h.rows;
       lowest = h.lowest;
       wrong = h.wrong;
     })

@@ -60,6 +60,11 @@ module _ (may : Path → Option (List ℕ) → Type 0) (size level : ℕ) where
     pub given : may (part_path size level) answer
     pub wrong : HasNoRow named answer
 
+-- each row of the edge is one that the source gives
+abbrev pub IsEdgeGiven : (Path → Option (List ℕ) → Type 0) → ℕ → Edge → Type 0
+IsEdgeGiven may size edge =
+    (level : ℕ) → level ≤ 7 → 0 < width_of size level → IsRowGiven may size level (row_at edge level)
+
 -- the path is that of the lowest partial tile, or the checkpoint's if there is none
 abbrev pub IsLowest : ℕ → Path → Type 0
 IsLowest size Checkpoint = (level : ℕ) → level ≤ 7 → width_of size level ≡ 0
@@ -74,7 +79,7 @@ module _ (digest : List ℕ → List ℕ) (may : Path → Option (List ℕ) → 
     pub edge : Edge
     pub size_is : edge.size ≡ size
     pub widths : HasWidths edge
-    pub rows : (level : ℕ) → level ≤ 7 → 0 < width_of size level → IsRowGiven may size level (row_at edge level)
+    pub rows : IsEdgeGiven may size edge
     pub lowest : IsLowest size named
     pub wrong : hash_of_edge digest edge ≢ root
 

@@ -6,8 +6,8 @@ ghost use Rattle.tlog_tiles.specs.declared.paths.Path.TheVariants.{Tile};
 ghost use Rattle.mirror_sources.specs.Source.{StaysWithin};
 ghost use Rattle.mirror_sources.specs.Recorded.{KeepsRecord};
 ghost use Rattle.log_reader.specs.Faults.{CountsFailure};
-ghost use Rattle.log_reader.specs.FalseEdges.{IsLowest, IsPartGiven, IsRowGiven, NamesFalseEdge, NamesFalsePart, NamesNoPart};
-ghost use Rattle.log_reader.specs.EdgeRows.{RowIsTrue, hash_of_edge, row_at};
+ghost use Rattle.log_reader.specs.FalseEdges.{IsEdgeGiven, IsLowest, IsPartGiven, IsRowGiven, NamesFalseEdge, NamesFalsePart, NamesNoPart};
+ghost use Rattle.log_reader.specs.EdgeRows.{RowIsTrue, hash_of_edge};
 ghost use Rattle.log_reader.specs.Holding.{GivesWay, IsEdgeRowOf, IsSourceOf, ReadsLog, ReadsTrue};
 ghost use Rattle.log_reader.specs.Ways.{AreHashesOf, HasEdgeHashes};
 
@@ -134,8 +134,7 @@ fn read_rows<H: TreeHash, S: Source>(
 ) -> Result<EdgeRows, ReadFault>
     ensures size { IfOk result (λ edge. edge.size ≡ size) }
     ensures rows { IfOk result (λ edge. HasEdgeHashes edge) }
-    ensures got { IfOk result (λ edge. (level : ℕ) → level ≤ 7 → 0 < width_of size level
-        → IsRowGiven (S.may_answer source.old) size level (row_at edge level)) }
+    ensures got { IfOk result (IsEdgeGiven (S.may_answer source.old) size) }
     ensures names { IfErr result (NamesFalsePart (S.may_answer source.old) size) }
     ensures later { StaysWithin (S.may_answer source.old) (S.may_answer source.new) }
     ensures kept { KeepsRecord (S.files source.old) (S.files source.new) }
@@ -161,6 +160,7 @@ pub(crate) fn read_edge<H: TreeHash, S: Source>(
     ensures size { IfOk result (λ edge. edge.size ≡ size) }
     ensures rows { IfOk result (λ edge. HasEdgeHashes edge) }
     ensures root { IfOk result (λ edge. hash_of_edge H.digest edge ≡ root.now) }
+    ensures got { IfOk result (IsEdgeGiven (S.may_answer source.old) size) }
     ensures names { IfErr result
         (NamesFalseEdge H.digest (S.may_answer source.old) size root.now) }
     ensures later { StaysWithin (S.may_answer source.old) (S.may_answer source.new) }

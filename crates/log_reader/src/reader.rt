@@ -6,7 +6,7 @@ ghost use Rattle.tlog_hash.specs.Tree.{fold_of};
 ghost use Rattle.mirror_sources.specs.Source.{StaysWithin};
 ghost use Rattle.mirror_sources.specs.Recorded.{KeepsRecord};
 ghost use Rattle.log_reader.specs.Faults.{CountsFailure};
-ghost use Rattle.log_reader.specs.FalseEdges.{NamesFalseEdge};
+ghost use Rattle.log_reader.specs.FalseEdges.{IsEdgeGiven, NamesFalseEdge};
 ghost use Rattle.log_reader.specs.Holding.{IsReaderOf, ReadsLog};
 ghost use Rattle.log_reader.specs.EdgeRows.{hash_of_edge};
 ghost use Rattle.log_reader.specs.Ways.{HasEdgeHashes, IsRowUnder, IsShownRow, row_of_way};
@@ -91,6 +91,8 @@ impl<H: TreeHash> LogReader<H> {
     ) -> Result<LogReader<H>, ReadFault>
         ensures size { IfOk result (λ reader. reader.edge.size ≡ size) }
         ensures root { IfOk result (λ reader. reader.root ≡ root.now) }
+        ensures given { IfOk result
+            (λ reader. IsEdgeGiven (S.may_answer source.old) size reader.edge) }
         ensures names { IfErr result
             (NamesFalseEdge H.digest (S.may_answer source.old) size root.now) }
         ensures later { StaysWithin (S.may_answer source.old) (S.may_answer source.new) }

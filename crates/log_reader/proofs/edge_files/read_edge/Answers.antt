@@ -8,7 +8,7 @@ use Rattle.log_reader.specs.declared.fault.ReadFault.TheVariants.{OutOfMemory}
 use Rattle.log_reader.proofs.Exits.{counted_exit, failed_exit, memory_exit}
 use Rattle.log_reader.proofs.FalseEdges.{edge_named}
 use Rattle.log_reader.proofs.FalseFiles.{names_exit}
-use Rattle.log_reader.specs.FalseEdges.{NamesFalseEdge}
+use Rattle.log_reader.specs.FalseEdges.{IsEdgeGiven, NamesFalseEdge}
 use Rattle.log_reader.proofs.edge_files.read_edge.Goals as goal
 
 pub returns-in_err-rows : goal.returns-in_err-rows
@@ -20,6 +20,7 @@ returns-in_err-rows g c =
       size = IfOk-from_err exit.result _ exit.ensures.0;
       rows = IfOk-from_err exit.result _ exit.ensures.0;
       root = IfOk-from_err exit.result _ exit.ensures.0;
+      got = IfOk-from_err exit.result _ exit.ensures.0;
       later = step.later;
       kept = step.kept;
       counted = counted_exit exit.result c.read_rows.result c.in_err-rows.field-0.0 exit.ensures c.in_err-rows.was
@@ -40,6 +41,7 @@ returns-in_err-edge g c =
       size = IfOk-from_err exit.result _ exit.ensures.0;
       rows = IfOk-from_err exit.result _ exit.ensures.0;
       root = IfOk-from_err exit.result _ exit.ensures.0;
+      got = IfOk-from_err exit.result _ exit.ensures.0;
       later = step.later;
       kept = step.kept;
       counted = memory_exit exit.result exit.ensures (failed c.args.source.now) (failed c.read_rows.new.source) step.counted;
@@ -56,6 +58,7 @@ returns-then-is_same g c =
       size = ap (λ e. e.size) is ∙ step.size;
       rows = subst HasEdgeHashes (sym is) step.rows;
       root = sym c.root.ensures ∙ c.is_same.ensures.0 c.if-is_same.true;
+      got = subst (IsEdgeGiven (g.S.Source.may_answer c.args.source.now) c.args.size) (sym is) step.got;
       later = step.later;
       kept = step.kept;
       counted = step.counted;
@@ -70,6 +73,7 @@ returns-else-is_same g c = record {
   size = tt;
   rows = tt;
   root = tt;
+  got = tt;
   later = c.in_ok-rows.ensures.later;
   kept = c.in_ok-rows.ensures.kept;
   counted = c.in_ok-rows.ensures.counted;

@@ -15,6 +15,7 @@ returns-in_err-edge g c =
     record {
       size = IfOk-from_err exit.result _ exit.ensures.0;
       root = IfOk-from_err exit.result _ exit.ensures.0;
+      given = IfOk-from_err exit.result _ exit.ensures.0;
       later = step.later;
       kept = step.kept;
       counted = counted_exit exit.result c.read_edge.result fault exit.ensures c.in_err-edge.was (failed c.args.source.now)
