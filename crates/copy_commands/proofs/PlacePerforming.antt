@@ -7,7 +7,6 @@ use Rattle.signed_note.specs.Keys.{Key}
 use Rattle.tlog_tiles.specs.declared.paths.Path.{Path}
 use Rattle.copy_places.specs.declared.places.Places.{Places}
 use Rattle.program_copies.specs.Places.{MayAnswerAny, PlaceName, SeenPlace}
-use Rattle.program_copies.specs.Repairing.{RunsRepair}
 use Rattle.program_copies.specs.declared.follow_fault.FollowRunFault.{FollowRunFault}
 use Rattle.program_copies.specs.declared.follow_fault.FollowRunFault.TheVariants as follow
 use Rattle.program_copies.specs.declared.repair_fault.RepairRunFault.{RepairRunFault}
@@ -21,31 +20,13 @@ use Rattle.program_io.specs.Moment.{Moment}
 use Rattle.program_io.specs.Performing.{IsStatus, MayLeave, Performs, Stays}
 use Rattle.copy_commands.specs.PlaceFaults.{IsLate}
 use Rattle.copy_commands.specs.Audit.{AnswersPlace, AnswersSeen, AuditsPlace, DoesAudit}
-use Rattle.copy_commands.specs.Follow.{AnswersAmong, DoesFollow, RepairsAmong}
+use Rattle.copy_commands.specs.Follow.{AnswersAmong, DoesFollow}
 use Rattle.copy_commands.specs.Places.{name_of, names_of}
 use Rattle.copy_commands.specs.declared.place_fault.PlaceRunFault.{PlaceRunFault}
 use Rattle.copy_commands.specs.declared.place_fault.PlaceRunFault.TheVariants.{Audit, Follow, Origin, OutOfMemory, Repair}
 use Rattle.program_io.proofs.Performing.{performs, performs_done}
 
 -- ---- follow
-
--- the repair counts from 0
-pub repairs_from : (digest : List ℕ → List ℕ) {S : Type 0} (may : S → Path → Option (List ℕ) → Type 0) (failed : S → ℕ)
-    (asked : S → Option (List Path)) (keys : List Key) (old new : Moment) (places left : Places S) (c : FollowWords)
-    (failures more_failures from count : ℕ) → from ≡ 0 → (answer : Result ℕ RepairRunFault) →
-    RunsRepair digest may failed asked c.copy.log.origin.now keys places left (option_map (λ name. name.now) c.checkpoint)
-    (option_map (λ name. name.now) c.forks) (old.held c.copy.folder.now) old.puts new.puts failures more_failures
-    old.files new.files old.output new.output from count answer →
-    RepairsAmong digest may failed asked keys old new places c answer
-repairs_from digest may failed asked keys old new places left c failures more_failures from count same answer h = record {
-  left = left;
-  failures = failures;
-  more_failures = more_failures;
-  count = count;
-  runs = subst (λ n. RunsRepair digest may failed asked c.copy.log.origin.now keys places left
-      (option_map (λ name. name.now) c.checkpoint) (option_map (λ name. name.now) c.forks) (old.held c.copy.folder.now)
-      old.puts new.puts failures more_failures old.files new.files old.output new.output n count answer) same h;
-}
 
 -- the answer of the call is that of the command
 pub same_answer : (digest : List ℕ → List ℕ) {S : Type 0} (may : S → Path → Option (List ℕ) → Type 0) (failed : S → ℕ)

@@ -1,8 +1,9 @@
 -- The command `follow`: the meaning of each answer for the places, the given note, the folder of the copy, the output and the evidence.
-use Rattle.std.specs.Prelude.{◌≡◌, ◌⊎◌, ℕ, List, Option, None, Result, Ok, Err, IsFalse, IsTrue, map, option_map, ⊤}
+use Rattle.std.specs.Prelude.{◌≡◌, ◌⊎◌, ℕ, List, [], Option, None, Result, Ok, Err, IsFalse, IsTrue, map, option_map, ⊤}
 use Rattle.signed_note.specs.Keys.{Key}
 use Rattle.tlog_tiles.specs.declared.paths.Path.{Path}
 use Rattle.copy_places.specs.declared.places.Places.{Places}
+use Rattle.copy_follow.specs.declared.repaired.Repaired.{Repaired}
 use Rattle.program_words.specs.declared.commands.follow.Follow.{Follow as FollowWords}
 use Rattle.program_copies.specs.Following.{RunsFollow}
 use Rattle.program_copies.specs.Places.{MayAnswerAny, SeenPlace}
@@ -28,16 +29,18 @@ module _ (digest : List ℕ → List ℕ) {S : Type 0} (may : S → Path → Opt
         (option_map (λ name. name.now) c.forks) (old.held c.copy.folder.now) old.puts new.puts failures more_failures
         old.files new.files old.output new.output answer
 
-  -- the same after a repair, which put so many files
+  -- the same after a repair, which began with nothing done
   pub record RepairsAmong (c : FollowWords) (answer : Result ℕ RepairRunFault) : Type 0 where
     pub left : Places S
     pub failures : ℕ
     pub more_failures : ℕ
-    pub count : ℕ
+    pub begun : Repaired
+    pub nothing : (begun.put ≡ 0) × (begun.damaged.items ≡ [])
+    pub done : Repaired
     pub runs :
         RunsRepair digest may failed asked c.copy.log.origin.now keys places left (option_map (λ name. name.now) c.checkpoint)
         (option_map (λ name. name.now) c.forks) (old.held c.copy.folder.now) old.puts new.puts failures more_failures
-        old.files new.files old.output new.output 0 count answer
+        old.files new.files old.output new.output begun done answer
 
   -- the meaning of each answer for these places, whose words are right: the copy is repaired first if the words ask for it
   abbrev pub AnswersAmong : FollowWords → Result ℕ PlaceRunFault → Type 0

@@ -1,5 +1,5 @@
 //! The command `follow`: it brings a copy to the newest checkpoint of its places.
-ghost use Rattle.std.specs.Prelude.{◌≡◌, map};
+ghost use Rattle.std.specs.Prelude.{[], ◌≡◌, map};
 ghost use Rattle.std.specs.Result.{result_map_both};
 ghost use Rattle.sha2.specs.Sha256.{sha256};
 ghost use Rattle.program_io.specs.Envs.{IsSameEnv, moment};
@@ -134,7 +134,7 @@ fn repair_or_follow<
     hold: &mut L,
     repaired: &mut Repaired,
 ) -> Result<u8, PlaceRunFault>
-    requires { repaired.old.put ≡ 0 }
+    requires { (repaired.old.put ≡ 0) × (repaired.old.damaged.items ≡ []) }
     ensures same { IsSameEnv env.old env.new }
     ensures does { AnswersAmong sha256 S.may_answer S.failed S.asked (map (λ k. key k) keys.now)
         (moment F.puts D.held D.puts I.remaining O.contents env.old)

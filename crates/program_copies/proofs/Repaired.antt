@@ -6,6 +6,7 @@ use Rattle.mirror_folders.specs.Shelf.{Put}
 use Rattle.copy_places.specs.declared.places.Places.{Places}
 use Rattle.copy_follow.specs.Faults.{CountsFault}
 use Rattle.copy_follow.specs.declared.bring_fault.BringFault.{BringFault}
+use Rattle.copy_follow.specs.declared.repaired.Repaired.{Repaired}
 use Rattle.program_io.specs.Named.{NamedFile}
 use Rattle.program_copies.specs.Following.{ReadsNote, RunsFollow}
 use Rattle.program_copies.specs.Repairing.{CountsRepairFault, FollowsLost, FollowsPrinted, PrintsRepair, RepairsCopy, RunsOpen, RunsRepair}
@@ -27,7 +28,7 @@ counts_after a b (Copy fault) same counted = subst (λ n. CountsFault a n fault)
 module _ (digest : List ℕ → List ℕ) {S : Type 0} (may : S → Path → Option (List ℕ) → Type 0) (failed : S → ℕ)
     (asked : S → Option (List Path)) (origin : List ℕ) (keys : List Key) (places left_places : Places S)
     (name forks : Option (List ℕ)) (held before put : Option (List Put)) (failures more_failures : ℕ)
-    (recorded left : Option (List NamedFile)) (old new : Option (List ℕ)) (from to : ℕ) where
+    (recorded left : Option (List NamedFile)) (old new : Option (List ℕ)) (from to : Repaired) where
   abbrev Open : Result ℕ RepairRunFault → Type 0
   Open r =
       RunsOpen digest may failed asked origin keys places left_places name forks held put failures more_failures recorded left
@@ -36,7 +37,7 @@ module _ (digest : List ℕ → List ℕ) {S : Type 0} (may : S → Path → Opt
   -- the run ended with its repair
   pub ends_printed : (given : Option (List ℕ)) → ReadsNote recorded name (Ok given) → (answer : Result (Unit {0}) RepairFault) →
       RepairsCopy digest may failed asked origin keys places left_places held put failures more_failures from to answer →
-      left ≡ recorded → (fault : RepairRunFault) → PrintsRepair to old new answer (Err fault) → Open (Err fault)
+      left ≡ recorded → (fault : RepairRunFault) → PrintsRepair to.put old new answer (Err fault) → Open (Err fault)
   ends_printed given reads answer repairs same OutOfMemory p =
       (answer, record { given = given; reads = reads; repairs = repairs; files = same; line = p })
   ends_printed given reads answer repairs same (Repair fault) p = record {
@@ -59,13 +60,13 @@ module _ (digest : List ℕ → List ℕ) {S : Type 0} (may : S → Path → Opt
 
   -- the repair has no fault, and its line was written whole or not
   line_of : (text : Option (List ℕ)) (answer : Result (Unit {0}) RepairFault) (printed is : Bool) → printed ≡ is →
-      PrintsRepair to old text answer (Ok printed) → PrintsRepair to old text answer (Ok is)
-  line_of text answer printed is same p = subst (λ (b : Bool). PrintsRepair to old text answer (Ok b)) same p
+      PrintsRepair to.put old text answer (Ok printed) → PrintsRepair to.put old text answer (Ok is)
+  line_of text answer printed is same p = subst (λ (b : Bool). PrintsRepair to.put old text answer (Ok b)) same p
 
   -- then the copy was followed
   pub printed_done : (mid_places : Places S) (mid : Option (List Put)) (mid_failures : ℕ) (answer : Result (Unit {0}) RepairFault) →
       RepairsCopy digest may failed asked origin keys places mid_places held mid failures mid_failures from to answer →
-      (text : Option (List ℕ)) (printed : Bool) → printed ≡ true → PrintsRepair to old text answer (Ok printed) →
+      (text : Option (List ℕ)) (printed : Bool) → printed ≡ true → PrintsRepair to.put old text answer (Ok printed) →
       (r : Result ℕ FollowRunFault) →
       RunsFollow digest may origin keys mid_places left_places name forks mid mid put mid_failures more_failures recorded left
       text new r →
@@ -88,7 +89,7 @@ module _ (digest : List ℕ → List ℕ) {S : Type 0} (may : S → Path → Opt
 
   pub unprinted_done : (mid_places : Places S) (mid : Option (List Put)) (mid_failures : ℕ) (answer : Result (Unit {0}) RepairFault) →
       RepairsCopy digest may failed asked origin keys places mid_places held mid failures mid_failures from to answer →
-      (printed : Bool) → printed ≡ false → PrintsRepair to old new answer (Ok printed) → (fault : FollowRunFault) →
+      (printed : Bool) → printed ≡ false → PrintsRepair to.put old new answer (Ok printed) → (fault : FollowRunFault) →
       FollowsLost digest may origin keys mid_places left_places name forks mid put mid_failures more_failures recorded left fault →
       Open (Err (Unprinted fault))
   unprinted_done mid_places mid mid_failures answer repairs printed is p fault follows =

@@ -10,13 +10,17 @@ use Rattle.byte_streams.specs.Streams.{AppendsPrefix}
 use Rattle.signed_note.specs.Keys.{Key}
 use Rattle.mirror_model.specs.Heads.{IsHead}
 use Rattle.mirror_model.specs.Refusals.{IsOpenCheckpoint, ReadsHead}
+use Rattle.mirror_model.specs.TrueLaws.{AreShort}
 use Rattle.mirror_sources.specs.Recorded.{KeepsRecord}
 use Rattle.mirror_folders.specs.Shelf.{Put, RecordsRead}
 use Rattle.copy_places.specs.declared.places.Places.{Places}
 use Rattle.copy_follow.specs.Faults.{CountsFault}
+use Rattle.copy_follow.specs.Lacked.{AtOkOrLack, GoesOverAll}
+use Rattle.copy_follow.specs.Named.{NamesDamaged}
 use Rattle.copy_follow.specs.Repaired.{AsksToRepair, CountsPuts, IsClearLog, IsRepaired, PutsTrue}
 use Rattle.copy_follow.specs.Taken.{MayTake}
 use Rattle.copy_follow.specs.declared.bring_fault.BringFault.TheVariants as bring
+use Rattle.copy_follow.specs.declared.repaired.Repaired.{Repaired}
 use Rattle.program_io.specs.Named.{NamedFile}
 use Rattle.program_copies.specs.Following.{ReadsGiven, ReadsNote, RunsFollow}
 use Rattle.program_copies.specs.declared.follow_fault.FollowRunFault.{FollowRunFault}
@@ -25,6 +29,12 @@ use Rattle.program_copies.specs.declared.repair_fault.RepairFault.{RepairFault}
 use Rattle.program_copies.specs.declared.repair_fault.RepairFault.TheVariants.{Note, Copy}
 use Rattle.program_copies.specs.declared.repair_fault.RepairRunFault.{RepairRunFault}
 use Rattle.program_copies.specs.declared.repair_fault.RepairRunFault.TheVariants.{Early, OutOfMemory, Repair, RepairAndOutput, Followed, Unprinted}
+
+-- the claim holds at Ok, and where nobody had a file
+abbrev pub AtRepairedOrLack : {T : Type 0} → Result T RepairFault → Type 0 → Type 0
+AtRepairedOrLack (Ok x) claim = claim
+AtRepairedOrLack (Err (Note fault)) claim = ⊤
+AtRepairedOrLack (Err (Copy fault)) claim = AtOkOrLack {T = Unit {0}} (Err fault) claim
 
 -- `repaired N`
 abbrev pub repaired_line : ℕ → List ℕ
@@ -62,7 +72,7 @@ module _ (origin : List ℕ) (keys : List Key) where
 
 module _ (digest : List ℕ → List ℕ) {S : Type 0} (may : S → Path → Option (List ℕ) → Type 0) (failed : S → ℕ)
     (asked : S → Option (List Path)) (origin : List ℕ) (keys : List Key) (places left : Places S)
-    (held put : Option (List Put)) (failures more from to : ℕ) where
+    (held put : Option (List Put)) (failures more : ℕ) (from to : Repaired) where
   -- nothing was put or counted, and no place was asked
   pub record LeavesCopy : Type 0 where
     pub puts : KeepsRecord held put
@@ -74,10 +84,16 @@ module _ (digest : List ℕ → List ℕ) {S : Type 0} (may : S → Path → Opt
     pub opened : Option (List Put)
     pub same : KeepsRecord held opened
     pub asks : AsksToRepair may failed asked origin note places left
-    pub counts : CountsPuts from to opened put
+    pub counts : CountsPuts from.put to.put opened put
     pub keeps :
         (log : List (List ℕ)) → IsHead note origin (length log) (mth digest log) →
         IsClearLog digest log (MayTake may places opened) → PutsTrue digest log opened put
+    pub goes_on : AtRepairedOrLack answer ((log : List (List ℕ)) → AreShort log →
+        IsHead note origin (length log) (mth digest log) → IsClearLog digest log (MayTake may places opened) →
+        GoesOverAll digest log may places left opened put)
+    pub names : AtRepairedOrLack answer ((log : List (List ℕ)) → AreShort log →
+        IsHead note origin (length log) (mth digest log) → IsClearLog digest log (MayTake may places opened) →
+        NamesDamaged digest log opened from.damaged.items to.damaged.items)
     pub whole : OnOk answer (IsRepaired digest origin note opened put)
 
   -- what was repaired: the copy under the folder's checkpoint, if it opens under the keys. Nothing, if it has none or is refused
@@ -128,7 +144,7 @@ module _ (digest : List ℕ → List ℕ) {S : Type 0} (may : S → Path → Opt
 module _ (digest : List ℕ → List ℕ) {S : Type 0} (may : S → Path → Option (List ℕ) → Type 0) (failed : S → ℕ)
     (asked : S → Option (List Path)) (origin : List ℕ) (keys : List Key) (places left_places : Places S)
     (name forks : Option (List ℕ)) (held put : Option (List Put)) (failures more_failures : ℕ)
-    (recorded left : Option (List NamedFile)) (old new : Option (List ℕ)) (from to : ℕ) where
+    (recorded left : Option (List NamedFile)) (old new : Option (List ℕ)) (from to : Repaired) where
   -- the copy was repaired to the end. Then "so" holds of the places, the folder and its count of failures
   pub record RepairsAndThen (so : Places S → Option (List Put) → ℕ → Type 0) : Type 0 where
     pub mid_places : Places S
@@ -140,14 +156,14 @@ module _ (digest : List ℕ → List ℕ) {S : Type 0} (may : S → Path → Opt
   -- the line was written, and then the copy was followed from there
   pub record FollowsPrinted (answer : Result ℕ FollowRunFault) : Type 0 where
     pub text : Option (List ℕ)
-    pub line : Appends old text (repaired_line to)
+    pub line : Appends old text (repaired_line to.put)
     pub does : RepairsAndThen (λ mid_places mid mid_failures.
         RunsFollow digest may origin keys mid_places left_places name forks mid mid put mid_failures more_failures recorded
         left text new answer)
 
   -- only a prefix of the line was written. The rest of the output went nowhere
   pub record FollowsUnprinted (fault : FollowRunFault) : Type 0 where
-    pub line : AppendsPrefix old new (repaired_line to)
+    pub line : AppendsPrefix old new (repaired_line to.put)
     pub does : RepairsAndThen (λ mid_places mid mid_failures.
         FollowsLost digest may origin keys mid_places left_places name forks mid put mid_failures more_failures recorded left
         fault)
@@ -166,8 +182,8 @@ module _ (digest : List ℕ → List ℕ) {S : Type 0} (may : S → Path → Opt
   RunsOpen (Ok status) = FollowsPrinted (Ok status)
   RunsOpen (Err (Early fault)) = ⊥
   RunsOpen (Err OutOfMemory) = (answer : Result (Unit {0}) RepairFault) × EndsRepaired (Keeps old new) answer
-  RunsOpen (Err (Repair fault)) = EndsRepaired (Appends old new (repaired_line to)) (Err fault)
-  RunsOpen (Err (RepairAndOutput fault)) = EndsRepaired (AppendsPrefix old new (repaired_line to)) (Err fault)
+  RunsOpen (Err (Repair fault)) = EndsRepaired (Appends old new (repaired_line to.put)) (Err fault)
+  RunsOpen (Err (RepairAndOutput fault)) = EndsRepaired (AppendsPrefix old new (repaired_line to.put)) (Err fault)
   RunsOpen (Err (Followed fault)) = FollowsPrinted (Err fault)
   RunsOpen (Err (Unprinted fault)) = FollowsUnprinted fault
 
@@ -181,7 +197,7 @@ IsEarly other = ⊥
 module _ (digest : List ℕ → List ℕ) {S : Type 0} (may : S → Path → Option (List ℕ) → Type 0) (failed : S → ℕ)
     (asked : S → Option (List Path)) (origin : List ℕ) (keys : List Key) (places left_places : Places S)
     (name forks : Option (List ℕ)) (held before put : Option (List Put)) (failures more_failures : ℕ)
-    (recorded left : Option (List NamedFile)) (old new : Option (List ℕ)) (from to : ℕ) where
+    (recorded left : Option (List NamedFile)) (old new : Option (List ℕ)) (from to : Repaired) where
   -- the run ended before the repair. Nothing was put, written or asked for
   pub record EndsEarly (fault : FollowRunFault) : Type 0 where
     pub is_early : IsEarly fault

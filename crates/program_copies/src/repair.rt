@@ -111,8 +111,8 @@ fn repair_open<H: TreeHash, D: ReadableShelf, S: Source + Drop>(
 ) -> Result<(), RepairFault>
     ensures { RepairsCopy H.digest S.may_answer S.failed S.asked origin.now
         (map (λ k. key k) keys.now) places.old places.new (D.puts folders.old)
-        (D.puts folders.new) (D.failed folders.old) (D.failed folders.new) repaired.old.put
-        repaired.new.put result }
+        (D.puts folders.new) (D.failed folders.old) (D.failed folders.new) repaired.old
+        repaired.new result }
 {
     let note = match open_own::<D>(folders, alloc, origin, keys) {
         Ok(Some(note)) => note,
@@ -198,8 +198,8 @@ fn repair_and_follow<H: TreeHash, F: NamedFiles, D: CountedFolders, S: Source + 
         (option_map (λ name. name.now) following.now.checkpoint)
         (option_map (λ name. name.now) following.now.forks) (D.puts folders.old)
         (D.puts folders.new) (D.failed folders.old) (D.failed folders.new) (F.puts files.old)
-        (F.puts files.new) (W.contents output.old) (W.contents output.new) repaired.old.put
-        repaired.new.put result }
+        (F.puts files.new) (W.contents output.old) (W.contents output.new) repaired.old
+        repaired.new result }
 {
     let answer = repair_open::<H, D, S>(folders, alloc, following.origin, keys, places, repaired);
     let printed = match print_repair(alloc, repaired.put(), answer, output) {
@@ -267,7 +267,7 @@ pub fn run_repair<
         (option_map (λ name. name.now) following.now.forks)
         (D.held folders.old following.now.folder.now) (D.puts folders.old) (D.puts folders.new)
         (D.failed folders.old) (D.failed folders.new) (F.puts files.old) (F.puts files.new)
-        (W.contents output.old) (W.contents output.new) repaired.old.put repaired.new.put result }
+        (W.contents output.old) (W.contents output.new) repaired.old repaired.new result }
 {
     let given = match read_given(files, following.checkpoint) {
         Ok(given) => given,

@@ -71,7 +71,7 @@ the line before it says what it is about. Those of files that most commands read
   StateOrder, StateString, StateEdge
                the state was not made by this program: put a backup in its place
   StateHead    a note in the state does not verify under these keys: give those that it was made with
-  CopyDamaged  a file of the copy is missing or false: audit it, and follow the log into a new folder
+  CopyDamaged  a file of the copy is missing or false: mend it with 'follow --repair'
   ShelfFault   a file of the copy cannot be read: see the path and the rights
   NoTrustedSignature
                no key of the file signed the copy's checkpoint: add the log's key or a pin

@@ -8,7 +8,7 @@ returns-in-Err g c =
     ends_printed g.H.TreeHash.digest g.S.Source.may_answer g.S.Source.failed g.S.Source.asked _ _ c.args.places.now
     c.repair_open-answer.new.places _ _ (g.D.Shelf.puts c.args.folders.now) (g.D.Shelf.puts c.args.folders.now)
     (g.D.Shelf.puts c.repair_open-answer.new.folders) (g.D.Shelf.failed c.args.folders.now) (g.D.Shelf.failed c.repair_open-answer.new.folders)
-    _ _ _ _ c.args.repaired.now.put c.repair_open-answer.new.repaired.put
+    _ _ _ _ c.args.repaired.now c.repair_open-answer.new.repaired
     (option_map (λ v. v.items) c.args.given) c.requires c.repair_open-answer.result c.repair_open-answer.ensures refl
     c.in-Err.fault (subst (λ n. PrintsRepair n (g.W.Write.contents c.args.output.now) (g.W.Write.contents c.print_repair.new.output)
     c.repair_open-answer.result (Err c.in-Err.fault)) c.put.ensures c.in-Err.ensures)
@@ -18,7 +18,7 @@ returns-in-Ok-follow_open g c =
     printed_done g.H.TreeHash.digest g.S.Source.may_answer g.S.Source.failed g.S.Source.asked _ _ c.args.places.now
     c.follow_open.new.places _ _ (g.D.Shelf.puts c.args.folders.now) (g.D.Shelf.puts c.args.folders.now)
     (g.D.Shelf.puts c.follow_open.new.folders) (g.D.Shelf.failed c.args.folders.now) (g.D.Shelf.failed c.follow_open.new.folders)
-    _ _ _ _ c.args.repaired.now.put c.repair_open-answer.new.repaired.put c.repair_open-answer.new.places
+    _ _ _ _ c.args.repaired.now c.repair_open-answer.new.repaired c.repair_open-answer.new.places
     (g.D.Shelf.puts c.repair_open-answer.new.folders) (g.D.Shelf.failed c.repair_open-answer.new.folders)
     c.repair_open-answer.result c.repair_open-answer.ensures
     (g.W.Write.contents c.print_repair.new.output) c.in-Ok.printed c.if-printed.true (subst (λ n. PrintsRepair n (g.W.Write.contents c.args.output.now) (g.W.Write.contents c.print_repair.new.output)
@@ -30,7 +30,7 @@ returns-in-Err-follow_open g c =
     printed_done g.H.TreeHash.digest g.S.Source.may_answer g.S.Source.failed g.S.Source.asked _ _ c.args.places.now
     c.follow_open.new.places _ _ (g.D.Shelf.puts c.args.folders.now) (g.D.Shelf.puts c.args.folders.now)
     (g.D.Shelf.puts c.follow_open.new.folders) (g.D.Shelf.failed c.args.folders.now) (g.D.Shelf.failed c.follow_open.new.folders)
-    _ _ _ _ c.args.repaired.now.put c.repair_open-answer.new.repaired.put c.repair_open-answer.new.places
+    _ _ _ _ c.args.repaired.now c.repair_open-answer.new.repaired c.repair_open-answer.new.places
     (g.D.Shelf.puts c.repair_open-answer.new.folders) (g.D.Shelf.failed c.repair_open-answer.new.folders)
     c.repair_open-answer.result c.repair_open-answer.ensures
     (g.W.Write.contents c.print_repair.new.output) c.in-Ok.printed c.if-printed.true (subst (λ n. PrintsRepair n (g.W.Write.contents c.args.output.now) (g.W.Write.contents c.print_repair.new.output)
@@ -42,7 +42,7 @@ returns-else-printed g c =
     unprinted_done g.H.TreeHash.digest g.S.Source.may_answer g.S.Source.failed g.S.Source.asked _ _ c.args.places.now
     c.follow_unprinted-fault.new.places _ _ (g.D.Shelf.puts c.args.folders.now) (g.D.Shelf.puts c.args.folders.now)
     (g.D.Shelf.puts c.follow_unprinted-fault.new.folders) (g.D.Shelf.failed c.args.folders.now) (g.D.Shelf.failed c.follow_unprinted-fault.new.folders)
-    _ _ _ _ c.args.repaired.now.put c.repair_open-answer.new.repaired.put c.repair_open-answer.new.places
+    _ _ _ _ c.args.repaired.now c.repair_open-answer.new.repaired c.repair_open-answer.new.places
     (g.D.Shelf.puts c.repair_open-answer.new.folders) (g.D.Shelf.failed c.repair_open-answer.new.folders)
     c.repair_open-answer.result c.repair_open-answer.ensures
     c.in-Ok.printed c.if-printed.false (subst (λ n. PrintsRepair n (g.W.Write.contents c.args.output.now) (g.W.Write.contents c.print_repair.new.output)

@@ -29,6 +29,8 @@ returns-in-Ok g c =
             asks = c.repair_copy.ensures.asks;
             counts = c.repair_copy.ensures.counts;
             keeps = c.repair_copy.ensures.keeps;
+            goes_on = c.in-Ok.ensures.goes_on;
+            names = c.in-Ok.ensures.names;
             whole = c.in-Ok.ensures.whole;
           });
       counted = c.in-Ok.ensures.counted ∙ c.in-Ok-Some.ensures.counted;
@@ -46,6 +48,8 @@ returns g c =
             asks = c.repair_copy.ensures.asks;
             counts = c.repair_copy.ensures.counts;
             keeps = c.repair_copy.ensures.keeps;
+            goes_on = c.in-Err-repair_copy.ensures.goes_on;
+            names = c.in-Err-repair_copy.ensures.names;
             whole = tt;
           });
       counted = counted_later (g.D.Shelf.failed c.args.folders.now) (g.D.Shelf.failed c.open_own.new.folders)

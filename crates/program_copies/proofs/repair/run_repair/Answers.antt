@@ -44,6 +44,6 @@ returns g c =
     runs_held g.H.TreeHash.digest g.S.Source.may_answer g.S.Source.failed g.S.Source.asked _ _ c.args.places.now
     c.repair_and_follow.new.places _ _ (g.D.NamedFolders.held c.args.folders.now c.args.following.now.folder.now) _
     (g.D.Shelf.puts c.repair_and_follow.new.folders) (g.D.Shelf.failed c.args.folders.now)
-    (g.D.Shelf.failed c.repair_and_follow.new.folders) _ _ _ _ c.args.repaired.now.put c.repair_and_follow.new.repaired.put
+    (g.D.Shelf.failed c.repair_and_follow.new.folders) _ _ _ _ c.args.repaired.now c.repair_and_follow.new.repaired
     (g.D.Shelf.puts c.open_held.new.folders) (g.D.Shelf.failed c.open_held.new.folders) c.in-Ok-open_held.ensures.opened
     c.open_held.ensures.counted c.repair_and_follow.result c.repair_and_follow.ensures
