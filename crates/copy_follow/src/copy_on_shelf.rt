@@ -1,8 +1,9 @@
 //! The copy on the shelf, as a run finds it.
-ghost use Rattle.std.specs.Prelude.{◌≡◌, ◌<◌, IfErr, IfOk, IfSome, None, Some, ⊤};
+ghost use Rattle.std.specs.Prelude.{◌≡◌, ◌<◌, IfErr, IfOk, IfSome, None, OnOk, Some, ⊤};
 ghost use Rattle.tlog_tiles.specs.declared.paths.Path.TheVariants.{Checkpoint};
 ghost use Rattle.mirror_sources.specs.Recorded.{KeepsRecord};
 ghost use Rattle.mirror_folders.specs.Shelf.{RecordsSome};
+ghost use Rattle.copy_reader.specs.Ends.{IsReadAtEnd};
 ghost use Rattle.copy_reader.specs.Faults.{CountsRead};
 ghost use Rattle.copy_reader.specs.WholeCopies.{ReadsCopyLog};
 ghost use Rattle.copy_places.specs.Agreeing.{Agrees};
@@ -14,7 +15,7 @@ ghost use Rattle.copy_follow.specs.RunStanding.{HoldsNoCopy, IsFoundCopy, IsHead
 
 use crate::follow_fault::FollowFault;
 use copy_places::{Candidate, fork_proof};
-use copy_reader::{CopyFault, ShelfSource, open_reader, read_bundle};
+use copy_reader::{CopyFault, ShelfSource, open_reader, read_end};
 use log_reader::head_of;
 use mirror_folders::ReadableShelf;
 use std::alloc::Global;
@@ -74,13 +75,12 @@ fn judge_files<H: TreeHash, D: ReadableShelf>(
 ) -> Result<(), CopyFault>
     ensures same { KeepsRecord (D.puts shelf.old) (D.puts shelf.new) }
     ensures counted { CountsRead (D.failed shelf.old) (D.failed shelf.new) result }
+    ensures judged { OnOk result (IsReadAtEnd H.digest (D.puts shelf.old) size root.now) }
     ensures honest { ReadsCopyLog H.digest size root.now (D.puts shelf.old) result (λ _ _. ⊤) }
 {
     let mut reader = open_reader::<H, D>(alloc, shelf, size, root)?;
-    if size % 256 > 0 {
-        let bundle = read_bundle::<H, D>(alloc, shelf, &mut reader, size / 256)?;
-        drop(bundle);
-    }
+    let _root = reader.root();
+    read_end::<H, D>(alloc, shelf, &mut reader)?;
     Ok(())
 }
 
@@ -98,6 +98,8 @@ pub(crate) fn judge_copy<H: TreeHash, D: ReadableShelf>(
         (EndsRun (HoldsNoCopy H.digest origin.now (D.puts shelf.old)) ⊥) }
     ensures head { IfOk result (λ copy. IfSome copy (IsHeadOf origin.now)) }
     ensures found { IfOk result (IsFoundCopy origin.now (D.puts shelf.old)) }
+    ensures judged { IfOk result (λ copy. IfSome copy
+        (λ c. IsReadAtEnd H.digest (D.puts shelf.old) c.size.0 c.root)) }
     ensures some { IfErr result (λ e. e ≡ FollowFault.CopyDamaged
         → RecordsSome (D.puts shelf.old) Checkpoint) }
 {

@@ -8,12 +8,12 @@ use Rattle.mirror_model.specs.Heads.{IsOpenHead}
 use Rattle.mirror_sources.specs.Recorded.{KeepsRecord}
 use Rattle.mirror_sources.specs.Source.{StaysWithin}
 use Rattle.log_reader.specs.EdgeRows.{Edge}
-use Rattle.log_reader.specs.FalseEdges.{NamesFalseEdge}
+use Rattle.log_reader.specs.FalseEdges.{IsEdgeGiven, NamesFalseEdge}
 use Rattle.log_reader.specs.FalseFiles.{IsFalseFile, NamesFalse, NamesFalseIfFile}
 use Rattle.log_reader.specs.Ways.{IsShownEdge}
 use Rattle.log_reader.specs.declared.fault.ReadFault.{ReadFault}
 use Rattle.log_reader.specs.declared.fault.ReadFault.TheVariants as reading
-use Rattle.log_reader.proofs.FalseEdges.{edge_given}
+use Rattle.log_reader.proofs.FalseEdges.{edge_given, rows_given}
 use Rattle.log_reader.proofs.FalseFiles.{false_given, files_before}
 use Rattle.copy_reader.specs.Copies.{HasCheckpoint, RefusesNote}
 use Rattle.copy_reader.specs.Damage.{IsFalseWithin, NamesDamage, NamesEdgeDamage, NamesOpenDamage, NamesProofDamage, NamesWithin}
@@ -60,6 +60,10 @@ module _ (digest : List ℕ → List ℕ) (name : ℕ) (before held : Option (Li
   proof_damage edge reading.Collision h = inl refl
   proof_damage edge reading.Source h = tt
   proof_damage edge reading.OutOfMemory h = tt
+
+  pub edge_recorded : (size : ℕ) (edge : Edge) → IsEdgeGiven (ShelfMayAnswer name before) size edge →
+      IsEdgeGiven (RecordsRead held) size edge
+  edge_recorded size edge h = rows_given (RecordsRead held) (ShelfMayAnswer name before) size recorded edge h
 
   pub edge_damage : (size : ℕ) (root : List ℕ) (fault : ReadFault) →
       NamesFalseEdge digest (ShelfMayAnswer name before) size root fault → NamesEdgeDamage digest held size root (by_read fault)
@@ -128,6 +132,12 @@ module _ (digest : List ℕ → List ℕ) (origin : List ℕ) (keys : List Key) 
   )
   open_damage copy.ShelfFault h = tt
   open_damage copy.OutOfMemory h = tt
+
+-- the rows of an edge that are given after the puts were kept could be given before
+pub edge_before : (held after : Option (List Put)) → KeepsRecord held after → (size : ℕ) (edge : Edge) →
+    IsEdgeGiven (RecordsRead after) size edge → IsEdgeGiven (RecordsRead held) size edge
+edge_before held after kept size edge h =
+    rows_given (RecordsRead held) (RecordsRead after) size (λ path some answer r. recorded_before held after path answer kept r) edge h
 
 -- the fault of a note that is the copy's checkpoint
 pub note_damage : (digest : List ℕ → List ℕ) (held : Option (List Put)) (note origin : List ℕ) (keys : List Key)

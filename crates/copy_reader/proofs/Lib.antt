@@ -28,3 +28,4 @@ pub mod ShortLogs
 pub mod LogStops
 pub mod TrueFiles
 pub mod AuditExits
+pub mod Ends

@@ -16,3 +16,4 @@ pub mod Order
 pub mod Found
 pub mod First
 pub mod Stops
+pub mod Ends

@@ -1,11 +1,13 @@
 //! A copy is opened: its checkpoint, and a reader of its log.
-ghost use Rattle.std.specs.Prelude.{◌≡◌, IfErr, IfOk, map};
+ghost use Rattle.std.specs.Prelude.{◌≡◌, IfErr, IfOk, IfSome, map};
 ghost use Rattle.mirror_sources.specs.Recorded.{KeepsRecord};
+ghost use Rattle.mirror_folders.specs.Shelf.{RecordsRead};
 ghost use Rattle.mirror_model.specs.Heads.{IsOpenHead};
 ghost use Rattle.copy_reader.specs.Copies.{OpensCopy, RefusesNote};
 ghost use Rattle.copy_reader.specs.Damage.{NamesEdgeDamage, NamesOpenDamage};
 ghost use Rattle.copy_reader.specs.Faults.{CountsCopy, CountsRead};
 ghost use Rattle.copy_reader.specs.WholeCopies.{IsOfShelf, OpensWhole, ReadsCopyLog};
+ghost use Rattle.log_reader.specs.FalseEdges.{IsEdgeGiven};
 ghost use Rattle.log_reader.specs.Holding.{IsReaderOf};
 
 use crate::fault::CopyFault;
@@ -37,6 +39,8 @@ pub fn open_reader<H: TreeHash, D: ReadableShelf>(
 ) -> Result<LogReader<H>, CopyFault>
     ensures size { IfOk result (λ reader. reader.edge.size ≡ size) }
     ensures root { IfOk result (λ reader. reader.root ≡ root.now) }
+    ensures given { IfOk result
+        (λ reader. IsEdgeGiven (RecordsRead (D.puts shelf.old)) size reader.edge) }
     ensures same { KeepsRecord (D.puts shelf.old) (D.puts shelf.new) }
     ensures counted { CountsRead (D.failed shelf.old) (D.failed shelf.new) result }
     ensures damage { IfErr result
@@ -92,6 +96,8 @@ pub fn open_shelf<H: TreeHash, D: ReadableShelf>(
 ) -> Result<Option<LogReader<H>>, CopyFault>
     ensures answer { OpensCopy H.digest origin.now (map (λ k. key k) keys.now)
         (D.puts shelf.old) result }
+    ensures given { IfOk result (λ found. IfSome found (λ reader. IsEdgeGiven
+        (RecordsRead (D.puts shelf.old)) reader.edge.size reader.edge)) }
     ensures same { KeepsRecord (D.puts shelf.old) (D.puts shelf.new) }
     ensures counted { CountsCopy (D.failed shelf.old) (D.failed shelf.new) result }
     ensures fault { IfErr result IsOfShelf }

@@ -2,11 +2,12 @@
 use Rattle.std.proofs.Common.{◌≡◌, ℕ, ◌≤◌, List, Option, Some, None, Result, Ok, Err, subst, sym}
 use Rattle.std.proofs.lemmas.Bool.{false≢true}
 use Rattle.std.specs.Result.{IsErr, IsErrAnd}
-use Rattle.std.specs.Prelude.{IfErr, option_map}
+use Rattle.std.specs.Prelude.{IfErr, IfOk, IfSome, option_map}
 use Rattle.log_reader.specs.Ways.{Reader}
 use Rattle.program_copies.specs.Statuses.{HasPoint, reader_point}
 use Rattle.signed_note.specs.Keys.{Key}
-use Rattle.mirror_folders.specs.Shelf.{Put}
+use Rattle.mirror_folders.specs.Shelf.{Put, RecordsRead}
+use Rattle.log_reader.specs.FalseEdges.{IsEdgeGiven}
 use Rattle.copy_reader.specs.Copies.{HasCheckpoint, IsRefused, OpensCopy}
 use Rattle.mirror_sources.specs.Recorded.{KeepsRecord}
 use Rattle.program_reports.specs.declared.reports.Report.{Report as Printout}
@@ -73,6 +74,13 @@ pub opens_there : (digest : List ℕ → List ℕ) (origin : List ℕ) (keys : L
     (result : Result (Option Reader) CopyFault) → x ≡ y → OpensCopy digest origin keys x result →
     OpensCopy digest origin keys y result
 opens_there digest origin keys x y result e h = subst (λ held. OpensCopy digest origin keys held result) e h
+
+-- so has its edge
+pub edge_there : (x y : Option (List Put)) (result : Result (Option Reader) CopyFault) → x ≡ y →
+    IfOk result (λ o. IfSome o (λ reader. IsEdgeGiven (RecordsRead x) reader.edge.size reader.edge)) →
+    IfOk result (λ o. IfSome o (λ reader. IsEdgeGiven (RecordsRead y) reader.edge.size reader.edge))
+edge_there x y result e h = subst
+    (λ held. IfOk result (λ o. IfSome o (λ reader. IsEdgeGiven (RecordsRead held) reader.edge.size reader.edge))) e h
 
 -- an answer that ended by a fault of the shelf, or by refused memory
 pub ends_by : {T : Type 0} (fault : CopyFault) (result : Result T CopyFault) → IsErr result × IsErrAnd result (λ f. f ≡ fault) →

@@ -1,16 +1,15 @@
 -- The reports of `status` on a copy: the text of a mirror with only the checkpoint's tree head, which is complete.
-use Rattle.std.specs.Prelude.{◌≡◌, ℕ, ◌/◌, ◌%◌, ◌<◌, List, Option, Some, None, IfSome, Result, Ok, Err}
+use Rattle.std.specs.Prelude.{◌≡◌, ℕ, List, Option, Some, None, IfSome, Result, Ok, Err}
 use Rattle.signed_note.specs.Keys.{Key}
 use Rattle.mirror_folders.specs.Shelf.{Put}
 use Rattle.mirror_model.specs.Forks.{Point}
-use Rattle.log_reader.specs.EdgeRows.{Edge}
-use Rattle.log_reader.specs.Ways.{IsShownBundle, Reader}
+use Rattle.log_reader.specs.Ways.{Reader}
 use Rattle.program_reports.specs.Reports.{printed}
 use Rattle.program_reports.specs.declared.reports.Report.{Report as Printout}
 use Rattle.copy_reader.specs.Copies.{HasCheckpoint, IsEmptyCopy}
+use Rattle.copy_reader.specs.Ends.{IsReadAtEnd}
 use Rattle.copy_reader.specs.Statuses.{copy_status}
 use Rattle.program_copies.specs.Damages.{IsDamagedFile, IsRefusedFor}
-use Rattle.program_copies.specs.GivenFiles.{IsEdgeTo}
 use Rattle.program_copies.specs.declared.fault.CopyAskFault.{CopyAskFault}
 use Rattle.program_copies.specs.declared.fault.CopyAskFault.TheVariants.{Copy, Heads, Ask}
 
@@ -28,17 +27,6 @@ pub record IsStatusOf (origin : List ℕ) (point : Option Point) (report : Print
   pub text : printed report ≡ copy_status origin point
   pub status : report.status ≡ status_of point
 
--- the bundle at the end of the log, if it is partial, leads up to the edge
-abbrev pub IsEndShown : (List ℕ → List ℕ) → Edge → Type 0
-IsEndShown digest edge =
-    0 < edge.size % 256 → (bytes : List ℕ) × IsShownBundle digest edge (edge.size / 256) bytes
-
--- an edge leads to the checkpoint's root, and the bundle at the end up to the edge
-pub record IsWholeAtEnd (digest : List ℕ → List ℕ) (point : Point) : Type 0 where
-  pub edge : Edge
-  pub is_edge : IsEdgeTo digest point.size point.root edge
-  pub end : IsEndShown digest edge
-
 module _ (origin : List ℕ) (keys : List Key) (held : Option (List Put)) where
   -- the copy's checkpoint is of that size and root, or there is none
   abbrev pub HasPoint : Option Point → Type 0
@@ -46,11 +34,11 @@ module _ (origin : List ℕ) (keys : List Key) (held : Option (List Put)) where
   HasPoint (Some point) = HasCheckpoint origin keys held point.size point.root
 
 module _ (digest : List ℕ → List ℕ) (origin : List ℕ) (keys : List Key) (held : Option (List Put)) where
-  -- the report on the copy. Complete is a log whose edge and whose bundle at the end were read, and lead to the root
+  -- the report on the copy. Complete is a log whose edge and whose bundle at the end were read from the shelf, and lead to the root
   pub record IsStatusPrint (report : Printout) : Type 0 where
     pub point : Option Point
     pub has : HasPoint origin keys held point
-    pub whole : IfSome point (IsWholeAtEnd digest)
+    pub whole : IfSome point (λ p. IsReadAtEnd digest held p.size p.root)
     pub is : IsStatusOf origin point report
 
   -- the facts at each answer of the reporter

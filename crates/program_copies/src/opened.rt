@@ -1,6 +1,8 @@
 //! Opens a copy in a folder.
-ghost use Rattle.std.specs.Prelude.{IfErr, IfOk, OnOk, map};
+ghost use Rattle.std.specs.Prelude.{IfErr, IfOk, IfSome, OnOk, map};
+ghost use Rattle.mirror_folders.specs.Shelf.{RecordsRead};
 ghost use Rattle.mirror_sources.specs.Recorded.{KeepsRecord};
+ghost use Rattle.log_reader.specs.FalseEdges.{IsEdgeGiven};
 ghost use Rattle.copy_reader.specs.Copies.{LeavesPuts, OpensCopy};
 ghost use Rattle.copy_reader.specs.Damage.{NamesOpenDamage};
 ghost use Rattle.copy_reader.specs.Faults.{CountsCopy};
@@ -36,6 +38,8 @@ pub fn open_copy<H: TreeHash, D: NamedFolders>(
 ) -> Result<Option<LogReader<H>>, CopyFault>
     ensures answer { OpensCopy H.digest origin.now (map (λ k. key k) keys.now)
         (D.held folders.old folder.now) result }
+    ensures given { IfOk result (λ found. IfSome found (λ reader. IsEdgeGiven
+        (RecordsRead (D.held folders.old folder.now)) reader.edge.size reader.edge)) }
     ensures opened { OnOk result (KeepsRecord (D.held folders.old folder.now)
         (D.puts folders.new)) }
     ensures kept { LeavesPuts (D.held folders.old folder.now) (D.puts folders.old)

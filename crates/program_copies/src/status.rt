@@ -1,21 +1,16 @@
 //! The status of a copy.
-ghost use Rattle.std.specs.Prelude.{◌≡◌, ⊤, IfErr, IfOk, OnOk, map, option_map};
+ghost use Rattle.std.specs.Prelude.{◌≡◌, IfErr, IfOk, map, option_map};
 ghost use Rattle.mirror_trees.specs.Marked.{point_of};
 ghost use Rattle.std.specs.Io.KnownBytes.{Keeps};
-ghost use Rattle.mirror_sources.specs.Recorded.{KeepsRecord};
 ghost use Rattle.copy_reader.specs.Copies.{LeavesPuts};
-ghost use Rattle.copy_reader.specs.Damage.{NamesDamage};
-ghost use Rattle.copy_reader.specs.Faults.{CountsRead};
-ghost use Rattle.copy_reader.specs.WholeCopies.{IsShelfFailure, ReadsCopyOf};
 ghost use Rattle.program_copies.specs.Printed.{CountsAsk, HasStatus, IsStatus, IsWriteFault, Prints};
-ghost use Rattle.program_copies.specs.Statuses.{IsEndShown, IsStatusOf, ReportsStatus};
+ghost use Rattle.program_copies.specs.Statuses.{IsStatusOf, ReportsStatus};
 
 use crate::fault::CopyAskFault;
 use crate::opened::open_copy;
 use crate::printing::print_text;
-use copy_reader::{CopyFault, read_bundle, status_text};
-use log_reader::LogReader;
-use mirror_folders::{NamedFolders, ReadableShelf};
+use copy_reader::{CopyFault, read_end, status_text};
+use mirror_folders::NamedFolders;
 use program_reports::Report;
 use signed_note::Verifier;
 use std::alloc::{AllocError, Global};
@@ -36,31 +31,6 @@ fn status_report(
         None => 3,
     };
     Ok(Report { text, status })
-}
-
-// Reads the bundle at the end of the log, if it is partial.
-fn read_end<H: TreeHash, D: ReadableShelf>(
-    alloc: Global,
-    shelf: &mut D,
-    reader: &mut LogReader<H>,
-) -> Result<(), CopyFault>
-    ensures edge { reader.new.edge ≡ reader.old.edge }
-    ensures root { reader.new.root ≡ reader.old.root }
-    ensures end { OnOk result (IsEndShown H.digest reader.old.edge) }
-    ensures same { KeepsRecord (D.puts shelf.old) (D.puts shelf.new) }
-    ensures counted { CountsRead (D.failed shelf.old) (D.failed shelf.new) result }
-    ensures damage { IfErr result (NamesDamage H.digest (D.puts shelf.old) reader.old.edge) }
-    ensures honest { ReadsCopyOf IsShelfFailure H.digest reader.old reader.new
-        (D.puts shelf.old) result (λ entries _. ⊤) }
-{
-    let size = reader.size();
-    if size % 256 == 0 {
-        return Ok(());
-    }
-    match read_bundle::<H, D>(alloc, shelf, reader, size / 256) {
-        Ok(_bundle) => Ok(()),
-        Err(fault) => Err(fault),
-    }
 }
 
 // The report on a log of that size and root, or on an empty copy.

@@ -3,6 +3,7 @@ use Rattle.std.specs.Prelude.{⊤}
 use Rattle.mirror_model.specs.Heads.{IsHead}
 use Rattle.copy_follow.specs.Blame.{CountsFollowFault, by_copy}
 use Rattle.copy_follow.specs.RunStanding.{HoldsNoCopy}
+use Rattle.copy_reader.proofs.Ends.{read_before}
 use Rattle.copy_follow.proofs.CopyReads.{fault_counts, fault_ends, no_edge, no_head, read_some}
 use Rattle.copy_follow.proofs.copy_on_shelf.judge_copy.Goals as goal
 
@@ -54,3 +55,8 @@ returns-in_default-2-clause-some g c = λ e.
 pub returns-in-Err-clause-some : goal.returns-in-Err-clause-some
 returns-in-Err-clause-some g c = λ e.
     read_some (g.D.Shelf.puts c.args.shelf.now) c.in-Some.note.items (rw c.in-Some.is at c.in_ok-note.ensures.answer)
+
+pub returns-clause-judged : goal.returns-clause-judged
+returns-clause-judged g c =
+    read_before g.H.TreeHash.digest (g.D.Shelf.puts c.args.shelf.now) (g.D.Shelf.puts c.read.new.self)
+    c.in_ok-note.ensures.same c.in-Some-2.head.0 c.in-Some-2.head.1 c.in-Ok.ensures.judged

@@ -8,7 +8,7 @@ use Rattle.log_reader.specs.Faults.{CountsFailure}
 use Rattle.copy_reader.specs.Faults.{CountsRead}
 use Rattle.copy_reader.proofs.Exits.{read_exit}
 use Rattle.copy_reader.proofs.ShelfSources.{same_shelf}
-use Rattle.copy_reader.proofs.Damage.{damage_exit, edge_damage}
+use Rattle.copy_reader.proofs.Damage.{damage_exit, edge_damage, edge_recorded}
 use Rattle.copy_reader.specs.Damage.{NamesEdgeDamage}
 use Rattle.copy_reader.proofs.opened.open_reader.Goals as goal
 
@@ -31,6 +31,7 @@ returns-in_err-open g c =
     record {
       size = IfOk-from_err c.from_residual.result _ c.from_residual.ensures.0;
       root = IfOk-from_err c.from_residual.result _ c.from_residual.ensures.0;
+      given = IfOk-from_err c.from_residual.result _ c.from_residual.ensures.0;
       same = search (rules, one, kept);
       counted = search (rules, one, counted);
       damage = damage_exit (NamesEdgeDamage g.H.TreeHash.digest (g.D.Shelf.puts c.args.shelf.now) c.args.size c.args.root.now)
@@ -43,6 +44,12 @@ returns-in_err-open g c =
           (λ entries reader. IsReaderOf g.H.TreeHash.digest entries reader) c.args.size c.args.root.now c.in_err-open.field-0.0
           c.from_residual.result c.from_residual.ensures c.in_err-open.ensures.honest;
     }
+
+pub returns-clause-given : goal.returns-clause-given
+returns-clause-given g c =
+    edge_recorded g.H.TreeHash.digest c.new-files.result.shelf.ghost_name (g.D.Shelf.puts c.new-files.result.shelf.now)
+    (g.D.Shelf.puts c.args.shelf.now) (ap g.D.Shelf.puts c.new-files.ensures.now) c.args.size c.in_ok-open.field-0.edge
+    c.in_ok-open.ensures.given
 
 pub returns-clause-same : goal.returns-clause-same
 returns-clause-same g c =

@@ -1,11 +1,13 @@
-use Rattle.std.proofs.Common.{Ok, subst}
+use Rattle.std.proofs.Common.{Ok, subst, sym}
 use Rattle.mirror_model.specs.Heads.{IsHead}
 use Rattle.mirror_model.proofs.HeadNotes.{head_of}
+use Rattle.mirror_folders.specs.Shelf.{RecordsRead}
+use Rattle.log_reader.specs.FalseEdges.{IsEdgeGiven}
 use Rattle.log_reader.specs.Holding.{IsReaderOf}
 use Rattle.log_reader.specs.Ways.{Reader}
 use Rattle.copy_reader.proofs.WholeCopies.{opens_refused, whole_read, whole_refused}
 use Rattle.copy_reader.specs.Damage.{NamesOpenDamage}
-use Rattle.copy_reader.proofs.Damage.{damage_exit, open_damage}
+use Rattle.copy_reader.proofs.Damage.{damage_exit, edge_before, open_damage}
 use Rattle.copy_reader.proofs.opened.open_shelf.Goals as goal
 
 pub returns-in_err-reader-clause-answer : goal.returns-in_err-reader-clause-answer
@@ -51,3 +53,11 @@ returns-in_err-reader-clause-damage g c =
     (open_damage digest origin _ held after c.in_ok-note.ensures.same size root
     c.in-Some.note.items c.deref.result.now c.deref.ensures.value stands c.in_ok-head.ensures.opens
     c.in_err-reader.field-0.0 c.in_err-reader.ensures.damage)
+
+pub returns-clause-given : goal.returns-clause-given
+returns-clause-given g c =
+    let held = g.D.Shelf.puts c.args.shelf.now in
+    let edge = c.in_ok-reader.reader.edge in
+    let given = edge_before held (g.D.Shelf.puts c.read.new.self) c.in_ok-note.ensures.same c.in_ok-head.head.0 edge
+    c.in_ok-reader.ensures.given in
+    subst (λ n. IsEdgeGiven (RecordsRead held) n edge) (sym c.in_ok-reader.ensures.size) given
