@@ -69,6 +69,12 @@ pub opened_checkpoint : (digest : List ℕ → List ℕ) (origin : List ℕ) (ke
     HasCheckpoint origin keys held reader.edge.size reader.root
 opened_checkpoint digest origin keys held opened reader h is = subst (λ o. OpensCopy digest origin keys held (Ok o)) is h
 
+-- the edge of an opened copy
+pub opened_edge : (held : Option (List Put)) (opened : Option Reader) (reader : Reader) →
+    IfSome opened (λ r. IsEdgeGiven (RecordsRead held) r.edge.size r.edge) → opened ≡ Some reader →
+    IsEdgeGiven (RecordsRead held) reader.edge.size reader.edge
+opened_edge held opened reader h is = subst (λ o. IfSome o (λ r. IsEdgeGiven (RecordsRead held) r.edge.size r.edge)) is h
+
 -- the opened folder has the content of the folder of that name
 pub opens_there : (digest : List ℕ → List ℕ) (origin : List ℕ) (keys : List Key) (x y : Option (List Put))
     (result : Result (Option Reader) CopyFault) → x ≡ y → OpensCopy digest origin keys x result →
