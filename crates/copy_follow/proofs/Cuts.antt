@@ -22,6 +22,7 @@ use Rattle.mirror_folders.specs.Shelf.{Put}
 use Rattle.copy_places.specs.PlaceGets.{AsksPlaces}
 use Rattle.copy_places.specs.declared.place.Place.{Place}
 use Rattle.copy_places.specs.declared.places.Places.{Places}
+use Rattle.copy_places.proofs.Cutting.{cut_first}
 use Rattle.copy_places.proofs.Giving.{part_weaker}
 use Rattle.copy_follow.specs.Suffices.{IsEdgeTrue}
 use Rattle.copy_follow.specs.Taken.{MayTake, PutsTaken}
@@ -33,12 +34,12 @@ itself bytes = record { rest = []; full_is = sym (append-nil bytes) }
 module _ (take : Path → List ℕ → Type 0) where
   pub part_begins : (index width : ℕ) (bytes : List ℕ) → PartOf take (Entries index width) bytes → BeginsBundle take index bytes
   part_begins index width bytes (inl h) = (width, bytes, h, itself bytes)
-  part_begins index width bytes (inr h) = (256, h.0, h.1, h.2)
+  part_begins index width bytes (inr h) = (256, h.0, h.1, cut_first (Entries index width) 256 h.0 bytes h.2)
 
   tile_begins : (level index width : ℕ) (bytes : List ℕ) → PartOf take (Tile level index width) bytes →
       (w : ℕ) × (whole : List ℕ) × take (Tile level index w) whole × IsFirstOf whole bytes
   tile_begins level index width bytes (inl h) = (width, bytes, h, itself bytes)
-  tile_begins level index width bytes (inr h) = (256, h.0, h.1, h.2)
+  tile_begins level index width bytes (inr h) = (256, h.0, h.1, cut_first (Tile level index width) 256 h.0 bytes h.2)
 
   row_cut : (n level : ℕ) (row : List (List ℕ)) → IsRowFrom take n level row → BeginsTile take n level row
   row_cut n level row h = record {

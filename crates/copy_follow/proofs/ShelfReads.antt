@@ -8,9 +8,11 @@ use Rattle.copy_follow.specs.Found.{CutsGivenWay, IsEdgeRead, IsRowRead, Records
 use Rattle.mirror_model.specs.Strings.{IsDigest}
 use Rattle.mirror_model.specs.TrueLaws.{AreShort}
 use Rattle.mirror_sources.specs.Honest.{true_bytes}
+use Rattle.tlog_tiles.specs.Cut.{IsFileCut}
 use Rattle.tlog_tiles.specs.Tiles.{IsWithin}
+use Rattle.log_reader.specs.Holding.{GoesOn}
 use Rattle.copy_follow.proofs.TipReads.{stands_has, stands_one}
-use Rattle.copy_places.specs.Giving.{IsFirstOf, PartOf}
+use Rattle.copy_places.specs.Giving.{PartOf}
 use Rattle.copy_follow.specs.Taken.{WasPut}
 use Rattle.log_reader.specs.EdgeRows.{Edge, row_at}
 use Rattle.copy_follow.proofs.OnePlace.{put_before, put_read}
@@ -51,16 +53,14 @@ partial_read (Some puts) path bytes h =
 abbrev pub Cuts : Path → List ℕ → Option (List ℕ) → Type 0
 Cuts path full answer =
     (digest : List ℕ → List ℕ) → IsDigest digest → (entries : List (List ℕ)) → AreShort entries →
-    IsWithin (length entries) path → IsFirstOf full (true_bytes digest entries path) →
+    IsWithin (length entries) path → GoesOn path (true_bytes digest entries path) full →
     answer ≡ Some (true_bytes digest entries path)
 
 way_cut : (xs : List Put) (path : Path) (full : List ℕ) (answer : Option (List ℕ)) → Stands xs (full_of path) full →
     Cuts path full answer → CutsGivenWay xs path answer
 way_cut xs path full answer stands cuts digest hash entries short within way =
-    cuts digest hash entries short within (record {
-      rest = way.begins.rest;
-      full_is = stands_one xs (full_of path) full way.full stands way.stands ∙ way.begins.bytes_are;
-    })
+    cuts digest hash entries short within
+    (subst (GoesOn path (true_bytes digest entries path)) (sym (stands_one xs (full_of path) full way.full stands way.stands)) way.begins)
 
 pub partial_cut : (x y : Option (List Put)) (path : Path) (full : List ℕ) (answer : Option (List ℕ)) → RecordsRead x path None →
     KeepsRecord x y → RecordsRead y (full_of path) (Some full) → Cuts path full answer → RecordsPartial x path answer
@@ -84,13 +84,13 @@ partial_none (Some xs) (Some ys) path none k full = (
       (full (subst (λ (l : List Put). HasPut l (full_of path)) (sym k) (stands_has xs (full_of path) way.full way.stands))),
 )
 
--- the bytes that were read were put there, or a longer file that was put begins with them
+-- the bytes that were read were put there, or they are cut from a full file that was put
 pub part_put : (x : Option (List Put)) (path : Path) (bytes : List ℕ) → RecordsRead x path (Some bytes) → PartOf (WasPut x) path bytes
 part_put x path bytes h = inl (put_read x path bytes h)
 
 pub part_cut : (x y : Option (List Put)) (path : Path) (full bytes : List ℕ) → KeepsRecord x y →
-    RecordsRead y (full_of path) (Some full) → IsFirstOf full bytes → PartOf (WasPut x) path bytes
-part_cut x y path full bytes k h first = inr (full, put_read x (full_of path) full (read_before x y (full_of path) (Some full) k h), first)
+    RecordsRead y (full_of path) (Some full) → IsFileCut path 256 full bytes → PartOf (WasPut x) path bytes
+part_cut x y path full bytes k h cut = inr (full, put_read x (full_of path) full (read_before x y (full_of path) (Some full) k h), cut)
 
 pub row_before : (x y : Option (List Put)) (n level : ℕ) (row : List (List ℕ)) → KeepsRecord x y →
     IsRowRead y n level row → IsRowRead x n level row

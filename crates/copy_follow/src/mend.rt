@@ -14,7 +14,6 @@ ghost use Rattle.copy_follow.specs.Suffices.{IsSpared};
 use crate::bring_fault::BringFault;
 use crate::repaired::Repaired;
 use crate::same::is_same;
-use copy_places::full_of;
 use mirror_folders::{DamagedFile, ReadableShelf};
 use tlog_tiles::Path;
 
@@ -189,7 +188,7 @@ fn gave_way<D: ReadableShelf>(shelf: &mut D, path: &Path, bytes: &[u8]) -> Resul
         Some(_) => return Ok(false),
         None => {}
     }
-    match shelf.read(&full_of(path))? {
+    match shelf.read(&path.full())? {
         Some(full) => Ok(begins_full(path, &full, bytes)),
         None => Ok(false),
     }
@@ -216,7 +215,7 @@ pub(crate) fn mend_partial<D: ReadableShelf>(
         (RecordsHad (D.puts shelf.old) (D.puts shelf.new) path.now bytes.now) }
 {
     if gave_way(shelf, path, bytes)? {
-        shelf.flush_before_checkpoint(&full_of(path))?;
+        shelf.flush_before_checkpoint(&path.full())?;
         return Ok(());
     }
     mend(shelf, path, bytes, repaired)

@@ -8,7 +8,6 @@ ghost use Rattle.copy_places.specs.Giving.{PartOf};
 ghost use Rattle.copy_follow.specs.Taken.{WasPut};
 
 use crate::bring_fault::BringFault;
-use copy_places::{full_of, part_of};
 use mirror_folders::ReadableShelf;
 use std::alloc::Global;
 use tlog_tiles::Path;
@@ -34,10 +33,10 @@ pub(crate) fn read_partial<D: ReadableShelf>(
         Some(bytes) => return Ok(Some(bytes)),
         None => {}
     }
-    let Some(full) = shelf.read(&full_of(path))? else {
+    let Some(full) = shelf.read(&path.full())? else {
         return Ok(None);
     };
-    match part_of(path, &full) {
+    match path.cut(256, &full) {
         Some(part) => Ok(Some(Vec::from_slice(alloc, part)?)),
         None => Ok(None),
     }

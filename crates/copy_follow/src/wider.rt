@@ -9,7 +9,7 @@ ghost use Rattle.copy_places.specs.PlaceGets.{AsksPlaces};
 ghost use Rattle.copy_follow.specs.Repaired.{BeginsBundle, BeginsTile, IsEdgeCut, IsOfEdge};
 ghost use Rattle.tlog_shape.specs.Edge.{edge_index_of};
 
-use copy_places::{PlaceAnswer, Places, accept_bundle, part_of, row_of};
+use copy_places::{PlaceAnswer, Places, accept_bundle, row_of};
 use log_reader::{EdgeRows, edge_path, head_of, leads_to};
 use mirror_sources::Source;
 use std::alloc::{AllocError, Global};
@@ -79,27 +79,39 @@ fn width_in(size: u64, level: u32, index: u64) -> u32
     }
 }
 
-// The row of that width that a tile begins with.
+// The first part of a file of that width.
+fn first_part<'a>(path: &Path, wider: u32, bytes: &'a [u8]) -> Option<&'a [u8]>
+    ensures { IfSome result (λ part. IsFirstOf bytes.now part.now) }
+{
+    match path.cut(wider, bytes) {
+        Some(part) => Some(part),
+        None => None,
+    }
+}
+
+// The row of that width that a wider tile begins with.
 fn row_of_first(
     alloc: Global,
     path: &Path,
     width: u32,
+    wider: u32,
     bytes: &[u8],
 ) -> Result<Option<Vec<Hash>>, AllocError>
     ensures { IfOk result (λ found. IfSome found
         (λ row. (part : List ℕ) × IsRow width part row.items × IsFirstOf bytes.now part)) }
 {
-    match part_of(path, bytes) {
+    match first_part(path, wider, bytes) {
         Some(part) => row_of(alloc, width, part),
         None => Ok(None),
     }
 }
 
-// The bundle with these leaf hashes that a bundle begins with.
+// The bundle with these leaf hashes that a wider bundle begins with.
 fn bundle_of_first<H: TreeHash>(
     alloc: Global,
     path: &Path,
     row: &[Hash],
+    wider: u32,
     bytes: &[u8],
 ) -> Result<Option<Vec<u8>>, AllocError>
     requires { length row.now ≤ 256 }
@@ -107,7 +119,7 @@ fn bundle_of_first<H: TreeHash>(
         (λ part. HasLeaves H.digest (length row.now) part.items row.now)) }
     ensures first { IfOk result (λ found. IfSome found (λ part. IsFirstOf bytes.now part.items)) }
 {
-    match part_of(path, bytes) {
+    match first_part(path, wider, bytes) {
         Some(part) => accept_bundle::<H>(alloc, row, Some(Vec::from_slice(alloc, part)?)),
         None => Ok(None),
     }
@@ -142,7 +154,7 @@ fn row_in_wider<S: Source + Drop>(
     let Some(bytes) = given_at(places, place, size, &path)? else {
         return Ok(None);
     };
-    row_of_first(alloc, &edge_path(size, level), width, &bytes)
+    row_of_first(alloc, &edge_path(size, level), width, path.width(), &bytes)
 }
 
 // The edge rows, cut from the tiles of a larger tree at a place, to the first row that it lacks.
@@ -258,7 +270,7 @@ fn end_in_wider<H: TreeHash, S: Source + Drop>(
         index,
         width: row.len() as u32,
     };
-    bundle_of_first::<H>(alloc, &end, row, &bytes)
+    bundle_of_first::<H>(alloc, &end, row, path.width(), &bytes)
 }
 
 /// The partial bundle with these leaf hashes at the edge of a tree of that size, cut from the bundle of a larger tree at a place. None:

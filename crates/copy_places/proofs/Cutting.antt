@@ -1,19 +1,19 @@
 -- Partial files cut from full ones.
-use Rattle.std.proofs.Common.{◌≡◌, ℕ, zero, suc, ◌+◌, ◌-◌, ◌*◌, ◌^◌, ◌<◌, ◌≤◌, All, List, [], ◌∷◌, ◌++◌, length, take, drop, get_or, map}
-use Rattle.std.proofs.Common.{refl, sym, ap, ◌∙◌, append_assoc, arith, length-append}
-use Rattle.std.proofs.lemmas.List.{length-map, length-take-le, take-append-drop, take-map, take-take, take_all, take_at}
-use Rattle.std.proofs.Math.Seq.{drop-cons}
-use Rattle.std.proofs.lemmas.List.Elements.{All-get_or, All-map, All-nil, All-push, All-take}
+use Rattle.std.proofs.Common.{◌≡◌, ℕ, zero, suc, ◌+◌, ◌*◌, ◌^◌, ◌≤◌, All, List, ◌∷◌, ◌++◌, length, take, drop, map}
+use Rattle.std.proofs.Common.{refl, sym, ap, ◌∙◌, arith}
+use Rattle.std.proofs.lemmas.List.{length-map, length-take-le, take-append-drop, take-map, take-take, take_at}
+use Rattle.std.proofs.lemmas.List.Elements.{All-map, All-take}
 use Rattle.std.proofs.lemmas.List.Concat.{flat_map-append}
 use Rattle.tlog_hash.specs.Rows.{level_row, part, ranges}
 use Rattle.tlog_hash.specs.Tree.{mth}
 use Rattle.tlog_hash.proofs.Folds.{length-ranges}
 use Rattle.tlog_tiles.specs.Bundle.{bundle_text, entry_text}
+use Rattle.tlog_tiles.specs.Cut.{IsFileCut}
 use Rattle.tlog_tiles.specs.Row.{row_text}
 use Rattle.tlog_tiles.specs.declared.paths.Path.{Path}
 use Rattle.tlog_tiles.specs.declared.paths.Path.TheVariants.{Checkpoint, Tile, Entries}
 use Rattle.tlog_tiles.specs.Tiles.{IsWithin, bundle_bytes, tile_bytes}
-use Rattle.tlog_tiles.proofs.BundleLemmas.{bundle_one, joined_push}
+use Rattle.tlog_tiles.proofs.Cuts.{cuts_are_first}
 use Rattle.tlog_tiles.proofs.RowLemmas.{length-row_text}
 use Rattle.tlog_tiles.proofs.TileLemmas.{mth_size, served_is_read}
 use Rattle.mirror_model.specs.Strings.{IsDigest}
@@ -21,6 +21,7 @@ use Rattle.mirror_model.specs.TrueLaws.{AreShort}
 use Rattle.mirror_sources.specs.Files.{full_of}
 use Rattle.mirror_sources.specs.Honest.{true_bytes}
 use Rattle.log_reader.specs.Holding.{GoesOn}
+use Rattle.copy_places.specs.Giving.{IsFirstOf}
 
 -- the first w of some ranges
 take_ranges : {A : Type 0} (b first w count : ℕ) (es : List A) → w ≤ count →
@@ -39,82 +40,6 @@ pub count_row : (digest : List ℕ → List ℕ) (es : List (List ℕ)) (level f
     length (level_row digest es level first w) ≡ w
 count_row digest es level first w =
     length-map (ranges (256 ^ level) first w es) (mth digest) ∙ length-ranges (256 ^ level) first w es
-
--- the next entry of a bundle
-next_there : (es : List (List ℕ)) (i : ℕ) → i < length es →
-    bundle_text (drop i es) ≡ entry_text (get_or es i []) ++ bundle_text (drop (i + 1) es)
-next_there es i lt =
-    let one : suc i ≡ i + 1 = omega arith in
-    ap bundle_text (drop-cons es i [] lt)
-    ∙ ap (λ (k : ℕ). entry_text (get_or es i []) ++ bundle_text (drop k es)) one
-
-pub splits : (es : List (List ℕ)) (i : ℕ) (rest : List ℕ) → AreShort es → i < length es → rest ≡ bundle_text (drop i es) →
-    ((entry after : List ℕ) → length entry < 2 ^ 16 → rest ≡ entry_text entry ++ after → ⊥) → ⊥
-splits es i rest short lt at none =
-    none (get_or es i []) (bundle_text (drop (i + 1) es)) (All-get_or (λ (e : List ℕ). length e < 2 ^ 16) es i [] lt short)
-    (at ∙ next_there es i lt)
-
--- some entries of a bundle were read, and the rest is left
-pub record HasRead (count : ℕ) (bundle rest : List ℕ) : Type 0 where
-  pub entries : List (List ℕ)
-  pub count_is : length entries ≡ count
-  pub fits : AreShort entries
-  pub text : bundle ≡ bundle_text entries ++ rest
-
-pub none_read : (bundle : List ℕ) → HasRead 0 bundle bundle
-none_read bundle = record { entries = []; count_is = refl; fits = All-nil (λ (e : List ℕ). length e < 2 ^ 16); text = refl }
-
-pub one_read : (count : ℕ) (bundle rest e after : List ℕ) → HasRead count bundle rest → length e < 2 ^ 16 →
-    rest ≡ entry_text e ++ after → HasRead (count + 1) bundle after
-one_read count bundle rest e after h short is = record {
-  entries = h.entries ++ e ∷ [];
-  count_is = omega (arith, length-append h.entries (e ∷ []), h.count_is);
-  fits = All-push (λ (x : List ℕ). length x < 2 ^ 16) h.entries e h.fits short;
-  text = joined_push bundle rest after e h.entries h.text is;
-}
-
-pub left_within : (count : ℕ) (bundle rest : List ℕ) → HasRead count bundle rest → length rest ≤ length bundle
-left_within count bundle rest h = omega (arith, ap length h.text, length-append (bundle_text h.entries) rest)
-
-module _ (count : ℕ) (bundle rest : List ℕ) (h : HasRead count bundle rest) where
-  pub read_front : (part : List ℕ) → part ≡ take (length bundle - length rest) bundle → part ≡ bundle_text h.entries
-  read_front part is =
-      let front = bundle_text h.entries in
-      let len : length front ≡ length bundle - length rest = omega (arith, ap length h.text, length-append front rest) in
-      is ∙ (ap (take (length bundle - length rest)) h.text ∙ take_at front rest (length bundle - length rest) len)
-
-  module _ (es : List (List ℕ)) (short : AreShort es) (is : bundle ≡ bundle_text es) (le : count ≤ length es) where
-    both : (h.entries ≡ take count es) × (rest ≡ bundle_text (drop count es))
-    both = bundle_one h.entries (take count es) rest (bundle_text (drop count es))
-        (h.count_is ∙ sym (length-take-le count es le)) h.fits (All-take (λ (x : List ℕ). length x < 2 ^ 16) count es short)
-        (sym h.text ∙ (is ∙ (ap bundle_text (sym (take-append-drop count es)) ∙ flat_map-append entry_text (take count es) (drop count es))))
-
-    pub read_whole : (part : List ℕ) → part ≡ take (length bundle - length rest) bundle → part ≡ bundle_text (take count es)
-    read_whole part at = read_front part at ∙ ap bundle_text both.0
-
-    pub read_more : count < length es → ((entry after : List ℕ) → length entry < 2 ^ 16 → rest ≡ entry_text entry ++ after → ⊥) → ⊥
-    read_more lt none = splits es count rest short lt both.1 none
-
-  -- the bundle begins with these entries, and may have more
-  module _ (es : List (List ℕ)) (short : AreShort es) (tail : List ℕ) (is : bundle ≡ bundle_text es ++ tail)
-      (le : count ≤ length es) where
-    begun : (h.entries ≡ take count es) × (rest ≡ bundle_text (drop count es) ++ tail)
-    begun = bundle_one h.entries (take count es) rest (bundle_text (drop count es) ++ tail)
-        (h.count_is ∙ sym (length-take-le count es le)) h.fits (All-take (λ (x : List ℕ). length x < 2 ^ 16) count es short)
-        (sym h.text ∙ (is ∙ (ap (λ (l : List ℕ). l ++ tail)
-        (ap bundle_text (sym (take-append-drop count es)) ∙ flat_map-append entry_text (take count es) (drop count es))
-        ∙ append_assoc (bundle_text (take count es)) (bundle_text (drop count es)) tail)))
-
-    pub cut_whole : count ≡ length es → (part : List ℕ) → part ≡ take (length bundle - length rest) bundle →
-        part ≡ bundle_text es
-    cut_whole all part at = read_front part at ∙ ap bundle_text (begun.0 ∙ (ap (λ k. take k es) all ∙ take_all (length es) es (omega arith)))
-
-    pub cut_more : count < length es → ((entry after : List ℕ) → length entry < 2 ^ 16 → rest ≡ entry_text entry ++ after → ⊥) → ⊥
-    cut_more lt none =
-        none (get_or es count []) (bundle_text (drop (count + 1) es) ++ tail)
-        (All-get_or (λ (e : List ℕ). length e < 2 ^ 16) es count [] lt short)
-        (begun.1 ∙ (ap (λ (l : List ℕ). l ++ tail) (next_there es count lt)
-        ∙ append_assoc (entry_text (get_or es count [])) (bundle_text (drop (count + 1) es)) tail))
 
 -- the bytes of the first hashes of a row
 pub front_row : (row : List (List ℕ)) (n : ℕ) → All (λ (h : List ℕ). length h ≡ 32) row → n ≤ length row →
@@ -173,3 +98,32 @@ module _ (digest : List ℕ → List ℕ) (hash : IsDigest digest) (entries : Li
             ∙ ap (λ (l : List ℕ). l ++ bundle_text (drop width es)) (bundle_cut entries index width within.upto));
         whole = (es, (served_is_read digest hash entries short).bundle index 256 whole);
       }
+
+  -- true bytes that a full file begins with are its cut
+  pub true_cut : (path : Path) (whole : List ℕ) → IsWithin (length entries) path →
+      GoesOn path (true_bytes digest entries path) whole → IsFileCut path 256 whole (true_bytes digest entries path)
+  true_cut Checkpoint whole within goes = absurd within
+  true_cut (Tile level index width) whole within goes =
+      let row = (served_is_read digest hash entries short).tile level index width in
+      record {
+        whole = goes.whole;
+        own = length-row_text (level_row digest entries level (256 * index) width) row.sizes ∙ ap (λ n. 32 * n) row.count;
+        rest = goes.rest;
+        parts = goes.bytes_are;
+      }
+  true_cut (Entries index width) whole within goes = record {
+    whole = goes.whole;
+    own = (part (256 * index) width entries, (served_is_read digest hash entries short).bundle index width within);
+    rest = goes.rest;
+    parts = goes.bytes_are;
+  }
+
+  -- so each cut of it has the true bytes
+  pub cut_true : (path : Path) (whole cut : List ℕ) → IsWithin (length entries) path →
+      GoesOn path (true_bytes digest entries path) whole → IsFileCut path 256 whole cut → cut ≡ true_bytes digest entries path
+  cut_true path whole cut within goes is =
+      cuts_are_first.one path 256 whole cut (true_bytes digest entries path) is (true_cut path whole within goes)
+
+-- a file begins with its cut
+pub cut_first : (path : Path) (wider : ℕ) (file part : List ℕ) → IsFileCut path wider file part → IsFirstOf file part
+cut_first path wider file part is = let first = cuts_are_first.first path wider file part is in record { rest = first.0; full_is = first.1 }

@@ -1,17 +1,19 @@
 -- The files that places have are found.
 use Rattle.std.proofs.Common.{◌≡◌, inl, inr, ℕ, ◌+◌, ◌*◌, ◌/◌, ◌%◌, ◌^◌, ◌<◌, ◌≤◌, List, [], length, take, get_or, map}
-use Rattle.std.proofs.Common.{Option, Some, None, refl, sym, ap, subst, ◌∙◌, arith, length-append}
+use Rattle.std.proofs.Common.{Option, Some, None, refl, sym, ap, subst, ◌∙◌, arith}
 use Rattle.std.proofs.lemmas.Bool.{cases_lt}
-use Rattle.std.proofs.lemmas.List.{get_or-map, take_all, take_at}
+use Rattle.std.proofs.lemmas.List.{get_or-map, take_all}
 use Rattle.tlog_shape.specs.Edge.{edge_index_of, width_of}
 use Rattle.tlog_shape.proofs.Levels.{level_positive}
 use Rattle.tlog_hash.specs.Rows.{level_row, part, ranges}
 use Rattle.tlog_hash.specs.Tree.{fold_of, leaf_hash, mth}
 use Rattle.tlog_hash.proofs.Folds.{length-ranges}
 use Rattle.tlog_hash.proofs.LeafRanges.{rows_of_leaves}
+use Rattle.tlog_tiles.specs.Cut.{IsFileCut}
 use Rattle.tlog_tiles.specs.declared.paths.Path.{Path}
 use Rattle.tlog_tiles.specs.declared.paths.Path.TheVariants.{Tile, Entries}
 use Rattle.tlog_tiles.specs.Tiles.{IsWithin, bundle_bytes, tile_bytes}
+use Rattle.tlog_tiles.proofs.Cuts.{cuts_are_first}
 use Rattle.tlog_tiles.proofs.RowLemmas.{length-row_text}
 use Rattle.tlog_tiles.proofs.TileLemmas.{served_is_read}
 use Rattle.mirror_model.specs.Forks.{Point}
@@ -20,7 +22,7 @@ use Rattle.mirror_model.specs.TrueLaws.{AreShort}
 use Rattle.mirror_model.proofs.RowLaws.{get_or-ranges}
 use Rattle.mirror_folders.specs.Shelf.{Put}
 use Rattle.log_reader.specs.EdgeRows.{Edge}
-use Rattle.log_reader.specs.Holding.{IsTileHash}
+use Rattle.log_reader.specs.Holding.{GoesOn, IsTileHash}
 use Rattle.log_reader.specs.Truth.{IsListClear}
 use Rattle.log_reader.specs.Ways.{HasEdgeHashes, IsWay, row_of_way}
 use Rattle.log_reader.specs.declared.verify.FullFile.TheVariants as full
@@ -29,8 +31,7 @@ use Rattle.log_reader.proofs.TrueReads.{full_fits, full_folds, row_is_true, tile
 use Rattle.log_reader.proofs.Truths.{of_way, true_hashes, true_way}
 use Rattle.copy_places.specs.AskedEnds.{IsKeptInVain, IsSaidInVain}
 use Rattle.copy_places.specs.EndTiles.{IsKeptAnswer, said}
-use Rattle.copy_places.specs.Giving.{IsFirstOf}
-use Rattle.copy_places.specs.KeptRows.{IsCutOfSaid, IsKeptRow, IsOfSaid, IsRowIn, IsTileCut, LackMix}
+use Rattle.copy_places.specs.KeptRows.{IsCutOfSaid, IsKeptRow, IsOfSaid, IsRowIn, IsFullCut, LackMix}
 use Rattle.copy_places.specs.Mixes.{given_at}
 use Rattle.copy_places.specs.TrueAnswers.{IsRootOf}
 use Rattle.copy_places.specs.declared.end_tiles.EndTile.{EndTile}
@@ -64,12 +65,14 @@ module _ (digest : List ℕ → List ℕ) (hash : IsDigest digest) (entries : Li
         let h = true_hashes digest hash entries level (256 * index) width in
         length-row_text true_row h.sizes ∙ ap (λ m. 32 * m) h.count
 
-    by_cut : (whole : List ℕ) (found : Option (List ℕ)) → IsTileCut (Tile level index width) whole found → IsFirstOf whole bytes →
+    as_cut : (whole : List ℕ) → GoesOn (Tile level index width) bytes whole → IsFileCut (Tile level index width) 256 whole bytes
+    as_cut whole goes = record { whole = goes.whole; own = long; rest = goes.rest; parts = goes.bytes_are }
+
+    by_cut : (whole : List ℕ) (found : Option (List ℕ)) → IsFullCut (Tile level index width) whole found → GoesOn (Tile level index width) bytes whole →
         found ≡ Some bytes
-    by_cut whole None short first =
-        absurd (omega (arith, short, ap length first.full_is, length-append bytes first.rest, long))
-    by_cut whole (Some part) is first =
-        ap (λ (b : List ℕ). Some b) (is ∙ (ap (take (32 * width)) first.full_is ∙ take_at bytes first.rest (32 * width) long))
+    by_cut whole None none goes = absurd (none bytes (as_cut whole goes))
+    by_cut whole (Some part) is goes =
+        ap (λ (b : List ℕ). Some b) (cuts_are_first.one (Tile level index width) 256 whole part bytes is (as_cut whole goes))
 
     by_full : (s : Option (Option (List ℕ))) (found : Option (List ℕ)) → IsCutOfSaid tiles k (Tile level index width) s found →
         BeginsTrue digest entries tiles (Tile level index width) s → found ≡ Some bytes

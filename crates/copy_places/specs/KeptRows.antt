@@ -1,8 +1,9 @@
 -- The edge rows that the kept answers of a place give.
-use Rattle.std.specs.Prelude.{◌≡◌, ℕ, ◌*◌, ◌<◌, ◌≤◌, List, [], length, take, Option, Some, None, ⊤}
+use Rattle.std.specs.Prelude.{◌≡◌, ℕ, ◌≤◌, List, [], Option, Some, None}
 use Rattle.tlog_shape.specs.Edge.{edge_index_of, width_of}
+use Rattle.tlog_tiles.specs.Cut.{IsFileCut}
 use Rattle.tlog_tiles.specs.declared.paths.Path.{Path}
-use Rattle.tlog_tiles.specs.declared.paths.Path.TheVariants.{Checkpoint, Tile, Entries}
+use Rattle.tlog_tiles.specs.declared.paths.Path.TheVariants.{Tile}
 use Rattle.tlog_tiles.specs.Row.{IsRow}
 use Rattle.mirror_sources.specs.Files.{full_of}
 use Rattle.copy_places.specs.EndTiles.{IsKeptAnswer, said}
@@ -11,19 +12,17 @@ use Rattle.copy_places.specs.declared.end_tiles.EndTile.{EndTile}
 use Rattle.copy_places.specs.declared.mix.GivenRows.{GivenRows}
 use Rattle.copy_places.specs.declared.place.PlaceAnswer.{PlaceAnswer}
 
--- the bytes of a partial tile, cut from a full one: its first hashes. None: it has fewer
-abbrev pub IsTileCut : Path → List ℕ → Option (List ℕ) → Type 0
-IsTileCut Checkpoint full found = ⊤
-IsTileCut (Tile level index width) full None = length full < 32 * width
-IsTileCut (Tile level index width) full (Some part) = part ≡ take (32 * width) full
-IsTileCut (Entries index width) full found = ⊤
+-- the bytes of a partial file, cut from a full one. None: it is no full file, or has no such part
+abbrev pub IsFullCut : Path → List ℕ → Option (List ℕ) → Type 0
+IsFullCut path full None = (part : List ℕ) → ¬ IsFileCut path 256 full part
+IsFullCut path full (Some part) = IsFileCut path 256 full part
 
 module _ (tiles : List EndTile) (k : ℕ) (path : Path) where
   -- the bytes that are found for a partial tile, by what the place said of the full one
   abbrev pub IsCutOfSaid : Option (Option (List ℕ)) → Option (List ℕ) → Type 0
   IsCutOfSaid None found = found ≡ None
   IsCutOfSaid (Some None) found = found ≡ None
-  IsCutOfSaid (Some (Some full)) found = IsTileCut path full found
+  IsCutOfSaid (Some (Some full)) found = IsFullCut path full found
 
   -- the same by a kept answer of the place of index k for the full tile
   pub record IsKeptCut (found : Option (List ℕ)) : Type 0 where

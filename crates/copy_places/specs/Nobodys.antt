@@ -10,6 +10,7 @@ use Rattle.mirror_sources.specs.Files.{full_of}
 use Rattle.mirror_sources.specs.Honest.{true_bytes}
 use Rattle.mirror_folders.specs.Shelf.{Put, RecordsRead}
 use Rattle.log_reader.specs.EdgeRows.{Edge, LeadsTo}
+use Rattle.log_reader.specs.Holding.{GoesOn}
 use Rattle.log_reader.specs.Truth.{IsListClear}
 use Rattle.log_reader.specs.Verified.{Verifies}
 use Rattle.log_reader.specs.Ways.{HasEdgeHashes, IsWay, row_of_way}
@@ -17,7 +18,6 @@ use Rattle.log_reader.specs.declared.verify.FullFile.{FullFile}
 use Rattle.log_reader.specs.declared.verify.FullFile.TheVariants as full
 use Rattle.copy_places.specs.AskedEnds.{IsKeptInVain}
 use Rattle.copy_places.specs.EndTiles.{IsKeptAnswer, said}
-use Rattle.copy_places.specs.Giving.{IsFirstOf}
 use Rattle.copy_places.specs.KeptRows.{LackMix}
 use Rattle.copy_places.specs.declared.end_tiles.EndTile.{EndTile}
 use Rattle.copy_places.specs.declared.place.PlaceAnswer.{PlaceAnswer}
@@ -99,11 +99,11 @@ module _ (digest : List ℕ → List ℕ) (entries : List (List ℕ)) (tiles : L
   GivesTrue k path =
       (answer : PlaceAnswer) → IsKeptAnswer tiles k path answer → said answer ≡ Some (Some (true_bytes digest entries path))
 
-  -- what was said of a full file begins with the true bytes of the partial one
+  -- what was said of a full file is one, and begins with the true bytes of the partial one
   abbrev pub BeginsTrue : Path → Option (Option (List ℕ)) → Type 0
   BeginsTrue path None = ⊥
   BeginsTrue path (Some None) = ⊥
-  BeginsTrue path (Some (Some bytes)) = IsFirstOf bytes (true_bytes digest entries path)
+  BeginsTrue path (Some (Some bytes)) = GoesOn path (true_bytes digest entries path) bytes
 
   -- what was said of a partial file is true: its true bytes, or that there is none, and then the full file begins with them
   abbrev pub IsTrueOfPart : ℕ → Path → Option (Option (List ℕ)) → Type 0

@@ -10,7 +10,6 @@ ghost use Rattle.copy_places.specs.Mixes.{HaveWidths};
 
 use crate::file::{Found, accept_file};
 use crate::mix::{GivenRows, edge_of_pairs, edge_of_two};
-use crate::part::{full_of, part_of};
 use crate::place::{PlaceAnswer, Wrong};
 use crate::places::{Places, in_turn};
 use crate::row::row_of;
@@ -128,9 +127,9 @@ fn kept_part<S: Source + Drop>(
     ensures kept { IfOk result (λ found. IsKeptCut places.new.ends.tiles.items index path.now
         (option_map (λ v. v.items) found)) }
 {
-    let full_path = full_of(path);
+    let full_path = path.full();
     match ask_end::<S>(places, index, &full_path)? {
-        PlaceAnswer::File(full) => match part_of(path, &full) {
+        PlaceAnswer::File(full) => match path.cut(256, &full) {
             Some(part) => Ok(Some(Vec::from_slice(alloc, part)?)),
             None => {
                 note_end::<S>(places, index, &full_path, Wrong::False);

@@ -7,7 +7,6 @@ ghost use Rattle.copy_places.specs.PlaceGets.{AsksPlaces, IsBlamed};
 ghost use Rattle.copy_places.specs.Giving.{MayGive, PartOf};
 ghost use Rattle.copy_places.specs.TrueAnswers.{FindsPart, FindsTrue};
 
-use crate::part::{full_of, part_of};
 use crate::place::{PlaceAnswer, Wrong};
 use crate::places::Places;
 use mirror_sources::Source;
@@ -32,9 +31,9 @@ fn get_part<S: Source + Drop>(
         path.now (option_map (λ v. v.items) found)) }
     ensures blamed { IfOk result (λ found. IfNone found (IsBlamed places.old places.new index)) }
 {
-    let full_path = full_of(path);
+    let full_path = path.full();
     match places.get(index, &full_path)? {
-        PlaceAnswer::File(full) => match part_of(path, &full) {
+        PlaceAnswer::File(full) => match path.cut(256, &full) {
             Some(part) => Ok(Some(Vec::from_slice(alloc, part)?)),
             None => {
                 places.note_wrong(index, &full_path, Wrong::False);
