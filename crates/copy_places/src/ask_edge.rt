@@ -39,6 +39,9 @@ pub(crate) fn ask_edge<H: TreeHash, D: ReadableShelf, S: Source + Drop>(
 {
     match edge_on_shelf::<H, D>(alloc, shelf, size, root)? {
         Some(edge) => Ok(Some(edge)),
-        None => Ok(kept_edge::<H, S>(alloc, places, size, root)?),
+        None => match kept_edge::<H, S>(alloc, places, size, root)? {
+            Some(edge) => Ok(Some(edge)),
+            None => Ok(None),
+        },
     }
 }

@@ -123,5 +123,8 @@ pub(crate) fn edge_on_shelf<H: TreeHash, D: ReadableShelf>(
         (LacksEdge H.digest size root.now (D.puts shelf.old))) }
 {
     let rows = rows_on_shelf::<D>(alloc, shelf, size)?;
-    Ok(edge_of_two::<H>(alloc, size, root, &rows, &rows)?)
+    match edge_of_two::<H>(alloc, size, root, &rows, &rows)? {
+        Some(edge) => Ok(Some(edge)),
+        None => Ok(None),
+    }
 }

@@ -10,8 +10,8 @@ returns-in-None-clause-read g c =
     let x = g.D.Shelf.puts c.args.shelf.now in
     let y = g.D.Shelf.puts c.read.new.self in
     let path = c.args.path.now in
-    let same = c.in_ok-read.ensures.same in
-    let none = rw c.in-None.is at c.in_ok-read.ensures.answer in
+    let same = c.in_ok-bytes.ensures.same in
+    let none = rw c.in-None.is at c.in_ok-bytes.ensures.answer in
     ok_weaker c.cut_on_shelf.result
     (λ (o : Option (Vec ℕ Global)). IsReadCut y path (option_map (λ v. v.items) o))
     (λ (o : Option (Vec ℕ Global)). IsReadTile x path (option_map (λ v. v.items) o))
