@@ -1,14 +1,16 @@
 -- Faults of reading files, as a command counts them.
-use Rattle.std.proofs.Common.{◌≡◌, ℕ, ◌≤◌, List, Option, Some, None, Result, Ok, Err, subst, sym}
+use Rattle.std.proofs.Common.{◌≡◌, ℕ, ◌≤◌, List, Option, Some, None, Result, Ok, Err, refl, subst, sym}
 use Rattle.std.proofs.lemmas.Bool.{false≢true}
 use Rattle.std.specs.Result.{IsErr, IsErrAnd}
 use Rattle.std.specs.Prelude.{IfErr, IfOk, IfSome, option_map}
-use Rattle.log_reader.specs.Ways.{Reader}
-use Rattle.program_copies.specs.Statuses.{HasPoint, reader_point}
+use Rattle.log_reader.specs.Ways.{HasEdgeHashes, Reader}
+use Rattle.program_copies.specs.Statuses.{HasPoint, IsStatusOf, ReportsStatus, reader_point}
 use Rattle.signed_note.specs.Keys.{Key}
 use Rattle.mirror_folders.specs.Shelf.{Put, RecordsRead}
+use Rattle.log_reader.specs.EdgeRows.{hash_of_edge}
 use Rattle.log_reader.specs.FalseEdges.{IsEdgeGiven}
 use Rattle.copy_reader.specs.Copies.{HasCheckpoint, IsRefused, OpensCopy}
+use Rattle.copy_reader.specs.Ends.{IsEndShown, IsReadAtEnd}
 use Rattle.mirror_sources.specs.Recorded.{KeepsRecord}
 use Rattle.program_reports.specs.declared.reports.Report.{Report as Printout}
 use Rattle.copy_reader.specs.Damage.{NamesProofDamage}
@@ -69,11 +71,37 @@ pub opened_checkpoint : (digest : List ℕ → List ℕ) (origin : List ℕ) (ke
     HasCheckpoint origin keys held reader.edge.size reader.root
 opened_checkpoint digest origin keys held opened reader h is = subst (λ o. OpensCopy digest origin keys held (Ok o)) is h
 
--- the edge of an opened copy
-pub opened_edge : (held : Option (List Put)) (opened : Option Reader) (reader : Reader) →
+-- the edge of an opened copy was read, and the bundle at its end
+pub read_at_end : (digest : List ℕ → List ℕ) (held : Option (List Put)) (opened : Option Reader) (reader : Reader) →
     IfSome opened (λ r. IsEdgeGiven (RecordsRead held) r.edge.size r.edge) → opened ≡ Some reader →
-    IsEdgeGiven (RecordsRead held) reader.edge.size reader.edge
-opened_edge held opened reader h is = subst (λ o. IfSome o (λ r. IsEdgeGiven (RecordsRead held) r.edge.size r.edge)) is h
+    HasEdgeHashes reader.edge → hash_of_edge digest reader.edge ≡ reader.root → IsEndShown digest reader.edge →
+    IsReadAtEnd digest held reader.edge.size reader.root
+read_at_end digest held opened reader h is hashes leads end = record {
+  edge = reader.edge;
+  hashes = hashes;
+  size_is = refl;
+  leads = leads;
+  given = subst (λ o. IfSome o (λ r. IsEdgeGiven (RecordsRead held) r.edge.size r.edge)) is h;
+  end = end;
+}
+
+-- the report on a log whose edge and end were read
+pub reports_read : (digest : List ℕ → List ℕ) (origin : List ℕ) (keys : List Key) (held : Option (List Put)) (reader : Reader)
+    (size : ℕ) (root : List ℕ) (r : Result Printout CopyAskFault) → size ≡ reader.edge.size → root ≡ reader.root →
+    HasCheckpoint origin keys held reader.edge.size reader.root →
+    IsReadAtEnd digest held reader.edge.size reader.root →
+    IfOk r (IsStatusOf origin (Some (record { size = size; root = root }))) →
+    IfErr r (λ fault. fault ≡ asking.Copy OutOfMemory) → ReportsStatus digest origin keys held r
+reports_read digest origin keys held reader size root (Ok report) is_size is_root has whole report_is err = record {
+  point = Some (record { size = size; root = root });
+  has = subst (λ n. HasCheckpoint origin keys held n root) (sym is_size)
+      (subst (λ h. HasCheckpoint origin keys held reader.edge.size h) (sym is_root) has);
+  whole = subst (λ n. IsReadAtEnd digest held n root) (sym is_size)
+      (subst (λ h. IsReadAtEnd digest held reader.edge.size h) (sym is_root) whole);
+  is = report_is;
+}
+reports_read digest origin keys held reader size root (Err fault) is_size is_root has whole report_is err =
+    subst (λ f. ReportsStatus digest origin keys held (Err f)) (sym err) (record { refused = tt; named = tt })
 
 -- the opened folder has the content of the folder of that name
 pub opens_there : (digest : List ℕ → List ℕ) (origin : List ℕ) (keys : List Key) (x y : Option (List Put))

@@ -50,7 +50,7 @@ fn report_of(
 }
 
 // The report on the copy in the folder.
-#[tactic(auto, using(crate::proofs::Reading::opened_has, crate::proofs::Reading::opened_edge, log_reader::proofs::Kept::kept_twice))]
+#[tactic(auto, using(crate::proofs::Reading::opened_has, log_reader::proofs::Kept::kept_twice))]
 fn status_of_copy<H: TreeHash, D: NamedFolders>(
     folders: &mut D,
     alloc: Global,

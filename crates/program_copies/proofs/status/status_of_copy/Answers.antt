@@ -2,7 +2,7 @@ use Rattle.std.proofs.Common.{refl, rules}
 use Rattle.std.specs.Prelude.{⊤}
 use Rattle.program_copies.specs.GivenFiles.{IsEdgeTo}
 use Rattle.program_copies.proofs.Damages.{file_under, names_before, opened_under, read_names}
-use Rattle.program_copies.proofs.Reading.{opened_checkpoint, read_refused}
+use Rattle.program_copies.proofs.Reading.{opened_checkpoint, read_at_end, read_refused, reports_read}
 use Rattle.program_copies.proofs.status.status_of_copy.Goals as goal
 
 pub returns-in-Err-clause-answer : goal.returns-in-Err-clause-answer
@@ -31,3 +31,14 @@ returns-clause-answer g c =
           (read_names digest reader.edge.size reader.root after reader.edge to c.in-Err-read_end.fault
           c.in-Err-read_end.ensures.damage));
     }
+
+pub returns-in-Ok-read_end-clause-answer : goal.returns-in-Ok-read_end-clause-answer
+returns-in-Ok-read_end-clause-answer g c =
+    let digest = g.H.TreeHash.digest in
+    let held = g.D.NamedFolders.held c.args.folders.now c.args.folder.now in
+    let reader = c.in-Some.reader in
+    reports_read digest c.args.origin.now _ held reader c.size.result c.root.result c.report_of-in-Ok-read_end.result
+    c.size.ensures c.root.ensures.root
+    (opened_checkpoint digest _ _ held c.in-Ok.opened reader c.in-Ok.ensures.answer c.in-Some.is)
+    (read_at_end digest held c.in-Ok.opened reader c.in-Ok.ensures.given c.in-Some.is c.root.ensures.hashes c.root.ensures.leads
+    c.in-Ok-read_end.ensures.end) c.report_of-in-Ok-read_end.ensures.report c.report_of-in-Ok-read_end.ensures.fault
