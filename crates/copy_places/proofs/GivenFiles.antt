@@ -31,7 +31,8 @@ use Rattle.log_reader.proofs.TrueReads.{full_fits, full_folds, row_is_true, tile
 use Rattle.log_reader.proofs.Truths.{of_way, true_hashes, true_way}
 use Rattle.copy_places.specs.AskedEnds.{IsKeptInVain, IsSaidInVain}
 use Rattle.copy_places.specs.EndTiles.{IsKeptAnswer, said}
-use Rattle.copy_places.specs.KeptRows.{IsCutOfSaid, IsKeptRow, IsOfSaid, IsRowIn, IsFullCut, LackMix}
+use Rattle.copy_places.specs.FoundRows.{IsFullCut, IsRowIn}
+use Rattle.copy_places.specs.KeptRows.{IsCutOfSaid, IsKeptRow, IsOfSaid, LackMix}
 use Rattle.copy_places.specs.Mixes.{given_at}
 use Rattle.copy_places.specs.TrueAnswers.{IsRootOf}
 use Rattle.copy_places.specs.declared.end_tiles.EndTile.{EndTile}
@@ -211,7 +212,7 @@ module _ (digest : List ℕ → List ℕ) (hash : IsDigest digest) (entries : Li
       ]
 
 pub given_files_are_had : GivenFilesAreHad
-given_files_are_had digest hash puts tiles count first large small (NoEdge none) entries short point clear given =
+given_files_are_had digest hash puts tiles count first large small (NoEdge own none) entries short point clear given =
     edge_there digest hash entries short large point (omega (arith, small, point.size_is)) puts tiles count first none given
 given_files_are_had digest hash puts tiles count first large small (NoRow edge leads hashes l) entries short point clear given =
     let size_is : edge.size ≡ length entries = leads.is_edge.size_is ∙ sym point.size_is in

@@ -3,19 +3,19 @@ use Rattle.std.proofs.Common.{◌≡◌, inl, inr, ℕ, ◌+◌, ◌<◌, ◌≤
 use Rattle.std.proofs.Common.{Result, Ok, Err, subst, arith}
 use Rattle.std.specs.Prelude.{IfNone, IfOk, IfSome, option_map}
 use Rattle.std.proofs.lemmas.Bool.{cases_order}
-use Rattle.tlog_shape.specs.Edge.{edge_index_of, width_of}
 use Rattle.tlog_tiles.specs.declared.paths.Path.{Path}
-use Rattle.tlog_tiles.specs.declared.paths.Path.TheVariants.{Tile}
 use Rattle.tlog_tiles.specs.Row.{IsRow}
 use Rattle.log_reader.specs.EdgeRows.{row_at}
 use Rattle.mirror_sources.specs.Files.{full_of}
 use Rattle.copy_places.specs.Asked.{IsAskedInTurn}
 use Rattle.copy_places.specs.EndTiles.{AnswersStay, said}
-use Rattle.copy_places.specs.KeptRows.{AreKeptRows, IsKeptCut, IsKeptRow, IsKeptTile, IsOfSaid, IsRowIn, LackMix}
+use Rattle.copy_places.specs.FoundRows.{IsRowIn}
+use Rattle.copy_places.specs.KeptRows.{AreKeptRows, IsKeptCut, IsKeptRow, IsKeptTile, IsOfSaid, LackMix}
 use Rattle.copy_places.specs.Mixes.{HaveNoMix, IsOfEither, given_at}
 use Rattle.copy_places.specs.declared.end_tiles.EndTile.{EndTile}
 use Rattle.copy_places.specs.declared.mix.GivenRows.{GivenRows}
 use Rattle.copy_places.proofs.Asking.{turn_of}
+use Rattle.copy_places.proofs.FoundRows.{row_weaker}
 use Rattle.copy_places.proofs.KeptAnswers.{answer_later}
 use Rattle.copy_places.proofs.Mixing.{items_more}
 
@@ -52,16 +52,7 @@ module _ (x y : List EndTile) (stay : AnswersStay x y) (k : ℕ) where
     }
 
   pub row_later : (n level : ℕ) (row : Option (List (List ℕ))) → IsKeptRow x k n level row → IsKeptRow y k n level row
-  row_later n level row h = record {
-    empty = h.empty;
-    some = λ some.
-        let of = h.some some in
-        record {
-          found = of.found;
-          tile = tile_later (Tile level (edge_index_of n level) (width_of n level)) of.found of.tile;
-          is_row = of.is_row;
-        };
-  }
+  row_later n level row h = row_weaker (IsKeptTile x k) (IsKeptTile y k) (λ path found tile. tile_later path found tile) n level row h
 
   pub rows_later : (n : ℕ) (given : GivenRows) → AreKeptRows x k n given → AreKeptRows y k n given
   rows_later n given h = record { each = λ level low. row_later n level (given_at given level) (h.each level low) }

@@ -11,7 +11,9 @@ pub mod Mixing
 pub mod TrueAnswers
 pub mod TruePlaces
 pub mod GivenRows
+pub mod FoundRows
 pub mod KeptRows
+pub mod ShelfRows
 pub mod FirstRoots
 pub mod ForkLines
 pub mod Agreeing

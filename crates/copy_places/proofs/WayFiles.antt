@@ -19,7 +19,7 @@ use Rattle.mirror_model.specs.Strings.{IsDigest}
 use Rattle.mirror_sources.specs.Honest.{true_bytes}
 use Rattle.mirror_sources.specs.Recorded.{KeepsRecord}
 use Rattle.mirror_sources.specs.Source.{File}
-use Rattle.mirror_folders.specs.Shelf.{Put, RecordsRead}
+use Rattle.mirror_folders.specs.Shelf.{Put}
 use Rattle.log_reader.specs.EdgeRows.{Edge, RowIsTrue, row_at}
 use Rattle.log_reader.specs.Holding.{HasFullTiles}
 use Rattle.log_reader.specs.Truth.{IsListClear}
@@ -29,6 +29,7 @@ use Rattle.log_reader.proofs.FalseFiles.{shown_below}
 use Rattle.log_reader.proofs.Truths.{of_way, true_way}
 use Rattle.copy_places.specs.EndTiles.{AnswersStay}
 use Rattle.copy_places.specs.declared.end_tiles.EndTile.{EndTile}
+use Rattle.copy_places.proofs.ShelfRows.{record_before}
 use Rattle.copy_places.proofs.AskingEnds.{kept_later}
 use Rattle.copy_places.specs.Nobodys.{IsFileOf, IsNobodys, IsReadInVain, IsRowNobodys, LacksRow}
 use Rattle.copy_places.specs.ReadFiles.{IsRead}
@@ -68,13 +69,11 @@ hashes_there width row count all = record {
 -- the shelf stayed as it was before the read
 pub read_before : (old new : Option (List Put)) → KeepsRecord old new → (path : Path) (good : List ℕ → Type 0) →
     IsReadInVain new path good → IsReadInVain old path good
-read_before old new kept path good h = record { found = h.found; read = by_record old new kept h.found h.read; vain = h.vain }
-  where
-    by_record : (old new : Option (List Put)) → KeepsRecord old new → (found : Option (List ℕ)) → RecordsRead new path found →
-        RecordsRead old path found
-    by_record None new kept found read = tt
-    by_record (Some xs) None kept found read = absurd kept
-    by_record (Some xs) (Some ys) kept found read = subst (λ (puts : List Put). RecordsRead (Some puts) path found) kept read
+read_before old new kept path good h = record {
+  found = h.found;
+  read = record_before old new kept path h.found h.read;
+  vain = h.vain;
+}
 
 module _ (digest : List ℕ → List ℕ) (old new : Option (List Put)) (kept : KeepsRecord old new) (x y : List EndTile)
     (stay : AnswersStay x y) (m n : ℕ) (count : m ≡ n) where
@@ -92,6 +91,18 @@ module _ (digest : List ℕ → List ℕ) (old new : Option (List Put)) (kept : 
     tile = nobodys_later _ _ hash h.tile;
     bundle = λ zero. nobodys_later _ _ hash (h.bundle zero);
   }
+
+-- the same for a wanted row
+pub row_lacked_before : (digest : List ℕ → List ℕ) (old new : Option (List Put)) → KeepsRecord old new → (tiles : List EndTile)
+    (m n : ℕ) → m ≡ n → (first : ℕ) (edge : Edge) → LacksRow digest new tiles m first edge → LacksRow digest old tiles n first edge
+row_lacked_before digest old new kept tiles m n count first edge h = record {
+  level = h.level;
+  wanted = h.wanted;
+  way = h.way;
+  is_way = h.is_way;
+  nobody = row_nobodys_later digest old new kept tiles tiles (record { more = omega arith; same = λ at lt d. refl }) m n count h.level
+      (edge_index_of first h.level) _ h.nobody;
+}
 
 -- ---- files
 

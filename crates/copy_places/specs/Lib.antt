@@ -4,7 +4,9 @@ pub mod AskedOnce
 pub mod EndTiles
 pub mod GivenFrom
 pub mod Giving
+pub mod FoundRows
 pub mod KeptRows
+pub mod ShelfRows
 pub mod Mixes
 pub mod PlaceGets
 pub mod TrueAnswers

@@ -19,6 +19,7 @@ use Rattle.log_reader.specs.declared.verify.FullFile.TheVariants as full
 use Rattle.copy_places.specs.AskedEnds.{IsKeptInVain}
 use Rattle.copy_places.specs.EndTiles.{IsKeptAnswer, said}
 use Rattle.copy_places.specs.KeptRows.{LackMix}
+use Rattle.copy_places.specs.ShelfRows.{LacksEdge}
 use Rattle.copy_places.specs.declared.end_tiles.EndTile.{EndTile}
 use Rattle.copy_places.specs.declared.place.PlaceAnswer.{PlaceAnswer}
 use Rattle.copy_places.specs.Forks.{HasPoint}
@@ -73,10 +74,11 @@ module _ (digest : List ℕ → List ℕ) where
       pub nobody : IsRowNobodys level (edge_index_of first level)
           (get_or (row_of_way edge (level + 1) way) (edge_index_of first level % 256) [])
 
-    -- why a proof from the first entries to the larger point cannot be had. By their kept answers no two places have the edge, or nobody
-    -- has a wanted row, or what was had is of no log
+    -- why a proof from the first entries to the larger point cannot be had. The shelf has not the edge, and by their kept answers no two
+    -- places have it. Or nobody has a wanted row, or what was had is of no log
     pub data CannotBeHad (first : ℕ) (large : Point) : Type 0 where
       NoEdge :
+          LacksEdge digest large.size large.root puts →
           ((i j : ℕ) → i < count → j < count → LackMix digest large.size large.root tiles i j) → CannotBeHad first large
       NoRow :
           (edge : Edge) → LeadsTo digest large.size large.root edge → HasEdgeHashes edge → LacksRow first edge →
@@ -87,7 +89,7 @@ module _ (digest : List ℕ → List ℕ) where
 
     -- no two different strings of the entries' tree, and of the edge and the way of the reason, share a digest. Without an edge it holds
     abbrev pub IsReasonClear : {first : ℕ} {large : Point} → CannotBeHad first large → List (List ℕ) → Type 0
-    IsReasonClear (NoEdge none) entries = ⊤
+    IsReasonClear (NoEdge own none) entries = ⊤
     IsReasonClear (NoRow edge leads hashes lacks) entries = IsListClear digest edge lacks.way entries
     IsReasonClear (NoLog edge leads hashes of) entries = IsListClear digest edge of.way entries
 

@@ -7,6 +7,7 @@
 #![tactic(auto)]
 
 mod ahead;
+mod ask_edge;
 mod ask_fault;
 mod bundle;
 mod candidate;
@@ -28,6 +29,7 @@ mod places;
 mod proof_files;
 mod proving;
 mod row;
+mod shelf_edge;
 mod way;
 
 pub use ask_fault::AskFault;

@@ -23,12 +23,13 @@ ghost use Rattle.copy_places.specs.Requests.{AsksAny};
 ghost use Rattle.copy_places.specs.Shown.{ShowsLarger};
 ghost use Rattle.copy_places.specs.WayFiles.{HasWanted, IsLogOfEdge};
 
+use crate::Places;
+use crate::ask_edge::ask_edge;
 use crate::ask_fault::AskFault;
 use crate::candidate::Candidate;
 use crate::hash_sizes::{hash_len, see_edge, see_path};
 use crate::proof_files::{ReadFiles, ReadSource};
 use crate::way::add_way;
-use crate::{Places, kept_edge};
 use log_reader::{EdgeRows, LogReader, ReadFault};
 use mirror_folders::ReadableShelf;
 use mirror_sources::Source;
@@ -267,7 +268,9 @@ fn find_proof<H: TreeHash, D: ReadableShelf, S: Source + Drop>(
         places.new.ends.tiles.items (length places.old.list.items) smaller.now.size.0
         (point_of larger.now) }
 {
-    let Some(edge) = kept_edge::<H, S>(alloc, places, larger.size.0, &larger.root)? else {
+    let Some(edge) =
+        ask_edge::<H, D, S>(alloc, shelf, places, larger.size.0, &larger.root)?
+    else {
         return Err(AskFault::NoFile);
     };
     see_edge(&edge);
@@ -282,7 +285,7 @@ fn find_proof<H: TreeHash, D: ReadableShelf, S: Source + Drop>(
 /// from the one to the other, and for what a place was asked then, its answer is used.
 ///
 /// A full file counts from wherever it verifies: from the shelf first, then from each place. A full row of level 0 counts from its bundle,
-/// or else from its tile. The rows of the larger candidate's edge are those of one place, or of two mixed.
+/// or else from its tile. The rows of the larger candidate's edge are those of the shelf, else those of one place, else those of two mixed.
 ///
 /// None: the files were had, and show no fork: a proof made of them shows that the two candidates agree. Or the first candidate is not
 /// smaller.

@@ -1,26 +1,26 @@
 use Rattle.std.proofs.Common.{◌∙◌, subst, sym}
 use Rattle.copy_places.specs.Faults.{CountsAsk}
 use Rattle.copy_places.proofs.AskingEnds.{ends_then}
-use Rattle.copy_places.specs.Nobodys.{LacksRow, NoLog, NoRow}
-use Rattle.copy_places.proofs.WayFiles.{edge_true, tiles_of_log}
+use Rattle.copy_places.specs.Nobodys.{NoLog, NoRow}
+use Rattle.copy_places.proofs.WayFiles.{edge_true, row_lacked_before, tiles_of_log}
 use Rattle.copy_places.proofs.proving.find_proof.Goals as goal
 
 pub returns-in_err-add_way-clause-goes : goal.returns-in_err-add_way-clause-goes
 returns-in_err-add_way-clause-goes g c =
-    ends_then g.S.Source.may_answer g.S.Source.failed g.S.Source.asked c.args.places.now c.kept_edge.new.places c.add_way.new.places c.kept_edge.ensures.goes c.add_way.ensures.goes
+    ends_then g.S.Source.may_answer g.S.Source.failed g.S.Source.asked c.args.places.now c.ask_edge.new.places c.add_way.new.places c.ask_edge.ensures.goes c.add_way.ensures.goes
 
 pub returns-then-not-branch-clause-goes : goal.returns-then-not-branch-clause-goes
 returns-then-not-branch-clause-goes g c =
-    ends_then g.S.Source.may_answer g.S.Source.failed g.S.Source.asked c.args.places.now c.kept_edge.new.places c.add_way.new.places c.kept_edge.ensures.goes c.add_way.ensures.goes
+    ends_then g.S.Source.may_answer g.S.Source.failed g.S.Source.asked c.args.places.now c.ask_edge.new.places c.add_way.new.places c.ask_edge.ensures.goes c.add_way.ensures.goes
 
 pub returns-clause-goes : goal.returns-clause-goes
 returns-clause-goes g c =
-    ends_then g.S.Source.may_answer g.S.Source.failed g.S.Source.asked c.args.places.now c.kept_edge.new.places c.add_way.new.places c.kept_edge.ensures.goes c.add_way.ensures.goes
+    ends_then g.S.Source.may_answer g.S.Source.failed g.S.Source.asked c.args.places.now c.ask_edge.new.places c.add_way.new.places c.ask_edge.ensures.goes c.add_way.ensures.goes
 
 pub returns-clause-counted : goal.returns-clause-counted
 returns-clause-counted g c =
     let old = g.D.Shelf.failed c.args.shelf.now in
-    subst (λ m. CountsAsk old m c.read_proof.result) (sym c.in_ok-add_way.ensures.counted) (c.read_proof.ensures.memory old)
+    subst (λ m. CountsAsk old m c.read_proof.result) (sym (c.in_ok-add_way.ensures.counted ∙ c.in_ok-edge.ensures.counted)) (c.read_proof.ensures.memory old)
 
 pub returns-then-not-branch-clause-lacks : goal.returns-then-not-branch-clause-lacks
 returns-then-not-branch-clause-lacks g c = λ e.
@@ -28,8 +28,8 @@ returns-then-not-branch-clause-lacks g c = λ e.
     let edge = c.in-Some.edge in
     let leads = rw c.in-Some.is at c.in_ok-edge.ensures.leads in
     NoRow edge leads c.see_edge.ensures
-    (subst (λ n. LacksRow digest (g.D.Shelf.puts c.args.shelf.now) c.add_way.new.places.ends.tiles.items n c.args.smaller.now.size.0 edge)
-    c.kept_edge.ensures.goes.asks.count
+    (row_lacked_before digest (g.D.Shelf.puts c.args.shelf.now) (g.D.Shelf.puts c.ask_edge.new.shelf) c.in_ok-edge.ensures.same
+    c.add_way.new.places.ends.tiles.items _ _ c.ask_edge.ensures.goes.asks.count c.args.smaller.now.size.0 edge
     (c.in_ok-add_way.ensures.lacks c.if-not-branch.true))
 
 pub returns-clause-lacks : goal.returns-clause-lacks
