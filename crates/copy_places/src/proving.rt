@@ -268,9 +268,7 @@ fn find_proof<H: TreeHash, D: ReadableShelf, S: Source + Drop>(
         places.new.ends.tiles.items (length places.old.list.items) smaller.now.size.0
         (point_of larger.now) }
 {
-    let Some(edge) =
-        ask_edge::<H, D, S>(alloc, shelf, places, larger.size.0, &larger.root)?
-    else {
+    let Some(edge) = ask_edge::<H, D, S>(alloc, shelf, places, larger.size.0, &larger.root)? else {
         return Err(AskFault::NoFile);
     };
     see_edge(&edge);
