@@ -18,6 +18,7 @@ ghost use Rattle.copy_places.specs.Candidates.{point_of};
 ghost use Rattle.copy_places.specs.Checked.{HasFirstRoot};
 ghost use Rattle.copy_places.specs.Forks.{HasPoint};
 ghost use Rattle.copy_places.specs.Nobodys.{CannotBeHad, IsOfEnds};
+ghost use Rattle.copy_places.specs.PlaceGets.{AddsAnswers};
 ghost use Rattle.copy_places.specs.ReadFiles.{IsRead};
 ghost use Rattle.copy_places.specs.Requests.{AsksAny};
 ghost use Rattle.copy_places.specs.Shown.{ShowsLarger};
@@ -314,6 +315,7 @@ pub fn ask_proof<H: TreeHash, D: ReadableShelf, S: Source + Drop>(
     ensures agrees { IfOk result (λ found. found ≡ None → 0 < smaller.now.size.0
         → smaller.now.size.0 < larger.now.size.0
         → Agrees H.digest (point_of smaller.now) (point_of larger.now)) }
+    ensures answered { AddsAnswers S.may_answer places.old places.new }
     ensures other { result ≡ Err AskFault.OtherFiles
         → ¬ IsOfEnds smaller.now larger.now places.old.ends.sizes }
     ensures lacks { result ≡ Err AskFault.NoFile → CannotBeHad H.digest (D.puts shelf.old)
