@@ -1,8 +1,4 @@
-<<<<<<< HEAD
 use Rattle.std.proofs.Common.{◌≡◌, ℕ, [], ◌∷◌, None, Option, Vec, List, Global, get_or, length, length-append, refl, ap, subst, sym, ◌∙◌, arith}
-=======
-use Rattle.std.proofs.Common.{◌≡◌, ℕ, [], ◌∷◌, None, Option, Vec, List, Global, length, length-append, refl, ap, subst, sym, ◌∙◌, arith}
->>>>>>> cc7dfd1487891bb053c5734c16bf494f539a6071
 use Rattle.std.specs.Prelude.{IfSome, option_map}
 use Rattle.tlog_shape.specs.Edge.{width_of}
 use Rattle.log_reader.proofs.Kept.{kept_once, kept_twice}

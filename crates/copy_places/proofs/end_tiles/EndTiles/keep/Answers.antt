@@ -17,5 +17,5 @@ pub returns-then-i-len-clause-none : goal.returns-then-i-len-clause-none
 returns-then-i-len-clause-none c =
     let within : c.in-Some.i < length c.args.self.now.tiles.items =
     let long = c.len.ensures in let less = c.if-i-len.true in omega (arith, long, less) in
-    rw c.in-Some.is (set_new c.args.self.now.tiles.items c.in-Some.i c.index_mut.result.now _ c.copy.copy c.args.answer.now within
+    rw c.in-Some.is (set_new c.args.self.now.tiles.items c.in-Some.i c.index_mut.result.now _ c.in_ok-copy.copy c.args.answer.now within
     c.index_mut.ensures.value refl refl refl c.in_ok-copy.ensures)
