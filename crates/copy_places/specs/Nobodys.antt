@@ -117,13 +117,13 @@ module _ (digest : List ℕ → List ℕ) (entries : List (List ℕ)) (tiles : L
   abbrev pub GivesTruePart : ℕ → Path → Type 0
   GivesTruePart k path = (answer : PlaceAnswer) → IsKeptAnswer tiles k path answer → IsTrueOfPart k path (said answer)
 
--- the files of a proof, where "gives" says that a place has a full file, and "part" that it has a partial one
-module _ (entries : List (List ℕ)) (gives part : ℕ → Path → Type 0) (count : ℕ) where
+-- the files of a proof, where "whole" says that a place has a full file, and "part" that it has a partial one
+module _ (entries : List (List ℕ)) (whole part : ℕ → Path → Type 0) (count : ℕ) where
   -- one of the places has the file
   pub record IsGiven (path : Path) : Type 0 where
     pub place : ℕ
     pub listed : place < count
-    pub gives : gives place path
+    pub gives : whole place path
 
   -- one of the places has the row of the full tile: the tile or, for level 0, its bundle
   abbrev pub IsRowGiven : ℕ → ℕ → Type 0
