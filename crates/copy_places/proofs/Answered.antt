@@ -1,18 +1,16 @@
 -- Places that may answer nothing but the truth for the files of a proof have them by their kept answers.
-use Rattle.std.proofs.Common.{◌≡◌, ◌⊎◌, inl, inr, ℕ, ◌<◌, ◌≤◌, List, [], ◌∷◌, length, get_or, Option, Some, None, ap, arith}
+use Rattle.std.proofs.Common.{◌≡◌, inl, inr, ℕ, ◌<◌, List, [], ◌∷◌, length, get_or, Option, Some, None, ap, arith}
 use Rattle.tlog_tiles.specs.declared.paths.Path.{Path}
-use Rattle.tlog_shape.specs.Edge.{edge_index_of, width_of}
+use Rattle.tlog_shape.specs.Edge.{edge_index_of}
 use Rattle.tlog_tiles.specs.declared.paths.Path.TheVariants.{Tile, Entries}
 use Rattle.mirror_sources.specs.Files.{full_of}
 use Rattle.mirror_sources.specs.Honest.{true_bytes}
-use Rattle.log_reader.specs.Holding.{IsFullAnswer}
 use Rattle.copy_places.specs.Answered.{AnsweredFilesAreHad, AreAnswered, IsPartAnswer, MustGive, MustGivePart}
-use Rattle.copy_places.specs.EndTiles.{IsKeptAnswer, said}
+use Rattle.copy_places.specs.EndTiles.{said}
 use Rattle.copy_places.specs.Nobodys.{AreGiven, BeginsTrue, GivesTrue, GivesTruePart, IsGiven, IsRowGiven, IsTrueOfPart}
 use Rattle.copy_places.specs.PlaceGets.{IsSaidBy}
 use Rattle.copy_places.specs.declared.end_tiles.EndTile.{EndTile}
 use Rattle.copy_places.specs.declared.place.Place.{Place}
-use Rattle.copy_places.specs.declared.place.PlaceAnswer.{PlaceAnswer}
 use Rattle.copy_places.specs.declared.places.Places.{Places}
 use Rattle.copy_places.proofs.GivenFiles.{given_files_are_had}
 

@@ -1,5 +1,5 @@
 -- A get whose answer may be kept.
-use Rattle.std.proofs.Common.{◌≡◌, inl, inr, ℕ, ◌<◌, ◌≤◌, List, [], ◌∷◌, length, get_or, Option, None, Some, refl, sym, subst, ◌∙◌, arith}
+use Rattle.std.proofs.Common.{◌≡◌, inl, inr, ℕ, ◌<◌, ◌≤◌, List, [], ◌∷◌, length, get_or, Option, refl, sym, subst, ◌∙◌, arith}
 use Rattle.std.specs.Prelude.{IfSome}
 use Rattle.tlog_tiles.specs.declared.paths.Path.{Path}
 use Rattle.copy_places.specs.AskedOnce.{AsksEachOnce, AsksOnce, IsAtPlace}
