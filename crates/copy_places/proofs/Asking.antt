@@ -15,8 +15,8 @@ use Rattle.copy_places.specs.declared.place.WrongFile.{WrongFile}
 use Rattle.copy_places.specs.declared.end_tiles.EndTiles.{EndTiles}
 use Rattle.copy_places.specs.declared.places.Places.{Places}
 use Rattle.copy_places.specs.Asked.{IsAskedInVain, IsAskedInTurn}
-use Rattle.copy_places.specs.EndTiles.{KeepsAnswers}
-use Rattle.copy_places.specs.PlaceGets.{RoseTimes, with_first, AreBlamed, IsAskedFor, IsBlamed, APlaceFailed, AsksPlaces}
+use Rattle.copy_places.specs.EndTiles.{HasNoNew, IsKeptAnswer, KeepsAnswers, said}
+use Rattle.copy_places.specs.PlaceGets.{AddsAnswers, IsSaidBy, RoseTimes, with_first, AreBlamed, IsAskedFor, IsBlamed, APlaceFailed, AsksPlaces}
 
 pub recorded_same : {X : Type 0} (a : Option (List X)) → AddsToRecord a a []
 recorded_same None = tt
@@ -139,6 +139,37 @@ module _ {S : Type 0} (may : S → Path → Option (List ℕ) → Type 0) (faile
     noted = λ rose. absurd (omega (arith, same, rose));
   }
 
+  -- what was said at a place may be said at it before
+  pub said_within : (a b : Path → Option (List ℕ) → Type 0) (m n : ℕ) → StaysWithin a b → m ≤ n → (path : Path)
+      (s : Option (Option (List ℕ))) → IsSaidBy b m path s → IsSaidBy a n path s
+  said_within a b m n within le path None h = omega (arith, h, le)
+  said_within a b m n within le path (Some answer) h = within.stays path answer h
+
+  -- no answer is new
+  pub answers_none : (x y : Places S) → HasNoNew x.ends.tiles.items y.ends.tiles.items → AddsAnswers may x y
+  answers_none x y none = record { each = λ k path answer d h. inl (none k path answer h) }
+
+  pub answers_is : (x y : Places S) → y.ends ≡ x.ends → AddsAnswers may x y
+  answers_is x y ends = answers_none x y (λ k path answer h. subst (λ (e : EndTiles). IsKeptAnswer e.tiles.items k path answer) ends h)
+
+  answers_two : (so : Path → Type 0) (x y z : Places S) →
+      ((k : ℕ) (d : Place S) → IsAskedFor may failed asked so (get_or x.list.items k d) (get_or y.list.items k d)) →
+      ((k : ℕ) (d : Place S) → IsAskedFor may failed asked so (get_or y.list.items k d) (get_or z.list.items k d)) →
+      AddsAnswers may x y → AddsAnswers may y z → AddsAnswers may x z
+  answers_two so x y z f g p q = record {
+    each = λ k path answer d h.
+        let at : Places S → Place S = λ w. get_or w.list.items k d in
+        elim (q.each k path answer d h) [
+          | inl before ↦ elim (p.each k path answer d before) [
+            | inl first ↦ inl first
+            | inr said_is ↦ inr (said_within (may (at x).source) (may (at x).source) (at y).failures (at z).failures
+                (record { stays = λ path answer h. h }) (g k d).more path (said answer) said_is)
+          ]
+          | inr said_is ↦ inr (said_within (may (at x).source) (may (at y).source) (at z).failures (at z).failures
+              (f k d).later (omega arith) path (said answer) said_is)
+        ];
+  }
+
   pub asks_same : (so : Path → Type 0) (x : Places S) → AsksPlaces may failed asked so x x
   asks_same so x = record {
     count = refl;
@@ -147,12 +178,13 @@ module _ {S : Type 0} (may : S → Path → Option (List ℕ) → Type 0) (faile
     blames = λ has none. cc;
     spares = λ none k d. refl;
     still = still_same x.ends;
+    answered = answers_is x x refl;
   }
 
   -- the places got no request, and none of them failed
   pub asks_listed : (so : Path → Type 0) (x y : Places S) → y.list.items ≡ x.list.items → y.has_failed ≡ x.has_failed →
-      KeepsAnswers x.ends y.ends → AsksPlaces may failed asked so x y
-  asks_listed so x y list has still = record {
+      KeepsAnswers x.ends y.ends → AddsAnswers may x y → AsksPlaces may failed asked so x y
+  asks_listed so x y list has still answered = record {
     count = ap length list;
     each = λ k d. subst (λ (ys : List (Place S)). IsAskedFor may failed asked so (get_or x.list.items k d) (get_or ys k d)) (sym list)
         (asked_same so (get_or x.list.items k d));
@@ -160,6 +192,7 @@ module _ {S : Type 0} (may : S → Path → Option (List ℕ) → Type 0) (faile
     blames = λ now none. cc;
     spares = λ none k d. ap (λ (ys : List (Place S)). (get_or ys k d).failures) list;
     still = still;
+    answered = answered;
   }
 
   pub failed_then : (so : Path → Type 0) (x y z : Places S) → AsksPlaces may failed asked so x y → APlaceFailed may failed asked y z →
@@ -201,6 +234,7 @@ module _ {S : Type 0} (may : S → Path → Option (List ℕ) → Type 0) (faile
     blames = blames_then so x y z y.has_failed refl p q;
     spares = λ none k d. q.spares none k d ∙ p.spares (not_kept so y z y.has_failed refl q none) k d;
     still = still_then x.ends y.ends z.ends p.still q.still;
+    answered = answers_two so x y z p.each q.each p.answered q.answered;
   }
 
   pub asks_weaker : (so also : Path → Type 0) → ((path : Path) → so path → also path) → (x y : Places S) →
@@ -212,6 +246,7 @@ module _ {S : Type 0} (may : S → Path → Option (List ℕ) → Type 0) (faile
     blames = p.blames;
     spares = p.spares;
     still = p.still;
+    answered = p.answered;
   }
 
   -- one place got a request
@@ -260,6 +295,7 @@ module _ {S : Type 0} (may : S → Path → Option (List ℕ) → Type 0) (faile
     };
     spares = λ none k d. cc;
     still = still_is x.ends y.ends ends;
+    answered = answers_is x y ends;
   }
 
   -- the get did not fail
@@ -276,6 +312,7 @@ module _ {S : Type 0} (may : S → Path → Option (List ℕ) → Type 0) (faile
     spares = λ none k d. subst (λ (ys : List (Place S)). (get_or ys k d).failures ≡ (get_or x.list.items k d).failures) (sym list)
         (same_at x.list.items i old new lt is same k d);
     still = still_is x.ends y.ends ends;
+    answered = answers_is x y ends;
   }
 
   -- the record after the call

@@ -30,3 +30,4 @@ pub mod Lines
 pub mod WayFiles
 pub mod ReadFiles
 pub mod GivenFiles
+pub mod Answered

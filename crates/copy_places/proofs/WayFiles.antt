@@ -19,7 +19,7 @@ use Rattle.mirror_model.specs.Strings.{IsDigest}
 use Rattle.mirror_sources.specs.Honest.{true_bytes}
 use Rattle.mirror_sources.specs.Recorded.{KeepsRecord}
 use Rattle.mirror_sources.specs.Source.{File}
-use Rattle.mirror_folders.specs.Shelf.{Put, RecordsRead}
+use Rattle.mirror_folders.specs.Shelf.{Put}
 use Rattle.log_reader.specs.EdgeRows.{Edge, RowIsTrue, row_at}
 use Rattle.log_reader.specs.Holding.{HasFullTiles}
 use Rattle.log_reader.specs.Truth.{IsListClear}

@@ -1,6 +1,6 @@
 -- The tiles in which the copy and the larger tree end, and the full bundle in which the copy ends. The answers of the places for them
 -- are kept.
-use Rattle.std.specs.Prelude.{◌≡◌, ◌≢◌, ◌⊎◌, ℕ, ◌<◌, ◌≤◌, List, length, get_or, Option, Some, None}
+use Rattle.std.specs.Prelude.{◌≡◌, ◌≢◌, ◌⊎◌, ℕ, ◌<◌, ◌≤◌, List, length, get_or, Option, Some, None, option_map}
 use Rattle.tlog_shape.specs.Edge.{edge_index_of}
 use Rattle.tlog_tiles.specs.declared.paths.Path.{Path}
 use Rattle.tlog_tiles.specs.declared.paths.Path.TheVariants.{Checkpoint, Tile, Entries}
@@ -35,15 +35,25 @@ said (File bytes) = Some (Some bytes.items)
 said NotFound = Some None
 said Failed = None
 
--- no answer is kept at that index
+-- no answer is kept at that index: the place was to be asked, and its answer is not there
 abbrev pub IsEmpty : List EndTile → ℕ → Type 0
-IsEmpty tiles at = (d : EndTile) → said (get_or tiles at d).answer ≡ None
+IsEmpty tiles at = (d : EndTile) → (get_or tiles at d).answer ≡ None
 
 -- the place of index k gave that answer for the path, and it is kept
 pub record IsKeptAnswer (tiles : List EndTile) (k : ℕ) (path : Path) (answer : PlaceAnswer) : Type 0 where
   pub at : ℕ
   pub tile : IsTileOf tiles k path at
-  pub says : (d : EndTile) → said (get_or tiles at d).answer ≡ said answer
+  pub says : (d : EndTile) → option_map said (get_or tiles at d).answer ≡ Some (said answer)
+
+-- each answer that is kept was kept before
+abbrev pub HasNoNew : List EndTile → List EndTile → Type 0
+HasNoNew old new = (k : ℕ) (path : Path) (answer : PlaceAnswer) → IsKeptAnswer new k path answer → IsKeptAnswer old k path answer
+
+-- each answer that is kept was kept before, or is that one, where it belongs
+abbrev pub HasNewAt : Option ℕ → PlaceAnswer → List EndTile → List EndTile → Type 0
+HasNewAt at given old new =
+    (k : ℕ) (path : Path) (answer : PlaceAnswer) → IsKeptAnswer new k path answer →
+    IsKeptAnswer old k path answer ⊎ ((i : ℕ) × (at ≡ Some i) × IsTileOf old k path i × (said answer ≡ said given))
 
 -- the answers that were there are there as they were, also those that say that the place failed
 pub record AnswersStay (old new : List EndTile) : Type 0 where

@@ -24,4 +24,5 @@ pub mod Lines
 pub mod Adding
 pub mod ReadFiles
 pub mod Nobodys
+pub mod Answered
 pub mod WayFiles

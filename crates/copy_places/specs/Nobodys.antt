@@ -117,32 +117,38 @@ module _ (digest : List ℕ → List ℕ) (entries : List (List ℕ)) (tiles : L
   abbrev pub GivesTruePart : ℕ → Path → Type 0
   GivesTruePart k path = (answer : PlaceAnswer) → IsKeptAnswer tiles k path answer → IsTrueOfPart k path (said answer)
 
-  module _ (count : ℕ) where
-    -- one of the places has the file
-    pub record IsGiven (path : Path) : Type 0 where
-      pub place : ℕ
-      pub listed : place < count
-      pub gives : GivesTrue place path
+-- the files of a proof, where "whole" says that a place has a full file, and "part" that it has a partial one
+module _ (entries : List (List ℕ)) (whole part : ℕ → Path → Type 0) (count : ℕ) where
+  -- one of the places has the file
+  pub record IsGiven (path : Path) : Type 0 where
+    pub place : ℕ
+    pub listed : place < count
+    pub gives : whole place path
 
-    -- one of the places has the row of the full tile: the tile or, for level 0, its bundle
-    abbrev pub IsRowGiven : ℕ → ℕ → Type 0
-    IsRowGiven level index = IsGiven (Tile level index 256) ⊎ ((level ≡ 0) × IsGiven (Entries index 256))
+  -- one of the places has the row of the full tile: the tile or, for level 0, its bundle
+  abbrev pub IsRowGiven : ℕ → ℕ → Type 0
+  IsRowGiven level index = IsGiven (Tile level index 256) ⊎ ((level ≡ 0) × IsGiven (Entries index 256))
 
-    -- one place, or two together, have the edge of the entries: each partial tile is at the one or at the other
-    pub record IsEdgeGiven : Type 0 where
-      pub one : ℕ
-      pub other : ℕ
-      pub one_listed : one < count
-      pub other_listed : other < count
-      pub each :
-          (level : ℕ) → level ≤ 7 → 1 ≤ width_of (length entries) level → let path =
-          Tile level (edge_index_of (length entries) level) (width_of (length entries) level) in
-          GivesTruePart one path ⊎ GivesTruePart other path
+  -- one place, or two together, have the edge of the entries: each partial tile is at the one or at the other
+  pub record IsEdgeGiven : Type 0 where
+    pub one : ℕ
+    pub other : ℕ
+    pub one_listed : one < count
+    pub other_listed : other < count
+    pub each :
+        (level : ℕ) → level ≤ 7 → 1 ≤ width_of (length entries) level → let path =
+        Tile level (edge_index_of (length entries) level) (width_of (length entries) level) in
+        part one path ⊎ part other path
 
-    -- the places have the files of a proof from the first entries to all
-    pub record AreFilesGiven (first : ℕ) : Type 0 where
-      pub edge : IsEdgeGiven
-      pub rows : (level : ℕ) → IsWanted first (length entries) level → IsRowGiven level (edge_index_of first level)
+  -- the places have the files of a proof from the first entries to all
+  pub record AreGiven (first : ℕ) : Type 0 where
+    pub edge : IsEdgeGiven
+    pub rows : (level : ℕ) → IsWanted first (length entries) level → IsRowGiven level (edge_index_of first level)
+
+-- by their kept answers, the places have the files of a proof from the first entries to all
+abbrev pub AreFilesGiven : (List ℕ → List ℕ) → List (List ℕ) → List EndTile → ℕ → ℕ → Type 0
+AreFilesGiven digest entries tiles count first =
+    AreGiven entries (GivesTrue digest entries tiles) (GivesTruePart digest entries tiles) count first
 
 -- if the places have the files of the proof, there is no reason why it cannot be had. Premise: no two different strings of the entries'
 -- tree, and of the edge and the way of the reason, share a digest

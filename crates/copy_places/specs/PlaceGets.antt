@@ -4,7 +4,7 @@ use Rattle.std.specs.Prelude.{IsTrue, IsFalse, IsSome}
 use Rattle.tlog_tiles.specs.declared.paths.Path.{Path}
 use Rattle.mirror_sources.specs.Source.{StaysWithin}
 use Rattle.mirror_sources.specs.Recorded.{AddsToRecord}
-use Rattle.copy_places.specs.EndTiles.{IsKeptAnswer, KeepsAnswers}
+use Rattle.copy_places.specs.EndTiles.{IsKeptAnswer, KeepsAnswers, said}
 use Rattle.copy_places.specs.declared.place.Place.{Place}
 use Rattle.copy_places.specs.declared.place.PlaceAnswer.{PlaceAnswer}
 use Rattle.copy_places.specs.declared.place.PlaceAnswer.TheVariants.{File, NotFound, Failed}
@@ -57,6 +57,18 @@ AnswersEnd {S} may index path old new answer =
     ⊎ ((d : Place S) → AnswersGet (may (get_or old.list.items index d).source) path
     (get_or old.list.items index d).failures (get_or new.list.items index d).failures answer)
 
+-- by what was said for the path, the place may give it. If the get failed, the place has failures
+abbrev pub IsSaidBy : (Path → Option (List ℕ) → Type 0) → ℕ → Path → Option (Option (List ℕ)) → Type 0
+IsSaidBy may failures path None = 1 ≤ failures
+IsSaidBy may failures path (Some answer) = may path answer
+
+-- each answer that is kept was kept before, or is one that its place might give then
+pub record AddsAnswers {S : Type 0} (may : S → Path → Option (List ℕ) → Type 0) (old new : Places S) : Type 0 where
+  pub each :
+      (k : ℕ) (path : Path) (answer : PlaceAnswer) (d : Place S) → IsKeptAnswer new.ends.tiles.items k path answer →
+      IsKeptAnswer old.ends.tiles.items k path answer
+      ⊎ IsSaidBy (may (get_or old.list.items k d).source) (get_or new.list.items k d).failures path (said answer)
+
 module _ {S : Type 0} (may : S → Path → Option (List ℕ) → Type 0) (failed : S → ℕ) (asked : S → Option (List Path)) where
   -- all requests to a place were for such paths. Each failure is counted, in total and for this run. A place that had failed
   -- 8 times got no request
@@ -83,7 +95,7 @@ module _ {S : Type 0} (may : S → Path → Option (List ℕ) → Type 0) (faile
     pub each : (k : ℕ) (d : Place S) → IsAskedFor so (get_or old.list.items k d) (get_or new.list.items k d)
 
   -- all requests to the places were for such paths. The record that a place failed is kept, and so are the answers for the tiles
-  -- in which the two trees end
+  -- in which the two trees end. A new one is one that the place might give
   pub record AsksPlaces (so : Path → Type 0) (old new : Places S) : Type 0 where
     pub count : length new.list.items ≡ length old.list.items
     pub each : (k : ℕ) (d : Place S) → IsAskedFor so (get_or old.list.items k d) (get_or new.list.items k d)
@@ -92,3 +104,4 @@ module _ {S : Type 0} (may : S → Path → Option (List ℕ) → Type 0) (faile
     pub spares : IsFalse new.has_failed → (k : ℕ) (d : Place S) →
         (get_or new.list.items k d).failures ≡ (get_or old.list.items k d).failures
     pub still : KeepsAnswers old.ends new.ends
+    pub answered : AddsAnswers may old new

@@ -1,6 +1,6 @@
 //! The tiles in which two trees end, and the bundle in which the first one ends, as places answered for them.
 ghost use Rattle.std.specs.Prelude.{◌≡◌, ◌↔◌, [], ℕ, IfNone, IfOk, IfSome, IsSomeAnd, IsTrue, OnOk, length};
-ghost use Rattle.copy_places.specs.EndTiles.{AnswersStay, IsEmpty, IsEndTile, IsHeard, IsKeptAnswer, IsTileOf, KeepsAnswers, OthersStay, said};
+ghost use Rattle.copy_places.specs.EndTiles.{AnswersStay, HasNewAt, HasNoNew, IsEmpty, IsEndTile, IsHeard, IsKeptAnswer, IsTileOf, KeepsAnswers, OthersStay, said};
 
 use crate::place::PlaceAnswer;
 use std::alloc::{AllocError, Global};
@@ -12,7 +12,8 @@ use tlog_tiles::Path;
 pub(crate) struct EndTile {
     place: usize,
     path: Path,
-    answer: PlaceAnswer,
+    // None: it is not there, since memory was refused.
+    answer: Option<PlaceAnswer>,
 }
 
 /// What the places answered in one bringing for the last tile of each level, partial or full, of the copy and of the larger tree, and
@@ -77,7 +78,7 @@ impl EndTiles {
     }
 
     /// Records that a place will be asked for a path, if that is the path of such a tile. The answer is where its answer belongs.
-    /// Until it is there, the place counts as one that failed.
+    /// Until it is there, the place has not answered.
     pub(crate) fn note(&mut self, place: usize, path: &Path) -> Result<Option<usize>, AllocError>
         ensures kept { KeepsAnswers self.old self.new }
         ensures heard { IfOk result (λ at. IsEndTile self.old.sizes path.now
@@ -87,6 +88,9 @@ impl EndTiles {
         ensures empty { IfOk result (λ at. IfSome at (IsEmpty self.new.tiles.items)) }
         ensures stay { AnswersStay self.old.tiles.items self.new.tiles.items }
         ensures last { IfOk result (λ at. IfSome at (λ i. i ≡ length self.old.tiles.items)) }
+        ensures own { IfOk result (λ at. IfSome at
+            (IsTileOf self.new.tiles.items place path.now)) }
+        ensures none { HasNoNew self.old.tiles.items self.new.tiles.items }
     {
         if !is_end_tile(self.sizes, path) {
             return Ok(None);
@@ -95,7 +99,7 @@ impl EndTiles {
         self.tiles.push(EndTile {
             place,
             path: *path,
-            answer: PlaceAnswer::Failed,
+            answer: None,
         })?;
         Ok(Some(at))
     }
@@ -108,11 +112,12 @@ impl EndTiles {
             → IsTileOf self.old.tiles.items k path i
             → IsKeptAnswer self.new.tiles.items k path answer.now)) }
         ensures stay { OthersStay at self.old.tiles.items self.new.tiles.items }
+        ensures none { HasNewAt at answer.now self.old.tiles.items self.new.tiles.items }
     {
         if let Some(i) = at {
             let copy = copy_of(self.alloc, answer)?;
             if i < self.tiles.len() {
-                self.tiles[i].answer = copy;
+                self.tiles[i].answer = Some(copy);
             }
         }
         Ok(())
@@ -131,7 +136,7 @@ impl EndTiles {
         None
     }
 
-    /// A copy of what a place answered for a path. None: it was not asked.
+    /// A copy of what a place answered for a path. None: it was not asked. It is an error where memory was refused as it was asked.
     pub(crate) fn find(&self, place: usize, path: &Path) -> Result<Option<PlaceAnswer>, AllocError>
         ensures none { IfOk result (λ found. IfNone found
             (¬ IsHeard self.now.tiles.items place path.now)) }
@@ -139,7 +144,10 @@ impl EndTiles {
             (IsKeptAnswer self.now.tiles.items place path.now)) }
     {
         match self.index_of(place, path) {
-            Some(i) => Ok(Some(copy_of(self.alloc, &self.tiles[i].answer)?)),
+            Some(i) => match &self.tiles[i].answer {
+                Some(answer) => Ok(Some(copy_of(self.alloc, answer)?)),
+                None => Err(AllocError),
+            },
             None => Ok(None),
         }
     }

@@ -36,7 +36,7 @@ pub use ask_fault::AskFault;
 pub use bundle::{accept_bundle, bundle_at_places};
 pub use candidate::Candidate;
 pub use candidate_fault::CandidateFault;
-pub use candidate_laws::{agree_law, fork_line_law, given_files_law};
+pub use candidate_laws::{agree_law, answered_files_law, fork_line_law, given_files_law};
 pub use candidates::candidates_of;
 pub use edge::{edge_at_places, lowest_edge_path};
 pub use file::{Found, accept_file, file_at_places};

@@ -18,6 +18,7 @@ ghost use Rattle.copy_places.specs.Candidates.{point_of};
 ghost use Rattle.copy_places.specs.Checked.{HasFirstRoot};
 ghost use Rattle.copy_places.specs.Forks.{HasPoint};
 ghost use Rattle.copy_places.specs.Nobodys.{CannotBeHad, IsOfEnds};
+ghost use Rattle.copy_places.specs.PlaceGets.{AddsAnswers};
 ghost use Rattle.copy_places.specs.ReadFiles.{IsRead};
 ghost use Rattle.copy_places.specs.Requests.{AsksAny};
 ghost use Rattle.copy_places.specs.Shown.{ShowsLarger};
@@ -283,8 +284,7 @@ fn find_proof<H: TreeHash, D: ReadableShelf, S: Source + Drop>(
 /// from the one to the other, and for what a place was asked then, its answer is used.
 ///
 /// A full file counts from wherever it verifies: from the shelf first, then from each place. A full row of level 0 counts from its bundle,
-/// or else from its tile. The rows of the larger candidate's edge are those of the shelf, else those of one
-/// place, else those of two mixed.
+/// or else from its tile. The rows of the larger candidate's edge are those of the shelf, else those of one place, else those of two mixed.
 ///
 /// None: the files were had, and show no fork: a proof made of them shows that the two candidates agree. Or the first candidate is not
 /// smaller.
@@ -315,6 +315,7 @@ pub fn ask_proof<H: TreeHash, D: ReadableShelf, S: Source + Drop>(
     ensures agrees { IfOk result (λ found. found ≡ None → 0 < smaller.now.size.0
         → smaller.now.size.0 < larger.now.size.0
         → Agrees H.digest (point_of smaller.now) (point_of larger.now)) }
+    ensures answered { AddsAnswers S.may_answer places.old places.new }
     ensures other { result ≡ Err AskFault.OtherFiles
         → ¬ IsOfEnds smaller.now larger.now places.old.ends.sizes }
     ensures lacks { result ≡ Err AskFault.NoFile → CannotBeHad H.digest (D.puts shelf.old)

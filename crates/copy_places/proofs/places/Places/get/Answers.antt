@@ -9,7 +9,7 @@ use Rattle.copy_places.proofs.places.Places.get.Goals as goal
 pub returns-in_err-at-clause-asks : goal.returns-in_err-at-clause-asks
 returns-in_err-at-clause-asks g c =
     noted_asks g.S.Source.may_answer g.S.Source.failed g.S.Source.asked (λ p. p ≡ c.args.path.now) c.args.self.now c.note.new.self
-    c.note.ensures.kept
+    c.note.ensures.kept c.note.ensures.none
 
 pub returns-in_err-at-clause-once : goal.returns-in_err-at-clause-once
 returns-in_err-at-clause-once g c =
@@ -19,7 +19,7 @@ returns-in_err-at-clause-once g c =
 pub returns-in_err-answer-clause-asks : goal.returns-in_err-answer-clause-asks
 returns-in_err-answer-clause-asks g c =
     got_asks g.S.Source.may_answer g.S.Source.failed g.S.Source.asked (λ p. p ≡ c.args.path.now) c.args.self.now c.note.new.self
-    c.ask.new.self c.note.ensures.kept c.ask.ensures.asks
+    c.ask.new.self c.note.ensures.kept c.note.ensures.none c.ask.ensures.asks
 
 pub returns-in_err-answer-clause-once : goal.returns-in_err-answer-clause-once
 returns-in_err-answer-clause-once g c =
@@ -28,8 +28,9 @@ returns-in_err-answer-clause-once g c =
 
 pub returns-in_err-keep-clause-asks : goal.returns-in_err-keep-clause-asks
 returns-in_err-keep-clause-asks g c =
-    kept_asks g.S.Source.may_answer g.S.Source.failed g.S.Source.asked (λ p. p ≡ c.args.path.now) c.args.self.now c.note.new.self
-    c.ask.new.self c.keep.new.self c.note.ensures.kept c.ask.ensures.asks c.keep.ensures.kept
+    kept_asks g.S.Source.may_answer g.S.Source.failed g.S.Source.asked c.args.index c.args.path.now c.args.self.now c.note.new.self
+    c.ask.new.self c.keep.new.self c.in_ok-at.at c.in_ok-answer.answer c.note.ensures.kept c.note.ensures.none c.in_ok-at.ensures.own
+    c.ask.ensures.ends c.ask.ensures.asks c.in_ok-answer.ensures.answer c.keep.ensures.kept c.keep.ensures.none
 
 pub returns-in_err-keep-clause-once : goal.returns-in_err-keep-clause-once
 returns-in_err-keep-clause-once g c =
@@ -39,8 +40,9 @@ returns-in_err-keep-clause-once g c =
 
 pub returns-clause-asks : goal.returns-clause-asks
 returns-clause-asks g c =
-    kept_asks g.S.Source.may_answer g.S.Source.failed g.S.Source.asked (λ p. p ≡ c.args.path.now) c.args.self.now c.note.new.self
-    c.ask.new.self c.keep.new.self c.note.ensures.kept c.ask.ensures.asks c.keep.ensures.kept
+    kept_asks g.S.Source.may_answer g.S.Source.failed g.S.Source.asked c.args.index c.args.path.now c.args.self.now c.note.new.self
+    c.ask.new.self c.keep.new.self c.in_ok-at.at c.in_ok-answer.answer c.note.ensures.kept c.note.ensures.none c.in_ok-at.ensures.own
+    c.ask.ensures.ends c.ask.ensures.asks c.in_ok-answer.ensures.answer c.keep.ensures.kept c.keep.ensures.none
 
 pub returns-clause-once : goal.returns-clause-once
 returns-clause-once g c =
