@@ -51,21 +51,21 @@ size_in origin o n m note root is same head =
 -- the fault of a tip that was not read is none about files
 pub tip_files : (P : Type 0) (digest : List ℕ → List ℕ) (origin : List ℕ) (found : Option (List ℕ)) (puts : Option (List Put))
     (e : BringFault) → BlamesTip digest origin found puts e → IsNoConflict e → IsOfFiles e → P
-tip_files P digest origin found puts e (inl h) no of = absurd (subst IsOfFiles h.0 of)
-tip_files P digest origin found puts e (inr (inl h)) no of = absurd (subst IsOfFiles h.0 of)
-tip_files P digest origin found puts e (inr (inr h)) no of = go e h no of
+tip_files P digest origin found puts e (inl h) calm of = absurd (subst IsOfFiles h.0 of)
+tip_files P digest origin found puts e (inr (inl h)) calm of = absurd (subst IsOfFiles h.0 of)
+tip_files P digest origin found puts e (inr (inr h)) calm of = go e h calm of
   where
     go : (e : BringFault) → IsOfNoPlace e → IsNoConflict e → IsOfFiles e → P
-    go bring.BadCheckpoint h no of = absurd of
-    go bring.CopyDamaged h no of = absurd of
-    go bring.NotLarger h no of = absurd of
-    go bring.Contradiction h no of = absurd no
-    go bring.Collision h no of = absurd no
-    go bring.NoFile h no of = absurd h
-    go bring.Source h no of = absurd h
-    go bring.CopyInUse h no of = absurd of
-    go bring.ShelfFault h no of = absurd of
-    go bring.OutOfMemory h no of = absurd of
+    go bring.BadCheckpoint h calm of = absurd of
+    go bring.CopyDamaged h calm of = absurd of
+    go bring.NotLarger h calm of = absurd of
+    go bring.Contradiction h calm of = absurd calm
+    go bring.Collision h calm of = absurd calm
+    go bring.NoFile h calm of = absurd h
+    go bring.Source h calm of = absurd h
+    go bring.CopyInUse h calm of = absurd of
+    go bring.ShelfFault h calm of = absurd of
+    go bring.OutOfMemory h calm of = absurd of
 
 pub sized_turn : {E : Type 0} (r : Result Outcome E) (of so : Type 0) → IfOk r (λ t. of) → (of → so) →
     IfOk r (λ t. (t ≡ turn.Brought → ⊥) → so)
@@ -181,11 +181,11 @@ module _ (digest : List ℕ → List ℕ) {S : Type 0} (may : S → Path → Opt
   -- a turn with another outcome
   pub tells_other : (x y : Places S) (copy : Option Candidate) (c : Candidate) (t : Outcome) → (t ≡ turn.Contradicts → ⊥) →
       ((fault : FollowFault) → t ≡ turn.NotHad fault → ⊥) → Tells x y copy c t
-  tells_other x y copy c turn.Agrees no none = tt
-  tells_other x y copy c turn.Brought no none = tt
-  tells_other x y copy c (turn.Forks proof) no none = tt
-  tells_other x y copy c turn.Contradicts no none = absurd (no refl)
-  tells_other x y copy c (turn.NotHad fault) no none = absurd (none fault refl)
+  tells_other x y copy c turn.Agrees other none = tt
+  tells_other x y copy c turn.Brought other none = tt
+  tells_other x y copy c (turn.Forks proof) other none = tt
+  tells_other x y copy c turn.Contradicts other none = absurd (other refl)
+  tells_other x y copy c (turn.NotHad fault) other none = absurd (none fault refl)
 
   -- the turn of a candidate that is not larger than the copy
   pub tells_upto : {E : Type 0} (x y : Places S) (copy : Option Candidate) (held c : Candidate) (r : Result Outcome E) →
@@ -251,25 +251,25 @@ lacked_now lacked added c same = record {
 -- ---- the line of a turn
 
 pub shown_fork : {T E : Type 0} (r : Result T E) (lines : List ForkLine) (c : Candidate) (t : Outcome) →
-    OnOk r (IsInSomeLine lines c) → OnOk r ((so : Type 0) → IsForkOr so t → IsInSomeLine lines c ⊎ so)
-shown_fork (Ok u) lines c t h = λ so is. inl h
+    OnOk r (IsInSomeLine lines c) → OnOk r (IsForkOr ⊥ t → IsInSomeLine lines c)
+shown_fork (Ok u) lines c t h = λ is. h
 shown_fork (Err e) lines c t h = tt
 
-pub shown_other : (lines : List ForkLine) (c : Candidate) (t : Outcome) (so : Type 0) →
-    ((proof : Option Proof) → t ≡ turn.Forks proof → ⊥) → IsForkOr so t → IsInSomeLine lines c ⊎ so
-shown_other lines c turn.Agrees so no h = inr h
-shown_other lines c turn.Brought so no h = inr h
-shown_other lines c (turn.Forks proof) so no h = absurd (no proof refl)
-shown_other lines c turn.Contradicts so no h = inr h
-shown_other lines c (turn.NotHad fault) so no h = inr h
-
 -- a turn that is no fork
-pub lack_other : (t : Outcome) (so : Type 0) → ((proof : Option Proof) → t ≡ turn.Forks proof → ⊥) → IsForkOr so t → so
-lack_other turn.Agrees so no h = h
-lack_other turn.Brought so no h = h
-lack_other (turn.Forks proof) so no h = absurd (no proof refl)
-lack_other turn.Contradicts so no h = h
-lack_other (turn.NotHad fault) so no h = h
+pub shown_other : (t : Outcome) (so : Type 0) → ((proof : Option Proof) → t ≡ turn.Forks proof → ⊥) → IsForkOr ⊥ t → so
+shown_other turn.Agrees so other h = absurd h
+shown_other turn.Brought so other h = absurd h
+shown_other (turn.Forks proof) so other h = absurd (other proof refl)
+shown_other turn.Contradicts so other h = absurd h
+shown_other (turn.NotHad fault) so other h = absurd h
+
+-- the candidate is in a line if the turn is a fork. Else the reason is left
+pub shown_or : (t : Outcome) (line so : Type 0) → (IsForkOr ⊥ t → line) → IsForkOr so t → line ⊎ so
+shown_or turn.Agrees line so f h = inr h
+shown_or turn.Brought line so f h = inr h
+shown_or (turn.Forks proof) line so f h = inl (f tt)
+shown_or turn.Contradicts line so f h = inr h
+shown_or (turn.NotHad fault) line so f h = inr h
 
 -- ---- all turns
 
@@ -357,9 +357,9 @@ module _ (digest : List ℕ → List ℕ) {S : Type 0} (may : S → Path → Opt
             | inl less ↦
                 subst (λ a. Why x z copy a) (sym (get_or_append_left lacked (adds.added ∷ []) d k less))
                 (later_reason x y z copy (get_or lacked k d) q (h.later k d from less))
-            | inr no ↦
+            | inr past ↦
                 let long = length_push lacked adds.added in
-                let at : length lacked ≡ k = omega (arith, no, lt, long) in
+                let at : length lacked ≡ k = omega (arith, past, lt, long) in
                 subst (λ a. Why x z copy a) (sym (get_or_push lacked adds.added d k at))
                 (reason_at x z copy c adds.added (one_of_same c adds.added adds.same)
                 (earlier_reason x y z copy c p reason))
@@ -489,8 +489,8 @@ module _ (digest : List ℕ → List ℕ) {S : Type 0} (may : S → Path → Opt
   told_step w x y copy lines lines' lacked i a p q kept within is h now = λ k d lt less. elim (cases_lt k i) [
     | inl before ↦
         told_wider w w x y copy lines lines' (get_or lacked k d) (any_same may failed asked w) q kept (h k d before less)
-    | inr no ↦
-        let at : i ≡ k = omega (arith, no, lt) in
+    | inr past ↦
+        let at : i ≡ k = omega (arith, past, lt) in
         let same : a ≡ get_or lacked i d = is ∙ get_or_default lacked i a d within in
         subst (λ j. Told w y copy lines' (get_or lacked j d)) at
         (subst (λ b. Told w y copy lines' b) same

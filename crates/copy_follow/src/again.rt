@@ -1,5 +1,5 @@
 //! Candidates to which the copy could not be brought are looked at once more, where the copy has grown since.
-ghost use Rattle.std.specs.Prelude.{◌≡◌, ◌⊎◌, ◌∷◌, ◌<◌, [], ℕ, All, IfErr, IfOk, List, OnOk, Some};
+ghost use Rattle.std.specs.Prelude.{◌≡◌, ◌∷◌, ◌<◌, [], ℕ, All, IfErr, IfOk, List, OnOk, Some};
 ghost use Rattle.mirror_sources.specs.Recorded.{KeepsRecord};
 ghost use Rattle.copy_places.specs.Lines.{IsInSomeLine};
 ghost use Rattle.copy_places.specs.Requests.{AsksAny};
@@ -53,8 +53,7 @@ fn add_shown(
         → ShowsTurn digest (Some copy.now) candidate.now turn
         → AddsForks digest (Some copy.now) (candidate.now ∷ []) forks.old.items
         forks.new.items) }
-    ensures tells { OnOk result ((so : Type 0) → IsForkOr so turn
-        → IsInSomeLine forks.new.items candidate.now ⊎ so) }
+    ensures tells { OnOk result (IsForkOr ⊥ turn → IsInSomeLine forks.new.items candidate.now) }
 {
     match turn {
         Outcome::Forks(proof) => add_fork(alloc, forks, copy, candidate, proof),

@@ -1,3 +1,4 @@
+use Rattle.copy_places.specs.Lines.{IsInSomeLine}
 use Rattle.copy_follow.proofs.Looking.{adds_fork}
 use Rattle.copy_follow.proofs.Telling.{shown_fork, shown_other}
 use Rattle.copy_follow.proofs.again.add_shown.Goals as goal
@@ -12,5 +13,5 @@ returns-in-Forks-clause-tells c =
     shown_fork c.add_fork.result c.add_fork.new.lines.items c.args.candidate.now c.args.turn c.add_fork.ensures.second
 
 pub returns-in_default-clause-tells : goal.returns-in_default-clause-tells
-returns-in_default-clause-tells c = λ so is. shown_other c.args.forks.now.items c.args.candidate.now c.args.turn so
-    c.in_default.not-Forks is
+returns-in_default-clause-tells c =
+    shown_other c.args.turn (IsInSomeLine c.args.forks.now.items c.args.candidate.now) c.in_default.not-Forks
