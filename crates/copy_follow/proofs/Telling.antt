@@ -29,7 +29,7 @@ use Rattle.copy_follow.specs.Faults.{IsOfNoPlace}
 use Rattle.copy_follow.specs.Rule.{ExceedsCopy, copy_point}
 use Rattle.copy_follow.specs.RunStanding.{IsHeadOf, KnowsAfter}
 use Rattle.copy_follow.specs.Says.{SettlesEach}
-use Rattle.copy_follow.specs.Told.{AreSizesIn, AreTold, AreToldFirst, AreToldIn, CouldNotBeHad, CountsAgain, HasReason, IsForkOr, IsLacked, IsOfFiles, IsSizeIn, IsTold, IsUntold, TellsLarger, TellsTurn, outcome_by}
+use Rattle.copy_follow.specs.Told.{AreSizesIn, AreTold, AreToldFirst, AreToldIn, CouldNotBeHad, CountsAgain, HasReason, IsForkOr, IsLacked, IsNoFork, IsOfFiles, IsSizeIn, IsTold, IsUntold, TellsLarger, TellsTurn, outcome_by}
 use Rattle.copy_follow.specs.TurnsTaken.{AddsLacked, HasTakenRun, IsAbove, IsAdded, IsAgreed, IsLargerThan, IsRepeat, SaysTurn}
 use Rattle.copy_follow.specs.declared.bring_fault.BringFault.{BringFault}
 use Rattle.copy_follow.specs.declared.bring_fault.BringFault.TheVariants as bring
@@ -51,21 +51,21 @@ size_in origin o n m note root is same head =
 -- the fault of a tip that was not read is none about files
 pub tip_files : (P : Type 0) (digest : List ℕ → List ℕ) (origin : List ℕ) (found : Option (List ℕ)) (puts : Option (List Put))
     (e : BringFault) → BlamesTip digest origin found puts e → IsNoConflict e → IsOfFiles e → P
-tip_files P digest origin found puts e (inl h) no of = absurd (subst IsOfFiles h.0 of)
-tip_files P digest origin found puts e (inr (inl h)) no of = absurd (subst IsOfFiles h.0 of)
-tip_files P digest origin found puts e (inr (inr h)) no of = go e h no of
+tip_files P digest origin found puts e (inl h) calm of = absurd (subst IsOfFiles h.0 of)
+tip_files P digest origin found puts e (inr (inl h)) calm of = absurd (subst IsOfFiles h.0 of)
+tip_files P digest origin found puts e (inr (inr h)) calm of = go e h calm of
   where
     go : (e : BringFault) → IsOfNoPlace e → IsNoConflict e → IsOfFiles e → P
-    go bring.BadCheckpoint h no of = absurd of
-    go bring.CopyDamaged h no of = absurd of
-    go bring.NotLarger h no of = absurd of
-    go bring.Contradiction h no of = absurd no
-    go bring.Collision h no of = absurd no
-    go bring.NoFile h no of = absurd h
-    go bring.Source h no of = absurd h
-    go bring.CopyInUse h no of = absurd of
-    go bring.ShelfFault h no of = absurd of
-    go bring.OutOfMemory h no of = absurd of
+    go bring.BadCheckpoint h calm of = absurd of
+    go bring.CopyDamaged h calm of = absurd of
+    go bring.NotLarger h calm of = absurd of
+    go bring.Contradiction h calm of = absurd calm
+    go bring.Collision h calm of = absurd calm
+    go bring.NoFile h calm of = absurd h
+    go bring.Source h calm of = absurd h
+    go bring.CopyInUse h calm of = absurd of
+    go bring.ShelfFault h calm of = absurd of
+    go bring.OutOfMemory h calm of = absurd of
 
 pub sized_turn : {E : Type 0} (r : Result Outcome E) (of so : Type 0) → IfOk r (λ t. of) → (of → so) →
     IfOk r (λ t. (t ≡ turn.Brought → ⊥) → so)
@@ -79,6 +79,29 @@ sizes_of origin copy c sizes h k s = (
   (head_once (note_of copy) origin origin sizes.0 copy.size.0 s.0.0 copy.root s.0.1 h).size_is,
   (head_once (note_of c) origin origin sizes.1 c.size.0 s.1.0 c.root s.1.1 k).size_is,
 )
+
+-- ---- a turn that is no fork
+
+fork_by : (t : Outcome) (a b : Type 0) → (a → b) → IsForkOr a t → IsForkOr b t
+fork_by turn.Agrees a b f h = f h
+fork_by turn.Brought a b f h = f h
+fork_by (turn.Forks proof) a b f h = tt
+fork_by turn.Contradicts a b f h = f h
+fork_by (turn.NotHad fault) a b f h = f h
+
+none_asked : (asked : Result Outcome FollowFault) (so : Type 0) → IfOk asked (IsForkOr so) → IsNoFork asked → so
+none_asked (Ok turn.Agrees) so h calm = h
+none_asked (Ok turn.Brought) so h calm = h
+none_asked (Ok (turn.Forks proof)) so h calm = absurd calm
+none_asked (Ok turn.Contradicts) so h calm = h
+none_asked (Ok (turn.NotHad fault)) so h calm = h
+none_asked (Err fault) so h calm = absurd calm
+
+-- the result is a fork, or the other turn ended with none
+pub fork_asked : {E : Type 0} (r : Result Outcome E) (asked : Result Outcome FollowFault) (so : Type 0) →
+    IfOk asked (IsForkOr so) → IfOk r (IsForkOr (IsNoFork asked)) → IfOk r (IsForkOr so)
+fork_asked (Ok t) asked so h is = fork_by t (IsNoFork asked) so (none_asked asked so h) is
+fork_asked (Err e) asked so h is = tt
 
 -- ---- reasons
 
@@ -181,11 +204,11 @@ module _ (digest : List ℕ → List ℕ) {S : Type 0} (may : S → Path → Opt
   -- a turn with another outcome
   pub tells_other : (x y : Places S) (copy : Option Candidate) (c : Candidate) (t : Outcome) → (t ≡ turn.Contradicts → ⊥) →
       ((fault : FollowFault) → t ≡ turn.NotHad fault → ⊥) → Tells x y copy c t
-  tells_other x y copy c turn.Agrees no none = tt
-  tells_other x y copy c turn.Brought no none = tt
-  tells_other x y copy c (turn.Forks proof) no none = tt
-  tells_other x y copy c turn.Contradicts no none = absurd (no refl)
-  tells_other x y copy c (turn.NotHad fault) no none = absurd (none fault refl)
+  tells_other x y copy c turn.Agrees other none = tt
+  tells_other x y copy c turn.Brought other none = tt
+  tells_other x y copy c (turn.Forks proof) other none = tt
+  tells_other x y copy c turn.Contradicts other none = absurd (other refl)
+  tells_other x y copy c (turn.NotHad fault) other none = absurd (none fault refl)
 
   -- the turn of a candidate that is not larger than the copy
   pub tells_upto : {E : Type 0} (x y : Places S) (copy : Option Candidate) (held c : Candidate) (r : Result Outcome E) →
