@@ -29,7 +29,7 @@ use Rattle.copy_follow.specs.Faults.{IsOfNoPlace}
 use Rattle.copy_follow.specs.Rule.{ExceedsCopy, copy_point}
 use Rattle.copy_follow.specs.RunStanding.{IsHeadOf, KnowsAfter}
 use Rattle.copy_follow.specs.Says.{SettlesEach}
-use Rattle.copy_follow.specs.Told.{AreSizesIn, AreTold, AreToldFirst, AreToldIn, CouldNotBeHad, CountsAgain, HasReason, IsForkOr, IsLacked, IsOfFiles, IsSizeIn, IsTold, IsUntold, TellsLarger, TellsTurn, outcome_by}
+use Rattle.copy_follow.specs.Told.{AreSizesIn, AreTold, AreToldFirst, AreToldIn, CouldNotBeHad, CountsAgain, HasReason, IsForkOr, IsLacked, IsNoFork, IsOfFiles, IsSizeIn, IsTold, IsUntold, TellsLarger, TellsTurn, outcome_by}
 use Rattle.copy_follow.specs.TurnsTaken.{AddsLacked, HasTakenRun, IsAbove, IsAdded, IsAgreed, IsLargerThan, IsRepeat, SaysTurn}
 use Rattle.copy_follow.specs.declared.bring_fault.BringFault.{BringFault}
 use Rattle.copy_follow.specs.declared.bring_fault.BringFault.TheVariants as bring
@@ -79,6 +79,29 @@ sizes_of origin copy c sizes h k s = (
   (head_once (note_of copy) origin origin sizes.0 copy.size.0 s.0.0 copy.root s.0.1 h).size_is,
   (head_once (note_of c) origin origin sizes.1 c.size.0 s.1.0 c.root s.1.1 k).size_is,
 )
+
+-- ---- a turn that is no fork
+
+fork_by : (t : Outcome) (a b : Type 0) → (a → b) → IsForkOr a t → IsForkOr b t
+fork_by turn.Agrees a b f h = f h
+fork_by turn.Brought a b f h = f h
+fork_by (turn.Forks proof) a b f h = tt
+fork_by turn.Contradicts a b f h = f h
+fork_by (turn.NotHad fault) a b f h = f h
+
+none_asked : (asked : Result Outcome FollowFault) (so : Type 0) → IfOk asked (IsForkOr so) → IsNoFork asked → so
+none_asked (Ok turn.Agrees) so h calm = h
+none_asked (Ok turn.Brought) so h calm = h
+none_asked (Ok (turn.Forks proof)) so h calm = absurd calm
+none_asked (Ok turn.Contradicts) so h calm = h
+none_asked (Ok (turn.NotHad fault)) so h calm = h
+none_asked (Err fault) so h calm = absurd calm
+
+-- the result is a fork, or the other turn ended with none
+pub fork_asked : {E : Type 0} (r : Result Outcome E) (asked : Result Outcome FollowFault) (so : Type 0) →
+    IfOk asked (IsForkOr so) → IfOk r (IsForkOr (IsNoFork asked)) → IfOk r (IsForkOr so)
+fork_asked (Ok t) asked so h is = fork_by t (IsNoFork asked) so (none_asked asked so h) is
+fork_asked (Err e) asked so h is = tt
 
 -- ---- reasons
 

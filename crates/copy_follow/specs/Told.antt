@@ -99,6 +99,15 @@ IsForkOr so (turn.Forks proof) = ⊤
 IsForkOr so turn.Contradicts = so
 IsForkOr so (turn.NotHad fault) = so
 
+-- a turn ended, with no fork
+abbrev pub IsNoFork : Result Outcome FollowFault → Type 0
+IsNoFork (Ok turn.Agrees) = ⊤
+IsNoFork (Ok turn.Brought) = ⊤
+IsNoFork (Ok (turn.Forks proof)) = ⊥
+IsNoFork (Ok turn.Contradicts) = ⊤
+IsNoFork (Ok (turn.NotHad fault)) = ⊤
+IsNoFork (Err fault) = ⊥
+
 -- the run counts the candidates that were not had before a turn that brought the copy to a larger one
 abbrev pub CountsAgain : Candidate → Outcome → Run → Run → Type 0
 CountsAgain candidate turn.Agrees old new = new.again ≡ old.again

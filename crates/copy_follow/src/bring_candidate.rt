@@ -1,5 +1,5 @@
 //! A copy that is brought to a larger candidate.
-ghost use Rattle.std.specs.Prelude.{◌≡◌, ◌≢◌, ◌⊎◌, ◌<◌, ℕ, Err, Ok, IfErr, IfOk, IfSome, IsErr, List, Option, Some, option_map, ⊤};
+ghost use Rattle.std.specs.Prelude.{◌≡◌, ◌≢◌, ◌⊎◌, ◌<◌, ℕ, Err, IfErr, IfOk, IfSome, IsErr, List, Option, Some, option_map, ⊤};
 ghost use Rattle.tlog_tiles.specs.declared.paths.Path.TheVariants.{Checkpoint};
 ghost use Rattle.mirror_folders.specs.Shelf.{Put, RecordsRead};
 ghost use Rattle.mirror_sources.specs.Recorded.{KeepsRecord};
@@ -19,9 +19,8 @@ ghost use Rattle.copy_follow.specs.Ending.{EndsAt, EndsRun, IsOfConflict, IsOfOt
 ghost use Rattle.copy_follow.specs.OneHonestRun.{IsBroughtOr, IsHonestTurn};
 ghost use Rattle.copy_follow.specs.Runs.{KeepsUnder};
 ghost use Rattle.copy_follow.specs.Turning.{ShowsTurn};
-ghost use Rattle.tlog_proof.specs.declared.proof.Proof.{Proof};
 ghost use Rattle.copy_follow.specs.RunStanding.{EachStays, HasStanding, HoldsNoCopy, HoldsNoSmaller, IsHeadOf, StandsAfter};
-ghost use Rattle.copy_follow.specs.Told.{AreSizesIn, HasReason, IsForkOr, IsOfFiles, TellsTurn, outcome_by};
+ghost use Rattle.copy_follow.specs.Told.{AreSizesIn, HasReason, IsForkOr, IsNoFork, IsOfFiles, TellsTurn, outcome_by};
 ghost use Rattle.copy_follow.specs.TurnsTaken.{IsLargerThan, SaysTurn};
 
 use crate::follow_fault::FollowFault;
@@ -172,7 +171,7 @@ pub(crate) fn contradict<H: TreeHash, D: ReadableShelf, S: Source + Drop>(
 
 // The fork, if its proof was made; else the candidate was not had, as before.
 fn fork_or(fault: FollowFault, asked: Result<Outcome, FollowFault>) -> Result<Outcome, FollowFault>
-    ensures fork { (proof : Option Proof) → asked ≡ Ok (Outcome.Forks proof) → result ≡ asked }
+    ensures fork { IfOk result (IsForkOr (IsNoFork asked)) }
     ensures source { IfOk result (λ turn. turn ≡ Outcome.NotHad FollowFault.Source
         → fault ≡ FollowFault.Source) }
     ensures after { IfOk result (λ turn. (digest : List ℕ → List ℕ) (origin : List ℕ)
@@ -185,7 +184,6 @@ fn fork_or(fault: FollowFault, asked: Result<Outcome, FollowFault>) -> Result<Ou
         → copy.size.0 < candidate.size.0 → SaysTurn digest (Some copy) candidate turn) }
     ensures ends { IfErr asked (EndsRun ⊥ ⊥) → IfErr result (EndsRun ⊥ ⊥) }
     ensures counted { (old new : ℕ) → CountsFollow old new asked → CountsFollow old new result }
-    ensures tells { (so : Type 0) → IfOk asked (IsForkOr so) → IfOk result (IsForkOr so) }
 {
     match asked {
         Ok(Outcome::Forks(proof)) => Ok(Outcome::Forks(proof)),

@@ -16,7 +16,7 @@ use Rattle.copy_follow.specs.declared.follow_fault.FollowFault.TheVariants.{Sour
 use Rattle.copy_follow.specs.declared.run.Outcome.TheVariants.{NotHad}
 use Rattle.copy_places.specs.Candidates.{note_of}
 use Rattle.copy_follow.specs.Told.{AreSizesIn, HasReason}
-use Rattle.copy_follow.proofs.Telling.{sizes_of, tells_later, tells_other}
+use Rattle.copy_follow.proofs.Telling.{fork_asked, sizes_of, tells_later, tells_other}
 use Rattle.copy_follow.proofs.bring_candidate.take_larger.Goals as goal
 
 pub returns-in-Err-clause-ends : goal.returns-in-Err-clause-ends
@@ -183,8 +183,9 @@ returns-in-NotHad-clause-tells g c =
     let y = c.contradict-asked.new.places in
     tells_later g.H.TreeHash.digest g.S.Source.may_answer g.S.Source.failed g.S.Source.asked c.args.places.now x y (Some copy)
     candidate c.fork_or.result c.bring.ensures.asks
-    (c.fork_or.ensures.tells (HasReason g.H.TreeHash.digest g.S.Source.may_answer g.S.Source.failed g.S.Source.asked x y
-    (Some copy) candidate) (c.contradict-asked.ensures.tells fits))
+    (fork_asked c.fork_or.result c.contradict-asked.result (HasReason g.H.TreeHash.digest g.S.Source.may_answer
+    g.S.Source.failed g.S.Source.asked x y (Some copy) candidate) (c.contradict-asked.ensures.tells fits)
+    c.fork_or.ensures.fork)
 
 pub returns-in_default-clause-tells : goal.returns-in_default-clause-tells
 returns-in_default-clause-tells g c =
