@@ -39,26 +39,11 @@ module _ (digest : List ℕ → List ℕ) {S : Type 0} (may : S → Path → Opt
   abbrev pub IsUntold : Point → Point → Type 0
   IsUntold small large = 0 < small.size → Agrees digest small large ⊎ CouldNotBeHad small.size large
 
-  -- the same of the copy, if there is one, and a larger candidate
-  abbrev pub HasReason : Option Candidate → Candidate → Type 0
-  HasReason None candidate = ⊤
-  HasReason (Some copy) candidate = IsUntold (point_of copy) (point_of candidate)
-
-  -- if a turn did not bring the copy to a larger candidate, and is no fork, there is a reason
-  abbrev pub TellsTurn : Option Candidate → Candidate → Outcome → Type 0
-  TellsTurn copy candidate turn.Agrees = ⊤
-  TellsTurn copy candidate turn.Brought = ⊤
-  TellsTurn copy candidate (turn.Forks proof) = ⊤
-  TellsTurn copy candidate turn.Contradicts = HasReason copy candidate
-  TellsTurn copy candidate (turn.NotHad fault) = HasReason copy candidate
-
   -- each of the larger ones has a reason
   abbrev pub TellsLarger : Followed → Type 0
   TellsLarger followed =
       IfSome followed.copy (λ copy. All (λ point. IsUntold (record { size = copy.0; root = copy.1 })
       (record { size = point.0; root = point.1 })) followed.larger.items)
-
--- ---- only contracts of private functions cite what follows
 
 -- the size in the text of a note, which is a checkpoint of the origin. It is 0 without a note
 abbrev pub IsSizeIn : List ℕ → Option (List ℕ) → ℕ → Type 0
@@ -81,6 +66,8 @@ IsOfFiles bring.Source = ⊤
 IsOfFiles bring.CopyInUse = ⊥
 IsOfFiles bring.ShelfFault = ⊥
 IsOfFiles bring.OutOfMemory = ⊥
+
+-- ---- only contracts of private functions cite what follows
 
 -- the outcome for a larger candidate, by what came of the request for its proof
 abbrev pub outcome_by : Result (Option Proof) AskFault → Result Outcome FollowFault
@@ -126,10 +113,24 @@ pub record IsLacked (lacked : List Candidate) (candidate : Candidate) : Type 0 w
 
 module _ (digest : List ℕ → List ℕ) {S : Type 0} (may : S → Path → Option (List ℕ) → Type 0) (failed : S → ℕ)
     (asked : S → Option (List Path)) (old new : Places S) where
+  -- why no fork of the copy, if there is one, and a larger candidate is told
+  abbrev pub HasReason : Option Candidate → Candidate → Type 0
+  HasReason None candidate = ⊤
+  HasReason (Some copy) candidate =
+      IsUntold digest may failed asked old new (point_of copy) (point_of candidate)
+
+  -- if a turn did not bring the copy to a larger candidate, and is no fork, there is a reason
+  abbrev pub TellsTurn : Option Candidate → Candidate → Outcome → Type 0
+  TellsTurn copy candidate turn.Agrees = ⊤
+  TellsTurn copy candidate turn.Brought = ⊤
+  TellsTurn copy candidate (turn.Forks proof) = ⊤
+  TellsTurn copy candidate turn.Contradicts = HasReason copy candidate
+  TellsTurn copy candidate (turn.NotHad fault) = HasReason copy candidate
+
   -- a candidate that is larger than the copy is in a line, or there is a reason
   abbrev pub IsTold : Option Candidate → List ForkLine → Candidate → Type 0
   IsTold copy lines candidate =
-      IsLargerThan copy candidate → IsInSomeLine lines candidate ⊎ HasReason digest may failed asked old new copy candidate
+      IsLargerThan copy candidate → IsInSomeLine lines candidate ⊎ HasReason copy candidate
 
   -- the same of the first of some candidates
   abbrev pub AreToldFirst : Option Candidate → List ForkLine → List Candidate → ℕ → Type 0
@@ -142,7 +143,7 @@ module _ (digest : List ℕ → List ℕ) {S : Type 0} (may : S → Path → Opt
       (again : ℕ) : Type 0 where
     pub each : All (λ c. IsLargerThan copy c → IsInSomeLine lines c ⊎ IsLacked lacked c) done
     pub later : (k : ℕ) (d : Candidate) → again ≤ k → k < length lacked →
-        HasReason digest may failed asked old new copy (get_or lacked k d)
+        HasReason copy (get_or lacked k d)
 
   -- the same for a run
   abbrev pub AreToldIn : List Candidate → Run → Type 0
