@@ -53,3 +53,4 @@ pub mod OneHonestRun
 pub mod HonestRuns
 pub mod Adding
 pub mod Looked
+pub mod Telling

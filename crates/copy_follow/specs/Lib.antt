@@ -29,3 +29,4 @@ pub mod TurnsTaken
 pub mod Lining
 pub mod Looking
 pub mod OneHonestRun
+pub mod Told

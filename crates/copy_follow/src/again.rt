@@ -1,10 +1,14 @@
 //! Candidates to which the copy could not be brought are looked at once more, where the copy has grown since.
-ghost use Rattle.std.specs.Prelude.{◌≡◌, ◌∷◌, ◌<◌, [], ℕ, IfErr, IfOk, List, OnOk, Some};
+ghost use Rattle.std.specs.Prelude.{◌≡◌, ◌∷◌, ◌<◌, [], ℕ, All, IfErr, IfOk, List, OnOk, Some};
 ghost use Rattle.mirror_sources.specs.Recorded.{KeepsRecord};
+ghost use Rattle.copy_places.specs.Lines.{IsInSomeLine};
 ghost use Rattle.copy_places.specs.Requests.{AsksAny};
+ghost use Rattle.copy_places.specs.declared.candidate.Candidate.{Candidate};
+ghost use Rattle.copy_places.specs.declared.places.Places.{Places};
 ghost use Rattle.copy_follow.specs.Blame.{CountsFollow};
 ghost use Rattle.copy_follow.specs.Ending.{EndsRun};
 ghost use Rattle.copy_follow.specs.Looking.{AddsForks, LooksOn};
+ghost use Rattle.copy_follow.specs.Told.{AreToldFirst, AreToldIn, HasReason, IsForkOr, IsTold};
 ghost use Rattle.copy_follow.specs.Turning.{ShowsTurn};
 
 use crate::bring_candidate::contradict;
@@ -30,6 +34,8 @@ fn proof_again<H: TreeHash, D: ReadableShelf, S: Source + Drop>(
     ensures ends { IfErr result (EndsRun ⊥ ⊥) }
     ensures asks { AsksAny S.may_answer S.failed S.asked places.old places.new }
     ensures shows { IfOk result (ShowsTurn H.digest (Some copy.now) candidate.now) }
+    ensures tells { IfOk result (IsForkOr (HasReason H.digest S.may_answer S.failed S.asked
+        places.old places.new (Some copy.now) candidate.now)) }
 {
     places.keep_ends(copy.size.0, candidate.size.0);
     contradict::<H, D, S>(alloc, shelf, places, copy, candidate)
@@ -43,10 +49,11 @@ fn add_shown(
     turn: Outcome,
     forks: &mut Vec<ForkLine>,
 ) -> Result<(), AllocError>
-    ensures { OnOk result ((digest : List ℕ → List ℕ)
+    ensures adds { OnOk result ((digest : List ℕ → List ℕ)
         → ShowsTurn digest (Some copy.now) candidate.now turn
         → AddsForks digest (Some copy.now) (candidate.now ∷ []) forks.old.items
         forks.new.items) }
+    ensures tells { OnOk result (IsForkOr ⊥ turn → IsInSomeLine forks.new.items candidate.now) }
 {
     match turn {
         Outcome::Forks(proof) => add_fork(alloc, forks, copy, candidate, proof),
@@ -69,16 +76,19 @@ fn look_at<H: TreeHash, D: ReadableShelf, S: Source + Drop>(
     ensures asks { AsksAny S.may_answer S.failed S.asked places.old places.new }
     ensures adds { OnOk result (AddsForks H.digest (Some copy.now) (candidate.now ∷ [])
         forks.old.items forks.new.items) }
+    ensures tells { OnOk result (IsTold H.digest S.may_answer S.failed S.asked places.old places.new
+        (Some copy.now) forks.new.items candidate.now) }
 {
     if candidate.size.0 <= copy.size.0 {
         return Ok(());
     }
-    match proof_again::<H, D, S>(alloc, shelf, places, copy, candidate) {
-        Ok(turn) => match add_shown(alloc, copy, candidate, turn, forks) {
-            Ok(()) => Ok(()),
-            Err(_) => Err(FollowFault::OutOfMemory),
-        },
-        Err(fault) => Err(fault),
+    let turn = match proof_again::<H, D, S>(alloc, shelf, places, copy, candidate) {
+        Ok(turn) => turn,
+        Err(fault) => return Err(fault),
+    };
+    match add_shown(alloc, copy, candidate, turn, forks) {
+        Ok(()) => Ok(()),
+        Err(_) => Err(FollowFault::OutOfMemory),
     }
 }
 
@@ -98,6 +108,8 @@ fn look_each<H: TreeHash, D: ReadableShelf, S: Source + Drop>(
     ensures asks { AsksAny S.may_answer S.failed S.asked places.old places.new }
     ensures adds { OnOk result (AddsForks H.digest (Some copy.now) lacked.now forks.old.items
         forks.new.items) }
+    ensures tells { OnOk result (AreToldFirst H.digest S.may_answer S.failed S.asked places.old
+        places.new (Some copy.now) forks.new.items lacked.now again) }
 {
     for i in 0..lacked.len() {
         if i >= again {
@@ -127,6 +139,8 @@ fn look_all<H: TreeHash, D: ReadableShelf, S: Source + Drop>(
     ensures asks { AsksAny S.may_answer S.failed S.asked places.old places.new }
     ensures adds { OnOk result (AddsForks H.digest copy.now lacked.now forks.old.items
         forks.new.items) }
+    ensures tells { OnOk result (AreToldFirst H.digest S.may_answer S.failed S.asked places.old
+        places.new copy.now forks.new.items lacked.now again) }
 {
     match copy {
         Some(copy) => look_each::<H, D, S>(alloc, shelf, places, copy, lacked, again, forks),
@@ -146,6 +160,11 @@ pub(crate) fn look_again<H: TreeHash, D: ReadableShelf, S: Source + Drop>(
     ensures ends { IfErr result (EndsRun ⊥ ⊥) }
     ensures asks { AsksAny S.may_answer S.failed S.asked places.old places.new }
     ensures run { IfOk result (LooksOn H.digest run) }
+    ensures tells { IfOk result (λ next. (start : Places S) (done : List Candidate)
+        → AsksAny S.may_answer S.failed S.asked start places.old
+        → AreToldIn H.digest S.may_answer S.failed S.asked start places.old done run
+        → All (IsTold H.digest S.may_answer S.failed S.asked start places.new next.copy
+        next.forks.items) done) }
 {
     let Run {
         copy,

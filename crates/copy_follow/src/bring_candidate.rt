@@ -1,5 +1,5 @@
 //! A copy that is brought to a larger candidate.
-ghost use Rattle.std.specs.Prelude.{◌≡◌, ◌≢◌, ◌⊎◌, ◌<◌, ℕ, Err, Ok, IfErr, IfOk, IfSome, IsErr, List, Option, Some, option_map, ⊤};
+ghost use Rattle.std.specs.Prelude.{◌≡◌, ◌≢◌, ◌⊎◌, ◌<◌, ℕ, Err, IfErr, IfOk, IfSome, IsErr, List, Option, Some, option_map, ⊤};
 ghost use Rattle.tlog_tiles.specs.declared.paths.Path.TheVariants.{Checkpoint};
 ghost use Rattle.mirror_folders.specs.Shelf.{Put, RecordsRead};
 ghost use Rattle.mirror_sources.specs.Recorded.{KeepsRecord};
@@ -11,6 +11,7 @@ ghost use Rattle.copy_follow.specs.OneHonest.{IsShelfOrMemory};
 ghost use Rattle.copy_places.specs.Requests.{AsksAny, PlaceFails};
 ghost use Rattle.copy_places.specs.Candidates.{note_of};
 ghost use Rattle.copy_places.specs.Faults.{CountsAsk};
+ghost use Rattle.copy_places.specs.Nobodys.{IsOfEnds};
 ghost use Rattle.copy_places.specs.Shown.{ShowsLarger};
 ghost use Rattle.copy_places.specs.declared.candidate.Candidate.{Candidate};
 ghost use Rattle.copy_follow.specs.Blame.{CountsFollow};
@@ -18,8 +19,8 @@ ghost use Rattle.copy_follow.specs.Ending.{EndsAt, EndsRun, IsOfConflict, IsOfOt
 ghost use Rattle.copy_follow.specs.OneHonestRun.{IsBroughtOr, IsHonestTurn};
 ghost use Rattle.copy_follow.specs.Runs.{KeepsUnder};
 ghost use Rattle.copy_follow.specs.Turning.{ShowsTurn};
-ghost use Rattle.tlog_proof.specs.declared.proof.Proof.{Proof};
 ghost use Rattle.copy_follow.specs.RunStanding.{EachStays, HasStanding, HoldsNoCopy, HoldsNoSmaller, IsHeadOf, StandsAfter};
+ghost use Rattle.copy_follow.specs.Told.{AreSizesIn, HasReason, IsForkOr, IsNoFork, IsOfFiles, TellsTurn, outcome_by};
 ghost use Rattle.copy_follow.specs.TurnsTaken.{IsLargerThan, SaysTurn};
 
 use crate::follow_fault::FollowFault;
@@ -51,6 +52,7 @@ fn turn_of(fault: BringFault) -> Result<Outcome, FollowFault>
     ensures no_file { IfOk result (λ turn. turn ≡ Outcome.NotHad FollowFault.NoFile
         → fault ≡ BringFault.NoFile) }
     ensures conflicts { IfOk result (λ turn. IsOfConflict turn → IsConflict fault) }
+    ensures files { IfOk result (λ turn. IsOfFiles fault) }
 {
     match fault {
         BringFault::Contradiction => Ok(Outcome::Contradicts),
@@ -102,6 +104,9 @@ pub(crate) fn bring<H: TreeHash, D: ReadableShelf, S: Source + Drop>(
         → NoPlaceFails places.old places.new) }
     ensures conflicts { IfOk result (λ turn. IsOfConflict turn
         → HasConflict H.digest origin.now (note_of candidate.now) (D.puts shelf.old)) }
+    ensures sizes { IfOk result (λ turn. turn ≢ Outcome.Brought
+        → AreSizesIn origin.now (option_map (λ b. b.now) found.entry) (note_of candidate.now)
+        places.new.ends.sizes) }
 {
     match bring_copy::<H, D, S>(alloc, origin, shelf, places, found, &candidate.note) {
         Ok(_) => Ok(Outcome::Brought),
@@ -111,6 +116,7 @@ pub(crate) fn bring<H: TreeHash, D: ReadableShelf, S: Source + Drop>(
 
 // The outcome for a candidate that contradicts the copy, by what came of the request for its proof. Refused memory is no outcome.
 fn outcome_of(found: Result<Option<Proof>, AskFault>) -> Result<Outcome, FollowFault>
+    ensures is { result ≡ outcome_by found }
     ensures memory { found ≡ Err AskFault.OutOfMemory → IsErr result }
     ensures proof { IfOk result (λ turn. (digest : List ℕ → List ℕ) (copy candidate : Candidate)
         → IfOk found (λ proof. IfSome proof
@@ -155,6 +161,9 @@ pub(crate) fn contradict<H: TreeHash, D: ReadableShelf, S: Source + Drop>(
     ensures ends { IfErr result (EndsRun ⊥ ⊥) }
     ensures shows { IfOk result (ShowsTurn H.digest (Some copy.now) candidate.now) }
     ensures says { IfOk result (SaysTurn H.digest (Some copy.now) candidate.now) }
+    ensures tells { IsOfEnds copy.now candidate.now places.old.ends.sizes
+        → IfOk result (IsForkOr (HasReason H.digest S.may_answer S.failed S.asked places.old
+        places.new (Some copy.now) candidate.now)) }
 {
     let found = ask_proof::<H, D, S>(alloc, shelf, places, copy, candidate);
     outcome_of(found)
@@ -162,7 +171,7 @@ pub(crate) fn contradict<H: TreeHash, D: ReadableShelf, S: Source + Drop>(
 
 // The fork, if its proof was made; else the candidate was not had, as before.
 fn fork_or(fault: FollowFault, asked: Result<Outcome, FollowFault>) -> Result<Outcome, FollowFault>
-    ensures fork { (proof : Option Proof) → asked ≡ Ok (Outcome.Forks proof) → result ≡ asked }
+    ensures fork { IfOk result (IsForkOr (IsNoFork asked)) }
     ensures source { IfOk result (λ turn. turn ≡ Outcome.NotHad FollowFault.Source
         → fault ≡ FollowFault.Source) }
     ensures after { IfOk result (λ turn. (digest : List ℕ → List ℕ) (origin : List ℕ)
@@ -192,6 +201,7 @@ pub(crate) fn take_larger<H: TreeHash, D: ReadableShelf, S: Source + Drop>(
     copy: &Candidate,
     candidate: &Candidate,
 ) -> Result<Outcome, FollowFault>
+    requires copy { IsHeadOf origin.now copy.now }
     requires head { IsHeadOf origin.now candidate.now }
     requires larger { copy.now.size.0 < candidate.now.size.0 }
     ensures keeps { KeepsUnder H.digest origin.now (note_of candidate.now) (D.puts shelf.old)
@@ -210,6 +220,8 @@ pub(crate) fn take_larger<H: TreeHash, D: ReadableShelf, S: Source + Drop>(
     ensures suffices { HasStanding H.digest origin.now (Some copy.now) (D.puts shelf.old)
         → IsHonestTurn H.digest S.may_answer (D.puts shelf.old) places.old places.new
         origin.now candidate.now → IsBroughtOr result }
+    ensures tells { IfOk result (TellsTurn H.digest S.may_answer S.failed S.asked places.old
+        places.new (Some copy.now) candidate.now) }
 {
     let found = Some(copy.note.as_slice());
     let turn = match bring::<H, D, S>(alloc, origin, shelf, places, found, candidate) {

@@ -28,6 +28,7 @@ ghost use Rattle.copy_follow.specs.Taken.{MayTake};
 ghost use Rattle.copy_places.specs.TrueAnswers.{IsRootOf};
 ghost use Rattle.copy_follow.specs.declared.bring_fault.BringFault.TheVariants.{CopyDamaged, CopyInUse};
 ghost use Rattle.copy_follow.specs.Growing.{IsKnown};
+ghost use Rattle.copy_follow.specs.Told.{AreSizesIn, IsOfFiles};
 ghost use Rattle.copy_follow.specs.Moments.{CopyStays, IsBroughtTo, KeepsCopy};
 
 use crate::bring_fault::BringFault;
@@ -268,6 +269,8 @@ pub fn bring_copy<H: TreeHash, D: ReadableShelf, S: Source + Drop>(
         → HasConflict H.digest origin.now note.now (D.puts shelf.old)) }
     ensures ends { IfErr result (λ e. IsConflict e
         → AreEnds H.digest origin.now note.now (D.puts shelf.old) places.new.ends.sizes) }
+    ensures sizes { IfErr result (λ e. IsOfFiles e → AreSizesIn origin.now
+        (option_map (λ b. b.now) found.entry) note.now places.new.ends.sizes) }
     ensures whole { KeepsCopy H.digest origin.now note.now (D.puts shelf.old) (D.puts shelf.new) }
     ensures stays { IfErr result
         (λ _. CopyStays H.digest origin.now (D.puts shelf.old) (D.puts shelf.new)) }

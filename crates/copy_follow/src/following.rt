@@ -8,6 +8,7 @@ ghost use Rattle.copy_follow.specs.Ending.{EndsFor};
 ghost use Rattle.copy_follow.specs.OneHonestRun.{IsHonestAmong, IsHonestRun, ReachesLog, ReachesSize};
 ghost use Rattle.copy_follow.specs.Runs.{FollowsCandidates};
 ghost use Rattle.copy_follow.specs.Says.{Says};
+ghost use Rattle.copy_follow.specs.Told.{TellsLarger};
 ghost use Rattle.copy_follow.specs.RunStanding.{IsFollowed};
 
 use crate::copy_on_shelf::judge_copy;
@@ -80,6 +81,8 @@ pub fn follow<H: TreeHash, D: ReadableShelf, S: Source + Drop>(
         places.new origin.now (D.puts shelf.old) (AreCandidates S.may_answer origin.now
         (map (λ k. key k) keys.now) places.old places.new (option_map (λ v. v.items) given)))
         → ReachesSize h.size result }
+    ensures tells { IfOk result (TellsLarger H.digest S.may_answer S.failed S.asked
+        places.old places.new) }
 {
     let copy = judge_copy::<H, D>(alloc, origin, shelf)?;
     let candidates = candidates_of::<S>(alloc, origin, keys, places, given)?;

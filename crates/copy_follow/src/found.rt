@@ -7,6 +7,7 @@ ghost use Rattle.copy_follow.specs.Compared.{BlamesTip};
 ghost use Rattle.copy_follow.specs.Conflicts.{IsNoConflict};
 ghost use Rattle.copy_follow.specs.Faults.{CountsShelf};
 ghost use Rattle.copy_follow.specs.Found.{IsTipRead};
+ghost use Rattle.copy_follow.specs.Told.{IsSizeIn};
 
 use crate::bring_fault::BringFault;
 use crate::read_tip::read_tip;
@@ -42,6 +43,8 @@ pub(crate) fn read_found<H: TreeHash, D: ReadableShelf>(
     ensures tip { IfOk result (λ tip. IsTipRead H.digest origin.now (D.puts shelf.old) tip) }
     ensures compared { OnOk result (RecordsRead (D.puts shelf.old) Checkpoint
         (option_map (λ b. b.now) found.entry)) }
+    ensures size { IfOk result (λ tip. IsSizeIn origin.now
+        (option_map (λ b. b.now) found.entry) tip.size) }
 {
     let tip = match read_tip::<H, D>(alloc, origin, shelf) {
         Ok(tip) => tip,

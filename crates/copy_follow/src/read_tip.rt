@@ -7,6 +7,7 @@ ghost use Rattle.copy_follow.specs.Damaged.{IsBundleWrong, IsDamaged};
 ghost use Rattle.copy_follow.specs.declared.bring_fault.BringFault.TheVariants.{CopyDamaged};
 ghost use Rattle.copy_follow.specs.Faults.{CountsShelf, IsOfNoPlace};
 ghost use Rattle.copy_follow.specs.Found.{IsBundleRead, IsTipRead};
+ghost use Rattle.copy_follow.specs.Told.{IsSizeIn};
 
 use crate::bring_fault::BringFault;
 use crate::find_edge::edge_on_shelf;
@@ -64,6 +65,7 @@ pub(crate) fn read_tip<H: TreeHash, D: ReadableShelf>(
         × IsDamaged H.digest origin.now (D.puts shelf.old)) ⊎ IsOfNoPlace e) }
     ensures same { KeepsRecord (D.puts shelf.old) (D.puts shelf.new) }
     ensures tip { IfOk result (λ tip. IsTipRead H.digest origin.now (D.puts shelf.old) tip) }
+    ensures size { IfOk result (λ tip. IsSizeIn origin.now tip.checkpoint tip.size) }
 {
     let Some(checkpoint) = shelf.read(&Path::Checkpoint)? else {
         return Ok(CopyTip::empty(alloc));

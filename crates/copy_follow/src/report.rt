@@ -3,7 +3,7 @@ ghost use Rattle.std.specs.Prelude.{◌≡◌, ◌≢◌, ◌⊎◌, ◌↔◌, 
 ghost use Rattle.std.specs.List.Sorted.{IsSorted};
 ghost use Rattle.copy_places.specs.Candidates.{turn_cmp};
 ghost use Rattle.copy_places.specs.Gathering.{option_or};
-ghost use Rattle.copy_places.specs.Lines.{AreLines};
+ghost use Rattle.copy_places.specs.Lines.{AreLines, KeepsLines};
 ghost use Rattle.copy_places.specs.Shown.{ShowsEach};
 ghost use Rattle.copy_places.specs.declared.candidate.Candidate.{Candidate};
 ghost use Rattle.copy_follow.specs.Rule.{HasOneRoot, copy_point};
@@ -85,6 +85,7 @@ pub(crate) fn report(
     requires { IsSorted turn_cmp candidates.now }
     ensures copy { IfOk result (λ f. f.copy ≡ copy_point run.copy) }
     ensures had { IfOk result (λ f. f.old ≡ run.had) }
+    ensures kept { IfOk result (λ f. KeepsLines run.forks.items f.forks.items) }
     ensures shows { IfOk result (λ f. (digest : List ℕ → List ℕ)
         → ShowsEach digest run.forks.items → ShowsEach digest f.forks.items) }
     ensures settles { IfOk result (λ f. (digest : List ℕ → List ℕ) (first : Option Candidate)

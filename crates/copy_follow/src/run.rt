@@ -6,6 +6,7 @@ ghost use Rattle.copy_places.specs.Shown.{AreFork, ShowsEach};
 ghost use Rattle.copy_follow.specs.Ending.{fault_after, or_fault};
 ghost use Rattle.copy_follow.specs.Turning.{ShowsTurn};
 ghost use Rattle.copy_follow.specs.RunStanding.{KnowsAfter, size_of_copy};
+ghost use Rattle.copy_follow.specs.Told.{CountsAgain};
 ghost use Rattle.copy_follow.specs.TurnsTaken.{AddsLacked, IsAdded, IsLargerThan};
 
 use crate::follow_fault::FollowFault;
@@ -77,6 +78,7 @@ impl Run {
         ensures forks { self.new.forks ≡ self.old.forks }
         ensures not_had { OnOk result (AddsLacked candidate.now self.old.not_had.items
             self.new.not_had.items) }
+        ensures again { self.new.again ≡ self.old.again }
     {
         self.not_had.push(candidate.copy(alloc)?)?;
         if self.first_fault.is_none() {
@@ -104,6 +106,7 @@ impl Run {
         ensures adds { OnOk result (IfSome self.old.copy (λ copy. AddsFork copy candidate.now
             self.old.forks.items self.new.forks.items)) }
         ensures not_had { self.new.not_had ≡ self.old.not_had }
+        ensures again { self.new.again ≡ self.old.again }
     {
         match &self.copy {
             Some(copy) => add_fork(alloc, &mut self.forks, copy, candidate, proof),
@@ -120,6 +123,8 @@ impl Run {
         ensures not_had { self.new.not_had ≡ self.old.not_had }
         ensures again { IsLargerThan self.old.copy candidate.now
             → self.new.again ≡ length self.old.not_had.items }
+        ensures other { ¬ IsLargerThan self.old.copy candidate.now
+            → self.new.again ≡ self.old.again }
     {
         if exceeds(&self.copy, candidate) {
             self.again = self.not_had.len();
@@ -141,6 +146,7 @@ impl Run {
             → ShowsTurn digest self.old.copy candidate.now turn
             → ShowsEach digest self.old.forks.items → ShowsEach digest self.new.forks.items) }
         ensures added { OnOk result (IsAdded candidate.now turn self.old self.new) }
+        ensures again { OnOk result (CountsAgain candidate.now turn self.old self.new) }
     {
         match turn {
             Outcome::Agrees => {}

@@ -3,12 +3,14 @@ ghost use Rattle.std.specs.Prelude.{◌≡◌, ◌∷◌, ◌+◌, ◌++◌, [],
 ghost use Rattle.copy_places.specs.Requests.{AsksAny, PlaceFails};
 ghost use Rattle.copy_places.specs.Candidates.{note_of};
 ghost use Rattle.copy_places.specs.declared.candidate.Candidate.{Candidate};
+ghost use Rattle.copy_places.specs.declared.places.Places.{Places};
 ghost use Rattle.copy_follow.specs.Blame.{CountsFollow};
 ghost use Rattle.copy_follow.specs.Ending.{BlamesPlace, EndsAt, IsOfEmpty, KeepsFault};
 ghost use Rattle.copy_follow.specs.OneHonestRun.{BringsTo, IsBroughtOr, IsHonestTurn, StepsUp};
 ghost use Rattle.copy_follow.specs.Runs.{KeepsUnder};
 ghost use Rattle.copy_follow.specs.Turning.{ContinuesRun, ShowsTurn};
 ghost use Rattle.copy_follow.specs.RunStanding.{HasStanding, IsHeadOf, StandsAfter};
+ghost use Rattle.copy_follow.specs.Told.{AreToldIn, TellsTurn};
 ghost use Rattle.copy_follow.specs.TurnsTaken.{HasTakenRun, IsLargerThan, IsNextOf, SaysTurn};
 
 use crate::bring_candidate::take_larger;
@@ -51,6 +53,8 @@ fn turn_for<H: TreeHash, D: ReadableShelf, S: Source + Drop>(
         → IsLargerThan run.now.copy candidate.now
         → IsHonestTurn H.digest S.may_answer (D.puts shelf.old) places.old places.new
         origin.now candidate.now → IsBroughtOr result }
+    ensures tells { IfOk result (TellsTurn H.digest S.may_answer S.failed S.asked places.old
+        places.new run.now.copy candidate.now) }
 {
     let Some(copy) = &run.copy else {
         return take_first::<H, D, S>(alloc, origin, shelf, places, candidate);
@@ -95,6 +99,11 @@ pub(crate) fn take_turn<H: TreeHash, D: ReadableShelf, S: Source + Drop>(
         → IsHonestTurn H.digest S.may_answer (D.puts shelf.old) places.old places.new
         origin.now candidate.now → BringsTo candidate.now run.new.copy result }
     ensures steps { OnOk result (StepsUp candidate.now run.old.copy run.new.copy) }
+    ensures tells { OnOk result ((start : Places S) (done : List Candidate)
+        → AsksAny S.may_answer S.failed S.asked start places.old
+        → AreToldIn H.digest S.may_answer S.failed S.asked start places.old done run.old
+        → AreToldIn H.digest S.may_answer S.failed S.asked start places.new
+        (done ++ candidate.now ∷ []) run.new) }
 {
     let turn = match turn_for::<H, D, S>(alloc, origin, shelf, places, run, candidate) {
         Ok(turn) => turn,

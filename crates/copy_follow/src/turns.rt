@@ -5,12 +5,14 @@ ghost use Rattle.mirror_folders.specs.Shelf.{Put};
 ghost use Rattle.copy_places.specs.Requests.{AsksAny, PlaceFails};
 ghost use Rattle.copy_places.specs.Candidates.{note_of, turn_cmp};
 ghost use Rattle.copy_places.specs.declared.candidate.Candidate.{Candidate};
+ghost use Rattle.copy_places.specs.declared.places.Places.{Places};
 ghost use Rattle.copy_follow.specs.Blame.{CountsFollow};
 ghost use Rattle.copy_follow.specs.Ending.{BlamesPlace, EndsAt, KeepsFault};
 ghost use Rattle.copy_follow.specs.OneHonestRun.{BringsTo, HasSize, IsHonestFirst, IsHonestListed, IsHonestTurn, StepsUp, TurnsReach};
 ghost use Rattle.copy_follow.specs.Runs.{KeepsEach};
 ghost use Rattle.copy_follow.specs.Turning.{ContinuesRun, IsRunFrom};
 ghost use Rattle.copy_follow.specs.RunStanding.{HasStanding, HoldsNoCopy, IsCopyOfRun, IsHeadOf};
+ghost use Rattle.copy_follow.specs.Told.{AreToldIn, IsTold};
 ghost use Rattle.copy_follow.specs.TurnsTaken.{HasTakenRun, IsLargerThan, IsRepeat};
 
 use crate::again::look_again;
@@ -73,6 +75,12 @@ fn take_turn_at<H: TreeHash, D: ReadableShelf, S: Source + Drop>(
     ensures steps { OnOk result ((candidate : Candidate)
         → candidate ≡ get_or candidates.now i candidate
         → StepsUp candidate run.old.copy run.new.copy) }
+    ensures tells { OnOk result ((start : Places S) → IsSorted turn_cmp candidates.now
+        → AsksAny S.may_answer S.failed S.asked start places.old
+        → AreToldIn H.digest S.may_answer S.failed S.asked start places.old
+        (take i candidates.now) run.old
+        → AreToldIn H.digest S.may_answer S.failed S.asked start places.new
+        (take (i + 1) candidates.now) run.new) }
 {
     if is_repeated(candidates, i) {
         return Ok(());
@@ -111,6 +119,8 @@ fn take_each<H: TreeHash, D: ReadableShelf, S: Source + Drop>(
     ensures passes { IfOk result (λ run. IsSorted turn_cmp candidates.now
         → (h : IsHonestListed H.digest S.may_answer (D.puts shelf.new) places.old places.new
         origin.now (D.puts shelf.old) copy candidates.now) → HasSize h.candidate.size.0 run.copy) }
+    ensures tells { IfOk result (λ run. IsSorted turn_cmp candidates.now
+        → AreToldIn H.digest S.may_answer S.failed S.asked places.old places.new candidates.now run) }
 {
     let mut run = Run::new(alloc, copy);
     for i in 0..candidates.len() {
@@ -151,6 +161,9 @@ pub(crate) fn take_turns<H: TreeHash, D: ReadableShelf, S: Source + Drop>(
     ensures passes { IfOk result (λ run. IsSorted turn_cmp candidates.now
         → (h : IsHonestListed H.digest S.may_answer (D.puts shelf.new) places.old places.new
         origin.now (D.puts shelf.old) copy candidates.now) → HasSize h.candidate.size.0 run.copy) }
+    ensures tells { IfOk result (λ run. IsSorted turn_cmp candidates.now
+        → All (IsTold H.digest S.may_answer S.failed S.asked places.old places.new run.copy
+        run.forks.items) candidates.now) }
 {
     match take_each::<H, D, S>(alloc, origin, shelf, places, copy, candidates) {
         Ok(run) => look_again::<H, D, S>(alloc, shelf, places, run),

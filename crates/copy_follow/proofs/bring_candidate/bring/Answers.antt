@@ -16,6 +16,9 @@ use Rattle.copy_follow.proofs.Taken.{larger_above}
 use Rattle.copy_follow.proofs.OneHonestRun.{honest_note}
 use Rattle.copy_follow.proofs.Runs.{each_one}
 use Rattle.copy_follow.proofs.Standing.{brought_after, stayed_after, turned_after}
+use Rattle.copy_follow.specs.Told.{AreSizesIn, IsOfFiles}
+use Rattle.copy_follow.proofs.Telling.{sized_turn}
+use Rattle.std.proofs.Common.{refl}
 use Rattle.copy_follow.proofs.bring_candidate.bring.Goals as goal
 
 pub returns-in-Ok-clause-keeps : goal.returns-in-Ok-clause-keeps
@@ -132,3 +135,14 @@ returns-in-Err-clause-after g c =
     (subst (λ n. LeavesPruned digest origin {T = ℕ} {E = BringFault} n x w (Err c.in-Err.fault)) c.deref.ensures.value
     c.in-Err.ensures.pruned))
     c.turn_of.ensures.after
+
+pub returns-in-Ok-clause-sizes : goal.returns-in-Ok-clause-sizes
+returns-in-Ok-clause-sizes g c = λ no. absurd (no refl)
+
+pub returns-in-Err-clause-sizes : goal.returns-in-Err-clause-sizes
+returns-in-Err-clause-sizes g c =
+    let origin = c.args.origin.now in
+    let found = option_map (λ b. b.now) c.args.found in
+    sized_turn c.turn_of.result (IsOfFiles c.in-Err.fault) _ c.turn_of.ensures.files
+    (subst (λ note. IsOfFiles c.in-Err.fault → AreSizesIn origin found note c.bring_copy.new.places.ends.sizes)
+    c.deref.ensures.value c.in-Err.ensures.sizes)

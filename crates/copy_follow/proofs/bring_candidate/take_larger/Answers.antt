@@ -14,6 +14,9 @@ use Rattle.copy_follow.proofs.OneHonestRun.{honest_before}
 use Rattle.copy_follow.proofs.Runs.{each_none, each_then}
 use Rattle.copy_follow.specs.declared.follow_fault.FollowFault.TheVariants.{Source}
 use Rattle.copy_follow.specs.declared.run.Outcome.TheVariants.{NotHad}
+use Rattle.copy_places.specs.Candidates.{note_of}
+use Rattle.copy_follow.specs.Told.{AreSizesIn, HasReason}
+use Rattle.copy_follow.proofs.Telling.{fork_asked, sizes_of, tells_later, tells_other}
 use Rattle.copy_follow.proofs.bring_candidate.take_larger.Goals as goal
 
 pub returns-in-Err-clause-ends : goal.returns-in-Err-clause-ends
@@ -151,3 +154,41 @@ returns-in-NotHad-clause-source g c =
     source_lacked (PlaceFails x z) c.in-Ok.turn c.in-NotHad.fault c.fork_or.result c.in-NotHad.is
     (λ is. fails_then g.S.Source.may_answer g.S.Source.failed g.S.Source.asked x y z (c.in-Ok.ensures.source is) c.contradict-asked.ensures.asks)
     c.fork_or.ensures.source
+
+-- ---- why a larger candidate is no fork
+
+pub returns-in-Contradicts-clause-tells : goal.returns-in-Contradicts-clause-tells
+returns-in-Contradicts-clause-tells g c =
+    let origin = c.args.origin.now in
+    let copy = c.args.copy.now in
+    let candidate = c.args.candidate.now in
+    let sizes = c.bring.new.places.ends.sizes in
+    let fits = sizes_of origin copy candidate sizes c.requires.copy c.requires.head
+    (subst (λ note. AreSizesIn origin (Some note) (note_of candidate) sizes) c.as_slice.ensures.value
+    (c.in-Ok.ensures.sizes (λ e. absurd (cc (e, c.in-Contradicts.is))))) in
+    tells_later g.H.TreeHash.digest g.S.Source.may_answer g.S.Source.failed g.S.Source.asked c.args.places.now
+    c.bring.new.places c.contradict.new.places (Some copy) candidate c.contradict.result c.bring.ensures.asks
+    (c.contradict.ensures.tells fits)
+
+pub returns-in-NotHad-clause-tells : goal.returns-in-NotHad-clause-tells
+returns-in-NotHad-clause-tells g c =
+    let origin = c.args.origin.now in
+    let copy = c.args.copy.now in
+    let candidate = c.args.candidate.now in
+    let sizes = c.bring.new.places.ends.sizes in
+    let fits = sizes_of origin copy candidate sizes c.requires.copy c.requires.head
+    (subst (λ note. AreSizesIn origin (Some note) (note_of candidate) sizes) c.as_slice.ensures.value
+    (c.in-Ok.ensures.sizes (λ e. absurd (cc (e, c.in-NotHad.is))))) in
+    let x = c.bring.new.places in
+    let y = c.contradict-asked.new.places in
+    tells_later g.H.TreeHash.digest g.S.Source.may_answer g.S.Source.failed g.S.Source.asked c.args.places.now x y (Some copy)
+    candidate c.fork_or.result c.bring.ensures.asks
+    (fork_asked c.fork_or.result c.contradict-asked.result (HasReason g.H.TreeHash.digest g.S.Source.may_answer
+    g.S.Source.failed g.S.Source.asked x y (Some copy) candidate) (c.contradict-asked.ensures.tells fits)
+    c.fork_or.ensures.fork)
+
+pub returns-in_default-clause-tells : goal.returns-in_default-clause-tells
+returns-in_default-clause-tells g c =
+    tells_other g.H.TreeHash.digest g.S.Source.may_answer g.S.Source.failed g.S.Source.asked c.args.places.now
+    c.bring.new.places (Some c.args.copy.now) c.args.candidate.now c.in-Ok.turn c.in_default.not-Contradicts
+    c.in_default.not-NotHad

@@ -26,6 +26,8 @@ use Rattle.copy_follow.specs.declared.bring_fault.BringFault.TheVariants.{OutOfM
 use Rattle.copy_follow.proofs.Earlier.{kept_then}
 use Rattle.copy_follow.proofs.Exits.{counted_exit, err_exit}
 use Rattle.copy_follow.specs.Faults.{CountsFault}
+use Rattle.copy_follow.specs.Told.{AreSizesIn, IsSizeIn}
+use Rattle.copy_follow.proofs.Telling.{tip_files}
 use Rattle.copy_follow.proofs.copy.bring_copy.Goals as goal
 
 pub returns-in_err-head-clause-whole : goal.returns-in_err-head-clause-whole
@@ -365,3 +367,29 @@ returns-in-Err-done-clause-compared g c =
 pub returns-in-Ok-done-clause-compared : goal.returns-in-Ok-done-clause-compared
 returns-in-Ok-done-clause-compared g c =
     c.in-Ok.ensures.compared
+
+-- ---- the sizes in the notes
+
+pub returns-in_err-head-clause-sizes : goal.returns-in_err-head-clause-sizes
+returns-in_err-head-clause-sizes g c =
+    err_exit _ c.from_residual.result OutOfMemory c.from_residual.ensures (λ no. absurd no)
+
+pub returns-in_default-clause-sizes : goal.returns-in_default-clause-sizes
+returns-in_default-clause-sizes g c = λ no. absurd no
+
+pub returns-in-Err-clause-sizes : goal.returns-in-Err-clause-sizes
+returns-in-Err-clause-sizes g c =
+    (λ of. tip_files _ g.H.TreeHash.digest c.args.origin.now (option_map (λ b. b.now) c.args.found)
+    (g.D.Shelf.puts c.args.shelf.now) c.in-Err.fault c.in-Err.ensures.blames c.in-Err.ensures.fault of)
+
+pub returns-in-Err-done-clause-sizes : goal.returns-in-Err-done-clause-sizes
+returns-in-Err-done-clause-sizes g c =
+    let origin = c.args.origin.now in
+    let note = c.args.note.now in
+    let found = option_map (λ b. b.now) c.args.found in
+    let head = c.in-Some.head in
+    (λ of. subst (λ sizes. AreSizesIn origin found note sizes)
+    (sym (c.bring_from-done.ensures.once.still.sizes_are ∙ c.keep_ends.ensures.ends)) (
+      subst (λ n. IsSizeIn origin found n) (sym c.size-had.ensures) c.in-Ok.ensures.size,
+      (head.1, rw c.in-Some.is at c.in_ok-head.ensures.found),
+    ))

@@ -19,6 +19,9 @@ use Rattle.copy_follow.proofs.Shown.{reported_forks}
 use Rattle.copy_follow.proofs.Standing.{followed_by, had_found, known_found, read_found}
 use Rattle.copy_follow.proofs.HonestRuns.{honest_first, honest_listed, one_given, part_stands, report_passes, report_reaches, some_given}
 use Rattle.copy_follow.proofs.OneHonestRun.{never_damaged}
+use Rattle.std.proofs.Common.{All}
+use Rattle.copy_follow.specs.Told.{IsTold}
+use Rattle.copy_follow.proofs.Telling.{told_report}
 use Rattle.copy_follow.proofs.following.follow.Goals as goal
 
 pub returns-in_err-copy-clause-whole : goal.returns-in_err-copy-clause-whole
@@ -274,3 +277,24 @@ returns-clause-reaches g c = λ h.
     c.report.result k.1
     (c.in_ok-run.ensures.passes (subst (IsSorted turn_cmp) (sym c.deref.ensures.value) rising) k.0)
     c.report.ensures.copy (subst (λ (l : List Candidate). IfErr c.report.result (Reported l c.in_ok-run.run')) c.deref-2.ensures.value c.report.ensures.fault)
+
+pub returns-clause-tells : goal.returns-clause-tells
+returns-clause-tells g c =
+    let digest = g.H.TreeHash.digest in
+    let may = g.S.Source.may_answer in
+    let failed = g.S.Source.failed in
+    let asked = g.S.Source.asked in
+    let mid = c.candidates_of.new.places in
+    let new = c.take_turns.new.places in
+    let copy = c.in_ok-copy.copy in
+    let run = c.in_ok-run.run' in
+    let rising = c.in_ok-candidates.ensures.rising in
+    told_report digest may failed asked c.args.places.now mid new c.in_ok-candidates.candidates.items run c.report.result copy
+    c.candidates_of.ensures.asks c.report.ensures.copy c.report.ensures.kept
+    (subst (λ (l : List Candidate). IfOk c.report.result
+    (λ f. (digest : List ℕ → List ℕ) (first : Option Candidate) → HasTakenRun digest first l run → SettlesEach digest l f))
+    c.deref-2.ensures.value c.report.ensures.settles)
+    (subst (λ (l : List Candidate). HasTakenRun digest copy l run) c.deref.ensures.value
+    (c.in_ok-run.ensures.taken (subst (IsSorted turn_cmp) (sym c.deref.ensures.value) rising)))
+    (subst (λ (l : List Candidate). All (IsTold digest may failed asked mid new run.copy run.forks.items) l)
+    c.deref.ensures.value (c.in_ok-run.ensures.tells (subst (IsSorted turn_cmp) (sym c.deref.ensures.value) rising)))

@@ -8,6 +8,7 @@ use Rattle.copy_follow.proofs.Exits.{counted_exit, err_exit}
 use Rattle.copy_follow.specs.declared.bring_fault.BringFault.TheVariants.{OutOfMemory}
 use Rattle.std.proofs.lemmas.Result.{IfOk-from_err}
 use Rattle.copy_follow.proofs.Earlier.{kept_then}
+use Rattle.copy_follow.proofs.Telling.{size_in}
 use Rattle.copy_follow.proofs.read_tip.read_tip.Goals as goal
 
 pub returns-in_default-clause-tip : goal.returns-in_default-clause-tip
@@ -77,6 +78,7 @@ returns-in_err-head g c = record {
   damaged = err_exit _ c.from_residual-in_err-head.result OutOfMemory c.from_residual-in_err-head.ensures (inr tt);
   same = c.read.ensures.same;
   tip = IfOk-from_err c.from_residual-in_err-head.result _ c.from_residual-in_err-head.ensures.0;
+  size = IfOk-from_err c.from_residual-in_err-head.result _ c.from_residual-in_err-head.ensures.0;
 }
 
 pub returns-in_err-edge : goal.returns-in_err-edge
@@ -88,6 +90,7 @@ returns-in_err-edge g c = record {
   same = kept_then (g.D.Shelf.puts c.args.shelf.now) (g.D.Shelf.puts c.read.new.self) (g.D.Shelf.puts c.edge_on_shelf.new.shelf) c.read.ensures.same
       c.edge_on_shelf.ensures.same;
   tip = IfOk-from_err c.from_residual-in_err-edge.result _ c.from_residual-in_err-edge.ensures.0;
+  size = IfOk-from_err c.from_residual-in_err-edge.result _ c.from_residual-in_err-edge.ensures.0;
 }
 
 pub returns-in_err-bundle-clause-fault : goal.returns-in_err-bundle-clause-fault
@@ -127,3 +130,19 @@ returns-clause-same g c =
 pub returns-clause-counted : goal.returns-clause-counted
 returns-clause-counted g c =
     c.in_ok-bundle.ensures.counted ∙ (c.in_ok-edge.ensures.counted ∙ c.in_ok-checkpoint.ensures.counted)
+
+pub returns-in_err-bundle-clause-size : goal.returns-in_err-bundle-clause-size
+returns-in_err-bundle-clause-size g c =
+    IfOk-from_err c.from_residual-in_err-bundle.result _ c.from_residual-in_err-bundle.ensures.0
+
+pub returns-in_default-clause-size : goal.returns-in_default-clause-size
+returns-in_default-clause-size g c = rw c.empty.ensures refl
+
+pub returns-clause-size : goal.returns-clause-size
+returns-clause-size g c =
+    let origin = c.args.origin.now in
+    let head = c.in-Some-2.head in
+    let is_head = subst (λ b. IsHead b origin head.0 head.1) c.deref.ensures.value
+    (rw c.in-Some-2.is at c.in_ok-head.ensures.found) in
+    size_in origin c.new.result.checkpoint c.new.result.size head.0 c.in-Some.checkpoint.items head.1 c.new.ensures.checkpoint
+    (c.new.ensures.size ∙ (rw c.in-Some-3.is at c.in_ok-edge.ensures.read).size_is) is_head

@@ -4,6 +4,8 @@ use Rattle.copy_places.specs.Shown.{ShowsEach}
 use Rattle.copy_follow.specs.Lining.{HasLeft}
 use Rattle.copy_follow.specs.Says.{IsBehind}
 use Rattle.copy_follow.proofs.Settled.{has_one_root, lines_new, settles, shows_new}
+use Rattle.std.proofs.Common.{Contains}
+use Rattle.std.proofs.lemmas.List.Elements.{Contains-append_left}
 use Rattle.copy_follow.proofs.report.report.Goals as goal
 
 pub returns-then-is_nothing-clause-fault : goal.returns-then-is_nothing-clause-fault
@@ -59,3 +61,9 @@ returns-clause-settles c = λ digest first h.
     (behind ≡ Some point) ↔ IsBehind cs c.point_of-copy.result c.deref-3.result.now l point)
     c.deref-4.ensures.value c.behind_of-behind.ensures))
     (λ none empty. c.is_nothing.ensures.no c.if-is_nothing.false none (c.deref.ensures.value ∙ empty))
+
+pub returns-clause-kept : goal.returns-clause-kept
+returns-clause-kept c = λ line among.
+    subst (λ l. Contains l line) (sym c.in_ok-append.ensures.items)
+    (Contains-append_left c.add_to_copy.new.lines.items c.in_ok-equal.equal.items line
+    (c.in_ok-add_to_copy.ensures.kept line among))

@@ -4,6 +4,7 @@ use Rattle.copy_follow.proofs.Taken.{taken_turn}
 use Rattle.copy_follow.proofs.Turning.{run_turned}
 use Rattle.copy_follow.specs.RunStanding.{KnowsAfter}
 use Rattle.copy_follow.proofs.OneHonestRun.{steps_up}
+use Rattle.copy_follow.proofs.Telling.{told_turn}
 use Rattle.copy_follow.proofs.turn.take_turn.Goals as goal
 
 pub returns-in-Ok-add-clause-run : goal.returns-in-Ok-add-clause-run
@@ -42,3 +43,9 @@ pub returns-in-Ok-add-clause-steps : goal.returns-in-Ok-add-clause-steps
 returns-in-Ok-add-clause-steps g c =
     steps_up g.H.TreeHash.digest c.args.candidate.now c.in-Ok.turn c.args.run.now.copy c.add.new.self.copy
     c.in-Ok.ensures.says c.in-Ok-add.ensures.copy
+
+pub returns-in-Ok-add-clause-tells : goal.returns-in-Ok-add-clause-tells
+returns-in-Ok-add-clause-tells g c = λ start done asks told.
+    told_turn g.H.TreeHash.digest g.S.Source.may_answer g.S.Source.failed g.S.Source.asked start c.args.places.now
+    c.turn_for.new.places asks c.turn_for.ensures.asks done c.args.candidate.now c.args.run.now c.add.new.self c.in-Ok.turn
+    c.in-Ok-add.ensures.copy c.in-Ok-add.ensures.added c.in-Ok-add.ensures.again c.in-Ok.ensures.says c.in-Ok.ensures.tells told

@@ -6,6 +6,7 @@ use Rattle.copy_follow.specs.RunStanding.{HasStanding}
 use Rattle.copy_follow.specs.TurnsTaken.{IsLargerThan, SaysTurn}
 use Rattle.copy_follow.proofs.Ending.{empty_says, empty_shows}
 use Rattle.copy_follow.proofs.Taken.{says_held, says_noted}
+use Rattle.copy_follow.proofs.Telling.{tells_held, tells_none, tells_upto}
 use Rattle.copy_follow.proofs.turn.turn_for.Goals as goal
 
 pub returns-then-has_lesser_note-clause-asks : goal.returns-then-has_lesser_note-clause-asks
@@ -130,3 +131,29 @@ pub returns-clause-shows : goal.returns-clause-shows
 returns-clause-shows g c =
     subst (λ o. IfOk c.take_larger.result (ShowsTurn g.H.TreeHash.digest o c.args.candidate.now)) (sym c.in-Some.is)
     c.take_larger.ensures.shows
+
+-- ---- why a larger candidate is no fork
+
+pub returns-in_default-clause-tells : goal.returns-in_default-clause-tells
+returns-in_default-clause-tells g c =
+    tells_none g.H.TreeHash.digest g.S.Source.may_answer g.S.Source.failed g.S.Source.asked c.args.places.now
+    c.take_first.new.places c.args.run.now.copy c.args.candidate.now c.take_first.result c.in_default.is
+
+pub returns-then-has_lesser_note-clause-tells : goal.returns-then-has_lesser_note-clause-tells
+returns-then-has_lesser_note-clause-tells g c =
+    let same = c.has_lesser_note.ensures.point c.if-has_lesser_note.true in
+    tells_upto g.H.TreeHash.digest g.S.Source.may_answer g.S.Source.failed g.S.Source.asked c.args.places.now c.args.places.now
+    c.args.run.now.copy c.in-Some.copy c.args.candidate.now c.renote.result c.in-Some.is (omega (arith, same.0))
+    (returns-then-has_lesser_note-clause-says g c)
+
+pub returns-then-candidate-copy-clause-tells : goal.returns-then-candidate-copy-clause-tells
+returns-then-candidate-copy-clause-tells g c =
+    tells_upto g.H.TreeHash.digest g.S.Source.may_answer g.S.Source.failed g.S.Source.asked c.args.places.now c.args.places.now
+    c.args.run.now.copy c.in-Some.copy c.args.candidate.now c.compare.result c.in-Some.is
+    (omega (arith, c.if-candidate-copy.true)) (returns-then-candidate-copy-clause-says g c)
+
+pub returns-clause-tells : goal.returns-clause-tells
+returns-clause-tells g c =
+    tells_held g.H.TreeHash.digest g.S.Source.may_answer g.S.Source.failed g.S.Source.asked c.args.places.now
+    c.take_larger.new.places c.args.run.now.copy c.in-Some.copy c.args.candidate.now c.take_larger.result c.in-Some.is
+    c.take_larger.ensures.tells

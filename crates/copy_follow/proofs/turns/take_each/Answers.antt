@@ -11,6 +11,7 @@ use Rattle.copy_follow.proofs.Taken.{taken_all, taken_begin}
 use Rattle.copy_follow.proofs.Turning.{run_first, run_then}
 use Rattle.copy_follow.proofs.OneHonestRun.{pass_all, reach_all, reach_begin, reach_fails, reach_turn}
 use Rattle.copy_follow.proofs.TurnOrder.{element}
+use Rattle.copy_follow.proofs.Telling.{told_all, told_begin}
 use Rattle.copy_follow.proofs.turns.take_each.Goals as goal
 
 pub loop-i-init : goal.loop-i-init
@@ -27,6 +28,8 @@ loop-i-init g c =
           c.args.places.now c.args.copy c.args.candidates.now c.new-run.result.copy c.new-run.ensures.copy;
       taken = λ rises. taken_begin g.H.TreeHash.digest c.args.copy c.new-run.result c.new-run.ensures.copy
           c.new-run.ensures.forks c.new-run.ensures.not_had;
+      tells = λ rises. told_begin g.H.TreeHash.digest g.S.Source.may_answer g.S.Source.failed g.S.Source.asked
+          c.args.places.now c.new-run.result c.new-run.ensures.not_had;
     }
 
 pub returns-in_err-take_turn_at-clause-keeps : goal.returns-in_err-take_turn_at-clause-keeps
@@ -45,6 +48,8 @@ loop-i-preserved g c = record {
       (g.D.Shelf.puts c.args.shelf.now) (g.D.Shelf.puts c.loop-i.shelf) (g.D.Shelf.puts c.take_turn_at.new.shelf)
       c.args.copy c.loop-i.run c.take_turn_at.new.run c.loop-i.invariant.run c.in_ok-take_turn_at.ensures.run;
   taken = λ rises. c.in_ok-take_turn_at.ensures.taken c.args.copy rises (c.loop-i.invariant.taken rises);
+  tells = λ rises. c.in_ok-take_turn_at.ensures.tells c.args.places.now rises c.loop-i.invariant.asks
+      (c.loop-i.invariant.tells rises);
   fault = c.in_ok-take_turn_at.ensures.fault c.loop-i.invariant.fault;
   asks = any_then g.S.Source.may_answer g.S.Source.failed g.S.Source.asked c.args.places.now c.loop-i.places
       c.take_turn_at.new.places c.loop-i.invariant.asks c.take_turn_at.ensures.asks;
@@ -115,3 +120,8 @@ returns-clause-passes g c = λ rises h.
     (g.D.Shelf.puts c.args.shelf.now) c.args.places.now c.args.copy c.args.candidates.now c.loop-i.i
     (g.D.Shelf.puts c.loop-i.shelf) c.loop-i.places c.loop-i.run.copy (omega (arith, c.loop-i-test.false))
     c.loop-i.invariant.reaching rises h
+
+pub returns-clause-tells : goal.returns-clause-tells
+returns-clause-tells g c = λ rises.
+    told_all g.H.TreeHash.digest g.S.Source.may_answer g.S.Source.failed g.S.Source.asked c.args.places.now c.loop-i.places
+    c.args.candidates.now c.loop-i.i c.loop-i.run (omega (arith, c.loop-i-test.false)) (c.loop-i.invariant.tells rises)

@@ -5,6 +5,7 @@ use Rattle.copy_places.specs.Candidates.{note_of, turn_cmp}
 use Rattle.copy_follow.specs.Ending.{KeepsFault}
 use Rattle.copy_follow.specs.Runs.{KeepsEach}
 use Rattle.copy_follow.specs.TurnsTaken.{HasTakenRun}
+use Rattle.copy_follow.specs.Told.{AreToldIn}
 use Rattle.copy_follow.specs.Turning.{IsRunFrom}
 use Rattle.copy_follow.specs.declared.follow_fault.FollowFault.TheVariants.{Source}
 use Rattle.copy_follow.proofs.OneHonestRun.{Reaching}
@@ -23,4 +24,6 @@ invariant-loop-i g l = record {
       (g.D.Shelf.puts l.initial.shelf) l.initial.places l.fn.copy l.candidates l.i (g.D.Shelf.puts l.shelf) l.places
       l.run.copy;
   source : l.run.first_fault ≡ Some Source → PlaceFails l.initial.places l.places;
+  tells : IsSorted turn_cmp l.candidates → AreToldIn g.H.TreeHash.digest g.S.Source.may_answer g.S.Source.failed
+      g.S.Source.asked l.initial.places l.places (take l.i l.candidates) l.run;
 }

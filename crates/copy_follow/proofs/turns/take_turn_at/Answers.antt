@@ -10,6 +10,7 @@ use Rattle.copy_follow.specs.OneHonestRun.{BringsTo, IsHonestTurn}
 use Rattle.copy_follow.specs.RunStanding.{HasStanding}
 use Rattle.copy_follow.specs.TurnsTaken.{IsLargerThan}
 use Rattle.copy_follow.proofs.OneHonestRun.{same_at, steps_at}
+use Rattle.copy_follow.proofs.Telling.{told_at, told_repeat}
 use Rattle.copy_follow.proofs.turns.take_turn_at.Goals as goal
 
 pub returns-then-is_repeated-clause-keeps : goal.returns-then-is_repeated-clause-keeps
@@ -69,3 +70,14 @@ pub returns-clause-steps : goal.returns-clause-steps
 returns-clause-steps g c =
     steps_at c.take_turn.result c.args.candidates.now c.args.i c.requires.within c.index-candidates-i.result
     c.index-candidates-i.is c.args.run.now.copy c.take_turn.new.run.copy c.take_turn.ensures.steps
+
+pub returns-then-is_repeated-clause-tells : goal.returns-then-is_repeated-clause-tells
+returns-then-is_repeated-clause-tells g c = λ start rises asks told.
+    told_repeat g.H.TreeHash.digest g.S.Source.may_answer g.S.Source.failed g.S.Source.asked start c.args.places.now
+    c.args.candidates.now rises c.args.i c.requires.within (c.is_repeated.ensures.is.0 c.if-is_repeated.true) c.args.run.now told
+
+pub returns-clause-tells : goal.returns-clause-tells
+returns-clause-tells g c =
+    told_at g.H.TreeHash.digest g.S.Source.may_answer g.S.Source.failed g.S.Source.asked c.take_turn.result c.args.places.now
+    c.take_turn.new.places c.args.candidates.now c.args.i c.requires.within c.index-candidates-i.result
+    c.index-candidates-i.is c.args.run.now c.take_turn.new.run c.take_turn.ensures.tells

@@ -6,6 +6,7 @@ use Rattle.copy_follow.proofs.Looked.{counts_later, ends_later}
 use Rattle.copy_follow.proofs.Looking.{first_on, passes_on, run_on, source_on, taken_on}
 use Rattle.copy_follow.proofs.OneHonestRun.{put_later}
 use Rattle.copy_follow.proofs.Runs.{each_none, each_then}
+use Rattle.copy_follow.proofs.Telling.{told_on}
 use Rattle.copy_follow.proofs.turns.take_turns.Goals as goal
 
 pub returns-in-Ok-clause-keeps : goal.returns-in-Ok-clause-keeps
@@ -68,3 +69,9 @@ returns-in-Ok-clause-passes g c =
     (λ h. put_later digest c.args.origin.now h.entries [] c.in-Ok.run'.copy x y z h.holds (c.in-Ok.ensures.run.known x h.known)
     (each_none digest c.args.origin.now [] y z c.look_again.ensures.same))
     c.in-Ok.ensures.passes
+
+pub returns-in-Ok-clause-tells : goal.returns-in-Ok-clause-tells
+returns-in-Ok-clause-tells g c =
+    told_on g.H.TreeHash.digest g.S.Source.may_answer g.S.Source.failed g.S.Source.asked c.args.places.now
+    c.take_each.new.places c.look_again.new.places c.look_again.result (IsSorted turn_cmp c.args.candidates.now)
+    c.args.candidates.now c.in-Ok.run' c.take_each.ensures.asks c.in-Ok.ensures.tells c.look_again.ensures.tells

@@ -8,3 +8,6 @@ returns-in_ok-copy-in-Brought-clause-copy c =
       is = refl;
       same = c.in_ok-copy-in-Brought.ensures;
     })
+
+pub returns-in_ok-copy-in-Brought-clause-again : goal.returns-in_ok-copy-in-Brought-clause-again
+returns-in_ok-copy-in-Brought-clause-again c = rw c.in-Brought.is (c.grow.ensures.again, c.grow.ensures.other)
