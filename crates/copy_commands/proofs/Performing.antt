@@ -21,21 +21,21 @@ use Rattle.program_io.proofs.Performing.{performs, performs_done}
 use Rattle.copy_commands.specs.Asks.{DoesAskCopy, DoesCopyCompare}
 use Rattle.copy_commands.specs.Entries.{DoesCopyEntries, WritesCopyEntries}
 use Rattle.copy_commands.specs.Faults.{IsLate}
-use Rattle.copy_commands.specs.declared.fault.CopyRunFault.{CopyRunFault}
-use Rattle.copy_commands.specs.declared.fault.CopyRunFault.TheVariants.{Copy, CopyEntries}
+use Rattle.copy_commands.specs.declared.fault.ReportRunFault.{ReportRunFault}
+use Rattle.copy_commands.specs.declared.fault.ReportRunFault.TheVariants.{Copy, CopyEntries}
 
 -- -- status, compare, prove
 
-module _ {C : Type 0} (Does : (List ℕ → List ℕ) → List Key → Moment → Moment → C → Result ℕ CopyRunFault → Type 0)
+module _ {C : Type 0} (Does : (List ℕ → List ℕ) → List Key → Moment → Moment → C → Result ℕ ReportRunFault → Type 0)
     (digest : List ℕ → List ℕ) (keys : List Key) (old new : Moment) (c : C) (args : CopyArgs)
     (Reports : Result Printout CopyAskFault → Type 0) (files : new.files ≡ old.files)
-    (is_done : (answer : Result ℕ CopyRunFault) → DoesAskCopy old new args Reports answer →
+    (is_done : (answer : Result ℕ ReportRunFault) → DoesAskCopy old new args Reports answer →
     Does digest keys old new c answer) where
   -- a report on a copy was printed
   pub prints_copy : (answer : Result ℕ CopyAskFault) → IfOk answer IsStatus →
       IfErr answer (λ fault. (¬ IsPrintFault fault) → Keeps old.output new.output) →
       Prints Reports old.output new.output answer →
-      LeavesPuts (old.held args.folder.now) old.puts new.puts → (is : Result ℕ CopyRunFault) →
+      LeavesPuts (old.held args.folder.now) old.puts new.puts → (is : Result ℕ ReportRunFault) →
       is ≡ result_map_both (λ status. status) (λ fault. Copy fault) answer →
       Performs Does IsLate KeepsFiles digest keys old new c is
   prints_copy (Ok status) status_is quiet prints leaves is same =
@@ -52,7 +52,7 @@ pub prints_compared : (digest : List ℕ → List ℕ) (keys : List Key) (old ne
     IfErr answer (λ fault. (¬ IsPrintFault fault) → Keeps old.output new.output) →
     Prints (ReportsCompared c.copy.log.origin.now keys old.files (map (λ name. name.now) names) digest
     (old.held c.copy.folder.now)) old.output new.output answer →
-    LeavesPuts (old.held c.copy.folder.now) old.puts new.puts → (is : Result ℕ CopyRunFault) →
+    LeavesPuts (old.held c.copy.folder.now) old.puts new.puts → (is : Result ℕ ReportRunFault) →
     is ≡ result_map_both (λ status. status) (λ fault. Copy fault) answer →
     Performs DoesCopyCompare IsLate KeepsFiles digest keys old new c is
 prints_compared digest keys old new c names lent files answer status_is quiet prints leaves is same =
@@ -78,7 +78,7 @@ module _ (digest : List ℕ → List ℕ) (keys : List Key) (old new : Moment) (
 
   -- entries of a copy were written
   pub writes_entries : (answer : Result (Unit {0}) CopyEntriesFault) →
-      WritesCopyEntries digest keys old new c answer → (is : Result ℕ CopyRunFault) →
+      WritesCopyEntries digest keys old new c answer → (is : Result ℕ ReportRunFault) →
       is ≡ result_map_both (λ _. 0) (λ fault. CopyEntries fault) answer → Performs DoesCopyEntries IsLate KeepsFiles digest keys old new c is
   writes_entries (Ok x) h is same =
       rw same (performs_done DoesCopyEntries IsLate KeepsFiles digest keys old new c files

@@ -12,9 +12,9 @@ use Rattle.program_reports.specs.declared.question.Question.{Question}
 use Rattle.program_reports.specs.declared.fault.AskFault.{AskFault}
 use Rattle.program_reports.specs.declared.fault.AskFault.TheVariants as ask
 use Rattle.program_io.specs.States.{OpensFile}
-use Rattle.copy_commands.specs.declared.state_fault.ReportRunFault.{ReportRunFault}
-use Rattle.copy_commands.specs.declared.state_fault.ReportRunFault.TheVariants.{Ask, Heads}
-use Rattle.copy_commands.specs.StateFaults.{IsLate}
+use Rattle.copy_commands.specs.declared.fault.ReportRunFault.{ReportRunFault}
+use Rattle.copy_commands.specs.declared.fault.ReportRunFault.TheVariants.{Ask, Heads}
+use Rattle.copy_commands.specs.Faults.{IsLate}
 use Rattle.program_io.specs.Performing.{IsStatus}
 use Rattle.copy_commands.specs.StateAsks.{AsksState}
 use Rattle.copy_commands.specs.Compare.{ComparesState, ComparesView, FindsHeads}

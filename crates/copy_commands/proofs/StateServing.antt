@@ -11,10 +11,10 @@ use Rattle.program_io.specs.Performing.{Performs, Stays}
 use Rattle.program_io.specs.Ports.{PrintsPort}
 use Rattle.program_io.specs.declared.port.ListenFault.{ListenFault}
 use Rattle.program_io.proofs.Performing.{performs, performs_done, quiet_port}
-use Rattle.copy_commands.specs.StateFaults.{IsLate}
+use Rattle.copy_commands.specs.Faults.{IsLate}
 use Rattle.copy_commands.specs.StateServe.{DoesServe}
-use Rattle.copy_commands.specs.declared.state_fault.ReportRunFault.{ReportRunFault}
-use Rattle.copy_commands.specs.declared.state_fault.ReportRunFault.TheVariants.{Listen}
+use Rattle.copy_commands.specs.declared.fault.ReportRunFault.{ReportRunFault}
+use Rattle.copy_commands.specs.declared.fault.ReportRunFault.TheVariants.{Listen}
 
 -- a mirror was opened and served
 pub serves : (digest : List ℕ → List ℕ) (keys : List Key) (old new : Moment) (c : ServeWords) →

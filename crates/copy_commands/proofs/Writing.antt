@@ -10,9 +10,9 @@ use Rattle.program_copies.specs.Served.{AnswersServed}
 use Rattle.program_copies.specs.declared.entries_fault.StateEntriesFault.{StateEntriesFault}
 use Rattle.program_copies.specs.declared.entries_fault.StateEntriesFault.TheVariants as entries
 use Rattle.program_words.specs.declared.commands.entries.Entries.{Entries as EntriesWords}
-use Rattle.copy_commands.specs.declared.state_fault.ReportRunFault.{ReportRunFault}
-use Rattle.copy_commands.specs.declared.state_fault.ReportRunFault.TheVariants.{StateEntries}
-use Rattle.copy_commands.specs.StateFaults.{IsLate}
+use Rattle.copy_commands.specs.declared.fault.ReportRunFault.{ReportRunFault}
+use Rattle.copy_commands.specs.declared.fault.ReportRunFault.TheVariants.{StateEntries}
+use Rattle.copy_commands.specs.Faults.{IsLate}
 use Rattle.program_io.specs.Moment.{Moment}
 use Rattle.program_io.specs.Performing.{Performs, Stays}
 use Rattle.copy_commands.specs.StateEntries.{DoesEntries}

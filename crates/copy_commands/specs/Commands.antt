@@ -9,10 +9,10 @@ use Rattle.copy_commands.specs.Asks.{DoesCopyCompare, DoesCopyProve, DoesCopySta
 use Rattle.copy_commands.specs.Entries.{DoesCopyEntries}
 use Rattle.copy_commands.specs.Serve.{DoesCopyServe}
 use Rattle.copy_commands.specs.Faults.{IsLate}
-use Rattle.copy_commands.specs.declared.fault.CopyRunFault.{CopyRunFault}
+use Rattle.copy_commands.specs.declared.fault.ReportRunFault.{ReportRunFault}
 
 module _ (digest : List ℕ → List ℕ) (keys : List Key) (old new : Moment) where
-  abbrev pub ExecutesCopy : CopyCommand → Result ℕ CopyRunFault → Type 0
+  abbrev pub ExecutesCopy : CopyCommand → Result ℕ ReportRunFault → Type 0
   ExecutesCopy (command.Status c) = Performs DoesCopyStatus IsLate KeepsFiles digest keys old new c
   ExecutesCopy (command.Compare c) = Performs DoesCopyCompare IsLate KeepsFiles digest keys old new c
   ExecutesCopy (command.Prove c) = Performs DoesCopyProve IsLate KeepsFiles digest keys old new c

@@ -11,8 +11,8 @@ use Rattle.program_io.specs.declared.state_fault.HeadFilesFault.{HeadFilesFault}
 use Rattle.program_io.specs.States.{OpensFile}
 use Rattle.program_words.specs.declared.commands.compare.Compare.{Compare as CompareWords}
 use Rattle.program_io.specs.Moment.{Moment}
-use Rattle.copy_commands.specs.declared.state_fault.ReportRunFault.{ReportRunFault}
-use Rattle.copy_commands.specs.declared.state_fault.ReportRunFault.TheVariants.{Ask, Heads, State}
+use Rattle.copy_commands.specs.declared.fault.ReportRunFault.{ReportRunFault}
+use Rattle.copy_commands.specs.declared.fault.ReportRunFault.TheVariants.{Ask, Heads, State}
 
 -- the heads to compare: those of the named files, or None if no file is named
 abbrev pub FindsHeads : List Key → Option (List NamedFile) → List ℕ → List (List ℕ) →

@@ -8,8 +8,8 @@ use Rattle.copy_reader.specs.Copies.{LeavesPuts}
 use Rattle.program_io.specs.Moment.{Moment}
 use Rattle.program_io.specs.Origins.{RefusesOrigin}
 use Rattle.program_io.specs.Performing.{DoesNothing, done, failed}
-use Rattle.copy_commands.specs.declared.fault.CopyRunFault.{CopyRunFault}
-use Rattle.copy_commands.specs.declared.fault.CopyRunFault.TheVariants.{CopyEntries, Origin}
+use Rattle.copy_commands.specs.declared.fault.ReportRunFault.{ReportRunFault}
+use Rattle.copy_commands.specs.declared.fault.ReportRunFault.TheVariants.{CopyEntries, Origin}
 
 module _ (digest : List ℕ → List ℕ) (keys : List Key) (old new : Moment) where
   abbrev pub WritesCopyEntries : CopyEntriesWords → Result (Unit {0}) CopyEntriesFault → Type 0
@@ -18,7 +18,7 @@ module _ (digest : List ℕ → List ℕ) (keys : List Key) (old new : Moment) w
       c.range.base64 old.output new.output answer
       × LeavesPuts (old.held c.copy.folder.now) old.puts new.puts
 
-  abbrev pub DoesCopyEntries : CopyEntriesWords → Result ℕ CopyRunFault → Type 0
+  abbrev pub DoesCopyEntries : CopyEntriesWords → Result ℕ ReportRunFault → Type 0
   DoesCopyEntries c (Ok status) = WritesCopyEntries c done × (status ≡ 0)
   DoesCopyEntries c (Err (Origin fault)) = RefusesOrigin c.copy.log.origin.now fault × DoesNothing old new
   DoesCopyEntries c (Err (CopyEntries fault)) = WritesCopyEntries c (failed fault)

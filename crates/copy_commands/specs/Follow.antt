@@ -25,7 +25,7 @@ module _ (digest : List ℕ → List ℕ) {S : Type 0} (may : S → Path → Opt
     pub failures : ℕ
     pub more_failures : ℕ
     pub runs :
-        RunsFollow digest may c.copy.log.origin.now keys places left (option_map (λ name. name.now) c.checkpoint)
+        RunsFollow digest may failed asked c.copy.log.origin.now keys places left (option_map (λ name. name.now) c.checkpoint)
         (option_map (λ name. name.now) c.forks) (old.held c.copy.folder.now) old.puts new.puts failures more_failures
         old.files new.files old.output new.output answer
 

@@ -5,8 +5,6 @@ pub mod Asks
 pub mod Entries
 pub mod Serve
 pub mod Commands
-pub mod StateClients
-pub mod StateFaults
 pub mod Streams
 pub mod StateAsks
 pub mod Compare

@@ -8,8 +8,8 @@ use Rattle.program_io.specs.Origins.{RefusesOrigin}
 use Rattle.program_io.specs.Performing.{DoesNothing, done, failed}
 use Rattle.program_io.specs.Ports.{PrintsPort}
 use Rattle.program_io.specs.declared.port.ListenFault.{ListenFault}
-use Rattle.copy_commands.specs.declared.fault.CopyRunFault.{CopyRunFault}
-use Rattle.copy_commands.specs.declared.fault.CopyRunFault.TheVariants.{Listen, Origin}
+use Rattle.copy_commands.specs.declared.fault.ReportRunFault.{ReportRunFault}
+use Rattle.copy_commands.specs.declared.fault.ReportRunFault.TheVariants.{Listen, Origin}
 
 module _ (old new : Moment) where
   -- the line of the port was written, as the answer says, and nothing was put
@@ -18,7 +18,7 @@ module _ (old new : Moment) where
       PrintsPort c.port old.output new.output answer × LeavesPuts (old.held c.copy.folder.now) old.puts new.puts
 
 module _ (digest : List ℕ → List ℕ) (keys : List Key) (old new : Moment) where
-  abbrev pub DoesCopyServe : CopyServeWords → Result ℕ CopyRunFault → Type 0
+  abbrev pub DoesCopyServe : CopyServeWords → Result ℕ ReportRunFault → Type 0
   DoesCopyServe c (Ok status) = ServesCopy old new c done × (status ≡ 0)
   DoesCopyServe c (Err (Origin fault)) = RefusesOrigin c.copy.log.origin.now fault × DoesNothing old new
   DoesCopyServe c (Err (Listen fault)) = ServesCopy old new c (failed fault)

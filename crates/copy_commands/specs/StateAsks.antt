@@ -11,8 +11,8 @@ use Rattle.program_words.specs.declared.commands.missing.Missing.{Missing as Mis
 use Rattle.program_words.specs.declared.commands.prove.Prove.{Prove as ProveWords}
 use Rattle.program_words.specs.declared.parts.StateArgs.{StateArgs}
 use Rattle.program_io.specs.Moment.{Moment}
-use Rattle.copy_commands.specs.declared.state_fault.ReportRunFault.{ReportRunFault}
-use Rattle.copy_commands.specs.declared.state_fault.ReportRunFault.TheVariants.{Ask, State}
+use Rattle.copy_commands.specs.declared.fault.ReportRunFault.{ReportRunFault}
+use Rattle.copy_commands.specs.declared.fault.ReportRunFault.TheVariants.{Ask, State}
 
 module _
     (digest : List ℕ → List ℕ) (keys : List Key) (recorded : Option (List NamedFile)) (name : List ℕ)

@@ -10,8 +10,8 @@ use Rattle.copy_commands.specs.Compare.{DoesCompare}
 use Rattle.copy_commands.specs.StateEntries.{DoesEntries}
 use Rattle.copy_commands.specs.StateServe.{DoesServe}
 use Rattle.copy_commands.specs.Streams.{DoesCheck, DoesRoot}
-use Rattle.copy_commands.specs.StateFaults.{IsLate}
-use Rattle.copy_commands.specs.declared.state_fault.ReportRunFault.{ReportRunFault}
+use Rattle.copy_commands.specs.Faults.{IsLate}
+use Rattle.copy_commands.specs.declared.fault.ReportRunFault.{ReportRunFault}
 
 -- the words of the command also guarantee that the number is in its range
 abbrev pub IsReportDoable : ReportCommand → Type 0

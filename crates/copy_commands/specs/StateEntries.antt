@@ -9,8 +9,8 @@ use Rattle.program_io.specs.States.{OpensFile}
 use Rattle.program_words.specs.declared.commands.entries.Entries.{Entries as EntriesWords}
 use Rattle.program_io.specs.Moment.{Moment}
 use Rattle.program_io.specs.Performing.{done, failed}
-use Rattle.copy_commands.specs.declared.state_fault.ReportRunFault.{ReportRunFault}
-use Rattle.copy_commands.specs.declared.state_fault.ReportRunFault.TheVariants.{State, StateEntries}
+use Rattle.copy_commands.specs.declared.fault.ReportRunFault.{ReportRunFault}
+use Rattle.copy_commands.specs.declared.fault.ReportRunFault.TheVariants.{State, StateEntries}
 
 module _ (digest : List ℕ → List ℕ) (keys : List Key) (old new : Moment) where
   -- the state file gave a mirror, and the answer and the output belong to its entries

@@ -10,8 +10,8 @@ use Rattle.program_io.specs.Moment.{Moment}
 use Rattle.program_io.specs.Performing.{done, failed}
 use Rattle.program_io.specs.Ports.{PrintsPort}
 use Rattle.program_io.specs.declared.port.ListenFault.{ListenFault}
-use Rattle.copy_commands.specs.declared.state_fault.ReportRunFault.{ReportRunFault}
-use Rattle.copy_commands.specs.declared.state_fault.ReportRunFault.TheVariants.{Listen, State}
+use Rattle.copy_commands.specs.declared.fault.ReportRunFault.{ReportRunFault}
+use Rattle.copy_commands.specs.declared.fault.ReportRunFault.TheVariants.{Listen, State}
 
 module _ (digest : List ℕ → List ℕ) (keys : List Key) (old new : Moment) where
   -- the state file gave no mirror, for the reason that the fault says, and nothing was written

@@ -6,8 +6,8 @@ use Rattle.program_io.specs.Root.{AnswersRoot}
 use Rattle.program_io.specs.Check.{AnswersCheck}
 use Rattle.program_io.specs.Moment.{Moment}
 use Rattle.program_io.specs.Performing.{done, failed, verdict_status}
-use Rattle.copy_commands.specs.declared.state_fault.ReportRunFault.{ReportRunFault}
-use Rattle.copy_commands.specs.declared.state_fault.ReportRunFault.TheVariants.{Check, Root}
+use Rattle.copy_commands.specs.declared.fault.ReportRunFault.{ReportRunFault}
+use Rattle.copy_commands.specs.declared.fault.ReportRunFault.TheVariants.{Check, Root}
 
 module _ (digest : List ℕ → List ℕ) (keys : List Key) (old new : Moment) where
   abbrev pub DoesRoot : RootWords → Result ℕ ReportRunFault → Type 0

@@ -2,7 +2,7 @@
 ghost use Rattle.std.specs.Prelude.{◌≡◌};
 ghost use Rattle.std.specs.Result.{result_map_both};
 
-use crate::fault::{CopyError, CopyRunFault};
+use crate::fault::{ReportError, ReportRunFault};
 use mirror_model::TakeFault;
 use program_copies::{CopyAskFault, CopyFault};
 use program_io::served::{copy_size, of_heads, of_note, of_proof};
@@ -20,15 +20,15 @@ pub(crate) fn asked<R, F: RunFiles, D: RunFolders, I, O, E>(
     copy: &CopyArgs<'_>,
     ask: Option<Ask>,
     answer: Result<u8, CopyAskFault>,
-) -> Result<u8, CopyError>
-    ensures { result ≡ result_map_both (λ status. status) (λ fault. CopyRunFault.Copy fault)
+) -> Result<u8, ReportError>
+    ensures { result ≡ result_map_both (λ status. status) (λ fault. ReportRunFault.Copy fault)
         answer }
 {
     match answer {
         Ok(status) => Ok(status),
         Err(fault) => {
             let why = why_of(env, copy, ask, fault);
-            Err(CopyError::new(CopyRunFault::Copy(fault), why))
+            Err(ReportError::new(ReportRunFault::Copy(fault), why))
         }
     }
 }

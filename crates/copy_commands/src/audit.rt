@@ -138,7 +138,7 @@ fn audit_source<S: Source + Drop, R: Clock + Eprint, W: Write>(
     alloc: Global,
     words: &Audit<'_>,
     keys: &[Box<dyn Verifier>],
-    source: S,
+    mut source: S,
     output: &mut W,
 ) -> (Result<u8, AuditRunFault>, S)
     ensures audits { RunsAudit sha256 words.now.log.origin.now (map (λ k. key k) keys.now)
@@ -146,26 +146,10 @@ fn audit_source<S: Source + Drop, R: Clock + Eprint, W: Write>(
         (W.contents output.old) (W.contents output.new) result.0 }
     ensures blamed { BlamesRun (S.failed source) (S.failed result.1) result.0 }
 {
+    let origin = words.log.origin;
     if words.progress {
-        audit_counted(rt, alloc, words.log.origin, keys, source, output)
-    } else {
-        audit_silent(alloc, words.log.origin, keys, source, output)
+        return audit_counted(rt, alloc, origin, keys, source, output);
     }
-}
-
-// Audits the source, without progress reports. Returns the source, too.
-fn audit_silent<S: Source + Drop, W: Write>(
-    alloc: Global,
-    origin: &str,
-    keys: &[Box<dyn Verifier>],
-    mut source: S,
-    output: &mut W,
-) -> (Result<u8, AuditRunFault>, S)
-    ensures audits { RunsAudit sha256 origin.now (map (λ k. key k) keys.now)
-        (S.may_answer source) (S.may_answer result.1) (S.asked source) (S.asked result.1)
-        (W.contents output.old) (W.contents output.new) result.0 }
-    ensures blamed { BlamesRun (S.failed source) (S.failed result.1) result.0 }
-{
     let answer = run_audit::<Sha256Tree, S, W>(alloc, origin, keys, &mut source, output);
     (answer, source)
 }

@@ -4,9 +4,9 @@ ghost use Rattle.sha2.specs.Sha256.{sha256};
 ghost use Rattle.program_io.specs.Envs.{IsSameEnv, moment};
 ghost use Rattle.program_io.specs.Performing.{Performs, Stays, verdict_status};
 ghost use Rattle.copy_commands.specs.Streams.{DoesCheck};
-ghost use Rattle.copy_commands.specs.StateFaults.{IsLate};
+ghost use Rattle.copy_commands.specs.Faults.{IsLate};
 
-use crate::state_fault::{ReportError, ReportRunFault};
+use crate::fault::{ReportError, ReportRunFault};
 use program_io::{Env, RunFiles, RunFolders, run_check};
 use signed_note::Verifier;
 use std::io::{Read, Write};

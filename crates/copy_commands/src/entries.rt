@@ -8,8 +8,8 @@ ghost use Rattle.copy_commands.specs.Faults.{IsLate};
 ghost use Rattle.copy_commands.specs.Entries.{DoesCopyEntries};
 
 use crate::asking::{of_file, of_head};
-use crate::fault::{CopyError, CopyRunFault};
-use program_copies::{CopyEntriesFault, EntryRange, entries_of_copy};
+use crate::fault::{ReportError, ReportRunFault};
+use program_copies::{CopyEntriesFault, entries_of_copy};
 use program_io::served::{copy_size, of_backwards, of_size};
 use program_io::why::{Why, of_folder, of_origin};
 use program_io::{Env, RunFiles, RunFolders, check_origin};
@@ -27,44 +27,26 @@ pub fn run<R, F: RunFiles, D: RunFolders, I: Read, O: Write, E: Write>(
     env: &mut Env<'_, '_, '_, '_, R, F, D, I, O, E>,
     keys: &[Box<dyn Verifier>],
     entries: &CopyEntries<'_>,
-) -> Result<u8, CopyError>
+) -> Result<u8, ReportError>
     ensures same { IsSameEnv env.old env.new }
     ensures does { Performs DoesCopyEntries IsLate KeepsFiles sha256 (map (λ k. key k) keys.now)
         (moment F.puts D.held D.puts I.remaining O.contents env.old)
         (moment F.puts D.held D.puts I.remaining O.contents env.new) entries.now result }
 {
     match check_origin(env.alloc, entries.copy.log.origin) {
-        Ok(()) => write_entries(env, keys, entries),
+        Ok(()) => {}
         Err(fault) => {
             let why = of_origin(env.alloc, fault);
-            Err(CopyError::new(CopyRunFault::Origin(fault), why))
+            return Err(ReportError::new(ReportRunFault::Origin(fault), why));
         }
     }
-}
-
-// The same after the origin was checked.
-fn write_entries<R, F: RunFiles, D: RunFolders, I: Read, O: Write, E: Write>(
-    env: &mut Env<'_, '_, '_, '_, R, F, D, I, O, E>,
-    keys: &[Box<dyn Verifier>],
-    entries: &CopyEntries<'_>,
-) -> Result<u8, CopyError>
-    ensures same { IsSameEnv env.old env.new }
-    ensures does { Performs DoesCopyEntries IsLate KeepsFiles sha256 (map (λ k. key k) keys.now)
-        (moment F.puts D.held D.puts I.remaining O.contents env.old)
-        (moment F.puts D.held D.puts I.remaining O.contents env.new) entries.now result }
-{
-    let range = EntryRange {
-        from: entries.range.from,
-        to: entries.range.to,
-        base64: entries.range.base64,
-    };
     let answer = entries_of_copy::<Sha256Tree, D, O>(
         &mut env.folders,
         env.alloc,
         entries.copy.log.origin,
         keys,
         entries.copy.folder,
-        &range,
+        &entries.range,
         env.output,
     );
     written(env, entries, answer)
@@ -75,14 +57,14 @@ fn written<R, F: RunFiles, D: RunFolders, I, O, E>(
     env: &Env<'_, '_, '_, '_, R, F, D, I, O, E>,
     entries: &CopyEntries<'_>,
     answer: Result<(), CopyEntriesFault>,
-) -> Result<u8, CopyError>
-    ensures { result ≡ result_map_both (λ _. 0) (λ fault. CopyRunFault.CopyEntries fault) answer }
+) -> Result<u8, ReportError>
+    ensures { result ≡ result_map_both (λ _. 0) (λ fault. ReportRunFault.CopyEntries fault) answer }
 {
     match answer {
         Ok(()) => Ok(0),
         Err(fault) => {
             let why = why_of(env, entries, fault);
-            Err(CopyError::new(CopyRunFault::CopyEntries(fault), why))
+            Err(ReportError::new(ReportRunFault::CopyEntries(fault), why))
         }
     }
 }

@@ -4,10 +4,13 @@ ghost use Rattle.sha2.specs.Sha256.{sha256};
 ghost use Rattle.program_io.specs.Envs.{IsSameEnv, moment};
 ghost use Rattle.program_io.specs.Performing.{Ends};
 ghost use Rattle.copy_commands.specs.StateCommands.{ExecutesReport, IsReportDoable};
-ghost use Rattle.copy_commands.specs.StateFaults.{IsLate};
+ghost use Rattle.copy_commands.specs.Faults.{IsLate};
 
-use crate::state_fault::ReportError;
+use crate::fault::ReportError;
+use crate::state_ask::run_ask;
+use crate::state_compare::run_compare;
 use program_io::{Env, RunFiles, RunFolders};
+use program_reports::Question;
 use program_words::ReportCommand;
 use signed_note::Verifier;
 use std::io::{Read, Write};
@@ -34,14 +37,45 @@ where
     ensures ends { Ends IsLate (O.contents env.old.output.now) (O.contents env.new.output.now)
         result }
 {
+    let alloc = env.alloc;
     match command {
         ReportCommand::Root(root) => crate::root::run(env, keys, root),
         ReportCommand::Check => crate::check::run(env, keys),
-        ReportCommand::Status(status) => crate::state_status::run(env, keys, status),
-        ReportCommand::Missing(missing) => crate::missing::run(env, keys, missing),
-        ReportCommand::Forks(forks) => crate::forks::run(env, keys, forks),
-        ReportCommand::Compare(compare) => crate::state_compare::run(env, keys, compare),
-        ReportCommand::Prove(prove) => crate::state_prove::run(env, keys, prove),
+        ReportCommand::Status(status) => {
+            let question = Question::Status;
+            run_ask(&env.files, alloc, status, keys, &question, env.output)
+        }
+        ReportCommand::Missing(missing) => {
+            let question = Question::Missing {
+                size: missing.size,
+                root: missing.root,
+            };
+            run_ask(
+                &env.files,
+                alloc,
+                &missing.mirror,
+                keys,
+                &question,
+                env.output,
+            )
+        }
+        ReportCommand::Forks(forks) => {
+            run_ask(&env.files, alloc, forks, keys, &Question::Forks, env.output)
+        }
+        ReportCommand::Compare(compare) => {
+            run_compare(&env.files, alloc, compare, keys, env.output)
+        }
+        ReportCommand::Prove(prove) => {
+            let question = Question::Proof(prove.ask);
+            run_ask(
+                &env.files,
+                alloc,
+                &prove.mirror,
+                keys,
+                &question,
+                env.output,
+            )
+        }
         ReportCommand::Entries(entries) => crate::state_entries::run(env, keys, entries),
         ReportCommand::Serve(serve) => crate::state_serve::run(env, keys, serve),
     }

@@ -6,7 +6,7 @@ ghost use Rattle.mirror_sources.specs.Recorded.{KeepsRecord};
 ghost use Rattle.program_io.specs.Envs.{IsSameEnv, moment};
 ghost use Rattle.program_io.specs.Exchanges.{AnswersClients};
 ghost use Rattle.program_io.specs.Performing.{KeepsFiles, Performs};
-ghost use Rattle.copy_commands.specs.Clients.{IsAnswer};
+ghost use Rattle.copy_commands.specs.Clients.{IsCopyAnswer};
 ghost use Rattle.copy_commands.specs.KeyFiles.{AreFileKeys};
 ghost use Rattle.copy_commands.specs.Faults.{IsLate};
 ghost use Rattle.copy_commands.specs.Serve.{DoesCopyServe};
@@ -14,7 +14,7 @@ ghost use Rattle.program_io.specs.Ports.{PrintsPort};
 
 use crate::asking::{of_file, of_head};
 use crate::clients::Clients;
-use crate::fault::{CopyError, CopyRunFault};
+use crate::fault::{ReportError, ReportRunFault};
 use crate::key_file::KeyFile;
 use program_copies::{CopyAnswerFault, KeptCopy};
 use program_io::why::{FailedStreams, Why, of_folder, of_origin, print_why};
@@ -47,7 +47,7 @@ pub fn run<R, F: RunFiles, D: RunFolders, I: Read, O: Write, E: Write>(
     env: &mut Env<'_, '_, '_, '_, R, F, D, I, O, E>,
     keys: &[Box<dyn Verifier>],
     serve: &CopyServe<'_>,
-) -> Result<u8, CopyError>
+) -> Result<u8, ReportError>
 where
     R: Clock + Net<Stream = TcpStream, Listener = TcpListener>,
     ensures same { IsSameEnv env.old env.new }
@@ -59,12 +59,15 @@ where
         Ok(()) => {}
         Err(fault) => {
             let why = of_origin(env.alloc, fault);
-            return Err(CopyError::new(CopyRunFault::Origin(fault), why));
+            return Err(ReportError::new(ReportRunFault::Origin(fault), why));
         }
     }
     match env.folders.open(serve.copy.folder) {
         Ok(()) => {}
-        Err(_) => return Err(CopyError::new(CopyRunFault::Listen(ListenFault::OutOfMemory), None)),
+        Err(_) => return Err(ReportError::new(
+            ReportRunFault::Listen(ListenFault::OutOfMemory),
+            None,
+        )),
     }
     served(serve_copy(
         env.rt,
@@ -77,15 +80,15 @@ where
     ))
 }
 
-// The status 0 if all connections were answered.
-fn served(answer: Result<(), program_io::Error<ListenFault>>) -> Result<u8, CopyError>
-    ensures { result ≡ result_map_both (λ _. 0) (λ fault. CopyRunFault.Listen fault) answer }
+/// The status 0 if all connections were answered.
+pub(crate) fn served(answer: Result<(), program_io::Error<ListenFault>>) -> Result<u8, ReportError>
+    ensures { result ≡ result_map_both (λ _. 0) (λ fault. ReportRunFault.Listen fault) answer }
 {
     match answer {
         Ok(()) => Ok(0),
         Err(error) => {
             let (fault, why) = error.into_parts();
-            Err(CopyError::new(CopyRunFault::Listen(fault), why))
+            Err(ReportError::new(ReportRunFault::Listen(fault), why))
         }
     }
 }
@@ -126,7 +129,7 @@ fn answer_all<F: RunFiles, D: RunFolders, C: Clock, S: Clients, E: Write>(
     clients: &mut S,
     errors: &mut E,
 ) -> io::Result<()>
-    ensures answers { IfSome (D.puts folders.old) (λ puts. AnswersClients (IsAnswer sha256
+    ensures answers { IfSome (D.puts folders.old) (λ puts. AnswersClients (IsCopyAnswer sha256
         (AreFileKeys (F.puts files.now) serve.now.copy.log.keys.now)
         serve.now.copy.log.origin.now (Some puts)) serve.now.requests
         (S.exchanges clients.old) (S.exchanges clients.new) result) }
@@ -139,7 +142,7 @@ fn answer_all<F: RunFiles, D: RunFolders, C: Clock, S: Clients, E: Write>(
     let mut kept = KeptCopy::<Sha256Tree>::new();
     let origin = serve.copy.log.origin;
     for _ in 0..serve.requests {
-        match clients.answer_next(clock, alloc, folders, &keys, &mut kept, origin)? {
+        match clients.answer_next_from_copy(clock, alloc, folders, &keys, &mut kept, origin)? {
             Ok(()) => {}
             Err(fault) => {
                 print_file(alloc, files, folders, serve, fault, errors);

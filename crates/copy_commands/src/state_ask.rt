@@ -5,9 +5,9 @@ ghost use Rattle.std.specs.Io.KnownBytes.{Keeps};
 ghost use Rattle.sha2.specs.Sha256.{sha256};
 ghost use Rattle.program_io.specs.Performing.{IsStatus};
 ghost use Rattle.copy_commands.specs.StateAsks.{AsksState};
-ghost use Rattle.copy_commands.specs.StateFaults.{IsLate};
+ghost use Rattle.copy_commands.specs.Faults.{IsLate};
 
-use crate::state_fault::{ReportError, ReportRunFault};
+use crate::fault::{ReportError, ReportRunFault};
 use program_io::served::{of_proof, of_unheld};
 use program_io::why::{Why, of_state};
 use program_io::{RunFiles, open_state};

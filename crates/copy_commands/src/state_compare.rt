@@ -3,21 +3,20 @@ ghost use Rattle.std.specs.Prelude.{◌≡◌, IfErr, IfOk, map, option_map};
 ghost use Rattle.std.specs.Io.KnownBytes.{Keeps};
 ghost use Rattle.sha2.specs.Sha256.{sha256};
 ghost use Rattle.tlog_text.specs.Answers.{seen};
-ghost use Rattle.program_io.specs.Envs.{IsSameEnv, moment};
-ghost use Rattle.program_io.specs.Performing.{IsStatus, Performs, Stays};
-ghost use Rattle.copy_commands.specs.Compare.{ComparesState, ComparesView, DoesCompare, FindsHeads};
-ghost use Rattle.copy_commands.specs.StateFaults.{IsLate};
+ghost use Rattle.program_io.specs.Performing.{IsStatus};
+ghost use Rattle.copy_commands.specs.Compare.{ComparesState, ComparesView, FindsHeads};
+ghost use Rattle.copy_commands.specs.Faults.{IsLate};
 
+use crate::fault::{ReportError, ReportRunFault};
 use crate::state_ask::{asked, why_of_report};
-use crate::state_fault::{ReportError, ReportRunFault};
 use program_io::served::of_heads;
 use program_io::why::of_state;
-use program_io::{Env, HeadFilesFault, RunFiles, RunFolders, open_state, read_heads};
+use program_io::{HeadFilesFault, RunFiles, open_state, read_heads};
 use program_reports::print_comparison;
 use program_words::commands::compare::Compare;
 use signed_note::Verifier;
 use std::alloc::Global;
-use std::io::{Read, Write};
+use std::io::Write;
 use tlog_hash::{Hash, Sha256Tree, TreeHash};
 use tlog_mirror::Mirror;
 
@@ -28,21 +27,7 @@ use tlog_mirror::Mirror;
 ///
 /// In this order: those of `open_state`, those of `read_heads`, and those of `print_comparison`. Only after a `WriteFault`
 /// text may have been written.
-pub fn run<R, F: RunFiles, D: RunFolders, I: Read, O: Write, E: Write>(
-    env: &mut Env<'_, '_, '_, '_, R, F, D, I, O, E>,
-    keys: &[Box<dyn Verifier>],
-    compare: &Compare<'_>,
-) -> Result<u8, ReportError>
-    ensures same { IsSameEnv env.old env.new }
-    ensures does { Performs DoesCompare IsLate Stays sha256 (map (λ k. key k) keys.now)
-        (moment F.puts D.held D.puts I.remaining O.contents env.old)
-        (moment F.puts D.held D.puts I.remaining O.contents env.new) compare.now result }
-{
-    run_compare(&env.files, env.alloc, compare, keys, env.output)
-}
-
-// The same over these files.
-fn run_compare<F: RunFiles, W: Write>(
+pub(crate) fn run_compare<F: RunFiles, W: Write>(
     files: &F,
     alloc: Global,
     compare: &Compare<'_>,

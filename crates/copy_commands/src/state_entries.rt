@@ -5,15 +5,15 @@ ghost use Rattle.sha2.specs.Sha256.{sha256};
 ghost use Rattle.program_io.specs.Envs.{IsSameEnv, moment};
 ghost use Rattle.program_io.specs.Performing.{Performs, Stays};
 ghost use Rattle.copy_commands.specs.StateEntries.{DoesEntries};
-ghost use Rattle.copy_commands.specs.StateFaults.{IsLate};
+ghost use Rattle.copy_commands.specs.Faults.{IsLate};
 
+use crate::fault::{ReportError, ReportRunFault};
 use crate::state_ask::served_size;
-use crate::state_fault::{ReportError, ReportRunFault};
-use program_copies::{EntryRange, StateEntriesFault, entries_of_state};
+use program_copies::{StateEntriesFault, entries_of_state};
 use program_io::served::{of_backwards, of_size};
 use program_io::why::{Why, of_state};
 use program_io::{Env, RunFiles, RunFolders, open_state};
-use program_words::commands::entries::Entries;
+use program_words::commands::entries::{Entries, EntryRange};
 use signed_note::Verifier;
 use std::alloc::Global;
 use std::io::{Read, Write};
@@ -44,18 +44,14 @@ pub fn run<R, F: RunFiles, D: RunFolders, I: Read, O: Write, E: Write>(
         mirror.state,
     ) {
         Ok(mut opened) => {
-            let range = EntryRange {
-                from: entries.range.from,
-                to: entries.range.to,
-                base64: entries.range.base64,
-            };
+            let range = &entries.range;
             let answer = entries_of_state::<Sha256Tree, O>(
                 env.alloc,
                 &mut opened,
-                &range,
+                range,
                 env.output,
             );
-            let why = why_of(env.alloc, mirror.state, &opened, &range, &answer);
+            let why = why_of(env.alloc, mirror.state, &opened, range, &answer);
             drop(opened);
             written(answer, why)
         }

@@ -1,17 +1,17 @@
 //! The command `serve`: it answers over HTTP from a state file.
 ghost use Rattle.std.specs.Prelude.{◌≡◌, map};
-ghost use Rattle.std.specs.Result.{result_map_both};
 ghost use Rattle.sha2.specs.Sha256.{sha256};
 ghost use Rattle.program_io.specs.Exchanges.{AnswersClients};
-ghost use Rattle.copy_commands.specs.StateClients.{IsAnswer};
+ghost use Rattle.copy_commands.specs.Clients.{IsMirrorAnswer};
 ghost use Rattle.program_io.specs.Envs.{IsSameEnv, moment};
 ghost use Rattle.program_io.specs.Performing.{Performs, Stays};
 ghost use Rattle.copy_commands.specs.StateServe.{DoesServe};
-ghost use Rattle.copy_commands.specs.StateFaults.{IsLate};
+ghost use Rattle.copy_commands.specs.Faults.{IsLate};
 ghost use Rattle.program_io.specs.Ports.{PrintsPort};
 
-use crate::state_clients::Clients;
-use crate::state_fault::{ReportError, ReportRunFault};
+use crate::clients::Clients;
+use crate::fault::{ReportError, ReportRunFault};
+use crate::serve::served;
 use program_io::why::of_state;
 use program_io::{
     Env, ListenFault, RunFiles, RunFolders, listen, open_state, port_fault, print_fault,
@@ -66,19 +66,6 @@ where
         Err(fault) => {
             let why = of_state(env.alloc, &env.files, Some(args.state), fault);
             Err(ReportError::new(ReportRunFault::State(fault), why))
-        }
-    }
-}
-
-// The status 0 if all connections were answered.
-fn served(answer: Result<(), program_io::Error<ListenFault>>) -> Result<u8, ReportError>
-    ensures { result ≡ result_map_both (λ _. 0) (λ fault. ReportRunFault.Listen fault) answer }
-{
-    match answer {
-        Ok(()) => Ok(0),
-        Err(error) => {
-            let (fault, why) = error.into_parts();
-            Err(ReportError::new(ReportRunFault::Listen(fault), why))
         }
     }
 }
@@ -148,7 +135,7 @@ fn serve_all<H: TreeHash, C: Clock, S: Clients, E: Write>(
     requests: u64,
     errors: &mut E,
 ) -> io::Result<()>
-    ensures { AnswersClients (IsAnswer H.digest mirror.now.view) requests
+    ensures { AnswersClients (IsMirrorAnswer H.digest mirror.now.view) requests
         (S.exchanges clients.old) (S.exchanges clients.new) result }
 {
     for _ in 0..requests {

@@ -29,7 +29,7 @@ use Rattle.copy_places.specs.declared.candidate_fault.CandidateFault.{CandidateF
 use Rattle.copy_places.specs.declared.candidate_fault.CandidateFault.TheVariants as none
 use Rattle.copy_places.proofs.Requests.{fails_later, fails_then}
 use Rattle.copy_follow.specs.Blame.{CountsFollow, CountsFollowFault, of_candidates}
-use Rattle.copy_follow.specs.Ending.{BlamesPlace, EndsAt, EndsFor, EndsRun, HadNone, HasFalseRoot, IsFaultOf, IsFirstFault, IsOfConflict, IsOfEmpty, IsOfOtherRun, KeepsFault, NoPlaceFails, fault_after, or_fault}
+use Rattle.copy_follow.specs.Ending.{BlamesPlace, EndsAt, EndsFor, EndsOnce, EndsRun, HadNone, HasFalseRoot, IsFaultOf, IsFirstFault, IsOfConflict, IsOfEmpty, IsOfOtherRun, KeepsFault, NoPlaceFails, fault_after, or_fault}
 use Rattle.copy_follow.specs.Rule.{HasOneRoot}
 use Rattle.copy_follow.specs.Turning.{ShowsTurn}
 use Rattle.copy_follow.specs.RunStanding.{HasStanding, HoldsNoCopy, HoldsNoSmaller, IsCopyNow, IsCopyOfRun, IsFoundCopy, IsHeadOf, KnowsAfter, RecordsNone}
@@ -336,7 +336,7 @@ Reported cs run e =
     ⊎ ((run.copy ≡ None) × HasOneRoot cs × (e ≡ option_or run.first_fault fault.NoCheckpoint))
 
 -- the fault of the first candidate
-first_fault_of : (digest : List ℕ → List ℕ) (c : Candidate) (cs : List Candidate) (first : Option FollowFault)
+pub first_fault_of : (digest : List ℕ → List ℕ) (c : Candidate) (cs : List Candidate) (first : Option FollowFault)
     (e : FollowFault) → IsFirstFault digest (c ∷ cs) first → e ≡ option_or first fault.NoCheckpoint → IsFaultOf digest c e
 first_fault_of digest c cs None e h is = absurd h
 first_fault_of digest c cs (Some f) e h is = subst (IsFaultOf digest c) (sym is) h
@@ -480,3 +480,45 @@ none_counts a b none.NoCheckpoint h = h
 none_counts a b (none.Head f) h = h
 none_counts a b none.Source h = h
 none_counts a b none.OutOfMemory h = h
+
+-- ---- places that give no candidate
+
+module _ (once empty : Type 0) where
+  pub once_run : (damaged in_use : Type 0) (e : FollowFault) → EndsRun damaged in_use e → EndsOnce once empty e
+  once_run damaged in_use fault.NoCheckpoint is = absurd is
+  once_run damaged in_use (fault.Head f) is = absurd is
+  once_run damaged in_use fault.CopyDamaged is = tt
+  once_run damaged in_use fault.CopyInUse is = tt
+  once_run damaged in_use fault.ShelfFault is = tt
+  once_run damaged in_use fault.Contradiction is = tt
+  once_run damaged in_use fault.Collision is = tt
+  once_run damaged in_use fault.NoFile is = tt
+  once_run damaged in_use fault.Source is = absurd is
+  once_run damaged in_use fault.OutOfMemory is = tt
+
+  pub once_lacking : (e : CandidateFault) → once → EndsOnce once empty (of_candidates e)
+  once_lacking none.NoCheckpoint h = h
+  once_lacking (none.Head f) h = h
+  once_lacking none.Source h = inl h
+  once_lacking none.OutOfMemory h = tt
+
+  once_first : (digest : List ℕ → List ℕ) (c : Candidate) (e : FollowFault) → IsFaultOf digest c e → empty → EndsOnce once empty e
+  once_first digest c fault.NoCheckpoint is h = absurd is
+  once_first digest c (fault.Head f) is h = absurd is
+  once_first digest c fault.CopyDamaged is h = tt
+  once_first digest c fault.CopyInUse is h = tt
+  once_first digest c fault.ShelfFault is h = tt
+  once_first digest c fault.Contradiction is h = tt
+  once_first digest c fault.Collision is h = tt
+  once_first digest c fault.NoFile is h = tt
+  once_first digest c fault.Source is h = inr h
+  once_first digest c fault.OutOfMemory is h = tt
+
+  pub once_report : (digest : List ℕ → List ℕ) (cs : List Candidate) (run : Run) {T : Type 0} (r : Result T FollowFault) →
+      0 < length cs → (run.copy ≡ None → empty) → KeepsFault digest cs run → IfErr r (Reported cs run) →
+      IfErr r (EndsOnce once empty)
+  once_report digest cs run (Ok x) some none keeps h = tt
+  once_report digest cs run (Err e) some none keeps (inl memory) = subst (EndsOnce once empty) (sym memory) tt
+  once_report digest [] run (Err e) some none keeps (inr first) = absurd (omega (arith, some))
+  once_report digest (c ∷ cs) run (Err e) some none keeps (inr first) =
+      once_first digest c e (first_fault_of digest c cs run.first_fault e (keeps first.0) first.2) (none first.0)

@@ -11,9 +11,13 @@ use Rattle.tlog_hash.specs.Tree.{fold_of, leaf_hash, mth}
 use Rattle.tlog_hash.proofs.LeafRanges.{rows_of_leaves}
 use Rattle.tlog_tiles.specs.declared.paths.Path.{Path}
 use Rattle.tlog_tiles.specs.declared.paths.Path.TheVariants.{Checkpoint, Tile, Entries}
+use Rattle.tlog_tiles.specs.Cut.{IsFileCut}
+use Rattle.tlog_tiles.specs.Tiles.{IsWithin}
+use Rattle.tlog_tiles.proofs.EdgeLemmas.{hashes_of}
 use Rattle.tlog_tiles.proofs.TileLemmas.{row_folds, served_is_read}
 use Rattle.mirror_model.specs.Strings.{IsDigest}
 use Rattle.mirror_model.specs.TrueLaws.{AreShort}
+use Rattle.mirror_sources.specs.Files.{full_of}
 use Rattle.mirror_sources.specs.Honest.{true_bytes}
 use Rattle.mirror_sources.specs.Recorded.{KeepsRecord}
 use Rattle.mirror_folders.specs.FileLaws.{IsWidestIn}
@@ -26,16 +30,20 @@ use Rattle.log_reader.specs.Verified.{HasLeaves, Verifies}
 use Rattle.log_reader.specs.declared.verify.FullFile.{FullFile}
 use Rattle.log_reader.specs.declared.verify.FullFile.TheVariants as kind
 use Rattle.copy_places.specs.PlaceGets.{AsksPlaces}
-use Rattle.copy_places.specs.TrueAnswers.{HasTrueLeaves, IsRootOf}
+use Rattle.copy_places.specs.Asked.{IsAskedInVain}
+use Rattle.copy_places.specs.InVain.{IsPartAskedInVain}
+use Rattle.copy_places.specs.TrueAnswers.{HasTrueLeaves}
 use Rattle.copy_places.specs.TruePlaces.{GivesTrueFiles, HasTruePlace, IsFileUnder}
 use Rattle.copy_places.specs.declared.place.Place.{Place}
 use Rattle.copy_places.specs.declared.places.Places.{Places}
 use Rattle.copy_places.proofs.Asking.{asks_same}
+use Rattle.copy_places.proofs.Giving.{edge_weaker}
+use Rattle.copy_places.proofs.InVain.{files_between, files_weaker, parts_between, parts_weaker}
 use Rattle.copy_places.proofs.TruePlaces.{place_between}
 use Rattle.copy_follow.specs.Damaged.{IsEdgeWrong}
 use Rattle.copy_follow.specs.Found.{RecordsPartial}
 use Rattle.copy_follow.specs.Growing.{IsBelow, IsNewFile}
-use Rattle.copy_follow.specs.Lacked.{AtOkOrLack, GoesAlong, GoesBelow, GoesDown, GoesOverAll, IsEdgeLacked, IsFoundNowhere, IsHadOrLacked, IsLacked, IsNobodysFile, IsRecorded, LacksBundle, LacksEnd, LacksTile}
+use Rattle.copy_follow.specs.Lacked.{AtOkOrLack, GoesAlong, GoesBelow, GoesDown, GoesOverAll, IsEdgeLacked, IsEdgeNowhere, IsEndNowhere, IsFoundNowhere, IsHadOrLacked, IsLacked, IsNobodysFile, IsNobodysPart, IsOwnPart, IsRecorded, LacksBundle, LacksEnd, LacksTile, LeadsNowhere}
 use Rattle.copy_follow.specs.Repaired.{IsLack, PutsTrue, RecordsHad}
 use Rattle.copy_follow.specs.Standing.{RecordsStands}
 use Rattle.copy_follow.specs.Suffices.{IsEdgeTrue, IsSpared, IsTileHash}
@@ -96,6 +104,34 @@ module _ (digest : List ℕ → List ℕ) (log : List (List ℕ)) where
       (stands_more xs g.puts path (true_bytes digest log path) there
       (λ other has. (All-contains (IsNewFile digest 0 log) g.puts (path, other) g.are_new has).bytes_are))
 
+  -- a file that is not of the log stays as it is
+  beyond_later : (a b : Option (List Put)) (path : Path) (bytes : List ℕ) → PutsTrue digest log a b → (IsWithin (length log) path → ⊥) →
+      IsRecorded a path bytes → IsRecorded b path bytes
+  beyond_later None b path bytes g out there = absurd there
+  beyond_later (Some xs) None path bytes g out there = absurd g.recorded
+  beyond_later (Some xs) (Some ys) path bytes g out there =
+      subst (λ (l : List Put). IsRecorded (Some l) path bytes) (sym g.recorded)
+      (stands_more xs g.puts path bytes there
+      (λ other has. absurd (out (All-contains (IsNewFile digest 0 log) g.puts (path, other) g.are_new has).within)))
+
+  -- the full bundle of the partial one is not of the log
+  end_beyond : (path : Path) → path ≡ Entries (edge_index_of (length log) 0) (width_of (length log) 0) →
+      IsWithin (length log) (full_of path) → ⊥
+  end_beyond path is within =
+      let n = length log in
+      let file = subst (λ p. IsWithin n (full_of p)) is within in
+      let fits = file.within in
+      let sum = hashes_of n 0 in
+      let small : width_of n 0 < 256 = omega arith in
+      omega (arith, fits, sum, small)
+
+  own_later : (a b : Option (List Put)) (path : Path) → PutsTrue digest log a b →
+      path ≡ Entries (edge_index_of (length log) 0) (width_of (length log) 0) → IsOwnPart a path (true_bytes digest log path) →
+      IsOwnPart b path (true_bytes digest log path)
+  own_later a b path g is (inl there) = inl (recorded_later a b path g there)
+  own_later a b path g is (inr (full, there, cut)) =
+      inr (full, beyond_later a b (full_of path) full g (end_beyond path is) there, cut)
+
   pub stands_later : (a b c : Option (List Put)) (path : Path) → PutsTrue digest log b c →
       RecordsStands a b path (true_bytes digest log path) → RecordsStands a c path (true_bytes digest log path)
   stands_later a b c path g there =
@@ -116,14 +152,21 @@ module _ {S : Type 0} (may : S → Path → Option (List ℕ) → Type 0) (faile
       nobodys_between : (path : Path) → IsNobodysFile digest log may y z b path → IsNobodysFile digest log may x w a path
       nobodys_between path n = record {
         shelf = λ there. n.shelf (recorded_later digest log a b path g there);
-        places = λ t. n.places (place_between may failed asked digest log so also last x y z w p q r t);
+        places = files_between may failed asked path (λ bytes. bytes ≡ true_bytes digest log path) so also last x y z w p q r n.places;
+      }
+
+      nobodys_part : (path : Path) → path ≡ Entries (edge_index_of (length log) 0) (width_of (length log) 0) →
+          IsNobodysPart digest log may y z b path → IsNobodysPart digest log may x w a path
+      nobodys_part path is n = record {
+        shelf = λ own. n.shelf (own_later digest log a b path g is own);
+        places = parts_between may failed asked path (λ bytes. bytes ≡ true_bytes digest log path) so also last x y z w p q r n.places;
       }
 
       lacked_between : (path : Path) → IsLacked digest log may y z b path → IsLacked digest log may x w a path
       lacked_between path (LacksBundle index n below) = LacksBundle index (nobodys_between (Entries index 256) n) below
       lacked_between path (LacksTile level index some n below) =
           LacksTile level index some (nobodys_between (Tile level index 256) n) below
-      lacked_between path (LacksEnd n is) = LacksEnd (nobodys_between path n) is
+      lacked_between path (LacksEnd n is) = LacksEnd (nobodys_part path is n) is
 
   -- a step, and then another
   module _ (so also : Path → Type 0) (x y z : Places S) (p : AsksPlaces may failed asked so x y)
@@ -247,11 +290,12 @@ module _ (digest : List ℕ → List ℕ) (hash : IsDigest digest) (log : List (
 
   module _ {S : Type 0} (may : S → Path → Option (List ℕ) → Type 0) (old new : Places S) (puts : Option (List Put))
       (k : FullFile) (path : Path) (value : List ℕ) (n : IsFoundNowhere digest may old new puts k path value)
-      (under : IsFileUnder digest log k path value) (good : IsGood digest k value (true_bytes digest log path)) where
+      (good : IsGood digest k value (true_bytes digest log path)) where
     nobodys : IsNobodysFile digest log may old new puts path
     nobodys = record {
       shelf = λ there. n.shelf (true_bytes digest log path) there good.0 good.1;
-      places = n.places log short under;
+      places = files_weaker may path (IsGood digest k value) (λ bytes. bytes ≡ true_bytes digest log path)
+          (λ bytes same. subst (IsGood digest k value) (sym same) good) old new n.places;
     }
 
   module _ {S : Type 0} (may : S → Path → Option (List ℕ) → Type 0) (old new : Places S) (before : Option (List Put)) where
@@ -260,14 +304,14 @@ module _ (digest : List ℕ → List ℕ) (hash : IsDigest digest) (log : List (
         IsNobodysFile digest log may old new before (Tile level index 256)
     tile_nobodys level index low value is n =
         let u = under_tile level index value low is in
-        nobodys may old new before kind.Tile (Tile level index 256) value n u (good_tile level index value u)
+        nobodys may old new before kind.Tile (Tile level index 256) value n (good_tile level index value u)
 
     pub bundle_nobodys : (index : ℕ) (value : List ℕ) → IsTileHash digest log 0 index value →
         IsFoundNowhere digest may old new before kind.Bundle (Entries index 256) value →
         IsNobodysFile digest log may old new before (Entries index 256)
     bundle_nobodys index value is n =
         let u = under_bundle index value is in
-        nobodys may old new before kind.Bundle (Entries index 256) value n u (good_bundle index value u)
+        nobodys may old new before kind.Bundle (Entries index 256) value n (good_bundle index value u)
 
 -- a bundle and its tile stand
 pub bundle_stands : (digest : List ℕ → List ℕ) (log : List (List ℕ)) (index : ℕ) (x w : Option (List Put)) →
@@ -302,19 +346,21 @@ module _ (digest : List ℕ → List ℕ) (hash : IsDigest digest) (log : List (
       ((wide ∙ (widths 0 (omega arith) ∙ ap (λ n. width_of n 0) is.size_is)) j)
 
   -- the shelf does not have the true one
-  pub end_damaged : (before : Option (List Put)) → ((bytes : List ℕ) → IsRecorded before (Entries index width) bytes →
+  pub end_damaged : (before : Option (List Put)) → ((bytes : List ℕ) → IsOwnPart before (Entries index width) bytes →
       HasLeaves digest (length (row_at edge 0)) bytes (row_at edge 0) → ⊥) →
       IsRecorded before (Entries index width) (true_bytes digest log (Entries index width)) → ⊥
-  end_damaged before shelf there = shelf (true_bytes digest log (Entries index width)) there good_end
+  end_damaged before shelf there = shelf (true_bytes digest log (Entries index width)) (inl there) good_end
 
   pub end_lacked : {S : Type 0} (may : S → Path → Option (List ℕ) → Type 0) (old new : Places S) (before : Option (List Put)) →
-      ((bytes : List ℕ) → IsRecorded before (Entries index width) bytes →
-      HasLeaves digest (length (row_at edge 0)) bytes (row_at edge 0) → ⊥) →
-      ((es : List (List ℕ)) → AreShort es → HasTrueLeaves digest es (Entries index width) (row_at edge 0) →
-      HasTruePlace digest es may old new → ⊥) →
-      IsLacked digest log may old new before (Entries index width)
-  end_lacked may old new before shelf places =
-      LacksEnd (record { shelf = end_damaged before shelf; places = places log short leaves }) end_is
+      IsEndNowhere digest may old new before (Entries index width) (row_at edge 0) → IsLacked digest log may old new before (Entries index width)
+  end_lacked may old new before n =
+      let path = Entries index width in
+      let row = row_at edge 0 in
+      LacksEnd (record {
+        shelf = λ own. n.shelf (true_bytes digest log path) own good_end;
+        places = parts_weaker may path (λ bytes. HasLeaves digest (length row) bytes row) (λ bytes. bytes ≡ true_bytes digest log path)
+            (λ bytes same. subst (λ b. HasLeaves digest (length row) b row) (sym same) good_end) old new n.places;
+      }) end_is
 
 -- ---- all files
 
@@ -387,6 +433,28 @@ module _ (digest : List ℕ → List ℕ) (log : List (List ℕ)) (small : lengt
 
 -- ---- the whole call
 
+pub recorded_kept : (a b : Option (List Put)) → KeepsRecord a b → (path : Path) (bytes : List ℕ) → IsRecorded a path bytes →
+    IsRecorded b path bytes
+recorded_kept None b kept path bytes there = absurd there
+recorded_kept (Some xs) None kept path bytes there = absurd kept
+recorded_kept (Some xs) (Some ys) kept path bytes there = subst (λ (l : List Put). IsRecorded (Some l) path bytes) (sym kept) there
+
+-- what leads nowhere later did not before
+pub nowhere_before : (digest : List ℕ → List ℕ) (a b : Option (List Put)) → KeepsRecord a b → (n : ℕ) (root : List ℕ) →
+    LeadsNowhere digest b n root → LeadsNowhere digest a n root
+nowhere_before digest a b kept n root none edge from leads =
+    none edge (edge_weaker (IsRecorded a) (IsRecorded b) (recorded_kept a b kept) n edge from) leads
+
+-- a partial bundle that is neither at its path, nor begins the full one
+pub own_end_none : (digest : List ℕ → List ℕ) (row : List (List ℕ)) (a b : Option (List Put)) → KeepsRecord a b → (path : Path) →
+    ((bytes : List ℕ) → IsRecorded a path bytes → HasLeaves digest (length row) bytes row → ⊥) →
+    ((full bytes : List ℕ) → IsRecorded b (full_of path) full → IsFileCut path 256 full bytes →
+    HasLeaves digest (length row) bytes row → ⊥) →
+    (bytes : List ℕ) → IsOwnPart a path bytes → HasLeaves digest (length row) bytes row → ⊥
+own_end_none digest row a b kept path none cut bytes (inl there) leaves = none bytes there leaves
+own_end_none digest row a b kept path none cut bytes (inr (full, there, is)) leaves =
+    cut full bytes (recorded_kept a b kept (full_of path) full there) is leaves
+
 module _ {S : Type 0} (may : S → Path → Option (List ℕ) → Type 0) (failed : S → ℕ) (asked : S → Option (List Path))
     (digest : List ℕ → List ℕ) (log : List (List ℕ)) where
   -- before and after steps that put nothing of another log
@@ -402,6 +470,7 @@ module _ {S : Type 0} (may : S → Path → Option (List ℕ) → Type 0) (faile
   ])
   over_between so also last x y z w p q r a b c d kept later (inr edge) = inr (record {
     shelf = edge_wrong_before a b (length log) digest (mth digest log) kept edge.shelf;
+    own = nowhere_before digest a b kept (length log) (mth digest log) edge.own;
     places = λ t. edge.places (place_between may failed asked digest log so also last x y z w p q r t);
   })
 
@@ -414,12 +483,12 @@ over_none digest log may old new before after none =
 -- nobody has the edge rows
 pub over_edge : (digest : List ℕ → List ℕ) (log : List (List ℕ)) (short : AreShort log) {S : Type 0}
     (may : S → Path → Option (List ℕ) → Type 0) (old new : Places S) (before after : Option (List Put)) (size : ℕ) (root : List ℕ) →
-    length log ≡ size → mth digest log ≡ root → IsEdgeWrong before size digest root →
-    ((es : List (List ℕ)) → IsRootOf digest es size root → HasTruePlace digest es may old new → ⊥) →
+    length log ≡ size → mth digest log ≡ root → IsEdgeNowhere digest may old new before size root →
     GoesOverAll digest log may old new before after
-over_edge digest log short may old new before after size root long is wrong places = inr (record {
-  shelf = subst (λ r. IsEdgeWrong before (length log) digest r) (sym is) (subst (λ n. IsEdgeWrong before n digest root) (sym long) wrong);
-  places = places log (record {
+over_edge digest log short may old new before after size root long is n = inr (record {
+  shelf = subst (λ r. IsEdgeWrong before (length log) digest r) (sym is) (subst (λ m. IsEdgeWrong before m digest root) (sym long) n.shelf);
+  own = subst (λ r. LeadsNowhere digest before (length log) r) (sym is) (subst (λ m. LeadsNowhere digest before m root) (sym long) n.own);
+  places = n.places log (record {
     short = short;
     upto = omega (arith, long);
     root_is = sym is ∙ ap (mth digest) (sym (ap (λ n. take n log) (sym long) ∙ take-length log));
@@ -447,13 +516,25 @@ module _ {S : Type 0} (may : S → Path → Option (List ℕ) → Type 0) (diges
 
   nobodys_begun : (a : Option (List Put)) (path : Path) → IsNobodysFile digest log may y z a path →
       IsNobodysFile digest log may x z a path
-  nobodys_begun a path n = record { shelf = n.shelf; places = λ t. n.places (place_begun t) }
+  nobodys_begun a path n = record {
+    shelf = n.shelf;
+    places = subst (λ (l : List (Place S)). (k : ℕ) → k < length l → (d : Place S) → IsAskedInVain (may (get_or l k d).source)
+        (get_or l k d).failures (get_or z.list.items k d).failures path (λ bytes. bytes ≡ true_bytes digest log path)) same n.places;
+  }
+
+  part_begun : (a : Option (List Put)) (path : Path) → IsNobodysPart digest log may y z a path → IsNobodysPart digest log may x z a path
+  part_begun a path n = record {
+    shelf = n.shelf;
+    places = subst (λ (l : List (Place S)). (k : ℕ) → k < length l → (d : Place S) →
+        IsPartAskedInVain path (λ bytes. bytes ≡ true_bytes digest log path) (may (get_or l k d).source) (get_or l k d).failures
+        (get_or z.list.items k d).failures) same n.places;
+  }
 
   lacked_begun : (a : Option (List Put)) (path : Path) → IsLacked digest log may y z a path → IsLacked digest log may x z a path
   lacked_begun a path (LacksBundle index n below) = LacksBundle index (nobodys_begun a (Entries index 256) n) below
   lacked_begun a path (LacksTile level index some n below) =
       LacksTile level index some (nobodys_begun a (Tile level index 256) n) below
-  lacked_begun a path (LacksEnd n is) = LacksEnd (nobodys_begun a path n) is
+  lacked_begun a path (LacksEnd n is) = LacksEnd (part_begun a path n) is
 
   -- the places of a call before it has begun
   pub over_begun : (a b : Option (List Put)) → GoesOverAll digest log may y z a b → GoesOverAll digest log may x z a b
@@ -461,7 +542,7 @@ module _ {S : Type 0} (may : S → Path → Option (List ℕ) → Type 0) (diges
     | inl there ↦ inl there
     | inr lacked ↦ inr (lacked_begun a path lacked)
   ])
-  over_begun a b (inr edge) = inr (record { shelf = edge.shelf; places = λ t. edge.places (place_begun t) })
+  over_begun a b (inr edge) = inr (record { shelf = edge.shelf; own = edge.own; places = λ t. edge.places (place_begun t) })
 
 -- a fault that is not about a missing file
 pub at_spared : (T : Type 0) (e : BringFault) (claim : Type 0) → IsSpared e → AtOkOrLack {T = T} (Err e) claim
@@ -485,7 +566,3 @@ at_lack T places e claim (inr h) there = subst (λ (f : BringFault). AtOkOrLack 
 pub none_any : {T : Type 0} (o : Option T) (Q : Type 0) → Q → IfNone o Q
 none_any None Q h = h
 none_any (Some x) Q h = tt
-
-pub none_both : {T : Type 0} (o : Option T) (P Q : Type 0) → P → IfNone o Q → IfNone o (P × Q)
-none_both None P Q p q = (p, q)
-none_both (Some x) P Q p q = tt

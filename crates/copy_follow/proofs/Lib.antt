@@ -8,6 +8,7 @@ pub mod TileRows
 pub mod CopyMoments
 pub mod EdgeRows
 pub mod Finishing
+pub mod Secured
 pub mod Roots
 pub mod Earlier
 pub mod Exits
@@ -32,6 +33,7 @@ pub mod Mending
 pub mod MendedFiles
 pub mod Cuts
 pub mod Lacking
+pub mod Own
 pub mod Naming
 pub mod Ends
 pub mod Runs
@@ -54,3 +56,5 @@ pub mod HonestRuns
 pub mod Adding
 pub mod Looked
 pub mod Telling
+pub mod LargerForks
+pub mod Looks

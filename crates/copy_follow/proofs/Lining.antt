@@ -167,7 +167,7 @@ rises_more : (p : ℕ × List ℕ) (ps : List (ℕ × List ℕ)) → AllByRecurs
 unfolding IsStrictlySortedBy
 rises_more p ps a b = (a, b)
 
-listed_of_take : (cs : List Candidate) (i : ℕ) (d : Candidate) → Contains (take i cs) d → Contains cs d
+pub listed_of_take : (cs : List Candidate) (i : ℕ) (d : Candidate) → Contains (take i cs) d → Contains cs d
 listed_of_take cs i d (k, lt, e) =
     let n = length-take i cs in
     (k, omega (arith, n, lt), sym (get_or-take i cs k d (omega (arith, n, lt))) ∙ e)

@@ -137,3 +137,19 @@ says_by digest origin so x w first candidates run (Ok f) copy settles lines h fo
   lines = lines digest first h;
   noted = noted digest origin candidates f run.copy first run.forks.items copy h.taken x w had k;
 }
+
+-- the same of candidates of which more is known
+pub says_so : (digest : List ℕ → List ℕ) (origin : List ℕ) (so other : List Candidate → Type 0) →
+    ((candidates : List Candidate) → so candidates → other candidates) → (x w : Option (List Put)) {E : Type 0}
+    (r : Result Followed E) → IfOk r (Says digest origin so x w) → IfOk r (Says digest origin other x w)
+says_so digest origin so other f x w (Err e) h = tt
+says_so digest origin so other f x w (Ok done) h = record {
+  candidates = h.candidates;
+  gathered = f h.candidates h.gathered;
+  rising = h.rising;
+  settles = h.settles;
+  first = h.first;
+  found = h.found;
+  lines = h.lines;
+  noted = h.noted;
+}

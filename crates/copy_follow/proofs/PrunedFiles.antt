@@ -71,7 +71,7 @@ file_listed n (Tile level index width) file =
 file_listed n (Entries index width) file =
     (files_are_all n (Entries index width)).1 (tile_widest n 0 index width (omega arith) file)
 
-listed_file : (n : ℕ) (path : Path) → path ≢ Checkpoint → Contains (paths_of n) path → IsTreeFile n path
+pub listed_file : (n : ℕ) (path : Path) → path ≢ Checkpoint → Contains (paths_of n) path → IsTreeFile n path
 listed_file n Checkpoint other h = absurd (other refl)
 listed_file n (Tile level index width) other h =
     let w = (files_are_all n (Tile level index width)).0 h in

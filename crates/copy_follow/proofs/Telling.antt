@@ -11,6 +11,7 @@ use Rattle.mirror_model.specs.Forks.{Point}
 use Rattle.mirror_model.specs.Heads.{IsHead}
 use Rattle.mirror_model.proofs.HeadNotes.{head_once}
 use Rattle.copy_places.specs.Agreeing.{Agrees}
+use Rattle.copy_places.specs.Answered.{AreAnswered}
 use Rattle.copy_places.specs.Candidates.{IsOnePoint, IsSame, note_of, point_of, turn_cmp}
 use Rattle.copy_places.specs.Lines.{IsInSomeLine, KeepsLines}
 use Rattle.copy_places.specs.Nobodys.{CannotBeHad, IsOfEnds}
@@ -22,6 +23,8 @@ use Rattle.copy_places.specs.declared.fork_line.ForkLine.{ForkLine}
 use Rattle.copy_places.specs.declared.places.Places.{Places}
 use Rattle.copy_places.proofs.LineLists.{kept_itself, lines_kept}
 use Rattle.copy_places.proofs.Points.{one_back, one_of_same, one_then, point_same}
+use Rattle.copy_places.specs.PlaceGets.{AddsAnswers}
+use Rattle.copy_places.proofs.Answered.{answered_before, answered_then}
 use Rattle.copy_places.proofs.Requests.{any_same, any_then}
 use Rattle.copy_follow.specs.Compared.{BlamesTip}
 use Rattle.copy_follow.specs.Conflicts.{IsNoConflict}
@@ -123,6 +126,7 @@ module _ (digest : List ℕ → List ℕ) {S : Type 0} (may : S → Path → Opt
     moment = h.moment;
     before = any_then may failed asked w x h.moment p h.before;
     after = any_then may failed asked h.moment y z h.after q;
+    answered = answered_before may failed asked w x h.moment p h.answered;
     puts = h.puts;
     why = subst (λ n. CannotBeHad digest h.puts h.moment.ends.tiles.items n first large) p.count h.why;
   }
@@ -149,16 +153,17 @@ module _ (digest : List ℕ → List ℕ) {S : Type 0} (may : S → Path → Opt
 
   -- ---- one turn
 
-  -- the proof was asked for
-  pub told_asked : (x y : Places S) (puts : Option (List Put)) (held c : Candidate) (found : Result (Option Proof) AskFault)
-      (r : Result Outcome FollowFault) → r ≡ outcome_by found → held.size.0 < c.size.0 → Any x y →
+  -- the proof was asked for, after other requests of the call
+  pub told_asked : (w x y : Places S) (puts : Option (List Put)) (held c : Candidate) (found : Result (Option Proof) AskFault)
+      (r : Result Outcome FollowFault) → r ≡ outcome_by found → held.size.0 < c.size.0 → Any w x → Any x y →
+      AreAnswered may w x → AddsAnswers may x y →
       IfOk found (λ o. o ≡ None → 0 < held.size.0 → held.size.0 < c.size.0 → Agrees digest (point_of held) (point_of c)) →
       (found ≡ Err ask.OtherFiles → IsOfEnds held c x.ends.sizes → ⊥) →
       (found ≡ Err ask.NoFile →
       CannotBeHad digest puts y.ends.tiles.items (length x.list.items) held.size.0 (point_of c)) →
-      IsOfEnds held c x.ends.sizes → IfOk r (IsForkOr (Reason x y (Some held) c))
-  told_asked x y puts held c found r is lt asks agrees other lacks fits =
-      subst (λ (o : Result Outcome FollowFault). IfOk o (IsForkOr (Reason x y (Some held) c))) (sym is)
+      IsOfEnds held c x.ends.sizes → IfOk r (IsForkOr (Reason w y (Some held) c))
+  told_asked w x y puts held c found r is lt before asks heard adds agrees other lacks fits =
+      subst (λ (o : Result Outcome FollowFault). IfOk o (IsForkOr (Reason w y (Some held) c))) (sym is)
       (go found agrees other lacks)
     where
       go : (found : Result (Option Proof) AskFault) →
@@ -166,15 +171,16 @@ module _ (digest : List ℕ → List ℕ) {S : Type 0} (may : S → Path → Opt
           (found ≡ Err ask.OtherFiles → IsOfEnds held c x.ends.sizes → ⊥) →
           (found ≡ Err ask.NoFile →
           CannotBeHad digest puts y.ends.tiles.items (length x.list.items) held.size.0 (point_of c)) →
-          IfOk (outcome_by found) (IsForkOr (Reason x y (Some held) c))
+          IfOk (outcome_by found) (IsForkOr (Reason w y (Some held) c))
       go (Ok (Some proof)) agrees other lacks = tt
       go (Ok None) agrees other lacks = λ some. inl (agrees refl some lt)
       go (Err ask.NoFile) agrees other lacks = λ some. inr (record {
         moment = y;
-        before = asks;
+        before = any_then may failed asked w x y before asks;
         after = any_same may failed asked y;
+        answered = answered_then may failed asked w x y before asks heard adds;
         puts = puts;
-        why = lacks refl;
+        why = subst (λ n. CannotBeHad digest puts y.ends.tiles.items n held.size.0 (point_of c)) before.count (lacks refl);
       })
       go (Err ask.OtherFiles) agrees other lacks = absurd (other refl fits)
       go (Err ask.ShelfFault) agrees other lacks = tt
@@ -194,12 +200,11 @@ module _ (digest : List ℕ → List ℕ) {S : Type 0} (may : S → Path → Opt
   tells_fork x y copy c turn.Contradicts h = h
   tells_fork x y copy c (turn.NotHad fault) h = h
 
-  -- a proof was asked for after a call that did not bring the copy
-  pub tells_later : {E : Type 0} (w x y : Places S) (copy : Option Candidate) (c : Candidate) (r : Result Outcome E) →
-      Any w x → IfOk r (IsForkOr (Reason x y copy c)) → IfOk r (Tells w y copy c)
-  tells_later w x y copy c (Ok t) p h =
-      tells_fork w y copy c t (fork_wider w x y y copy c t p (any_same may failed asked y) h)
-  tells_later w x y copy c (Err e) p h = tt
+  -- a proof was asked for
+  pub tells_asked : {E : Type 0} (x y : Places S) (copy : Option Candidate) (c : Candidate) (r : Result Outcome E) →
+      IfOk r (IsForkOr (Reason x y copy c)) → IfOk r (Tells x y copy c)
+  tells_asked x y copy c (Ok t) h = tells_fork x y copy c t h
+  tells_asked x y copy c (Err e) h = tt
 
   -- a turn with another outcome
   pub tells_other : (x y : Places S) (copy : Option Candidate) (c : Candidate) (t : Outcome) → (t ≡ turn.Contradicts → ⊥) →

@@ -10,9 +10,10 @@ use Rattle.tlog_shape.proofs.Levels.{level_positive, level_next}
 use Rattle.tlog_hash.specs.Rows.{part, ranges, level_row}
 use Rattle.tlog_hash.specs.Tree.{fold_of, mth}
 use Rattle.tlog_hash.proofs.Folds.{ranges_more}
+use Rattle.tlog_tiles.specs.declared.paths.Path.{Path}
 use Rattle.tlog_tiles.specs.declared.paths.Path.TheVariants.{Tile}
 use Rattle.tlog_tiles.specs.Row.{IsRow, row_text}
-use Rattle.tlog_tiles.specs.Tiles.{IsTileWithin}
+use Rattle.tlog_tiles.specs.Tiles.{IsTileWithin, IsWithin}
 use Rattle.tlog_tiles.proofs.EdgeLemmas.{hashes_of}
 use Rattle.tlog_tiles.proofs.TileLemmas.{row_folds}
 use Rattle.mirror_sources.specs.Recorded.{KeepsRecord, AddsToRecord}
@@ -153,6 +154,23 @@ module _ (tip : Tip) (level index : ℕ) (beyond : tip.size < (index + 1) * 256 
         omega (arith, place_of level index, less, at),
       )
 
+  -- the files below the first hashes are the tip's
+  pub old_below : 1 ≤ level → level ≤ 7 → (row : List (List ℕ)) (first : ℕ) → IsFirst tip level index row first →
+      (k : ℕ) → k < first → (path : Path) → IsBelow (level - 1) (256 * index + k) path → IsWithin m path
+  old_below some upto row first (inl h) k lt path below =
+      let size = 256 ^ level in
+      let at = h.0 in
+      let is = h.1 in
+      let up : level - 1 + 1 ≡ level = omega arith in
+      let end : (256 * index + k + 1) * 256 ^ (level - 1 + 1) ≡ (256 * index + k + 1) * size =
+      ap (λ l. (256 * index + k + 1) * 256 ^ l) up in
+      let hashes : 256 * index + first ≡ m / size = omega (arith, hashes_of m level) in
+      let upto_m : m / size * size ≤ m = div-mul-le_self m size in
+      let less : (256 * index + k + 1) * size ≤ m / size * size =
+      mul-le (256 * index + k + 1) size (m / size) size (omega (arith, hashes)) (omega arith) in
+      below_within (level - 1) (256 * index + k) m path (omega arith) (omega (arith, less, upto_m, end)) below
+  old_below some upto row first (inr h) k lt path below = let none = h.1 in absurd (omega arith)
+
   module _ (some : 1 ≤ level) (upto : level ≤ 7) (digest : List ℕ → List ℕ) (row : List (List ℕ))
       (known : List (List ℕ)) where
     abbrev SoFar : Option (List Put) → Option (List Put) → ℕ → Type 0
@@ -171,16 +189,7 @@ module _ (tip : Tip) (level index : ℕ) (beyond : tip.size < (index + 1) * 256 
     -- the entries below the first hashes are the tip's
     none_new : (x y : Option (List Put)) (first : ℕ) → IsFirst tip level index row first → (k : ℕ) → k < first →
         HoldsBelow digest m sub (256 * index + k) known x y
-    none_new x y first (inl h) k lt path below new =
-        let size = 256 ^ level in
-        let at = h.0 in
-        let is = h.1 in
-        let hashes : 256 * index + first ≡ m / size = omega (arith, hashes_of m level) in
-        let upto_m : m / size * size ≤ m = div-mul-le_self m size in
-        let less : (256 * index + k + 1) * size ≤ m / size * size =
-        mul-le (256 * index + k + 1) size (m / size) size (omega (arith, hashes)) (omega arith) in
-        absurd (new (below_within sub (256 * index + k) m path (omega arith) (omega (arith, less, upto_m, child_end k)) below))
-    none_new x y first (inr h) k lt path below new = let none = h.1 in absurd (omega arith)
+    none_new x y first is k lt path below new = absurd (new (old_below some upto row first is k lt path below))
 
     pub so_far_first : (x : Option (List Put)) (first : ℕ) → IsKnown digest tip (index * 256 ^ (level + 1)) known →
         IsFirst tip level index row first → SoFar x x first

@@ -41,6 +41,19 @@ EndsRun damaged in_use OutOfMemory = ⊤
 abbrev pub EndsAt : Type 0 → FollowFault → Type 0
 EndsAt so fault = EndsRun so so fault
 
+-- what a fault says of the places: "once" if none of them gives a candidate. Source also comes if the copy was "empty"
+abbrev pub EndsOnce : (once empty : Type 0) → FollowFault → Type 0
+EndsOnce once empty NoCheckpoint = once
+EndsOnce once empty (Head fault) = once
+EndsOnce once empty CopyDamaged = ⊤
+EndsOnce once empty CopyInUse = ⊤
+EndsOnce once empty ShelfFault = ⊤
+EndsOnce once empty Contradiction = ⊤
+EndsOnce once empty Collision = ⊤
+EndsOnce once empty NoFile = ⊤
+EndsOnce once empty Source = once ⊎ empty
+EndsOnce once empty OutOfMemory = ⊤
+
 -- the fault is not that of a missing file
 abbrev pub IsNoLack : FollowFault → Type 0
 IsNoLack NoCheckpoint = ⊤

@@ -4,13 +4,16 @@ use Rattle.tlog_shape.specs.Edge.{edge_index_of, width_of}
 use Rattle.tlog_hash.specs.Tree.{mth}
 use Rattle.tlog_tiles.specs.declared.paths.Path.{Path}
 use Rattle.tlog_tiles.specs.declared.paths.Path.TheVariants.{Tile, Entries}
-use Rattle.mirror_model.specs.TrueLaws.{AreShort}
 use Rattle.mirror_sources.specs.Honest.{true_bytes}
 use Rattle.mirror_folders.specs.Shelf.{Put, Stands}
+use Rattle.log_reader.specs.EdgeRows.{Edge, LeadsTo}
 use Rattle.log_reader.specs.Holding.{IsTreeFile}
-use Rattle.log_reader.specs.Verified.{Verifies}
+use Rattle.log_reader.specs.Verified.{HasLeaves, Verifies}
 use Rattle.log_reader.specs.declared.verify.FullFile.{FullFile}
-use Rattle.copy_places.specs.TruePlaces.{HasTruePlace, IsFileUnder}
+use Rattle.copy_places.specs.Giving.{IsEdgeFrom, PartOf}
+use Rattle.copy_places.specs.InVain.{AreAskedInVain, ArePartsAskedInVain}
+use Rattle.copy_places.specs.TrueAnswers.{IsRootOf}
+use Rattle.copy_places.specs.TruePlaces.{HasTruePlace}
 use Rattle.copy_places.specs.declared.places.Places.{Places}
 use Rattle.copy_follow.specs.Damaged.{IsEdgeWrong}
 use Rattle.copy_follow.specs.Growing.{IsBelow}
@@ -25,6 +28,14 @@ use Rattle.copy_follow.specs.declared.bring_fault.BringFault.TheVariants.{ShelfF
 abbrev pub IsRecorded : Option (List Put) → Path → List ℕ → Type 0
 IsRecorded None path bytes = ⊥
 IsRecorded (Some puts) path bytes = Stands puts path bytes
+
+-- the bytes of a partial file are on the shelf: at its path, or its full file begins with them
+abbrev pub IsOwnPart : Option (List Put) → Path → List ℕ → Type 0
+IsOwnPart puts path bytes = PartOf (IsRecorded puts) path bytes
+
+-- no mix of the partial tiles on the shelf, and of what its full ones begin with, is an edge of n entries that leads to the root
+abbrev pub LeadsNowhere : (List ℕ → List ℕ) → Option (List Put) → ℕ → List ℕ → Type 0
+LeadsNowhere digest puts n root = (edge : Edge) → IsEdgeFrom (IsRecorded puts) n edge → ¬ LeadsTo digest n root edge
 
 -- the claim holds at Ok, and where nobody had a file
 abbrev pub AtOkOrLack : {T : Type 0} → Result T BringFault → Type 0 → Type 0
@@ -43,10 +54,15 @@ AtOkOrLack (Err OutOfMemory) claim = ⊤
 module _ (digest : List ℕ → List ℕ) (log : List (List ℕ)) {S : Type 0} (may : S → Path → Option (List ℕ) → Type 0)
     (old new : Places S) where
   module _ (before : Option (List Put)) where
-    -- nobody has the true file at the path: not the shelf at the beginning, and no place gives all files of the log
+    -- nobody has the true file at the path: not the shelf at the beginning, and no place that was asked gave it
     pub record IsNobodysFile (path : Path) : Type 0 where
       pub shelf : ¬ IsRecorded before path (true_bytes digest log path)
-      pub places : ¬ HasTruePlace digest log may old new
+      pub places : AreAskedInVain path may old new (λ bytes. bytes ≡ true_bytes digest log path)
+
+    -- the same for a partial file, which may also be cut from the full file
+    pub record IsNobodysPart (path : Path) : Type 0 where
+      pub shelf : ¬ IsOwnPart before path (true_bytes digest log path)
+      pub places : ArePartsAskedInVain path may old new (λ bytes. bytes ≡ true_bytes digest log path)
 
     -- nobody has the file, or it is below a tile that nobody has. A tile of level 0 is made of its bundle
     pub data IsLacked (path : Path) : Type 0 where
@@ -54,11 +70,13 @@ module _ (digest : List ℕ → List ℕ) (log : List (List ℕ)) {S : Type 0} (
       LacksTile :
           (level index : ℕ) → 1 ≤ level → IsNobodysFile (Tile level index 256) → IsBelow level index path → IsLacked path
       LacksEnd :
-          IsNobodysFile path → path ≡ Entries (edge_index_of (length log) 0) (width_of (length log) 0) → IsLacked path
+          IsNobodysPart path → path ≡ Entries (edge_index_of (length log) 0) (width_of (length log) 0) → IsLacked path
 
-    -- nobody has the edge rows: those on the shelf do not lead to the root, and no place gives all files of the log
+    -- nobody has the edge rows: those on the shelf do not lead to the root, nor do those that its full tiles begin with, and no place
+    -- gives all files of the log
     pub record IsEdgeLacked : Type 0 where
       pub shelf : IsEdgeWrong before (length log) digest (mth digest log)
+      pub own : LeadsNowhere digest before (length log) (mth digest log)
       pub places : ¬ HasTruePlace digest log may old new
 
     module _ (after : Option (List Put)) where
@@ -92,4 +110,17 @@ module _ (digest : List ℕ → List ℕ) (log : List (List ℕ)) {S : Type 0} (
 pub record IsFoundNowhere (digest : List ℕ → List ℕ) {S : Type 0} (may : S → Path → Option (List ℕ) → Type 0) (old new : Places S)
     (puts : Option (List Put)) (kind : FullFile) (path : Path) (hash : List ℕ) : Type 0 where
   pub shelf : (bytes : List ℕ) → IsRecorded puts path bytes → (row : List (List ℕ)) → ¬ Verifies digest kind hash bytes row
-  pub places : (log : List (List ℕ)) → AreShort log → IsFileUnder digest log kind path hash → ¬ HasTruePlace digest log may old new
+  pub places : AreAskedInVain path may old new (λ bytes. (row : List (List ℕ)) × Verifies digest kind hash bytes row)
+
+-- neither the edge rows on the shelf lead to the root, nor those of a place that gives only true files
+pub record IsEdgeNowhere (digest : List ℕ → List ℕ) {S : Type 0} (may : S → Path → Option (List ℕ) → Type 0) (old new : Places S)
+    (puts : Option (List Put)) (n : ℕ) (root : List ℕ) : Type 0 where
+  pub shelf : IsEdgeWrong puts n digest root
+  pub own : LeadsNowhere digest puts n root
+  pub places : (log : List (List ℕ)) → IsRootOf digest log n root → ¬ HasTruePlace digest log may old new
+
+-- neither the partial bundle on the shelf, nor one of a place, nor the first entries of a full one, has the leaf hashes of the row
+pub record IsEndNowhere (digest : List ℕ → List ℕ) {S : Type 0} (may : S → Path → Option (List ℕ) → Type 0) (old new : Places S)
+    (puts : Option (List Put)) (path : Path) (row : List (List ℕ)) : Type 0 where
+  pub shelf : (bytes : List ℕ) → IsOwnPart puts path bytes → ¬ HasLeaves digest (length row) bytes row
+  pub places : ArePartsAskedInVain path may old new (λ bytes. HasLeaves digest (length row) bytes row)

@@ -7,6 +7,7 @@ pub mod Copies
 pub mod Moments
 pub mod Pruned
 pub mod Edges
+pub mod Secured
 pub mod Found
 pub mod AskedForCopy
 pub mod Suffices
@@ -30,3 +31,6 @@ pub mod Lining
 pub mod Looking
 pub mod OneHonestRun
 pub mod Told
+pub mod LargerForks
+pub mod Looks
+pub mod Exported

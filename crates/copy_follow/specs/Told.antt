@@ -6,6 +6,7 @@ use Rattle.mirror_model.specs.Forks.{Point}
 use Rattle.mirror_model.specs.Heads.{IsHead}
 use Rattle.mirror_folders.specs.Shelf.{Put}
 use Rattle.copy_places.specs.Agreeing.{Agrees}
+use Rattle.copy_places.specs.Answered.{AreAnswered}
 use Rattle.copy_places.specs.Candidates.{IsOnePoint, point_of}
 use Rattle.copy_places.specs.Lines.{IsInSomeLine}
 use Rattle.copy_places.specs.Nobodys.{CannotBeHad}
@@ -27,11 +28,13 @@ use Rattle.copy_follow.specs.declared.run.Run.{Run}
 
 module _ (digest : List ℕ → List ℕ) {S : Type 0} (may : S → Path → Option (List ℕ) → Type 0) (failed : S → ℕ)
     (asked : S → Option (List Path)) (old new : Places S) where
-  -- at some moment of a call, by the answers that were kept then, a proof from the first entries to the larger point could not be had
+  -- at some moment of a call, by the answers that were kept then, a proof from the first entries to the larger point could not be had.
+  -- Each of these answers was given in this call
   pub record CouldNotBeHad (first : ℕ) (large : Point) : Type 0 where
     pub moment : Places S
     pub before : AsksAny may failed asked old moment
     pub after : AsksAny may failed asked moment new
+    pub answered : AreAnswered may old moment
     pub puts : Option (List Put)
     pub why : CannotBeHad digest puts moment.ends.tiles.items (length old.list.items) first large
 
@@ -39,11 +42,15 @@ module _ (digest : List ℕ → List ℕ) {S : Type 0} (may : S → Path → Opt
   abbrev pub IsUntold : Point → Point → Type 0
   IsUntold small large = 0 < small.size → Agrees digest small large ⊎ CouldNotBeHad small.size large
 
-  -- each of the larger ones has a reason
+  -- each of the larger ones has a reason, for a copy of that size and root
+  abbrev pub TellsAbove : ℕ × List ℕ → Followed → Type 0
+  TellsAbove copy followed =
+      All (λ point. IsUntold (record { size = copy.0; root = copy.1 }) (record { size = point.0; root = point.1 }))
+      followed.larger.items
+
+  -- the same for the copy of the answer, if there is one
   abbrev pub TellsLarger : Followed → Type 0
-  TellsLarger followed =
-      IfSome followed.copy (λ copy. All (λ point. IsUntold (record { size = copy.0; root = copy.1 })
-      (record { size = point.0; root = point.1 })) followed.larger.items)
+  TellsLarger followed = IfSome followed.copy (λ copy. TellsAbove copy followed)
 
 -- the size in the text of a note, which is a checkpoint of the origin. It is 0 without a note
 abbrev pub IsSizeIn : List ℕ → Option (List ℕ) → ℕ → Type 0

@@ -37,7 +37,7 @@ fn proof_again<H: TreeHash, D: ReadableShelf, S: Source + Drop>(
     ensures tells { IfOk result (IsForkOr (HasReason H.digest S.may_answer S.failed S.asked
         places.old places.new (Some copy.now) candidate.now)) }
 {
-    places.keep_ends(copy.size.0, candidate.size.0);
+    places.keep_ends(copy.size.0, candidate.size.0, &candidate.root);
     contradict::<H, D, S>(alloc, shelf, places, copy, candidate)
 }
 

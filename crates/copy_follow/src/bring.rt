@@ -2,6 +2,8 @@
 ghost use Rattle.std.specs.Prelude.{◌≡◌, ◌+◌, ◌*◌, ◌^◌, ◌<◌, ◌≤◌, [], ℕ, List, IfErr, OnOk, length, take};
 ghost use Rattle.tlog_tiles.specs.declared.paths.Path.TheVariants.{Entries};
 ghost use Rattle.mirror_sources.specs.Recorded.{KeepsRecord};
+ghost use Rattle.mirror_folders.specs.Flushes.{Secures};
+ghost use Rattle.copy_follow.specs.Secured.{IsNewBelow, IsNewInRow};
 ghost use Rattle.copy_follow.specs.Asked.{IsNewFull};
 ghost use Rattle.copy_follow.specs.Faults.{BlamesPlaces, CountsShelf};
 ghost use Rattle.copy_places.specs.AskedOnce.{AsksOnce};
@@ -52,6 +54,8 @@ fn bring_bundle<H: TreeHash, D: ReadableShelf, S: Source + Drop>(
     ensures brings { (known : List (List ℕ)) → IsKnown H.digest tip.now (index * 256) known
         → BringsTile H.digest tip.now 0 index hash.now known (D.puts shelf.old)
         (D.puts shelf.new) result }
+    ensures secured { OnOk result (Secures (IsNewBelow tip.now.size 0 index) (D.flushes shelf.old)
+        (D.flushes shelf.new)) }
 {
     let path = Path::Entries { index, width: 256 };
     let found = match find::<H, D, S>(
@@ -125,6 +129,8 @@ fn bring_tile<H: TreeHash, D: ReadableShelf, S: Source + Drop>(
         → IsKnown H.digest tip.now (index * 256 ^ (level + 1)) known
         → BringsTile H.digest tip.now level index hash.now known (D.puts shelf.old)
         (D.puts shelf.new) result }
+    ensures secured { OnOk result (Secures (IsNewBelow tip.now.size level index)
+        (D.flushes shelf.old) (D.flushes shelf.new)) }
 {
     if level == 0 {
         return bring_bundle::<H, D, S>(alloc, shelf, places, tip, index, hash, bundles);
@@ -177,6 +183,8 @@ pub(crate) fn bring_row<H: TreeHash, D: ReadableShelf, S: Source + Drop>(
         → IsKnown H.digest tip.now (index * 256 ^ (level + 1)) known
         → BringsRow H.digest tip.now level index row.now known (D.puts shelf.old)
         (D.puts shelf.new) result }
+    ensures secured { OnOk result (Secures (IsNewInRow tip.now.size level index (length row.now))
+        (D.flushes shelf.old) (D.flushes shelf.new)) }
 {
     let Some(first) = tip.first_new(level, index, row) else {
         return Err(BringFault::Contradiction);

@@ -3,6 +3,7 @@ ghost use Rattle.std.specs.Prelude.{◌≡◌, ◌≢◌, ◌⊎◌, ◌<◌, �
 ghost use Rattle.tlog_tiles.specs.declared.paths.Path.TheVariants.{Checkpoint};
 ghost use Rattle.mirror_folders.specs.Shelf.{Put, RecordsRead};
 ghost use Rattle.mirror_sources.specs.Recorded.{KeepsRecord};
+ghost use Rattle.copy_places.specs.Answered.{AreAnswered};
 ghost use Rattle.copy_places.specs.AskedOnce.{AsksEachOnce, AsksMore};
 ghost use Rattle.copy_places.specs.EndTiles.{IsKept};
 ghost use Rattle.copy_follow.specs.Conflicts.{HasConflict, IsConflict};
@@ -14,6 +15,7 @@ ghost use Rattle.copy_places.specs.Faults.{CountsAsk};
 ghost use Rattle.copy_places.specs.Nobodys.{IsOfEnds};
 ghost use Rattle.copy_places.specs.Shown.{ShowsLarger};
 ghost use Rattle.copy_places.specs.declared.candidate.Candidate.{Candidate};
+ghost use Rattle.copy_places.specs.declared.places.Places.{Places};
 ghost use Rattle.copy_follow.specs.Blame.{CountsFollow};
 ghost use Rattle.copy_follow.specs.Ending.{EndsAt, EndsRun, IsOfConflict, IsOfOtherRun, NoPlaceFails};
 ghost use Rattle.copy_follow.specs.OneHonestRun.{IsBroughtOr, IsHonestTurn};
@@ -107,6 +109,8 @@ pub(crate) fn bring<H: TreeHash, D: ReadableShelf, S: Source + Drop>(
     ensures sizes { IfOk result (λ turn. turn ≢ Outcome.Brought
         → AreSizesIn origin.now (option_map (λ b. b.now) found.entry) (note_of candidate.now)
         places.new.ends.sizes) }
+    ensures answered { IfOk result (λ turn. turn ≢ Outcome.Brought
+        → AreAnswered S.may_answer places.old places.new) }
 {
     match bring_copy::<H, D, S>(alloc, origin, shelf, places, found, &candidate.note) {
         Ok(_) => Ok(Outcome::Brought),
@@ -161,8 +165,10 @@ pub(crate) fn contradict<H: TreeHash, D: ReadableShelf, S: Source + Drop>(
     ensures ends { IfErr result (EndsRun ⊥ ⊥) }
     ensures shows { IfOk result (ShowsTurn H.digest (Some copy.now) candidate.now) }
     ensures says { IfOk result (SaysTurn H.digest (Some copy.now) candidate.now) }
-    ensures tells { IsOfEnds copy.now candidate.now places.old.ends.sizes
-        → IfOk result (IsForkOr (HasReason H.digest S.may_answer S.failed S.asked places.old
+    ensures tells { (start : Places S) → AsksAny S.may_answer S.failed S.asked start places.old
+        → AreAnswered S.may_answer start places.old
+        → IsOfEnds copy.now candidate.now places.old.ends.sizes
+        → IfOk result (IsForkOr (HasReason H.digest S.may_answer S.failed S.asked start
         places.new (Some copy.now) candidate.now)) }
 {
     let found = ask_proof::<H, D, S>(alloc, shelf, places, copy, candidate);

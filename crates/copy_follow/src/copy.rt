@@ -7,6 +7,8 @@ ghost use Rattle.mirror_sources.specs.Recorded.{KeepsRecord};
 ghost use Rattle.mirror_folders.specs.Shelf.{RecordsRead};
 ghost use Rattle.mirror_folders.specs.Since.{since_paths};
 ghost use Rattle.log_reader.specs.EdgeRows.{LeadsTo};
+ghost use Rattle.mirror_folders.specs.Flushes.{IsFlushedFirst};
+ghost use Rattle.copy_follow.specs.Secured.{FlushesNew, IsNewFileOf};
 ghost use Rattle.copy_follow.specs.Compared.{IsOverFound};
 ghost use Rattle.copy_follow.specs.Conflicts.{HasConflict, IsConflict, IsFalseEmpty, IsNoConflict};
 ghost use Rattle.copy_places.specs.Asked.{IsEdgeTile};
@@ -15,6 +17,7 @@ ghost use Rattle.copy_follow.specs.AskedForCopy.{AsksForCopy, BlamesFailed, IsIn
 ghost use Rattle.copy_follow.specs.Faults.{BlamesFrom, BlamesPlaces, BlamesRun, CountsShelf, IsOfNoPlace, IsOtherFound, IsOtherThen};
 ghost use Rattle.copy_places.specs.AskedOnce.{AsksEachOnce, AsksOnce};
 ghost use Rattle.copy_follow.specs.AskedForCopy.{AreEnds};
+ghost use Rattle.copy_places.specs.Answered.{AreAnswered};
 ghost use Rattle.copy_places.specs.EndTiles.{IsKept};
 ghost use Rattle.copy_places.specs.PlaceGets.{AsksPlaces};
 ghost use Rattle.copy_follow.specs.Damaged.{IsDamaged};
@@ -62,6 +65,7 @@ pub(crate) fn is_empty_root<H: TreeHash>(root: &Hash) -> bool
 // Passes to the shelf the number of files that the copy lacks. The checkpoint counts as one.
 fn expect_new<D: ReadableShelf>(shelf: &mut D, old_size: u64, size: u64)
     ensures same { KeepsRecord (D.puts shelf.old) (D.puts shelf.new) }
+    ensures still { D.flushes shelf.new ≡ D.flushes shelf.old }
     ensures failed { D.failed shelf.new ≡ D.failed shelf.old }
     ensures expected { IfSome (D.expected shelf.new)
         (λ all. all ≡ length (since_paths old_size size)) }
@@ -79,6 +83,7 @@ fn find_new_edge<H: TreeHash, D: ReadableShelf, S: Source + Drop>(
 ) -> Result<EdgeRows, BringFault>
     ensures fault { IfErr result IsNoConflict }
     ensures same { KeepsRecord (D.puts shelf.old) (D.puts shelf.new) }
+    ensures still { D.flushes shelf.new ≡ D.flushes shelf.old }
     ensures counted { CountsShelf (D.failed shelf.old) (D.failed shelf.new) result }
     ensures asks { AsksPlaces S.may_answer S.failed S.asked (IsEdgeTile candidate.now.size)
         places.old places.new }
@@ -121,6 +126,9 @@ fn put_empty<H: TreeHash, D: ReadableShelf>(
     ensures honest { IfErr result (λ e. candidate.now.root ≡ mth H.digest [] → IsSpared e) }
     ensures brings { BringsFromTip H.digest origin.now candidate.now.note.now tip.now
         (D.puts shelf.old) (D.puts shelf.new) result }
+    ensures flushed { OnOk result (IsFlushedFirst
+        (IsNewFileOf tip.now.size candidate.now.size) (D.flushes shelf.old)
+        (D.flushes shelf.new)) }
 {
     if !is_empty_root::<H>(&candidate.root) {
         return Err(BringFault::Contradiction);
@@ -154,6 +162,9 @@ fn bring_larger<H: TreeHash, D: ReadableShelf, S: Source + Drop>(
     ensures empty { IfErr result (λ e. IsKnown H.digest tip.now 0 [] → IsNoConflict e) }
     ensures brings { BringsFromTip H.digest origin.now candidate.now.note.now tip.now
         (D.puts shelf.old) (D.puts shelf.new) result }
+    ensures flushed { OnOk result (IsFlushedFirst
+        (IsNewFileOf tip.now.size candidate.now.size) (D.flushes shelf.old)
+        (D.flushes shelf.new)) }
 {
     let edge = match find_new_edge::<H, D, S>(alloc, shelf, places, tip, candidate) {
         Ok(edge) => edge,
@@ -190,6 +201,9 @@ fn bring_from<H: TreeHash, D: ReadableShelf, S: Source + Drop>(
         → IsFalseEmpty H.digest candidate.now.size candidate.now.root) }
     ensures brings { BringsFromTip H.digest origin.now candidate.now.note.now tip.now
         (D.puts shelf.old) (D.puts shelf.new) result }
+    ensures flushed { OnOk result (IsFlushedFirst
+        (IsNewFileOf tip.now.size candidate.now.size) (D.flushes shelf.old)
+        (D.flushes shelf.new)) }
 {
     if tip.size() < candidate.size {
         return bring_larger::<H, D, S>(alloc, origin, shelf, places, tip, candidate);
@@ -271,6 +285,8 @@ pub fn bring_copy<H: TreeHash, D: ReadableShelf, S: Source + Drop>(
         → AreEnds H.digest origin.now note.now (D.puts shelf.old) places.new.ends.sizes) }
     ensures sizes { IfErr result (λ e. IsOfFiles e → AreSizesIn origin.now
         (option_map (λ b. b.now) found.entry) note.now places.new.ends.sizes) }
+    ensures answered { IfErr result (λ e. IsOfFiles e
+        → AreAnswered S.may_answer places.old places.new) }
     ensures whole { KeepsCopy H.digest origin.now note.now (D.puts shelf.old) (D.puts shelf.new) }
     ensures stays { IfErr result
         (λ _. CopyStays H.digest origin.now (D.puts shelf.old) (D.puts shelf.new)) }
@@ -279,6 +295,8 @@ pub fn bring_copy<H: TreeHash, D: ReadableShelf, S: Source + Drop>(
     ensures pruned { LeavesPruned H.digest origin.now note.now (D.puts shelf.old)
         (D.puts shelf.new) result }
     ensures had_pruned { IfOk result (HadPruned H.digest origin.now (D.puts shelf.old)) }
+    ensures flushed { IfOk result (λ size. FlushesNew origin.now note.now size
+        (D.flushes shelf.old) (D.flushes shelf.new)) }
 {
     places.begin();
     let Some(head) = head_of(alloc, origin, note)? else {
@@ -295,7 +313,7 @@ pub fn bring_copy<H: TreeHash, D: ReadableShelf, S: Source + Drop>(
         Err(fault) => return Err(fault),
     };
     let had = tip.size();
-    places.keep_ends(had, candidate.size);
+    places.keep_ends(had, candidate.size, &candidate.root);
     let done = bring_from::<H, D, S>(alloc, origin, shelf, places, &tip, &candidate);
     drop(tip);
     match done {

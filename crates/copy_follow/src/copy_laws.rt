@@ -1,5 +1,6 @@
 //! Laws of the definitions that the contracts cite.
 ghost use Rattle.copy_follow.specs.Copies.{BringingBeginsEmpty, BringingMakesCopy, BringingStaysCopy, BroughtRowsLeadToRoot, CopiesAreSame, NewFilesKeepCopies};
+ghost use Rattle.copy_follow.specs.Exported.{CopiesAreExported, PrunedCopiesAreSame};
 ghost use Rattle.copy_follow.specs.Pruned.{CopiesArePruned};
 ghost use Rattle.copy_follow.specs.Repaired.{RepairKeepsTrue};
 
@@ -23,10 +24,13 @@ pub fn root_law()
     ensures { BroughtRowsLeadToRoot }
 {}
 
-/// Two copies of one size and root have the same files, except the checkpoint. Premise: no two different strings of their trees share a
-/// digest.
+/// Two copies of one size and root have the same files, except the checkpoint. They are those that an export of a state puts, if it serves
+/// entries of that size and root. This also holds of copies whose partial files were replaced by full ones. Premise: no two different
+/// strings of the two trees share a digest.
 pub fn same_copy_law()
-    ensures { CopiesAreSame }
+    ensures same { CopiesAreSame }
+    ensures pruned { PrunedCopiesAreSame }
+    ensures exported { CopiesAreExported }
 {}
 
 /// A copy with all its files is also a copy whose partial files may be replaced by full files.

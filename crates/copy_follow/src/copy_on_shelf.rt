@@ -1,8 +1,8 @@
 //! The copy on the shelf, as a run finds it.
-ghost use Rattle.std.specs.Prelude.{◌≡◌, ◌<◌, IfErr, IfOk, IfSome, None, OnOk, Some, ⊤};
+ghost use Rattle.std.specs.Prelude.{◌≡◌, ◌<◌, ℕ, IfErr, IfOk, IfSome, List, None, OnOk, Some, ⊤};
 ghost use Rattle.tlog_tiles.specs.declared.paths.Path.TheVariants.{Checkpoint};
 ghost use Rattle.mirror_sources.specs.Recorded.{KeepsRecord};
-ghost use Rattle.mirror_folders.specs.Shelf.{RecordsSome};
+ghost use Rattle.mirror_folders.specs.Shelf.{RecordsRead};
 ghost use Rattle.copy_reader.specs.Ends.{IsReadAtEnd};
 ghost use Rattle.copy_reader.specs.Faults.{CountsRead};
 ghost use Rattle.copy_reader.specs.WholeCopies.{ReadsCopyLog};
@@ -101,7 +101,7 @@ pub(crate) fn judge_copy<H: TreeHash, D: ReadableShelf>(
     ensures judged { IfOk result (λ copy. IfSome copy
         (λ c. IsReadAtEnd H.digest (D.puts shelf.old) c.size.0 c.root)) }
     ensures some { IfErr result (λ e. e ≡ FollowFault.CopyDamaged
-        → RecordsSome (D.puts shelf.old) Checkpoint) }
+        → (note : List ℕ) × RecordsRead (D.puts shelf.old) Checkpoint (Some note)) }
 {
     let Some(note) = shelf.read(&Path::Checkpoint)? else {
         return Ok(None);

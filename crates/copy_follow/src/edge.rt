@@ -2,6 +2,8 @@
 ghost use Rattle.std.specs.Prelude.{◌*◌, ◌^◌, ◌<◌, ◌≤◌, [], ℕ, List, IfErr, OnOk, take};
 ghost use Rattle.tlog_shape.specs.Edge.{edge_index_of};
 ghost use Rattle.mirror_sources.specs.Recorded.{KeepsRecord};
+ghost use Rattle.mirror_folders.specs.Flushes.{Secures};
+ghost use Rattle.copy_follow.specs.Secured.{IsNewInEdge};
 ghost use Rattle.copy_follow.specs.Asked.{IsNewFull};
 ghost use Rattle.copy_follow.specs.Faults.{BlamesPlaces, CountsShelf};
 ghost use Rattle.copy_places.specs.AskedOnce.{AsksOnce};
@@ -53,6 +55,8 @@ pub(crate) fn bring_levels<H: TreeHash, D: ReadableShelf, S: Source + Drop>(
     ensures empty { IfErr result (λ e. IsKnown H.digest tip.now 0 [] → IsNoConflict e) }
     ensures brings { (known : List (List ℕ)) → IsKnown H.digest tip.now 0 known
         → BringsEdge H.digest tip.now edge.now known (D.puts shelf.old) (D.puts shelf.new) result }
+    ensures secured { OnOk result (Secures (IsNewInEdge tip.now.size edge.now.size 1)
+        (D.flushes shelf.old) (D.flushes shelf.new)) }
 {
     let bundles = edge.size() / 256;
     for done in 0..7u32 {

@@ -1,8 +1,10 @@
 //! The partial bundle at the right edge.
-ghost use Rattle.std.specs.Prelude.{◌≢◌, ◌*◌, ◌^◌, ◌<◌, ◌≤◌, [], ℕ, List, IfErr, IfNone, IfOk, IfSome, Some, length, take};
+ghost use Rattle.std.specs.Prelude.{◌≡◌, ◌≢◌, ◌*◌, ◌^◌, ◌<◌, ◌≤◌, [], ℕ, List, IfErr, IfNone, IfOk, IfSome, OnOk, Some, length, take};
 ghost use Rattle.tlog_shape.specs.Edge.{edge_index_of};
 ghost use Rattle.mirror_sources.specs.Files.{full_of};
 ghost use Rattle.mirror_sources.specs.Recorded.{KeepsRecord};
+ghost use Rattle.mirror_folders.specs.Flushes.{Secures};
+ghost use Rattle.copy_follow.specs.Secured.{IsLastBundle};
 ghost use Rattle.copy_follow.specs.Asked.{IsEdgeBundle};
 ghost use Rattle.copy_places.specs.Asked.{IsPathOrFull};
 ghost use Rattle.copy_follow.specs.Faults.{BlamesPlaces, CountsShelf, IsOfNoPlace};
@@ -47,6 +49,7 @@ pub(crate) fn edge_bundle_on_shelf<H: TreeHash, D: ReadableShelf>(
     ensures fault { IfErr result IsNoConflict }
     ensures places { IfErr result IsOfNoPlace }
     ensures same { KeepsRecord (D.puts shelf.old) (D.puts shelf.new) }
+    ensures still { D.flushes shelf.new ≡ D.flushes shelf.old }
     ensures counted { CountsShelf (D.failed shelf.old) (D.failed shelf.new) result }
     ensures taken { IfOk result (λ found. IfSome found
         (λ bytes. PartOf (WasPut (D.puts shelf.old)) path.now bytes.items)) }
@@ -78,6 +81,7 @@ pub(crate) fn find_edge_bundle<H: TreeHash, D: ReadableShelf, S: Source + Drop>(
     ensures found { IfOk result (λ bytes. HasLeaves H.digest (length row.now) bytes.items row.now) }
     ensures fault { IfErr result IsNoConflict }
     ensures same { KeepsRecord (D.puts shelf.old) (D.puts shelf.new) }
+    ensures still { D.flushes shelf.new ≡ D.flushes shelf.old }
     ensures counted { CountsShelf (D.failed shelf.old) (D.failed shelf.new) result }
     ensures asks { AsksPlaces S.may_answer S.failed S.asked (IsPathOrFull path.now)
         places.old places.new }
@@ -127,6 +131,8 @@ pub(crate) fn bring_edge_bundle<H: TreeHash, D: ReadableShelf, S: Source + Drop>
         (edge_index_of edge.now.size 0 * 256) known
         → BringsEdgeBundle H.digest tip.now.size edge.now known (D.puts shelf.old)
         (D.puts shelf.new) result }
+    ensures secured { OnOk result (Secures (IsLastBundle edge.now.size) (D.flushes shelf.old)
+        (D.flushes shelf.new)) }
 {
     let row = edge.row(0);
     if row.is_empty() {

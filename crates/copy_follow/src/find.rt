@@ -34,6 +34,7 @@ fn file_on_shelf<H: TreeHash, D: ReadableShelf>(
     ensures fault { IfErr result IsNoConflict }
     ensures places { IfErr result IsOfNoPlace }
     ensures same { KeepsRecord (D.puts shelf.old) (D.puts shelf.new) }
+    ensures still { D.flushes shelf.new ≡ D.flushes shelf.old }
     ensures counted { CountsShelf (D.failed shelf.old) (D.failed shelf.new) result }
     ensures taken { IfOk result (λ found. IfSome found
         (λ f. WasPut (D.puts shelf.old) path.now f.bytes.items)) }
@@ -66,6 +67,7 @@ pub(crate) fn find<H: TreeHash, D: ReadableShelf, S: Source + Drop>(
     ensures found { IfOk result (λ f. Verifies H.digest kind hash.now f.bytes.items f.row.items) }
     ensures fault { IfErr result IsNoConflict }
     ensures same { KeepsRecord (D.puts shelf.old) (D.puts shelf.new) }
+    ensures still { D.flushes shelf.new ≡ D.flushes shelf.old }
     ensures counted { CountsShelf (D.failed shelf.old) (D.failed shelf.new) result }
     ensures asks { AsksPlaces S.may_answer S.failed S.asked (λ p. p ≡ path.now)
         places.old places.new }

@@ -1,5 +1,5 @@
 //! The edge rows of a tree: all from the shelf, or all from one place.
-ghost use Rattle.std.specs.Prelude.{◌≤◌, ℕ, List, IfErr, IfNone, IfOk, IfSome};
+ghost use Rattle.std.specs.Prelude.{◌≡◌, ◌≤◌, ℕ, List, IfErr, IfNone, IfOk, IfSome};
 ghost use Rattle.mirror_sources.specs.Recorded.{KeepsRecord};
 ghost use Rattle.log_reader.specs.EdgeRows.{LeadsTo};
 ghost use Rattle.copy_places.specs.Asked.{IsEdgeTile};
@@ -37,6 +37,7 @@ fn row_on_shelf<D: ReadableShelf>(
     ensures counted { CountsShelf (D.failed shelf.old) (D.failed shelf.new) result }
     ensures places { IfErr result IsOfNoPlace }
     ensures same { KeepsRecord (D.puts shelf.old) (D.puts shelf.new) }
+    ensures still { D.flushes shelf.new ≡ D.flushes shelf.old }
     ensures row { IfOk result (λ found. IfSome found
         (λ row. IsRowRead (D.puts shelf.old) size level row.items)) }
     ensures none { IfOk result (λ found. IfNone found
@@ -69,6 +70,7 @@ fn rows_on_shelf<D: ReadableShelf>(
     ensures counted { CountsShelf (D.failed shelf.old) (D.failed shelf.new) result }
     ensures places { IfErr result IsOfNoPlace }
     ensures same { KeepsRecord (D.puts shelf.old) (D.puts shelf.new) }
+    ensures still { D.flushes shelf.new ≡ D.flushes shelf.old }
     ensures edge { IfOk result (λ found. IfSome found
         (λ edge. IsEdgeRead (D.puts shelf.old) size edge)) }
     ensures none { IfOk result (λ found. IfNone found
@@ -95,6 +97,7 @@ pub(crate) fn edge_on_shelf<H: TreeHash, D: ReadableShelf>(
     ensures counted { CountsShelf (D.failed shelf.old) (D.failed shelf.new) result }
     ensures places { IfErr result IsOfNoPlace }
     ensures same { KeepsRecord (D.puts shelf.old) (D.puts shelf.new) }
+    ensures still { D.flushes shelf.new ≡ D.flushes shelf.old }
     ensures read { IfOk result (λ found. IfSome found
         (λ edge. IsEdgeRead (D.puts shelf.old) size edge)) }
     ensures none { IfOk result (λ found. IfNone found
@@ -123,6 +126,7 @@ pub(crate) fn find_edge<H: TreeHash, D: ReadableShelf, S: Source + Drop>(
 ) -> Result<EdgeRows, BringFault>
     ensures fault { IfErr result IsNoConflict }
     ensures same { KeepsRecord (D.puts shelf.old) (D.puts shelf.new) }
+    ensures still { D.flushes shelf.new ≡ D.flushes shelf.old }
     ensures counted { CountsShelf (D.failed shelf.old) (D.failed shelf.new) result }
     ensures asks { AsksPlaces S.may_answer S.failed S.asked (IsEdgeTile size)
         places.old places.new }

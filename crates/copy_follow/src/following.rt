@@ -1,10 +1,14 @@
 //! A copy that follows its places.
-ghost use Rattle.std.specs.Prelude.{All, IfErr, IfOk, map, option_map};
+ghost use Rattle.std.specs.Prelude.{◌≡◌, All, IfErr, IfOk, None, map, option_map};
+ghost use Rattle.tlog_tiles.specs.declared.paths.Path.TheVariants.{Checkpoint};
+ghost use Rattle.mirror_folders.specs.Shelf.{RecordsRead};
+ghost use Rattle.copy_places.specs.AskedOnce.{AsksEachOnce};
 ghost use Rattle.copy_places.specs.Requests.{IsGivenOrMayGive};
-ghost use Rattle.copy_places.specs.GatheredFrom.{AreCandidates};
+ghost use Rattle.copy_places.specs.GatheredFrom.{AreCandidates, AreFirstCandidates};
 ghost use Rattle.copy_places.specs.Shown.{ShowsLine};
 ghost use Rattle.copy_follow.specs.Blame.{CountsFollow};
-ghost use Rattle.copy_follow.specs.Ending.{EndsFor};
+ghost use Rattle.copy_follow.specs.Ending.{EndsFor, EndsOnce};
+ghost use Rattle.copy_follow.specs.Looks.{EndsLooking};
 ghost use Rattle.copy_follow.specs.OneHonestRun.{IsHonestAmong, IsHonestRun, ReachesLog, ReachesSize};
 ghost use Rattle.copy_follow.specs.Runs.{FollowsCandidates};
 ghost use Rattle.copy_follow.specs.Says.{Says};
@@ -66,13 +70,18 @@ pub fn follow<H: TreeHash, D: ReadableShelf, S: Source + Drop>(
     ensures brought { IfOk result
         (IsFollowed H.digest origin.now (D.puts shelf.old) (D.puts shelf.new)) }
     ensures forks { IfOk result (λ f. All (ShowsLine H.digest) f.forks.items) }
-    ensures says { IfOk result (Says H.digest origin.now (AreCandidates S.may_answer origin.now
-        (map (λ k. key k) keys.now) places.old places.new (option_map (λ v. v.items) given))
-        (D.puts shelf.old) (D.puts shelf.new)) }
+    ensures says { IfOk result (Says H.digest origin.now (AreFirstCandidates S.may_answer S.failed
+        S.asked origin.now (map (λ k. key k) keys.now) places.old places.new
+        (option_map (λ v. v.items) given)) (D.puts shelf.old) (D.puts shelf.new)) }
     ensures counted { CountsFollow (D.failed shelf.old) (D.failed shelf.new) result }
     ensures ends { IfErr result (EndsFor H.digest S.may_answer origin.now
         (map (λ k. key k) keys.now) (D.puts shelf.old) places.old places.new
         (option_map (λ v. v.items) given)) }
+    ensures looks { IfErr result (λ e. (look : D) × EndsLooking
+        (IsGivenOrMayGive S.may_answer (option_map (λ v. v.items) given) places.old)
+        (D.puts shelf.old) (D.puts look) e) }
+    ensures passed { IfErr result (EndsOnce (AsksEachOnce S.asked (λ k path. path ≡ Checkpoint)
+        places.old places.new) (RecordsRead (D.puts shelf.old) Checkpoint None)) }
     ensures suffices { (h : IsHonestRun H.digest S.may_answer (D.puts shelf.old) places.old
         places.new origin.now (AreCandidates S.may_answer origin.now (map (λ k. key k) keys.now)
         places.old places.new (option_map (λ v. v.items) given)))

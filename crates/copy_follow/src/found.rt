@@ -40,6 +40,7 @@ pub(crate) fn read_found<H: TreeHash, D: ReadableShelf>(
     ensures blames { IfErr result (BlamesTip H.digest origin.now
         (option_map (λ b. b.now) found.entry) (D.puts shelf.old)) }
     ensures same { KeepsRecord (D.puts shelf.old) (D.puts shelf.new) }
+    ensures still { D.flushes shelf.new ≡ D.flushes shelf.old }
     ensures tip { IfOk result (λ tip. IsTipRead H.digest origin.now (D.puts shelf.old) tip) }
     ensures compared { OnOk result (RecordsRead (D.puts shelf.old) Checkpoint
         (option_map (λ b. b.now) found.entry)) }

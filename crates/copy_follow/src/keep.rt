@@ -1,6 +1,7 @@
 //! A verified file, put if the shelf lacks it.
-ghost use Rattle.std.specs.Prelude.{◌⊎◌, [], ◌∷◌, IfErr, IfOk, IsTrue, OnOk};
+ghost use Rattle.std.specs.Prelude.{◌≡◌, ◌⊎◌, [], ◌∷◌, IfErr, IfOk, IsTrue, OnOk};
 ghost use Rattle.mirror_sources.specs.Recorded.{KeepsRecord, AddsToRecord};
+ghost use Rattle.mirror_folders.specs.Flushes.{Secures};
 ghost use Rattle.copy_follow.specs.Conflicts.{IsNoConflict};
 ghost use Rattle.copy_follow.specs.Faults.{CountsShelf, IsOfNoPlace};
 ghost use Rattle.copy_follow.specs.Standing.{RecordsStands};
@@ -16,6 +17,7 @@ fn stands<D: ReadableShelf>(shelf: &mut D, path: &Path, bytes: &[u8]) -> Result<
     ensures counted { CountsShelf (D.failed shelf.old) (D.failed shelf.new) result }
     ensures places { IfErr result IsOfNoPlace }
     ensures same { KeepsRecord (D.puts shelf.old) (D.puts shelf.new) }
+    ensures still { D.flushes shelf.new ≡ D.flushes shelf.old }
     ensures there { IfOk result (λ b. IsTrue b
         → RecordsStands (D.puts shelf.old) (D.puts shelf.new) path.now bytes.now) }
 {
@@ -38,6 +40,8 @@ pub(crate) fn keep<D: ReadableShelf>(
         ⊎ AddsToRecord (D.puts shelf.old) (D.puts shelf.new) ((path.now, bytes.now) ∷ []) }
     ensures stands { OnOk result
         (RecordsStands (D.puts shelf.old) (D.puts shelf.new) path.now bytes.now) }
+    ensures secured { OnOk result
+        (Secures (λ p. p ≡ path.now) (D.flushes shelf.old) (D.flushes shelf.new)) }
 {
     if stands(shelf, path, bytes)? {
         shelf.flush_before_checkpoint(path)?;

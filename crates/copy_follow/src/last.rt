@@ -1,5 +1,6 @@
 //! The checkpoint, which is put last.
-ghost use Rattle.std.specs.Prelude.{◌≡◌, ◌↔◌, IfErr, IsTrue, option_map};
+ghost use Rattle.std.specs.Prelude.{◌≡◌, ◌↔◌, IfErr, IsTrue, OnOk, option_map};
+ghost use Rattle.mirror_folders.specs.Flushes.{FlushesAll};
 ghost use Rattle.copy_follow.specs.Conflicts.{IsNoConflict};
 ghost use Rattle.copy_follow.specs.Faults.{BlamesLast, CountsShelf};
 ghost use Rattle.copy_follow.specs.Edges.{PutsNote};
@@ -31,6 +32,7 @@ pub(crate) fn put_last<D: ReadableShelf>(
     ensures counted { CountsShelf (D.failed shelf.old) (D.failed shelf.new) result }
     ensures blames { IfErr result (BlamesLast tip.now.checkpoint (D.puts shelf.old)) }
     ensures puts { PutsNote (D.puts shelf.old) (D.puts shelf.new) note.now result }
+    ensures flushed { OnOk result (FlushesAll (D.flushes shelf.old) (D.flushes shelf.new)) }
 {
     let now = shelf.read(&Path::Checkpoint)?;
     if !is_unchanged(tip, &now) {

@@ -12,6 +12,7 @@ mod copy_laws;
 mod copy_on_shelf;
 mod edge;
 mod edge_bundle;
+mod fault_now;
 mod find;
 mod find_edge;
 mod first;
@@ -25,6 +26,7 @@ mod lines;
 mod mend;
 mod mend_edge;
 mod mend_tiles;
+mod own_edge;
 mod read_tip;
 mod renote;
 mod repair;
@@ -46,7 +48,7 @@ pub use copy_laws::{
     same_copy_law, stays_copy_law,
 };
 pub use follow_fault::FollowFault;
-pub use follow_laws::run_law;
+pub use follow_laws::{larger_fork_law, run_law};
 pub use following::follow;
 pub use repair::repair_copy;
 pub use repaired::Repaired;

@@ -8,15 +8,12 @@ ghost use Rattle.copy_places.specs.Giving.{IsEdgeFrom, PartOf};
 ghost use Rattle.copy_places.specs.PlaceGets.{AsksPlaces};
 ghost use Rattle.log_reader.specs.Verified.{HasLeaves};
 ghost use Rattle.mirror_sources.specs.Recorded.{KeepsRecord};
-ghost use Rattle.copy_places.specs.TrueAnswers.{HasTrueLeaves, IsRootOf};
-ghost use Rattle.copy_places.specs.TruePlaces.{HasTruePlace};
 ghost use Rattle.mirror_model.specs.TrueLaws.{AreShort};
 ghost use Rattle.copy_follow.specs.Asked.{IsNewFull};
-ghost use Rattle.copy_follow.specs.Damaged.{IsEdgeWrong};
 ghost use Rattle.copy_follow.specs.Edges.{IsEdgeBrought};
 ghost use Rattle.copy_follow.specs.Faults.{CountsShelf};
 ghost use Rattle.copy_follow.specs.Growing.{IsKnown, empty_tip};
-ghost use Rattle.copy_follow.specs.Lacked.{GoesDown, GoesOverAll, IsHadOrLacked, IsRecorded};
+ghost use Rattle.copy_follow.specs.Lacked.{GoesDown, GoesOverAll, IsEdgeNowhere, IsEndNowhere, IsHadOrLacked};
 ghost use Rattle.copy_follow.specs.Named.{NamesDamaged};
 ghost use Rattle.copy_follow.specs.Repaired.{AreEndsClear, BeginsBundle, CountsPuts, IsClearLog, IsEachHad, IsEdgeCut, IsEndHad, IsOfEdge, MayBeAskedToRepair, Mends, MendsEdgeTile, MendsEdgeTiles, PutsTrue};
 ghost use Rattle.copy_follow.specs.Suffices.{IsEdgeTrue, IsSpared};
@@ -27,6 +24,7 @@ use crate::edge_bundle::edge_bundle_on_shelf;
 use crate::find_edge::edge_on_shelf;
 use crate::mend::{mend_partial, note_lack};
 use crate::mend_tiles::{both, mend_row};
+use crate::own_edge::{own_edge, own_end};
 use crate::repaired::Repaired;
 use crate::wider::{edge_in_wider_ones, end_in_wider_ones};
 use copy_places::{Places, bundle_at_places, edge_at_places};
@@ -159,7 +157,9 @@ fn mend_edge_tiles<H: TreeHash, D: ReadableShelf>(
     Ok(())
 }
 
-// The edge rows of a tree of that size and root: from the shelf, or else all from one place that has that tree. None: nobody has them.
+// The edge rows of a tree of that size and root: from the shelf, or else all from one place that has that tree. A partial tile on the shelf
+// may be false beside its full one, so what that begins with counts too. None: nobody has them.
+#[tactic(auto, using(crate::proofs::Earlier::kept_then))]
 fn edge_found<H: TreeHash, D: ReadableShelf, S: Source + Drop>(
     alloc: Global,
     shelf: &mut D,
@@ -176,12 +176,16 @@ fn edge_found<H: TreeHash, D: ReadableShelf, S: Source + Drop>(
         (λ edge. LeadsTo H.digest size root.now edge)) }
     ensures taken { IfOk result (λ found. IfSome found
         (λ edge. IsEdgeFrom (MayTake S.may_answer places.old (D.puts shelf.old)) size edge)) }
-    ensures none { IfOk result (λ found. IfNone found (
-        IsEdgeWrong (D.puts shelf.old) size H.digest root.now
-        × ((log : List (List ℕ)) → IsRootOf H.digest log size root.now
-        → ¬ HasTruePlace H.digest log S.may_answer places.old places.new))) }
+    ensures none { IfOk result (λ found. IfNone found
+        (IsEdgeNowhere H.digest S.may_answer places.old places.new (D.puts shelf.old)
+        size root.now)) }
 {
     match edge_on_shelf::<H, D>(alloc, shelf, size, root) {
+        Ok(Some(edge)) => return Ok(Some(edge)),
+        Ok(None) => {}
+        Err(fault) => return Err(fault),
+    }
+    match own_edge::<H, D>(alloc, shelf, size, root) {
         Ok(Some(edge)) => return Ok(Some(edge)),
         Ok(None) => {}
         Err(fault) => return Err(fault),
@@ -192,7 +196,9 @@ fn edge_found<H: TreeHash, D: ReadableShelf, S: Source + Drop>(
     }
 }
 
-// The partial bundle at the path: from the shelf, or else from a place that has it. None: nobody has it.
+// The partial bundle at the path: from the shelf, also cut from its full one where the partial one is false, or else from a place that has
+// it. None: nobody has it.
+#[tactic(auto, using(crate::proofs::Earlier::kept_then))]
 fn end_found<H: TreeHash, D: ReadableShelf, S: Source + Drop>(
     alloc: Global,
     shelf: &mut D,
@@ -210,13 +216,16 @@ fn end_found<H: TreeHash, D: ReadableShelf, S: Source + Drop>(
         (λ bytes. HasLeaves H.digest (length row.now) bytes.items row.now)) }
     ensures taken { IfOk result (λ found. IfSome found (λ bytes. PartOf
         (MayTake S.may_answer places.old (D.puts shelf.old)) path.now bytes.items)) }
-    ensures none { IfOk result (λ found. IfNone found (
-        ((bytes : List ℕ) → IsRecorded (D.puts shelf.old) path.now bytes
-        → ¬ HasLeaves H.digest (length row.now) bytes row.now)
-        × ((log : List (List ℕ)) → AreShort log → HasTrueLeaves H.digest log path.now row.now
-        → ¬ HasTruePlace H.digest log S.may_answer places.old places.new))) }
+    ensures none { IfOk result (λ found. IfNone found
+        (IsEndNowhere H.digest S.may_answer places.old places.new (D.puts shelf.old)
+        path.now row.now)) }
 {
     match edge_bundle_on_shelf::<H, D>(alloc, shelf, path, row) {
+        Ok(Some(bytes)) => return Ok(Some(bytes)),
+        Ok(None) => {}
+        Err(fault) => return Err(fault),
+    }
+    match own_end::<H, D>(alloc, shelf, path, row) {
         Ok(Some(bytes)) => return Ok(Some(bytes)),
         Ok(None) => {}
         Err(fault) => return Err(fault),
@@ -245,10 +254,9 @@ pub(crate) fn look_for_edge<H: TreeHash, D: ReadableShelf, S: Source + Drop>(
         (λ edge. LeadsTo H.digest size root.now edge)) }
     ensures taken { IfOk result (λ found. IfSome found
         (λ edge. IsEdgeCut (MayTake S.may_answer places.old (D.puts shelf.old)) size edge)) }
-    ensures none { IfOk result (λ found. IfNone found (
-        IsEdgeWrong (D.puts shelf.old) size H.digest root.now
-        × ((log : List (List ℕ)) → IsRootOf H.digest log size root.now
-        → ¬ HasTruePlace H.digest log S.may_answer places.old places.new))) }
+    ensures none { IfOk result (λ found. IfNone found
+        (IsEdgeNowhere H.digest S.may_answer places.old places.new (D.puts shelf.old)
+        size root.now)) }
 {
     match edge_found::<H, D, S>(alloc, shelf, places, size, root) {
         Ok(Some(edge)) => return Ok(Some(edge)),
@@ -283,11 +291,9 @@ fn look_for_end<H: TreeHash, D: ReadableShelf, S: Source + Drop>(
     ensures taken { IfOk result (λ found. IfSome found
         (λ bytes. BeginsBundle (MayTake S.may_answer places.old (D.puts shelf.old))
         (edge_index_of size 0) bytes.items)) }
-    ensures none { IfOk result (λ found. IfNone found (
-        ((bytes : List ℕ) → IsRecorded (D.puts shelf.old) path.now bytes
-        → ¬ HasLeaves H.digest (length row.now) bytes row.now)
-        × ((log : List (List ℕ)) → AreShort log → HasTrueLeaves H.digest log path.now row.now
-        → ¬ HasTruePlace H.digest log S.may_answer places.old places.new))) }
+    ensures none { IfOk result (λ found. IfNone found
+        (IsEndNowhere H.digest S.may_answer places.old places.new (D.puts shelf.old)
+        path.now row.now)) }
 {
     match end_found::<H, D, S>(alloc, shelf, places, path, row) {
         Ok(Some(bytes)) => return Ok(Some(bytes)),

@@ -33,6 +33,7 @@ fn bundle_on_shelf<H: TreeHash, D: ReadableShelf>(
     ensures damaged { IfErr result (λ e. ((e ≡ CopyDamaged)
         × IsBundleWrong H.digest (D.puts shelf.old) edge.now) ⊎ IsOfNoPlace e) }
     ensures same { KeepsRecord (D.puts shelf.old) (D.puts shelf.new) }
+    ensures still { D.flushes shelf.new ≡ D.flushes shelf.old }
     ensures bundle { IfOk result (λ bytes. IsBundleRead
         (D.puts shelf.old) edge.now.size bytes.items) }
 {
@@ -64,6 +65,7 @@ pub(crate) fn read_tip<H: TreeHash, D: ReadableShelf>(
     ensures damaged { IfErr result (λ e. ((e ≡ CopyDamaged)
         × IsDamaged H.digest origin.now (D.puts shelf.old)) ⊎ IsOfNoPlace e) }
     ensures same { KeepsRecord (D.puts shelf.old) (D.puts shelf.new) }
+    ensures still { D.flushes shelf.new ≡ D.flushes shelf.old }
     ensures tip { IfOk result (λ tip. IsTipRead H.digest origin.now (D.puts shelf.old) tip) }
     ensures size { IfOk result (λ tip. IsSizeIn origin.now tip.checkpoint tip.size) }
 {

@@ -173,8 +173,9 @@ fn mend_noted<H: TreeHash, D: ReadableShelf, S: Source + Drop>(
 /// above it, and puts it in the place of what stood. So at each moment each file of the copy that was true is true, for all answers of
 /// the places. The checkpoint is not put.
 ///
-/// A file of the right edge is also cut from the full file, and from the wider file of a place whose checkpoint has a larger size. The rows
-/// of the edge have to lead to the checkpoint's root. A partial file is not missing where its full file stands and begins with its bytes.
+/// A file of the right edge is also cut from the full file, of the shelf or of a place, and from the wider file of a place whose checkpoint
+/// has a larger size. The rows of the edge have to lead to the checkpoint's root. A partial file is not missing where its full file stands
+/// and begins with its bytes. A false one is replaced there too.
 ///
 /// A file that nobody has stays as it is, and so does all below a tile that nobody has. The rest is repaired.
 ///

@@ -1,5 +1,5 @@
 //! The edge files on a shelf.
-ghost use Rattle.std.specs.Prelude.{IfErr, IfOk, IfSome, option_map};
+ghost use Rattle.std.specs.Prelude.{◌≡◌, IfErr, IfOk, IfSome, option_map};
 ghost use Rattle.mirror_sources.specs.Recorded.{KeepsRecord};
 ghost use Rattle.copy_follow.specs.Conflicts.{IsNoConflict};
 ghost use Rattle.copy_follow.specs.Faults.{CountsShelf, IsOfNoPlace};
@@ -24,6 +24,7 @@ pub(crate) fn read_partial<D: ReadableShelf>(
     ensures counted { CountsShelf (D.failed shelf.old) (D.failed shelf.new) result }
     ensures places { IfErr result IsOfNoPlace }
     ensures same { KeepsRecord (D.puts shelf.old) (D.puts shelf.new) }
+    ensures still { D.flushes shelf.new ≡ D.flushes shelf.old }
     ensures answer { IfOk result (λ found. RecordsPartial (D.puts shelf.old) path.now
         (option_map (λ v. v.items) found)) }
     ensures taken { IfOk result (λ found. IfSome found

@@ -1,6 +1,8 @@
 //! A copy brought to a larger checkpoint.
-ghost use Rattle.std.specs.Prelude.{◌≡◌, ◌↔◌, ◌^◌, ◌<◌, ◌≤◌, [], ℕ, IfErr, IsTrue, List, length, take};
+ghost use Rattle.std.specs.Prelude.{◌≡◌, ◌↔◌, ◌^◌, ◌<◌, ◌≤◌, [], ℕ, IfErr, IsTrue, List, OnOk, length, take};
 ghost use Rattle.tlog_shape.specs.Edge.{edge_index_of, width_of};
+ghost use Rattle.mirror_folders.specs.Flushes.{IsFlushedFirst, Secures};
+ghost use Rattle.copy_follow.specs.Secured.{IsNewFileOf, IsNewLast, IsNewLastBelow};
 ghost use Rattle.copy_follow.specs.Conflicts.{ConflictPutsNothing, IsNoConflict};
 ghost use Rattle.copy_follow.specs.Asked.{IsEdgeBundleOrNew};
 ghost use Rattle.copy_places.specs.Asked.{IsEdgeTile};
@@ -55,6 +57,8 @@ fn put_edge_tile<H: TreeHash, D: ReadableShelf>(
         → RowIsTrue H.digest edge.now entries level
         → PutsEdgeTile H.digest tip.now.size edge.now entries (D.puts shelf.old)
         (D.puts shelf.new) level result }
+    ensures secured { OnOk result (Secures (IsNewLast tip.now.size edge.now.size level)
+        (D.flushes shelf.old) (D.flushes shelf.new)) }
 {
     let row = edge.row(level);
     if row.is_empty() {
@@ -88,6 +92,8 @@ fn put_edge_tiles<H: TreeHash, D: ReadableShelf>(
         → ((level : ℕ) → level ≤ 7 → RowIsTrue H.digest edge.now entries level)
         → PutsEdgeTiles H.digest tip.now.size edge.now entries (D.puts shelf.old)
         (D.puts shelf.new) result }
+    ensures secured { OnOk result (Secures (IsNewLastBelow tip.now.size edge.now.size 8)
+        (D.flushes shelf.old) (D.flushes shelf.new)) }
 {
     for level in 0..8u32 {
         put_edge_tile::<H, D>(alloc, shelf, tip, edge, level)?;
@@ -123,6 +129,8 @@ pub(crate) fn bring_to_edge<H: TreeHash, D: ReadableShelf, S: Source + Drop>(
     ensures brings { (known : List (List ℕ)) → IsKnown H.digest tip.now 0 known
         → BringsToEdge H.digest tip.now edge.now note.now known (D.puts shelf.old)
         (D.puts shelf.new) result }
+    ensures flushed { OnOk result (IsFlushedFirst (IsNewFileOf tip.now.size edge.now.size)
+        (D.flushes shelf.old) (D.flushes shelf.new)) }
 {
     match bring_levels::<H, D, S>(alloc, shelf, places, tip, edge) {
         Ok(()) => {}

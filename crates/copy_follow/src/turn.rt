@@ -1,11 +1,12 @@
 //! The turn of a candidate.
-ghost use Rattle.std.specs.Prelude.{◌≡◌, ◌∷◌, ◌+◌, ◌++◌, [], IfErr, IfOk, IfSome, List, None, OnOk, Option};
+ghost use Rattle.std.specs.Prelude.{◌≡◌, ◌∷◌, ◌+◌, ◌++◌, [], IfErr, IfOk, IfSome, List, None, OnOk, Option, option_map};
 ghost use Rattle.copy_places.specs.Requests.{AsksAny, PlaceFails};
 ghost use Rattle.copy_places.specs.Candidates.{note_of};
 ghost use Rattle.copy_places.specs.declared.candidate.Candidate.{Candidate};
 ghost use Rattle.copy_places.specs.declared.places.Places.{Places};
 ghost use Rattle.copy_follow.specs.Blame.{CountsFollow};
 ghost use Rattle.copy_follow.specs.Ending.{BlamesPlace, EndsAt, IsOfEmpty, KeepsFault};
+ghost use Rattle.copy_follow.specs.Looks.{EndsByLook};
 ghost use Rattle.copy_follow.specs.OneHonestRun.{BringsTo, IsBroughtOr, IsHonestTurn, StepsUp};
 ghost use Rattle.copy_follow.specs.Runs.{KeepsUnder};
 ghost use Rattle.copy_follow.specs.Turning.{ContinuesRun, ShowsTurn};
@@ -15,6 +16,7 @@ ghost use Rattle.copy_follow.specs.TurnsTaken.{HasTakenRun, IsLargerThan, IsNext
 
 use crate::bring_candidate::take_larger;
 use crate::compare::compare;
+use crate::fault_now::fault_now;
 use crate::first::take_first;
 use crate::follow_fault::FollowFault;
 use crate::renote::{has_lesser_note, renote};
@@ -89,6 +91,8 @@ pub(crate) fn take_turn<H: TreeHash, D: ReadableShelf, S: Source + Drop>(
         run.new.first_fault) }
     ensures ends { IfErr result
         (EndsAt (¬ HasStanding H.digest origin.now run.old.copy (D.puts shelf.old))) }
+    ensures looks { IfErr result (λ e. (look : D)
+        × EndsByLook (D.puts look) (option_map note_of run.old.copy) e) }
     ensures fault { OnOk result ((done : List Candidate) → KeepsFault H.digest done run.old
         → KeepsFault H.digest (done ++ candidate.now ∷ []) run.new) }
     ensures taken { OnOk result ((first : Option Candidate) (done : List Candidate)
@@ -107,7 +111,7 @@ pub(crate) fn take_turn<H: TreeHash, D: ReadableShelf, S: Source + Drop>(
 {
     let turn = match turn_for::<H, D, S>(alloc, origin, shelf, places, run, candidate) {
         Ok(turn) => turn,
-        Err(fault) => return Err(fault),
+        Err(fault) => return Err(fault_now(shelf, &run.copy, fault)),
     };
     match run.add(alloc, candidate, turn) {
         Ok(()) => Ok(()),

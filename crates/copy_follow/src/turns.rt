@@ -1,5 +1,5 @@
 //! The turns of all candidates.
-ghost use Rattle.std.specs.Prelude.{◌≡◌, ◌⊎◌, ◌↔◌, ◌+◌, ◌<◌, All, IfErr, IfOk, IfSome, IsTrue, List, OnOk, Option, Some, get_or, length, map, take};
+ghost use Rattle.std.specs.Prelude.{◌≡◌, ◌⊎◌, ◌↔◌, ◌+◌, ◌<◌, All, IfErr, IfOk, IfSome, IsTrue, List, OnOk, Option, Some, get_or, length, map, option_map, take};
 ghost use Rattle.std.specs.List.Sorted.{IsSorted};
 ghost use Rattle.mirror_folders.specs.Shelf.{Put};
 ghost use Rattle.copy_places.specs.Requests.{AsksAny, PlaceFails};
@@ -8,6 +8,7 @@ ghost use Rattle.copy_places.specs.declared.candidate.Candidate.{Candidate};
 ghost use Rattle.copy_places.specs.declared.places.Places.{Places};
 ghost use Rattle.copy_follow.specs.Blame.{CountsFollow};
 ghost use Rattle.copy_follow.specs.Ending.{BlamesPlace, EndsAt, KeepsFault};
+ghost use Rattle.copy_follow.specs.Looks.{EndsByLook, EndsTurns};
 ghost use Rattle.copy_follow.specs.OneHonestRun.{BringsTo, HasSize, IsHonestFirst, IsHonestListed, IsHonestTurn, StepsUp, TurnsReach};
 ghost use Rattle.copy_follow.specs.Runs.{KeepsEach};
 ghost use Rattle.copy_follow.specs.Turning.{ContinuesRun, IsRunFrom};
@@ -61,6 +62,8 @@ fn take_turn_at<H: TreeHash, D: ReadableShelf, S: Source + Drop>(
         run.new.first_fault) }
     ensures ends { IfErr result
         (EndsAt (¬ HasStanding H.digest origin.now run.old.copy (D.puts shelf.old))) }
+    ensures looks { IfErr result (λ e. (look : D)
+        × EndsByLook (D.puts look) (option_map note_of run.old.copy) e) }
     ensures fault { OnOk result (KeepsFault H.digest (take i candidates.now) run.old
         → KeepsFault H.digest (take (i + 1) candidates.now) run.new) }
     ensures taken { OnOk result ((first : Option Candidate) → IsSorted turn_cmp candidates.now
@@ -110,6 +113,8 @@ fn take_each<H: TreeHash, D: ReadableShelf, S: Source + Drop>(
     ensures ends { IfErr result (EndsAt ((first : Option (List Put))
         → IsCopyOfRun H.digest origin.now first (D.puts shelf.old) copy
         → HoldsNoCopy H.digest origin.now first)) }
+    ensures looks { IfErr result (λ e. IsSorted turn_cmp candidates.now → (look : D)
+        × EndsTurns copy candidates.now (D.puts look) e) }
     ensures fault { IfOk result (KeepsFault H.digest candidates.now) }
     ensures taken { IfOk result (λ run. IsSorted turn_cmp candidates.now
         → HasTakenRun H.digest copy candidates.now run) }
@@ -152,6 +157,8 @@ pub(crate) fn take_turns<H: TreeHash, D: ReadableShelf, S: Source + Drop>(
     ensures ends { IfErr result (EndsAt ((first : Option (List Put))
         → IsCopyOfRun H.digest origin.now first (D.puts shelf.old) copy
         → HoldsNoCopy H.digest origin.now first)) }
+    ensures looks { IfErr result (λ e. IsSorted turn_cmp candidates.now → (look : D)
+        × EndsTurns copy candidates.now (D.puts look) e) }
     ensures fault { IfOk result (KeepsFault H.digest candidates.now) }
     ensures taken { IfOk result (λ run. IsSorted turn_cmp candidates.now
         → HasTakenRun H.digest copy candidates.now run) }

@@ -40,9 +40,10 @@ rose_then m n a b c p q =
     let q1 : 1 ≤ n → c ≡ min (b + n) (2 ^ 64 - 1) = q.1 in
     (λ none. grind arith, λ some. grind arith)
 
-first_kept : (file : Option WrongFile) (path : Path) (wrong : Wrong) → IsSome file → with_first file path wrong ≡ file
-first_kept None path wrong some = absurd (cc some)
-first_kept (Some file) path wrong some = refl
+first_kept : (file : Option WrongFile) (path : Path) (wrong : Wrong) (tried : Option (ℕ × List ℕ)) → IsSome file →
+    with_first file path wrong tried ≡ file
+first_kept None path wrong tried some = absurd (cc some)
+first_kept (Some file) path wrong tried some = refl
 
 -- the answers that are kept
 
@@ -125,9 +126,10 @@ module _ {S : Type 0} (may : S → Path → Option (List ℕ) → Type 0) (faile
   }
 
   -- a wrong file was recorded, without a request
-  pub asked_noted : (so : Path → Type 0) (a b : Place S) (path : Path) (wrong : Wrong) → b.source ≡ a.source →
-      b.failures ≡ a.failures → b.first_wrong ≡ with_first a.first_wrong path wrong → IsAskedFor may failed asked so a b
-  asked_noted so a b path wrong is same noted = record {
+  pub asked_noted : (so : Path → Type 0) (a b : Place S) (path : Path) (wrong : Wrong) (tried : Option (ℕ × List ℕ)) →
+      b.source ≡ a.source → b.failures ≡ a.failures → b.first_wrong ≡ with_first a.first_wrong path wrong tried →
+      IsAskedFor may failed asked so a b
+  asked_noted so a b path wrong tried is same noted = record {
     later = record { stays = λ path answer h. subst (λ s. may s path answer) is h };
     paths = [];
     recorded = subst (λ s. AddsToRecord (asked a.source) (asked s) []) (sym is) (recorded_same (asked a.source));
@@ -135,7 +137,7 @@ module _ {S : Type 0} (may : S → Path → Option (List ℕ) → Type 0) (faile
     more = omega (arith, same);
     counted = (λ none. ap failed is, λ some. absurd (omega (arith, same, some)));
     given_up = λ given. is;
-    first = λ some. noted ∙ first_kept a.first_wrong path wrong some;
+    first = λ some. noted ∙ first_kept a.first_wrong path wrong tried some;
     noted = λ rose. absurd (omega (arith, same, rose));
   }
 

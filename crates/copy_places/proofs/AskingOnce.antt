@@ -293,3 +293,17 @@ module _ {S : Type 0} (asked : S → Option (List Path)) where
   once_part path index differ = once_then (IsAtPlace index (λ p. p ≡ path)) (IsAtPlace index (λ p. p ≡ full_of path))
       (IsAtPlace index (IsPathOrFull path)) (λ k p one two. differ (sym one.1 ∙ two.1)) (λ k p one. (one.0, inl one.1))
       (λ k p two. (two.0, inr two.1))
+
+  -- the place of an index was asked, after those before it
+  pub index_then : (so : Path → Type 0) (i : ℕ) (x y z : Places S) → AsksOnce asked (λ k path. (k < i) × so path) x y →
+      AsksOnce asked (IsAtPlace i so) y z → AsksOnce asked (λ k path. (k < i + 1) × so path) x z
+  index_then so i = once_then (λ k path. (k < i) × so path) (IsAtPlace i so) (λ k path. (k < i + 1) × so path)
+      (λ k path before now. let lt = before.0 in let is = now.0 in omega (arith, lt, is))
+      (λ k path before. (let lt = before.0 in omega (arith, lt), before.1))
+      (λ k path now. (let is = now.0 in omega (arith, is), now.1))
+
+  -- after some of the places
+  pub index_all : (so : Path → Type 0) (i : ℕ) (x y : Places S) → AsksOnce asked (λ k path. (k < i) × so path) x y →
+      AsksEachOnce asked (λ k. so) x y
+  index_all so i x y p =
+      each_weaker (λ k path. ((k < i) × so path) × IsKept y k path) (λ k. so) (λ k path h. h.0.1) x y p.asks

@@ -16,7 +16,7 @@ use Rattle.copy_places.specs.declared.places.Places.{Places}
 use Rattle.copy_places.specs.declared.place.PlaceAnswer.{PlaceAnswer}
 use Rattle.copy_places.specs.declared.place.PlaceAnswer.TheVariants.{File, NotFound, Failed}
 use Rattle.copy_places.specs.Requests.{AsksAny, MayGiveNote, PlaceFails}
-use Rattle.copy_places.specs.GatheredFrom.{AnswerEach, AreCandidates, GathersFrom, GiveCandidates, GiveNone, GiveNoneFor, MayAnswer}
+use Rattle.copy_places.specs.GatheredFrom.{AnswerEach, AreCandidates, AreFirstCandidates, GathersFrom, GiveCandidates, GiveNone, GiveNoneFor, MayAnswer}
 use Rattle.copy_places.specs.Gathering.{AreCandidatesOf, Gathers, IsFirstReason, IsGiven, IsNote, IsReason, option_or}
 use Rattle.copy_places.specs.Candidates.{note_of}
 use Rattle.copy_places.specs.declared.candidate.Candidate.{Candidate}
@@ -196,6 +196,10 @@ module _ (origin : List ℕ) (keys : List Key) where
       are_of = are.are_of;
     }
     candidates_later x y z (Some note) candidates q are = are
+
+    pub first_candidates : (x z : Places S) (given : Option (List ℕ)) (candidates : List Candidate) →
+        AreFirstCandidates may failed asked origin keys x z given candidates → AreCandidates may origin keys x z given candidates
+    first_candidates x z given candidates h = candidates_later x h.moment z given candidates h.after h.are
 
     module _ (x y : Places S) (g : Gathered) (is : From x y (length x.list.items) g) (none : g.candidates.items ≡ []) where
       -- there are no candidates

@@ -24,6 +24,7 @@ module _ {S : Type 0} (may : S → Path → Option (List ℕ) → Type 0) (faile
     lacked = x.lacked;
     first_lacked = x.first_lacked;
     ends = ends;
+    tried = x.tried;
   }
 
   -- the request was recorded, but not made

@@ -37,7 +37,7 @@ use Rattle.copy_places.specs.Mixes.{given_at}
 use Rattle.copy_places.specs.TrueAnswers.{IsRootOf}
 use Rattle.copy_places.specs.declared.end_tiles.EndTile.{EndTile}
 use Rattle.copy_places.specs.declared.place.PlaceAnswer.{PlaceAnswer}
-use Rattle.copy_places.proofs.GivenRows.{true_mix}
+use Rattle.copy_places.proofs.RowsGiven.{true_mix}
 use Rattle.copy_places.specs.Forks.{HasPoint}
 use Rattle.copy_places.specs.Nobodys.{AreFilesGiven, BeginsTrue, GivenFilesAreHad, GivesTruePart, IsFileOf, IsTrueOfPart, IsWanted, LacksRow, NoEdge, NoLog, NoRow}
 use Rattle.copy_places.proofs.WayFiles.{index_up}

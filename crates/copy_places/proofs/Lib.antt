@@ -10,8 +10,9 @@ pub mod Giving
 pub mod Mixing
 pub mod TrueAnswers
 pub mod TruePlaces
-pub mod GivenRows
+pub mod RowsGiven
 pub mod FoundRows
+pub mod InVain
 pub mod KeptRows
 pub mod ShelfRows
 pub mod FirstRoots

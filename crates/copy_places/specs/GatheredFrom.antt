@@ -11,7 +11,8 @@ use Rattle.copy_places.specs.declared.place.Place.{Place}
 use Rattle.copy_places.specs.declared.places.Places.{Places}
 use Rattle.copy_places.specs.declared.place.PlaceAnswer.{PlaceAnswer}
 use Rattle.copy_places.specs.declared.place.PlaceAnswer.TheVariants.{Failed}
-use Rattle.copy_places.specs.Requests.{MayGiveNote, PlaceFails}
+use Rattle.copy_places.specs.AskedOnce.{AsksEachOnce}
+use Rattle.copy_places.specs.Requests.{AsksAny, MayGiveNote, PlaceFails}
 use Rattle.copy_places.specs.Candidates.{IsCandidateOf}
 use Rattle.copy_places.specs.Gathering.{AreCandidatesOf, Gathers, Gave, IsFirstReason, option_or}
 use Rattle.copy_places.specs.declared.candidate.Candidate.{Candidate}
@@ -88,3 +89,14 @@ module _ {S : Type 0} (may : S → Path → Option (List ℕ) → Type 0) where
     abbrev pub LacksCandidates : Option (List ℕ) → CandidateFault → Type 0
     LacksCandidates None fault = GiveNoneFor fault
     LacksCandidates (Some note) fault = RefusesGiven origin keys note fault
+
+-- the candidates of a call: those of its beginning, in which each place was asked for its checkpoint once at most, and for no other
+-- file. So a later failure of a place changes nothing of them
+pub record AreFirstCandidates {S : Type 0} (may : S → Path → Option (List ℕ) → Type 0) (failed : S → ℕ)
+    (asked : S → Option (List Path)) (origin : List ℕ) (keys : List Key) (old new : Places S) (given : Option (List ℕ))
+    (candidates : List Candidate) : Type 0 where
+  pub moment : Places S
+  pub before : AsksAny may failed asked old moment
+  pub once : AsksEachOnce asked (λ k path. path ≡ Checkpoint) old moment
+  pub after : AsksAny may failed asked moment new
+  pub are : AreCandidates may origin keys old moment given candidates

@@ -14,21 +14,21 @@ use Rattle.copy_places.specs.declared.place.WrongFile.{WrongFile}
 use Rattle.copy_places.specs.declared.places.Places.{Places}
 
 -- the first file that was wrong at a place, after one more wrong file
-abbrev pub with_first : Option WrongFile → Path → Wrong → Option WrongFile
-with_first None path wrong = Some (record { path = path; wrong = wrong })
-with_first (Some file) path wrong = Some file
+abbrev pub with_first : Option WrongFile → Path → Wrong → Option (ℕ × List ℕ) → Option WrongFile
+with_first None path wrong tried = Some (record { path = path; wrong = wrong; tried = tried })
+with_first (Some file) path wrong tried = Some file
 
 -- the first wrong file of a place changes only by a failed get, which is noted if it is the first
 abbrev pub NotesFailure : {S : Type 0} → Path → Place S → Place S → Type 0
 NotesFailure path old new =
     (new.failures ≡ old.failures → new.first_wrong ≡ old.first_wrong)
-    × (old.failures < new.failures → new.first_wrong ≡ with_first old.first_wrong path wrong.Failed)
+    × (old.failures < new.failures → new.first_wrong ≡ with_first old.first_wrong path wrong.Failed None)
 
--- the file is noted as the first wrong one of the place of index k, unless one was noted before or the place failed meanwhile
+-- the file is noted, with the tree that was asked for, as the first wrong one of the place of index k, unless one was noted before or the place failed meanwhile
 abbrev pub NotesWrong : {S : Type 0} → Path → Wrong → Places S → Places S → ℕ → Type 0
 NotesWrong {S} path wrong old new k =
     (d : Place S) → (get_or new.list.items k d).failures ≡ (get_or old.list.items k d).failures →
-    (get_or new.list.items k d).first_wrong ≡ with_first (get_or old.list.items k d).first_wrong path wrong
+    (get_or new.list.items k d).first_wrong ≡ with_first (get_or old.list.items k d).first_wrong path wrong old.tried
 
 -- a source's number of failures rose by "times", up to the maximum of a u64
 abbrev pub RoseTimes : ℕ → ℕ → ℕ → Type 0

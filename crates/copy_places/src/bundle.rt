@@ -5,6 +5,7 @@ ghost use Rattle.mirror_model.specs.TrueLaws.{AreShort};
 ghost use Rattle.copy_places.specs.Asked.{IsPathOrFull};
 ghost use Rattle.copy_places.specs.AskedOnce.{AsksOnce, IsAtPlace};
 ghost use Rattle.copy_places.specs.Giving.{MayGive, PartOf};
+ghost use Rattle.copy_places.specs.InVain.{ArePartsAskedInVain, AtPlace, IsPartAskedInVain};
 ghost use Rattle.copy_places.specs.PlaceGets.{AreBlamed, AsksPlaces, IsBlamed};
 ghost use Rattle.copy_places.specs.TrueAnswers.{HasTrueLeaves};
 ghost use Rattle.copy_places.specs.TruePlaces.{HasTruePlace, IsTruePlace};
@@ -80,6 +81,9 @@ fn bundle_at_place<H: TreeHash, S: Source + Drop>(
     ensures honest { IfOk result (λ found. IfNone found ((entries : List (List ℕ))
         → AreShort entries → HasTrueLeaves H.digest entries path.now row.now
         → ¬ IsTruePlace H.digest entries S.may_answer places.old places.new index)) }
+    ensures none { IfOk result (λ found. IfNone found (AtPlace S.may_answer places.old places.new
+        index (IsPartAskedInVain path.now
+        (λ bytes. HasLeaves H.digest (length row.now) bytes row.now)))) }
     ensures blamed { IfOk result (λ found. IfNone found (IsBlamed places.old places.new index)) }
 {
     let Some(bytes) = get_partial::<S>(alloc, places, index, path)? else {
@@ -123,6 +127,9 @@ pub fn bundle_at_places<H: TreeHash, S: Source + Drop>(
     ensures honest { IfOk result (λ found. IfNone found ((entries : List (List ℕ))
         → AreShort entries → HasTrueLeaves H.digest entries path.now row.now
         → ¬ HasTruePlace H.digest entries S.may_answer places.old places.new)) }
+    ensures none { IfOk result (λ found. IfNone found
+        (ArePartsAskedInVain path.now S.may_answer places.old places.new
+        (λ bytes. HasLeaves H.digest (length row.now) bytes row.now))) }
     ensures lacked { IfOk result (λ found. IfNone found (IsSome places.new.lacked)) }
     ensures named { IfOk result (λ found. IfNone found (places.new.lacked ≡ Some path.now)) }
     ensures blamed { IfOk result (λ found. IfNone found (AreBlamed places.old places.new)) }

@@ -1,6 +1,8 @@
 //! The candidates of a run: the given note, or those of its places.
 ghost use Rattle.std.specs.Prelude.{◌≡◌, ◌<◌, All, IfErr, IfOk, length, map, option_map};
 ghost use Rattle.std.specs.List.Sorted.{IsSorted};
+ghost use Rattle.tlog_tiles.specs.declared.paths.Path.TheVariants.{Checkpoint};
+ghost use Rattle.copy_places.specs.AskedOnce.{AsksEachOnce};
 ghost use Rattle.copy_places.specs.Candidates.{IsCandidate, note_of, turn_cmp};
 ghost use Rattle.copy_places.specs.GatheredFrom.{AreCandidates, GathersFrom, GiveCandidates, GiveNoneFor, IsOnly, LacksCandidates, RefusesGiven};
 ghost use Rattle.copy_places.specs.Requests.{AsksAny, IsGivenOrMayGive, MayGiveNote};
@@ -23,6 +25,7 @@ fn ask_each_place<S: Source + Drop>(
     places: &mut Places<S>,
 ) -> Result<Gathered, AllocError>
     ensures asks { AsksAny S.may_answer S.failed S.asked places.old places.new }
+    ensures once { AsksEachOnce S.asked (λ k path. path ≡ Checkpoint) places.old places.new }
     ensures gathers { IfOk result (λ gathered. GathersFrom S.may_answer origin.now
         (map (λ k. key k) keys.now) places.old places.new (length places.old.list.items) gathered) }
 {
@@ -42,6 +45,7 @@ fn ask_places<S: Source + Drop>(
     places: &mut Places<S>,
 ) -> Result<Vec<Candidate>, CandidateFault>
     ensures asks { AsksAny S.may_answer S.failed S.asked places.old places.new }
+    ensures once { AsksEachOnce S.asked (λ k path. path ≡ Checkpoint) places.old places.new }
     ensures opened { IfOk result
         (λ candidates. All (IsCandidate origin.now (map (λ k. key k) keys.now)) candidates.items) }
     ensures gave { IfOk result (λ candidates. All
@@ -83,8 +87,8 @@ fn given_candidate(
     Ok(candidates)
 }
 
-/// The candidates of a run, in the order of their turns: the given note, or else those of the places. Each place gets a request for its
-/// checkpoint. A get that fails counts as a failure of its place.
+/// The candidates of a run, in the order of their turns: the given note, or else those of the places. Each place gets one request for its
+/// checkpoint, and no other. A get that fails counts as a failure of its place.
 ///
 /// ```text
 /// candidates_of(alloc, "ex", &keys, &mut places, None)? // places over 3 and over 257 entries: the candidate of 257, then that of 3
@@ -110,6 +114,7 @@ pub fn candidates_of<S: Source + Drop>(
     ensures gave { IfOk result (λ candidates. All (λ c. IsGivenOrMayGive S.may_answer
         (option_map (λ v. v.items) given) places.old (note_of c)) candidates.items) }
     ensures asks { AsksAny S.may_answer S.failed S.asked places.old places.new }
+    ensures once { AsksEachOnce S.asked (λ k path. path ≡ Checkpoint) places.old places.new }
     ensures some { IfOk result (λ candidates. 0 < length candidates.items) }
     ensures gathered { IfOk result (λ candidates. AreCandidates S.may_answer origin.now
         (map (λ k. key k) keys.now) places.old places.new (option_map (λ v. v.items) given)

@@ -5,6 +5,7 @@ ghost use Rattle.log_reader.specs.Verified.{Verifies};
 ghost use Rattle.copy_places.specs.Asked.{IsAskedInVain};
 ghost use Rattle.copy_places.specs.AskedOnce.{AsksOnce, IsAtPlace};
 ghost use Rattle.copy_places.specs.Giving.{MayGive};
+ghost use Rattle.copy_places.specs.InVain.{AreAskedInVain};
 ghost use Rattle.copy_places.specs.PlaceGets.{AreBlamed, AsksPlaces, IsBlamed};
 ghost use Rattle.copy_places.specs.TruePlaces.{HasTruePlace, IsFileUnder};
 ghost use Rattle.copy_places.specs.declared.place.Place.{Place};
@@ -123,6 +124,9 @@ pub fn file_at_places<H: TreeHash, S: Source + Drop>(
     ensures honest { IfOk result (λ found. IfNone found ((entries : List (List ℕ))
         → AreShort entries → IsFileUnder H.digest entries kind path.now hash.now
         → ¬ HasTruePlace H.digest entries S.may_answer places.old places.new)) }
+    ensures none { IfOk result (λ found. IfNone found
+        (AreAskedInVain path.now S.may_answer places.old places.new
+        (λ bytes. (row : List (List ℕ)) × Verifies H.digest kind hash.now bytes row))) }
     ensures blamed { IfOk result (λ found. IfNone found (AreBlamed places.old places.new)) }
 {
     expect_from::<S>(alloc, places, path, bundles);

@@ -42,6 +42,7 @@ pub use edge::{edge_at_places, lowest_edge_path};
 pub use file::{Found, accept_file, file_at_places};
 pub use fork_line::{ForkLine, add_fork};
 pub use kept::{kept_edge, kept_file};
+pub use mix::{GivenRows, edge_of_two};
 pub use place::{Place, PlaceAnswer, Wrong, WrongFile};
 pub use places::Places;
 pub use proving::{ask_proof, fork_proof};

@@ -12,7 +12,7 @@ use tlog_hash::{Hash, TreeHash, fold};
 /// The rows that a place gave for the edge of a tree, by level. None: the place lacks the row, or failed. A level without hashes has an
 /// empty row.
 #[derive(Drop)]
-pub(crate) struct GivenRows {
+pub struct GivenRows {
     rows: Vec<Option<Vec<Hash>>>,
 }
 
@@ -25,7 +25,7 @@ pub(crate) struct TwoRows {
 
 impl GivenRows {
     /// These rows, the lowest level first.
-    pub(crate) fn new(rows: Vec<Option<Vec<Hash>>>) -> GivenRows
+    pub fn new(rows: Vec<Option<Vec<Hash>>>) -> GivenRows
         ensures { result ≡ record { rows = rows } }
     {
         GivenRows { rows }
@@ -179,8 +179,13 @@ fn rows_of_two(
     Ok(Some(levels))
 }
 
-/// The edge rows of a tree of that size and root, each from the one place or from the other. It folds at most 510 rows.
-pub(crate) fn edge_of_two<H: TreeHash>(
+/// The edge rows of a tree of that size and root, each from the one place or from the other. It folds at most 510 rows. None: no mix of
+/// the rows leads to the root.
+///
+/// # Errors
+///
+/// `AllocError`: memory was refused.
+pub fn edge_of_two<H: TreeHash>(
     alloc: Global,
     size: u64,
     root: &Hash,

@@ -5,6 +5,7 @@ ghost use Rattle.copy_places.specs.PlaceGets.{AnswersGet, IsAskedFor, NotesFailu
 
 use mirror_sources::{Source, SourceFault};
 use std::alloc::AllocError;
+use tlog_hash::Hash;
 use tlog_tiles::Path;
 
 /// How a file at a place was wrong.
@@ -25,6 +26,8 @@ pub struct WrongFile {
     pub path: Path,
     /// How it was wrong.
     pub wrong: Wrong,
+    /// The number of entries and the root of the tree for which the place was asked, if `Places::keep_ends` named one.
+    pub tried: Option<(u64, Hash)>,
 }
 
 /// The answer of a place to a get.
@@ -95,14 +98,19 @@ impl<S: Source + Drop> Place<S> {
         self.failures >= MOST_FAILURES
     }
 
-    /// Records a wrong file, if it is the first.
-    pub fn note_wrong(&mut self, path: &Path, wrong: Wrong)
+    /// Records a wrong file, and the tree for which it was asked, if it is the first.
+    pub fn note_wrong(&mut self, path: &Path, wrong: Wrong, tried: Option<(u64, Hash)>)
         ensures source { self.new.source ≡ self.old.source }
         ensures failures { self.new.failures ≡ self.old.failures }
-        ensures wrong { self.new.first_wrong ≡ with_first self.old.first_wrong path.now wrong }
+        ensures wrong { self.new.first_wrong
+            ≡ with_first self.old.first_wrong path.now wrong tried }
     {
         if self.first_wrong.is_none() {
-            self.first_wrong = Some(WrongFile { path: *path, wrong });
+            self.first_wrong = Some(WrongFile {
+                path: *path,
+                wrong,
+                tried,
+            });
         }
     }
 
@@ -149,7 +157,7 @@ impl<S: Source + Drop> Place<S> {
             Ok(None) => Ok(PlaceAnswer::NotFound),
             Err(SourceFault::Failed) => {
                 self.failures += 1;
-                self.note_wrong(path, Wrong::Failed);
+                self.note_wrong(path, Wrong::Failed, None);
                 Ok(PlaceAnswer::Failed)
             }
             Err(SourceFault::OutOfMemory) => Err(AllocError),

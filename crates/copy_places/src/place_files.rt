@@ -5,6 +5,7 @@ ghost use Rattle.copy_places.specs.Asked.{IsPathOrFull};
 ghost use Rattle.copy_places.specs.AskedOnce.{AsksOnce, IsAtPlace};
 ghost use Rattle.copy_places.specs.PlaceGets.{AsksPlaces, IsBlamed};
 ghost use Rattle.copy_places.specs.Giving.{MayGive, PartOf};
+ghost use Rattle.copy_places.specs.InVain.{AtPlace, GivesCut, GivesPart};
 ghost use Rattle.copy_places.specs.TrueAnswers.{FindsPart, FindsTrue};
 
 use crate::place::{PlaceAnswer, Wrong};
@@ -29,6 +30,8 @@ fn get_part<S: Source + Drop>(
         (λ bytes. PartOf (MayGive S.may_answer places.old) path.now bytes.items)) }
     ensures honest { IfOk result (λ found. FindsPart S.may_answer places.old places.new index
         path.now (option_map (λ v. v.items) found)) }
+    ensures gave { IfOk result (λ found. AtPlace S.may_answer places.old places.new index
+        (GivesCut path.now (option_map (λ v. v.items) found))) }
     ensures blamed { IfOk result (λ found. IfNone found (IsBlamed places.old places.new index)) }
 {
     let full_path = path.full();
@@ -65,6 +68,8 @@ pub(crate) fn get_partial<S: Source + Drop>(
         (λ bytes. PartOf (MayGive S.may_answer places.old) path.now bytes.items)) }
     ensures honest { IfOk result (λ found. FindsTrue S.may_answer places.old places.new index
         path.now (option_map (λ v. v.items) found)) }
+    ensures gave { IfOk result (λ found. AtPlace S.may_answer places.old places.new index
+        (GivesPart path.now (option_map (λ v. v.items) found))) }
     ensures blamed { IfOk result (λ found. IfNone found (IsBlamed places.old places.new index)) }
 {
     match places.get(index, path)? {

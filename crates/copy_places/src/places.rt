@@ -10,6 +10,7 @@ use crate::end_tiles::EndTiles;
 use crate::place::{Place, PlaceAnswer, Wrong};
 use mirror_sources::Source;
 use std::alloc::{AllocError, Global};
+use tlog_hash::Hash;
 use tlog_tiles::Path;
 
 /// The places of a run, in the order in which they were added. What was learnt about them is kept from call to call.
@@ -31,6 +32,7 @@ pub struct Places<S: Source + Drop> {
     lacked: Option<Path>,
     first_lacked: Option<Path>,
     ends: EndTiles,
+    tried: Option<(u64, Hash)>,
 }
 
 impl<S: Source + Drop> Places<S> {
@@ -46,6 +48,7 @@ impl<S: Source + Drop> Places<S> {
             lacked: None,
             first_lacked: None,
             ends: EndTiles::new(alloc),
+            tried: None,
         }
     }
 
@@ -207,15 +210,18 @@ impl<S: Source + Drop> Places<S> {
         self.lacked = None;
     }
 
-    /// From now on keeps what places answer for the tiles in which trees of these two sizes end.
-    pub fn keep_ends(&mut self, old_size: u64, size: u64)
+    /// From now on keeps what places answer for the tiles in which trees of these two sizes end. The second one has that root: it is what a
+    /// wrong file of a place was asked for.
+    pub fn keep_ends(&mut self, old_size: u64, size: u64, root: &Hash)
         ensures list { self.new.list.items ≡ self.old.list.items }
         ensures failed { self.new.has_failed ≡ self.old.has_failed }
         ensures ends { self.new.ends.sizes ≡ (old_size, size) }
+        ensures tried { self.new.tried ≡ Some (size, root.now) }
         ensures none { self.new.ends.tiles.items ≡ [] }
         ensures first { self.new.first_lacked ≡ self.old.first_lacked }
     {
         self.ends.begin((old_size, size));
+        self.tried = Some((size, *root));
     }
 
     /// Gives the place that is asked first a hint of the next paths.
@@ -245,7 +251,8 @@ impl<S: Source + Drop> Places<S> {
         ensures wrong { NotesWrong path.now wrong self.old self.new index }
         ensures noted { (d : Place S) → IsSome (get_or self.new.list.items index d).first_wrong }
     {
-        self.list[index].note_wrong(path, wrong);
+        let tried = self.tried;
+        self.list[index].note_wrong(path, wrong, tried);
     }
 
     /// Records that no place gave a file.

@@ -2,21 +2,30 @@
 use Rattle.std.proofs.Common.{◌≡◌, ◌≢◌, ℕ, List, Option, Some, Result, Ok, Err, IfErr, IsErr, IsErrAnd, inl, inr, refl, sym, subst}
 use Rattle.signed_note.specs.Keys.{Key}
 use Rattle.tlog_tiles.specs.declared.paths.Path.{Path}
-use Rattle.tlog_tiles.specs.declared.paths.Path.TheVariants.{Checkpoint, Tile}
+use Rattle.tlog_tiles.specs.declared.paths.Path.TheVariants.{Checkpoint, Entries, Tile}
 use Rattle.mirror_folders.specs.Shelf.{Put, RecordsRead}
 use Rattle.mirror_model.specs.Heads.{IsOpenHead}
 use Rattle.mirror_sources.specs.Recorded.{KeepsRecord}
 use Rattle.mirror_sources.specs.Source.{StaysWithin}
 use Rattle.log_reader.specs.EdgeRows.{Edge}
 use Rattle.log_reader.specs.FalseEdges.{IsEdgeGiven, NamesFalseEdge}
-use Rattle.log_reader.specs.FalseFiles.{IsFalseFile, NamesFalse, NamesFalseIfFile}
+use Rattle.log_reader.specs.FalseFiles.{IsFalseFile, NamesFalse}
 use Rattle.log_reader.specs.Ways.{IsShownEdge}
 use Rattle.log_reader.specs.declared.fault.ReadFault.{ReadFault}
 use Rattle.log_reader.specs.declared.fault.ReadFault.TheVariants as reading
 use Rattle.log_reader.proofs.FalseEdges.{edge_given, rows_given}
-use Rattle.log_reader.proofs.FalseFiles.{false_given, files_before}
+use Rattle.log_reader.specs.Parts.{IsPartGiven}
+use Rattle.log_reader.proofs.FalseFiles.{false_given}
+use Rattle.log_reader.proofs.Parts.{bundle_from}
 use Rattle.copy_reader.specs.Copies.{HasCheckpoint, RefusesNote}
-use Rattle.copy_reader.specs.Damage.{IsFalseWithin, NamesDamage, NamesEdgeDamage, NamesOpenDamage, NamesProofDamage, NamesWithin}
+use Rattle.tlog_proof.specs.Made.{Holds}
+use Rattle.tlog_proof.specs.Text.{IsWritableProof}
+use Rattle.tlog_proof.specs.declared.proof.Ask.{Ask}
+use Rattle.tlog_proof.specs.declared.proof.Ask.TheVariants.{Inclusion as AskInclusion, Consistency as AskConsistency}
+use Rattle.tlog_proof.specs.declared.proof.Proof.{Proof}
+use Rattle.tlog_proof.specs.declared.proof.Proof.TheVariants.{Inclusion, Consistency}
+use Rattle.copy_reader.specs.Proofs.{IsAsked, IsInTree, size_asked}
+use Rattle.copy_reader.specs.Damage.{IsFalseWithin, IsTooLarge, NamesDamage, NamesEdgeDamage, NamesInTree, NamesOpenDamage, NamesProofDamage, NamesWithin}
 use Rattle.copy_reader.specs.Faults.{by_read}
 use Rattle.copy_reader.specs.ShelfSources.{ShelfMayAnswer}
 use Rattle.copy_reader.specs.declared.fault.CopyFault.{CopyFault}
@@ -53,17 +62,22 @@ module _ (digest : List ℕ → List ℕ) (name : ℕ) (before held : Option (Li
   within_recorded edge path (inl h) = inl (file_recorded edge path h)
   within_recorded edge path (inr h) = inr (h.0, h.1, file_recorded h.0 path h.2)
 
-  pub proof_damage : (edge : Edge) (fault : ReadFault) → NamesWithin digest (ShelfMayAnswer name before) edge fault →
-      NamesProofDamage digest held edge (by_read fault)
-  proof_damage edge (reading.NoFile path) h = inr (within_recorded edge path h)
-  proof_damage edge (reading.FalseFile path) h = inr (within_recorded edge path h)
-  proof_damage edge reading.Collision h = inl refl
-  proof_damage edge reading.Source h = tt
-  proof_damage edge reading.OutOfMemory h = tt
+  pub proof_damage : (edge : Edge) (ask : Ask) (fault : ReadFault) →
+      NamesWithin digest (ShelfMayAnswer name before) edge ask fault → NamesProofDamage digest held edge ask (by_read fault)
+  proof_damage edge ask (reading.NoFile path) h = inr (within_recorded edge path h)
+  proof_damage edge ask (reading.FalseFile path) h = inr (within_recorded edge path h)
+  proof_damage edge ask reading.Collision h = inl (refl, inl h)
+  proof_damage edge ask reading.Source h = tt
+  proof_damage edge ask reading.OutOfMemory h = tt
 
   pub edge_recorded : (size : ℕ) (edge : Edge) → IsEdgeGiven (ShelfMayAnswer name before) size edge →
       IsEdgeGiven (RecordsRead held) size edge
   edge_recorded size edge h = rows_given (RecordsRead held) (ShelfMayAnswer name before) size recorded edge h
+
+  pub bundle_recorded : (index width : ℕ) (bytes : List ℕ) →
+      IsPartGiven (ShelfMayAnswer name before) (Entries index width) bytes → IsPartGiven (RecordsRead held) (Entries index width) bytes
+  bundle_recorded index width bytes h =
+      bundle_from (RecordsRead held) (ShelfMayAnswer name before) recorded index width bytes h
 
   pub edge_damage : (size : ℕ) (root : List ℕ) (fault : ReadFault) →
       NamesFalseEdge digest (ShelfMayAnswer name before) size root fault → NamesEdgeDamage digest held size root (by_read fault)
@@ -77,15 +91,23 @@ module _ (digest : List ℕ → List ℕ) (name : ℕ) (before held : Option (Li
 
 -- ---- in the tree of the first entries
 
-module _ (digest : List ℕ → List ℕ) (may : Path → Option (List ℕ) → Type 0) (edge : Edge) where
-  pub whole_within : (fault : ReadFault) → NamesFalseIfFile digest may edge fault → NamesWithin digest may edge fault
-  whole_within (reading.NoFile path) h = inl h
-  whole_within (reading.FalseFile path) h = inl h
-  whole_within reading.Collision h = tt
-  whole_within reading.Source h = tt
-  whole_within reading.OutOfMemory h = tt
+module _ (digest : List ℕ → List ℕ) (may : Path → Option (List ℕ) → Type 0) (edge : Edge) (ask : Ask) where
+  pub whole_within : edge.size ≡ size_asked ask → (fault : ReadFault) → NamesInTree digest may edge ask fault →
+      NamesWithin digest may edge ask fault
+  whole_within size (reading.NoFile path) h = inl h
+  whole_within size (reading.FalseFile path) h = inl h
+  whole_within size reading.Collision h = record { tree = edge; within = inl refl; size_is = size; shown = h }
+  whole_within size reading.Source h = tt
+  whole_within size reading.OutOfMemory h = tt
 
-  pub read_within : (fault : ReadFault) → NamesFalse digest may edge fault → NamesWithin digest may edge fault
+  pub rows_in_tree : (fault : ReadFault) → NamesFalse digest may edge fault → NamesInTree digest may edge ask fault
+  rows_in_tree (reading.NoFile path) h = h
+  rows_in_tree (reading.FalseFile path) h = h
+  rows_in_tree reading.Collision h = absurd h
+  rows_in_tree reading.Source h = tt
+  rows_in_tree reading.OutOfMemory h = tt
+
+  pub read_within : (fault : ReadFault) → NamesFalse digest may edge fault → NamesWithin digest may edge ask fault
   read_within (reading.NoFile path) h = inl h
   read_within (reading.FalseFile path) h = inl h
   read_within reading.Collision h = absurd h
@@ -93,16 +115,30 @@ module _ (digest : List ℕ → List ℕ) (may : Path → Option (List ℕ) → 
   read_within reading.OutOfMemory h = tt
 
   module _ (first : Edge) (shown : IsShownEdge digest edge first) (later : Path → Option (List ℕ) → Type 0)
-      (stays : StaysWithin may later) where
-    of_first : (fault : ReadFault) → NamesFalseIfFile digest may first fault → NamesWithin digest may edge fault
-    of_first (reading.NoFile path) h = inr (first, shown, h)
-    of_first (reading.FalseFile path) h = inr (first, shown, h)
-    of_first reading.Collision h = tt
-    of_first reading.Source h = tt
-    of_first reading.OutOfMemory h = tt
+      (stays : StaysWithin may later) (size : first.size ≡ size_asked ask) where
+    before : (path : Path) → IsFalseFile digest later first path → IsFalseFile digest may first path
+    before path h = false_given digest may later (λ p some answer given. stays.stays p answer given) first path h
 
-    pub first_within : (fault : ReadFault) → NamesFalseIfFile digest later first fault → NamesWithin digest may edge fault
-    first_within fault h = of_first fault (files_before digest may later stays first first refl fault h)
+    pub first_within : (fault : ReadFault) → NamesInTree digest later first ask fault → NamesWithin digest may edge ask fault
+    first_within (reading.NoFile path) h = inr (first, shown, before path h)
+    first_within (reading.FalseFile path) h = inr (first, shown, before path h)
+    first_within reading.Collision h = record { tree = first; within = inr shown; size_is = size; shown = h }
+    first_within reading.Source h = tt
+    first_within reading.OutOfMemory h = tt
+
+-- a requested proof that cannot be written
+module _ (digest : List ℕ → List ℕ) (size : ℕ) (root : List ℕ) where
+  in_tree : (ask : Ask) (proof : Proof) → IsAsked digest size root ask proof → (r : List ℕ) × IsInTree r ask proof
+  in_tree (AskInclusion n i) (Inclusion n' i' r leaf path) p = (r, (p.0, p.1, refl))
+  in_tree (AskInclusion n i) (Consistency m r n' r' path) p = absurd p
+  in_tree (AskConsistency m n) (Inclusion n' i r leaf path) p = absurd p
+  in_tree (AskConsistency m n) (Consistency m' r n' r' path) p = (r', (p.0, p.1, refl))
+
+  pub too_large : (ask : Ask) (proof : Proof) → IsAsked digest size root ask proof → Holds digest proof →
+      ¬ IsWritableProof proof → IsTooLarge digest ask
+  too_large ask proof asked holds large =
+      let found = in_tree ask proof asked in
+      record { proof = proof; root = found.0; is = found.1; holds = holds; large = large }
 
 -- ---- the opened checkpoint
 
@@ -138,6 +174,13 @@ pub edge_before : (held after : Option (List Put)) → KeepsRecord held after �
     IsEdgeGiven (RecordsRead after) size edge → IsEdgeGiven (RecordsRead held) size edge
 edge_before held after kept size edge h =
     rows_given (RecordsRead held) (RecordsRead after) size (λ path some answer r. recorded_before held after path answer kept r) edge h
+
+-- a bundle that is given after the puts were kept could be given before
+pub bundle_before : (held after : Option (List Put)) → KeepsRecord held after → (index width : ℕ) (bytes : List ℕ) →
+    IsPartGiven (RecordsRead after) (Entries index width) bytes → IsPartGiven (RecordsRead held) (Entries index width) bytes
+bundle_before held after kept index width bytes h =
+    bundle_from (RecordsRead held) (RecordsRead after) (λ path some answer r. recorded_before held after path answer kept r) index
+    width bytes h
 
 -- the fault of a note that is the copy's checkpoint
 pub note_damage : (digest : List ℕ → List ℕ) (held : Option (List Put)) (note origin : List ℕ) (keys : List Key)

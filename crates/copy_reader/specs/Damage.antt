@@ -8,10 +8,17 @@ use Rattle.mirror_folders.specs.Shelf.{Put, RecordsRead}
 use Rattle.log_reader.specs.EdgeRows.{Edge}
 use Rattle.log_reader.specs.FalseEdges.{IsFalseEdge, IsFalsePart}
 use Rattle.log_reader.specs.FalseFiles.{IsFalseFile}
-use Rattle.log_reader.specs.Ways.{IsShownEdge}
+use Rattle.log_reader.specs.Ways.{IsShownEdge, IsShownLeaf}
+use Rattle.tlog_proof.specs.Made.{Holds}
+use Rattle.tlog_proof.specs.Text.{IsWritableProof}
+use Rattle.tlog_proof.specs.declared.proof.Ask.{Ask}
+use Rattle.tlog_proof.specs.declared.proof.Ask.TheVariants.{Inclusion as AskInclusion}
+use Rattle.tlog_proof.specs.declared.proof.Ask.TheVariants.{Consistency as AskConsistency}
+use Rattle.tlog_proof.specs.declared.proof.Proof.{Proof}
 use Rattle.log_reader.specs.declared.fault.ReadFault.{ReadFault}
 use Rattle.log_reader.specs.declared.fault.ReadFault.TheVariants as reading
 use Rattle.copy_reader.specs.Copies.{HasCheckpoint}
+use Rattle.copy_reader.specs.Proofs.{IsInTree, size_asked}
 use Rattle.copy_reader.specs.declared.fault.CopyFault.{CopyFault}
 use Rattle.copy_reader.specs.declared.fault.CopyFault.TheVariants.{BadOrigin, Head, CopyDamaged, ShelfFault, OutOfMemory}
 
@@ -21,13 +28,49 @@ IsFalseWithin digest may edge path =
     IsFalseFile digest may edge path
     ⊎ ((first : Edge) × IsShownEdge digest edge first × IsFalseFile digest may first path)
 
--- the fault of a read names such a file. Only a private contract cites this
-abbrev pub NamesWithin : (List ℕ → List ℕ) → (Path → Option (List ℕ) → Type 0) → Edge → ReadFault → Type 0
-NamesWithin digest may edge (reading.NoFile path) = IsFalseWithin digest may edge path
-NamesWithin digest may edge (reading.FalseFile path) = IsFalseWithin digest may edge path
-NamesWithin digest may edge reading.Collision = ⊤
-NamesWithin digest may edge reading.Source = ⊤
-NamesWithin digest may edge reading.OutOfMemory = ⊤
+-- ---- a proof that cannot be given, though no file is at fault
+
+-- the rows that the proof is made of are shown: those from the entry up, or those of the edge of the first entries
+abbrev pub AreProofRowsShown : (List ℕ → List ℕ) → Edge → Ask → Type 0
+AreProofRowsShown digest edge (AskInclusion n i) = (hash : List ℕ) × IsShownLeaf digest edge i hash
+AreProofRowsShown digest edge (AskConsistency m n) = (first : Edge) × (first.size ≡ m) × IsShownEdge digest edge first
+
+-- the same in the tree of the proof: that of all entries, or of the first ones
+pub record HasProofRows (digest : List ℕ → List ℕ) (edge : Edge) (ask : Ask) : Type 0 where
+  pub tree : Edge
+  pub within : (tree ≡ edge) ⊎ IsShownEdge digest edge tree
+  pub size_is : tree.size ≡ size_asked ask
+  pub shown : AreProofRowsShown digest tree ask
+
+-- the requested proof holds, but is too large for a text
+pub record IsTooLarge (digest : List ℕ → List ℕ) (ask : Ask) : Type 0 where
+  pub proof : Proof
+  pub root : List ℕ
+  pub is : IsInTree root ask proof
+  pub holds : Holds digest proof
+  pub large : ¬ IsWritableProof proof
+
+-- no file is at fault: the rows of the proof are all shown, or it is too large for a text
+abbrev pub IsUnprovable : (List ℕ → List ℕ) → Edge → Ask → Type 0
+IsUnprovable digest edge ask = HasProofRows digest edge ask ⊎ IsTooLarge digest ask
+
+module _ (digest : List ℕ → List ℕ) (may : Path → Option (List ℕ) → Type 0) (edge : Edge) (ask : Ask) where
+  -- the fault of a proof names a file that is false in the tree of that edge. At Collision its rows are shown. Only a private
+  -- contract cites this
+  abbrev pub NamesInTree : ReadFault → Type 0
+  NamesInTree (reading.NoFile path) = IsFalseFile digest may edge path
+  NamesInTree (reading.FalseFile path) = IsFalseFile digest may edge path
+  NamesInTree reading.Collision = AreProofRowsShown digest edge ask
+  NamesInTree reading.Source = ⊤
+  NamesInTree reading.OutOfMemory = ⊤
+
+  -- the same, also in the tree of the first entries. Only a private contract cites this
+  abbrev pub NamesWithin : ReadFault → Type 0
+  NamesWithin (reading.NoFile path) = IsFalseWithin digest may edge path
+  NamesWithin (reading.FalseFile path) = IsFalseWithin digest may edge path
+  NamesWithin reading.Collision = HasProofRows digest edge ask
+  NamesWithin reading.Source = ⊤
+  NamesWithin reading.OutOfMemory = ⊤
 
 module _ (digest : List ℕ → List ℕ) (held : Option (List Put)) where
   -- CopyDamaged names a file that is false in the tree of that edge
@@ -38,14 +81,14 @@ module _ (digest : List ℕ → List ℕ) (held : Option (List Put)) where
   NamesDamage edge ShelfFault = ⊤
   NamesDamage edge OutOfMemory = ⊤
 
-  -- the same in the making of a proof, also in the tree of the first entries. It names the checkpoint if the proof does not hold
-  abbrev pub NamesProofDamage : Edge → CopyFault → Type 0
-  NamesProofDamage edge BadOrigin = ⊤
-  NamesProofDamage edge (Head fault) = ⊤
-  NamesProofDamage edge (CopyDamaged path) =
-      (path ≡ Checkpoint) ⊎ IsFalseWithin digest (RecordsRead held) edge path
-  NamesProofDamage edge ShelfFault = ⊤
-  NamesProofDamage edge OutOfMemory = ⊤
+  -- the same in the making of a proof, also in the tree of the first entries. It names the checkpoint only if no file is at fault
+  abbrev pub NamesProofDamage : Edge → Ask → CopyFault → Type 0
+  NamesProofDamage edge ask BadOrigin = ⊤
+  NamesProofDamage edge ask (Head fault) = ⊤
+  NamesProofDamage edge ask (CopyDamaged path) =
+      ((path ≡ Checkpoint) × IsUnprovable digest edge ask) ⊎ IsFalseWithin digest (RecordsRead held) edge path
+  NamesProofDamage edge ask ShelfFault = ⊤
+  NamesProofDamage edge ask OutOfMemory = ⊤
 
   -- the file is a tile of the edge that is missing or too short, or the lowest of rows that do not lead to the root
   abbrev pub IsDamagedEdge : ℕ → List ℕ → Path → Type 0

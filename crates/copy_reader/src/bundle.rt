@@ -1,8 +1,11 @@
 //! A bundle of a copy.
 ghost use Rattle.std.specs.Prelude.{◌≡◌, ◌*◌, ◌<◌, IfErr, IfOk, length};
 ghost use Rattle.tlog_tiles.specs.Tiles.{bundle_bytes};
+ghost use Rattle.tlog_tiles.specs.declared.paths.Path.TheVariants.{Entries};
 ghost use Rattle.mirror_sources.specs.Recorded.{KeepsRecord};
+ghost use Rattle.mirror_folders.specs.Shelf.{RecordsRead};
 ghost use Rattle.log_reader.specs.Holding.{row_width};
+ghost use Rattle.log_reader.specs.Parts.{IsPartGiven};
 ghost use Rattle.log_reader.specs.Ways.{IsShownBundle};
 ghost use Rattle.copy_reader.specs.Damage.{NamesDamage};
 ghost use Rattle.copy_reader.specs.Faults.{CountsRead};
@@ -37,6 +40,8 @@ pub fn read_bundle<H: TreeHash, D: ReadableShelf>(
     ensures root { reader.new.root ≡ reader.old.root }
     ensures shown { IfOk result
         (λ bytes. IsShownBundle H.digest reader.old.edge index bytes.items) }
+    ensures given { IfOk result (λ bytes. IsPartGiven (RecordsRead (D.puts shelf.old))
+        (Entries index (row_width reader.old.edge.size 0 index)) bytes.items) }
     ensures same { KeepsRecord (D.puts shelf.old) (D.puts shelf.new) }
     ensures counted { CountsRead (D.failed shelf.old) (D.failed shelf.new) result }
     ensures damage { IfErr result

@@ -13,7 +13,7 @@ use mirror_folders::ReadableShelf;
 use std::alloc::Global;
 use tlog_hash::TreeHash;
 
-/// Reads the bundle at the end of the log, if it is partial. It has to have the leaf hashes of the edge.
+/// Reads the bundle at the end of the log, if it is partial. The shelf's bytes have to have the leaf hashes of the edge.
 ///
 /// ```text
 /// read_end(alloc, &mut shelf, &mut reader)?   // with 257 entries: reads tile/entries/001.p/1. With 256: reads nothing
@@ -29,7 +29,7 @@ pub fn read_end<H: TreeHash, D: ReadableShelf>(
 ) -> Result<(), CopyFault>
     ensures edge { reader.new.edge ≡ reader.old.edge }
     ensures root { reader.new.root ≡ reader.old.root }
-    ensures end { OnOk result (IsEndShown H.digest reader.old.edge) }
+    ensures end { OnOk result (IsEndShown H.digest (D.puts shelf.old) reader.old.edge) }
     ensures same { KeepsRecord (D.puts shelf.old) (D.puts shelf.new) }
     ensures counted { CountsRead (D.failed shelf.old) (D.failed shelf.new) result }
     ensures damage { IfErr result (NamesDamage H.digest (D.puts shelf.old) reader.old.edge) }

@@ -18,8 +18,8 @@ pub enum CopyFault {
     BadOrigin,
     /// The copy's checkpoint does not open under the keys, or is not one of the origin.
     Head(TakeFault),
-    /// The file at the path is missing, or it does not lead to the root of the copy's checkpoint. The path is the checkpoint's if the
-    /// rows lead to the root, but a proof made of them does not hold.
+    /// The file at the path is missing, or it does not lead to the root of the copy's checkpoint. The path is the checkpoint's if all
+    /// rows of a proof lead to the root, but it does not hold.
     CopyDamaged(Path),
     /// A file of the copy cannot be read.
     ShelfFault,

@@ -61,8 +61,8 @@ fn proof_text(alloc: Global, proof: &Proof) -> Result<Option<String>, AllocError
 ///
 /// # Errors
 ///
-/// `CopyDamaged`: a tile of the proof is missing or false. `ShelfFault`: a file cannot be read; the shelf counts it. `OutOfMemory`:
-/// memory was refused.
+/// `CopyDamaged`: a tile of the proof is missing or false. It names the checkpoint only if all rows of the proof lead to the root, but it
+/// does not hold. `ShelfFault`: a file cannot be read; the shelf counts it. `OutOfMemory`: memory was refused.
 pub fn read_proof_text<H: TreeHash, D: ReadableShelf>(
     alloc: Global,
     shelf: &mut D,
@@ -75,7 +75,7 @@ pub fn read_proof_text<H: TreeHash, D: ReadableShelf>(
     ensures same { KeepsRecord (D.puts shelf.old) (D.puts shelf.new) }
     ensures counted { CountsRead (D.failed shelf.old) (D.failed shelf.new) result }
     ensures damage { IfErr result
-        (NamesProofDamage H.digest (D.puts shelf.old) reader.old.edge) }
+        (NamesProofDamage H.digest (D.puts shelf.old) reader.old.edge ask) }
     ensures honest { reader.old.edge.size ≤ MAX_SIZE
         → ReadsCopyOf IsShelfFailure H.digest reader.old reader.new (D.puts shelf.old) result
         (λ entries text. IsTrueText H.digest ask entries (string_bytes text)) }

@@ -7,10 +7,7 @@ use Rattle.tlog_proof.specs.declared.proof.Proof.{Proof}
 use Rattle.tlog_tiles.specs.declared.paths.Path.{Path}
 use Rattle.std.proofs.lemmas.Bool.{false≢true}
 use Rattle.mirror_sources.specs.Recorded.{one_more}
-use Rattle.mirror_sources.specs.Source.{CountsGet}
-use Rattle.mirror_sources.specs.declared.source.SourceFault.{SourceFault}
-use Rattle.mirror_sources.specs.declared.source.SourceFault.TheVariants as source
-use Rattle.log_reader.specs.Faults.{CountsFailure, IsFailure, by_source, found_in}
+use Rattle.log_reader.specs.Faults.{CountsFailure, IsFailure, NamesFile, found_in}
 use Rattle.log_reader.specs.Holding.{ReadsTrue}
 use Rattle.log_reader.specs.declared.fault.ReadFault.{ReadFault}
 use Rattle.log_reader.specs.declared.fault.ReadFault.TheVariants.{NoFile, FalseFile, Collision, Source, OutOfMemory}
@@ -42,28 +39,6 @@ pub failed_exit : {T : Type 0} (result : Result T ReadFault) (claim : T → Type
 failed_exit (Ok x) claim fault is h = absurd (false≢true is.0)
 failed_exit (Err f) claim fault is h = subst IsFailure (sym is.1) h
 
--- ---- a get that failed
-
-counted_get : (T U : Type 0) (old new : ℕ) (fault : SourceFault) → CountsGet {T = U} old new (Err fault) →
-    CountsFailure {T = T} old new (Err (by_source fault))
-counted_get T U old new source.Failed h = h
-counted_get T U old new source.OutOfMemory h = h
-
-pub get_exit : {T U : Type 0} (result : Result T ReadFault) (read : Result U SourceFault) (fault : SourceFault) →
-    IsErr result × IsErrAnd result (λ f. f ≡ by_source fault) → read ≡ Err fault → (old new : ℕ) → CountsGet old new read →
-    CountsFailure old new result
-get_exit (Ok x) read fault is was old new h = absurd (false≢true is.0)
-get_exit {T} {U} (Err f) read fault is was old new h =
-    subst (λ e. CountsFailure {T = T} old new (Err e)) (sym is.1) (counted_get T U old new fault (subst (CountsGet old new) was h))
-
-pub get_fails : (fault : SourceFault) → IsFailure (by_source fault)
-get_fails source.Failed = tt
-get_fails source.OutOfMemory = tt
-
-pub get_failed : {T : Type 0} (result : Result T ReadFault) (claim : T → Type 0) (fault : SourceFault) →
-    IsErr result × IsErrAnd result (λ f. f ≡ by_source fault) → ReadsTrue result claim
-get_failed result claim fault is = failed_exit result claim (by_source fault) is (get_fails fault)
-
 -- ---- a file that was got, and what was found in it
 
 pub lacks_exit : {T : Type 0} {lacking : Path} (result : Result T ReadFault) (claim : T → Type 0) (fault : ReadFault)
@@ -85,12 +60,6 @@ module _ {T E : Type 0} where
   found_true (Ok (Some x)) path result is P N h none claim some not = subst (λ r. ReadsTrue r claim) (sym is) (some x h)
   found_true (Ok None) path result is P N h none claim some not = absurd (not none)
   found_true (Err fault) path result is P N h none claim some not = subst (λ r. ReadsTrue r claim) (sym is) tt
-
-  pub found_some : (found : Result (Option T) E) (path : Path) (result : Result T ReadFault) → result ≡ found_in found path →
-      (claim : T → Type 0) → IfOk found (λ o. IsSomeAnd o claim) → ReadsTrue result claim
-  found_some (Ok (Some x)) path result is claim h = subst (λ r. ReadsTrue r claim) (sym is) h
-  found_some (Ok None) path result is claim h = absurd h
-  found_some (Err fault) path result is claim h = subst (λ r. ReadsTrue r claim) (sym is) tt
 
   pub found_counted : (found : Result (Option T) E) (path : Path) (result : Result T ReadFault) → result ≡ found_in found path →
       (old new : ℕ) → new ≡ old → CountsFailure old new result
@@ -132,3 +101,13 @@ pub checked_counted : (Held : Type 0) (result : Result Proof ReadFault) →
     IfErr result (λ fault. (fault ≡ Collision) × Held) → (old new : ℕ) → new ≡ old → CountsFailure old new result
 checked_counted Held (Ok same) err old new h = h
 checked_counted Held (Err fault) err old new h = subst (λ f. CountsFailure {T = Proof} old new (Err f)) (sym err.0) h
+
+-- ---- a fault that names a file
+
+pub names_more : (P Q : Path → Type 0) → ((path : Path) → P path → Q path) → (fault : ReadFault) → NamesFile P fault →
+    NamesFile Q fault
+names_more P Q more (NoFile path) h = more path h
+names_more P Q more (FalseFile path) h = more path h
+names_more P Q more Collision h = h
+names_more P Q more Source h = tt
+names_more P Q more OutOfMemory h = tt

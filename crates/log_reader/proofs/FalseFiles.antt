@@ -1,6 +1,6 @@
 -- The faults of a read name false files.
-use Rattle.std.proofs.Common.{◌≡◌, ◌≢◌, ◌⊎◌, ℕ, ◌+◌, ◌-◌, ◌*◌, ◌/◌, ◌%◌, ◌^◌, ◌<◌, ◌≤◌, List, [], ◌∷◌, ◌++◌, length, get_or}
-use Rattle.std.proofs.Common.{Option, Some, None, Result, Ok, Err, IfOk, IfErr, IfNone, IsSomeAnd, IsErr, IsErrAnd, inl, inr, refl, sym, ap, subst, ◌∙◌, arith}
+use Rattle.std.proofs.Common.{◌≡◌, ◌≢◌, ◌⊎◌, ℕ, ◌+◌, ◌-◌, ◌*◌, ◌/◌, ◌%◌, ◌^◌, ◌<◌, ◌≤◌, List, [], ◌∷◌, length, get_or}
+use Rattle.std.proofs.Common.{Option, Some, None, Result, Ok, Err, IfOk, IfErr, IfNone, IsErr, IsErrAnd, inl, inr, refl, sym, ap, subst, arith}
 use Rattle.std.proofs.Math.Nat.{div-mul-le_self}
 use Rattle.std.proofs.lemmas.Bool.{cases_lt}
 use Rattle.std.proofs.lemmas.Nat.{le-div}
@@ -8,15 +8,13 @@ use Rattle.std.proofs.lemmas.Result.{IfErr-weaker}
 use Rattle.std.specs.Option.{ok_or}
 use Rattle.tlog_shape.specs.Edge.{edge_index_of, width_of}
 use Rattle.tlog_shape.proofs.Levels.{level_positive}
-use Rattle.tlog_tiles.specs.Bundle.{bundle_text}
 use Rattle.tlog_tiles.specs.declared.paths.Path.{Path}
 use Rattle.tlog_tiles.specs.declared.paths.Path.TheVariants.{Checkpoint, Tile, Entries}
 use Rattle.tlog_tiles.proofs.EdgeLemmas.{hashes_of}
-use Rattle.mirror_model.specs.TrueLaws.{AreShort}
 use Rattle.mirror_sources.specs.Source.{StaysWithin}
 use Rattle.log_reader.specs.EdgeRows.{Edge, row_at}
-use Rattle.log_reader.specs.FalseFiles.{IsEndGiven, IsFalseEnd, IsFalseFile, IsFalseFull, IsFalseUnder, IsNotEnd, IsStartGiven, NamesEnd, NamesFalse, NamesFalseIfFile, NamesFull, NamesGone}
-use Rattle.log_reader.specs.Faults.{IsFailure, found_in}
+use Rattle.log_reader.specs.FalseFiles.{IsFalseEnd, IsFalseFile, IsFalseFull, IsFalseUnder, NamesFalse, NamesFalseIfFile, NamesFull}
+use Rattle.log_reader.specs.Faults.{IsFailure, NamesFile, found_in}
 use Rattle.log_reader.specs.Holding.{row_width}
 use Rattle.log_reader.specs.Verified.{HasLeaves}
 use Rattle.log_reader.specs.Ways.{HasEdgeHashes, IsShownRow, IsWay, row_of_way}
@@ -24,6 +22,8 @@ use Rattle.log_reader.specs.declared.fault.ReadFault.{ReadFault}
 use Rattle.log_reader.specs.declared.fault.ReadFault.TheVariants.{NoFile, FalseFile, Collision, Source, OutOfMemory}
 use Rattle.log_reader.specs.declared.verify.FullFile.{FullFile}
 use Rattle.log_reader.specs.declared.verify.FullFile.TheVariants as full
+use Rattle.log_reader.proofs.Exits.{names_more}
+use Rattle.log_reader.proofs.Parts.{false_at_given}
 
 -- ---- exits
 
@@ -106,11 +106,8 @@ wide_in n size level within =
 module _ (digest : List ℕ → List ℕ) (may : Path → Option (List ℕ) → Type 0) where
   pub full_fails : (kind : FullFile) (hash : List ℕ) (path : Path) (f : ReadFault) → IsFailure f →
       NamesFull digest may kind hash path f
-  full_fails kind hash path (NoFile named) h = absurd h
-  full_fails kind hash path (FalseFile named) h = absurd h
-  full_fails kind hash path Collision h = absurd h
-  full_fails kind hash path Source h = tt
-  full_fails kind hash path OutOfMemory h = tt
+  full_fails kind hash path f h =
+      names_more (λ named. ⊥) (λ named. (named ≡ path) × IsFalseFull digest may kind hash path) (λ named h. absurd h) f h
 
   module _ (edge : Edge) (level index : ℕ) (above : List (List ℕ)) (shown : IsShownRow digest edge (level + 1) (index / 256) above)
       (within : index % 256 < length above) (hash : List ℕ) (at : hash ≡ get_or above (index % 256) []) where
@@ -125,153 +122,43 @@ module _ (digest : List ℕ → List ℕ) (may : Path → Option (List ℕ) → 
 
     pub tile_named : (fault : ReadFault) → NamesFull digest may full.Tile hash (Tile level index 256) fault →
         NamesFalse digest may edge fault
-    tile_named (NoFile named) h =
-        subst (IsFalseFile digest may edge) (sym h.0) (refl, under full.Tile (Tile level index 256) h.1)
-    tile_named (FalseFile named) h =
-        subst (IsFalseFile digest may edge) (sym h.0) (refl, under full.Tile (Tile level index 256) h.1)
-    tile_named Collision h = absurd h
-    tile_named Source h = tt
-    tile_named OutOfMemory h = tt
+    tile_named fault h =
+        names_more (λ named. (named ≡ Tile level index 256) × IsFalseFull digest may full.Tile hash (Tile level index 256))
+        (IsFalseFile digest may edge)
+        (λ named h. subst (IsFalseFile digest may edge) (sym h.0) (refl, under full.Tile (Tile level index 256) h.1)) fault h
 
   module _ (edge : Edge) (index : ℕ) (above : List (List ℕ)) (shown : IsShownRow digest edge 1 (index / 256) above)
       (within : index % 256 < length above) (hash : List ℕ) (at : hash ≡ get_or above (index % 256) []) where
     pub bundle_named : (fault : ReadFault) → NamesFull digest may full.Bundle hash (Entries index 256) fault →
         NamesFalse digest may edge fault
-    bundle_named (NoFile named) h =
-        subst (IsFalseFile digest may edge) (sym h.0)
-        (inl (refl, under edge 0 index above shown within hash at full.Bundle (Entries index 256) h.1))
-    bundle_named (FalseFile named) h =
-        subst (IsFalseFile digest may edge) (sym h.0)
-        (inl (refl, under edge 0 index above shown within hash at full.Bundle (Entries index 256) h.1))
-    bundle_named Collision h = absurd h
-    bundle_named Source h = tt
-    bundle_named OutOfMemory h = tt
+    bundle_named fault h =
+        names_more (λ named. (named ≡ Entries index 256) × IsFalseFull digest may full.Bundle hash (Entries index 256))
+        (IsFalseFile digest may edge)
+        (λ named h. subst (IsFalseFile digest may edge) (sym h.0)
+        (inl (refl, under edge 0 index above shown within hash at full.Bundle (Entries index 256) h.1))) fault h
 
   -- ---- the bundle at the end
 
-  pub gone_fails : (index count : ℕ) (lacking : Path) (f : ReadFault) → IsFailure f → NamesGone may index count lacking f
-  gone_fails index count lacking (NoFile named) h = absurd h
-  gone_fails index count lacking (FalseFile named) h = absurd h
-  gone_fails index count lacking Collision h = absurd h
-  gone_fails index count lacking Source h = tt
-  gone_fails index count lacking OutOfMemory h = tt
-
-  pub end_fails : (row : List (List ℕ)) (index : ℕ) (f : ReadFault) → IsFailure f → NamesEnd digest may row index f
-  end_fails row index (NoFile named) h = absurd h
-  end_fails row index (FalseFile named) h = absurd h
-  end_fails row index Collision h = absurd h
-  end_fails row index Source h = tt
-  end_fails row index OutOfMemory h = tt
-
   module _ (edge : Edge) (row : List (List ℕ)) (index : ℕ) (at : index ≡ edge_index_of edge.size 0) (is : row ≡ row_at edge 0)
     where
-      end_file : (named : Path) → (width : ℕ) × (named ≡ Entries index width) × IsFalseEnd digest may row index width →
+      end_at : (named : Path) (width : ℕ) → named ≡ Entries index width → IsFalseEnd digest may row index named →
           IsFalseFile digest may edge named
-      end_file named h =
-          subst (IsFalseFile digest may edge) (sym h.1)
-          (inr (at, subst (λ r. IsFalseEnd digest may r index h.0) is h.2))
+      end_at named width same h =
+          subst (IsFalseFile digest may edge) (sym same)
+          (inr (
+            at,
+            subst (λ r. IsFalseEnd digest may r index (Entries index width)) is
+                (subst (IsFalseEnd digest may row index) same h),
+          ))
 
-      pub end_named : (fault : ReadFault) → NamesEnd digest may row index fault → NamesFalse digest may edge fault
-      end_named (NoFile named) h = end_file named h
-      end_named (FalseFile named) h = end_file named h
-      end_named Collision h = absurd h
-      end_named Source h = tt
-      end_named OutOfMemory h = tt
+      end_file : (named : Path) → IsFalseEnd digest may row index named → IsFalseFile digest may edge named
+      end_file named (inl (none, (None, given, same))) = end_at named (length row) same (inl (none, (None, given, same)))
+      end_file named (inl (none, (Some file, given, (same, cut)))) =
+          end_at named 256 same (inl (none, (Some file, given, (same, cut))))
+      end_file named (inr (same, bytes, given, other)) = end_at named (length row) same (inr (same, bytes, given, other))
 
-  -- bytes of other leaf hashes, from the partial bundle or from the start of the full one
-  pub end_wrong : (row : List (List ℕ)) (index : ℕ) (bytes : List ℕ) → IsEndGiven may index (length row) bytes →
-      (HasLeaves digest (length row) bytes row → ⊥) → IsFalseEnd digest may row index (length row)
-  end_wrong row index bytes (inl given) not = record { answer = Some bytes; given = given; wrong = (refl, not) }
-  end_wrong row index bytes (inr given) not = record {
-    answer = None;
-    given = given.0;
-    wrong = (
-      Some given.1.0,
-      given.1.1,
-      (
-        inl refl,
-        λ start rest parts has.
-            let same : bytes ≡ start =
-            given.1.2 has.entries rest has.is_bundle.count has.is_bundle.fits
-            (parts ∙ ap (λ s. s ++ rest) has.is_bundle.text) ∙ sym has.is_bundle.text in
-            not (subst (λ b. HasLeaves digest (length row) b row) (sym same) has),
-      ),
-    );
-  }
-
-  -- there is no partial bundle, and the full one has fewer entries or is missing
-  pub end_lacking : (row : List (List ℕ)) (index count width : ℕ) → length row ≡ count → width ≡ count →
-      may (Entries index count) None → (fault : ReadFault) → NamesGone may index count (Entries index width) fault →
-      NamesEnd digest may row index fault
-  end_lacking row index count width long wide none (NoFile named) h = (
-    width,
-    h.0,
-    record {
-      answer = None;
-      given = subst (λ w. may (Entries index w) None) (sym long) none;
-      wrong = (None, h.1, wide ∙ sym long);
-    },
-  )
-  end_lacking row index count width long wide none (FalseFile named) h = (
-    256,
-    h.0,
-    record {
-      answer = None;
-      given = subst (λ w. may (Entries index w) None) (sym long) none;
-      wrong = (
-        Some h.1,
-        h.2,
-        (
-          inr refl,
-          λ start rest parts has. h.3 has.entries rest (has.is_bundle.count ∙ long) has.is_bundle.fits
-              (parts ∙ ap (λ s. s ++ rest) has.is_bundle.text),
-        ),
-      );
-    },
-  )
-  end_lacking row index count width long wide none Collision h = absurd h
-  end_lacking row index count width long wide none Source h = tt
-  end_lacking row index count width long wide none OutOfMemory h = tt
-
--- the first entries of a full bundle, or that it has fewer
-module _ {T E : Type 0} (items : T → List ℕ) (may : Path → Option (List ℕ) → Type 0) (index count : ℕ) (file : List ℕ)
-    (given : may (Entries index 256) (Some file)) (found : Result (Option T) E) (result : Result T ReadFault)
-    (is : result ≡ found_in found (Entries index 256))
-    (each : (entries : List (List ℕ)) (rest : List ℕ) → length entries ≡ count → AreShort entries →
-    file ≡ bundle_text entries ++ rest → IfOk found (λ o. IsSomeAnd o (λ part. items part ≡ bundle_text entries))) where
-  starts : (found : Result (Option T) E) →
-      ((entries : List (List ℕ)) (rest : List ℕ) → length entries ≡ count → AreShort entries →
-      file ≡ bundle_text entries ++ rest → IfOk found (λ o. IsSomeAnd o (λ part. items part ≡ bundle_text entries))) →
-      IfOk (found_in found (Entries index 256)) (λ part. IsStartGiven may index count (items part))
-  starts (Ok (Some x)) each = (file, given, each)
-  starts (Ok None) each = tt
-  starts (Err e) each = tt
-
-  fewer : (lacking : Path) (found : Result (Option T) E) →
-      ((entries : List (List ℕ)) (rest : List ℕ) → length entries ≡ count → AreShort entries →
-      file ≡ bundle_text entries ++ rest → IfOk found (λ o. IsSomeAnd o (λ part. items part ≡ bundle_text entries))) →
-      IfErr (found_in found (Entries index 256)) (NamesGone may index count lacking)
-  fewer lacking (Ok (Some x)) each = tt
-  fewer lacking (Ok None) each = (refl, file, given, each)
-  fewer lacking (Err e) each = tt
-
-  pub start_got : IfOk result (λ part. IsStartGiven may index count (items part))
-  start_got = subst (λ r. IfOk r (λ part. IsStartGiven may index count (items part))) (sym is) (starts found each)
-
-  pub start_fewer : (lacking : Path) → IfErr result (NamesGone may index count lacking)
-  start_fewer lacking = subst (λ r. IfErr r (NamesGone may index count lacking)) (sym is) (fewer lacking found each)
-
-module _ (old new : Path → Option (List ℕ) → Type 0) (stays : StaysWithin old new) (index count : ℕ) where
-  pub start_before : (bytes : List ℕ) → IsStartGiven new index count bytes → IsStartGiven old index count bytes
-  start_before bytes h = (h.0, stays.stays (Entries index 256) (Some h.0) h.1, h.2)
-
-  pub gone_before : (lacking : Path) (fault : ReadFault) → NamesGone new index count lacking fault →
-      NamesGone old index count lacking fault
-  gone_before lacking (NoFile named) h = (h.0, stays.stays (Entries index 256) None h.1)
-  gone_before lacking (FalseFile named) h = (h.0, h.1, stays.stays (Entries index 256) (Some h.1) h.2, h.3)
-  gone_before lacking Collision h = absurd h
-  gone_before lacking Source h = tt
-  gone_before lacking OutOfMemory h = tt
+      pub end_named : (fault : ReadFault) → NamesFile (IsFalseEnd digest may row index) fault → NamesFalse digest may edge fault
+      end_named fault h = names_more (IsFalseEnd digest may row index) (IsFalseFile digest may edge) end_file fault h
 
 -- ---- another source, with these answers
 
@@ -303,19 +190,6 @@ module _ (digest : List ℕ → List ℕ) (old new : Path → Option (List ℕ) 
     wrong = full_given kind (get_or f.above (index % 256) []) path some f.wrong;
   }
 
-  ends_given : (row : List (List ℕ)) (index width : ℕ) (answer : Option (List ℕ)) → IsNotEnd digest new row index width answer →
-      IsNotEnd digest old row index width answer
-  ends_given row index width None h = (h.0, gives (Entries index 256) (not_tile index 256) h.0 h.1, h.2)
-  ends_given row index width (Some bytes) h = h
-
-  end_given : (row : List (List ℕ)) (index width : ℕ) → IsFalseEnd digest new row index width →
-      IsFalseEnd digest old row index width
-  end_given row index width f = record {
-    answer = f.answer;
-    given = gives (Entries index (length row)) (not_tile index (length row)) f.answer f.given;
-    wrong = ends_given row index width f.answer f.wrong;
-  }
-
   pub false_given : (edge : Edge) (path : Path) → IsFalseFile digest new edge path → IsFalseFile digest old edge path
   false_given edge Checkpoint f = absurd f
   false_given edge (Tile level index width) f = (
@@ -324,14 +198,17 @@ module _ (digest : List ℕ → List ℕ) (old new : Path → Option (List ℕ) 
   )
   false_given edge (Entries index width) (inl f) =
       inl (f.0, under_given edge full.Bundle 0 index (Entries index width) (not_tile index width) f.1)
-  false_given edge (Entries index width) (inr f) = inr (f.0, end_given (row_at edge 0) index width f.1)
+  false_given edge (Entries index width) (inr f) =
+      let path = Entries index (length (row_at edge 0)) in
+      inr (
+        f.0,
+        false_at_given old new gives path (not_tile index (length (row_at edge 0))) (not_tile index 256)
+            (λ bytes. HasLeaves digest (length (row_at edge 0)) bytes (row_at edge 0)) (Entries index width) f.1,
+      )
 
   names_given : (edge : Edge) (fault : ReadFault) → NamesFalse digest new edge fault → NamesFalse digest old edge fault
-  names_given edge (NoFile path) h = false_given edge path h
-  names_given edge (FalseFile path) h = false_given edge path h
-  names_given edge Collision h = absurd h
-  names_given edge Source h = tt
-  names_given edge OutOfMemory h = tt
+  names_given edge fault h =
+      names_more (IsFalseFile digest new edge) (IsFalseFile digest old edge) (false_given edge) fault h
 
   files_given : (edge : Edge) (fault : ReadFault) → NamesFalseIfFile digest new edge fault →
       NamesFalseIfFile digest old edge fault

@@ -19,8 +19,6 @@ pub mod Asked
 pub mod ShownBundles
 pub mod FirstHashes
 pub mod FullNodes
+pub mod Parts
 pub mod FalseFiles
 pub mod FalseEdges
-pub mod Asking
-pub mod TrueSources
-pub mod Mixing

@@ -1,21 +1,18 @@
 -- Smaller sizes, and entries, of a log whose true rows were read.
 use Rattle.std.proofs.Common.{◌≡◌, ℕ, ◌+◌, ◌*◌, ◌/◌, ◌%◌, ◌^◌, ◌<◌, ◌≤◌, List, [], ◌∷◌, length, take, get_or}
 use Rattle.std.proofs.Common.{sym, ap, subst, ◌∙◌, arith}
-use Rattle.std.proofs.Math.Nat.{div-mul-le_self}
 use Rattle.std.proofs.Math.Seq.{drop-cons}
 use Rattle.std.proofs.lemmas.List.{get_or-map, length-map, length-take-le}
-use Rattle.std.proofs.lemmas.Nat.{le-div}
 use Rattle.tlog_shape.specs.Edge.{edge_index_of, width_of}
-use Rattle.tlog_shape.proofs.Levels.{level_positive}
 use Rattle.tlog_hash.specs.Tree.{leaf_hash, mth}
 use Rattle.tlog_hash.specs.Rows.{level_row, part, ranges}
 use Rattle.tlog_hash.proofs.Folds.{length-ranges}
 use Rattle.tlog_hash.proofs.Trees.{mth-one}
-use Rattle.tlog_tiles.proofs.EdgeLemmas.{hashes_of}
 use Rattle.mirror_model.proofs.RowLaws.{get_or-ranges}
 use Rattle.log_reader.specs.EdgeRows.{Edge, RowIsTrue, hash_of_edge}
 use Rattle.log_reader.specs.Holding.{IsEdgeRowOf, IsReaderOf, IsTrueWay, row_width, true_row}
 use Rattle.log_reader.specs.Ways.{Reader}
+use Rattle.log_reader.proofs.FalseFiles.{wide_in}
 use Rattle.log_reader.proofs.Prefixes.{row_start, true_rows_lead}
 
 module _ (digest : List ℕ → List ℕ) (entries : List (List ℕ)) where
@@ -25,12 +22,7 @@ module _ (digest : List ℕ → List ℕ) (entries : List (List ℕ)) where
   -- ---- the row of a level of an earlier edge
 
   pub wide_enough : (size level : ℕ) → size ≤ n → width_of size level ≤ row_width n level (edge_index_of size level)
-  wide_enough size level within =
-      let c = 256 ^ level in
-      let fewer : size / c ≤ n / c =
-      le-div (size / c) n c (level_positive level) (omega (arith, div-mul-le_self size c, within)) in
-      let whole = hashes_of size level in
-      omega (arith, fewer, whole)
+  wide_enough size level within = wide_in n size level within
 
   row_long : (level index : ℕ) (row : List (List ℕ)) → row ≡ true_row digest entries level index →
       length row ≡ row_width n level index

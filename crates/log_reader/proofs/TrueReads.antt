@@ -1,8 +1,7 @@
 -- Reads of a source that has the files of a log.
-use Rattle.std.proofs.Common.{◌≡◌, ◌≢◌, ℕ, ◌+◌, ◌-◌, ◌*◌, ◌/◌, ◌%◌, ◌^◌, ◌<◌, ◌≤◌, List, [], ◌∷◌, ◌++◌, length, take, drop}
-use Rattle.std.proofs.Common.{Global, Vec, get_or, slice_range, Option, Some, None, Result, Ok, Err, inl, inr, refl, sym, ap, subst, ◌∙◌, arith}
+use Rattle.std.proofs.Common.{◌≡◌, ◌≢◌, ℕ, ◌+◌, ◌-◌, ◌*◌, ◌/◌, ◌%◌, ◌^◌, ◌<◌, ◌≤◌, List, [], ◌∷◌, length, drop}
+use Rattle.std.proofs.Common.{Global, Vec, get_or, Option, Some, None, Result, Ok, Err, inl, inr, refl, sym, ap, subst, ◌∙◌, arith}
 use Rattle.std.proofs.Math.Nat.{div-mul-le_self}
-use Rattle.std.proofs.Math.Seq.{take-append_seam}
 use Rattle.std.proofs.lemmas.List.{get_or-map, length-map}
 use Rattle.std.proofs.lemmas.Nat.{mul-le}
 use Rattle.tlog_shape.specs.Edge.{edge_index_of, width_of}
@@ -15,14 +14,14 @@ use Rattle.tlog_tiles.specs.declared.paths.Path.TheVariants.{Tile}
 use Rattle.tlog_tiles.specs.Row.{IsRow}
 use Rattle.tlog_tiles.specs.Tiles.{tile_bytes}
 use Rattle.tlog_tiles.proofs.EdgeLemmas.{hashes_of}
-use Rattle.tlog_tiles.proofs.RowLemmas.{length-row_text, row_one}
+use Rattle.tlog_tiles.proofs.RowLemmas.{row_one}
 use Rattle.tlog_tiles.proofs.TileLemmas.{row_folds}
 use Rattle.mirror_model.specs.Strings.{IsDigest}
 use Rattle.mirror_model.proofs.RowLaws.{get_or-ranges}
 use Rattle.mirror_model.proofs.TrueItems.{tile_end}
 use Rattle.mirror_sources.specs.Source.{StaysWithin}
 use Rattle.log_reader.specs.EdgeRows.{Edge, RowIsTrue}
-use Rattle.log_reader.specs.Holding.{GivesWay, GoesOn, HasFullTiles, IsBelow, IsEdgeRowOf, IsHeldAnswer, IsReaderOf, IsSourceOf, IsTileHash, IsTreeFile, IsTrueWay, ReadsTrue, row_width, true_row}
+use Rattle.log_reader.specs.Holding.{GivesWay, HasFullTiles, IsBelow, IsEdgeRowOf, IsHeldAnswer, IsReaderOf, IsSourceOf, IsTileHash, IsTreeFile, IsTrueWay, ReadsTrue, row_width, true_row}
 use Rattle.log_reader.specs.declared.fault.ReadFault.{ReadFault}
 use Rattle.log_reader.specs.Verified.{Verifies}
 use Rattle.log_reader.specs.declared.verify.FullFile.TheVariants as full
@@ -157,40 +156,11 @@ module _ (digest : List ℕ → List ℕ) (hash : IsDigest digest) (entries : Li
 
   -- ---- edge tiles
 
-  pub cut_row : (level index width : ℕ) (bytes first : List ℕ) →
-      GoesOn (Tile level index width) (tile_bytes digest entries level index width) bytes → first ≡ take (32 * width) bytes →
-      IsRow width first (level_row digest entries level (256 * index) width)
-  cut_row level index width bytes first g is =
-      let t = true_is_row level index width in
-      let bs = tile_bytes digest entries level index width in
-      let long : length bs ≡ 32 * width =
-      length-row_text (level_row digest entries level (256 * index) width) t.sizes ∙ ap (λ w. 32 * w) t.count in
-      let cut : take (32 * width) (bs ++ g.rest) ≡ bs =
-      ap (λ k. take k (bs ++ g.rest)) (sym long) ∙ take-append_seam bs g.rest in
-      true_bytes_are_row level index width first (is ∙ (ap (take (32 * width)) g.bytes_are ∙ cut))
-
   pub one_row : (width : ℕ) (bytes : List ℕ) (row other : List (List ℕ)) → IsRow width bytes row → IsRow width bytes other →
       row ≡ other
   one_row width bytes row other p q = row_one row other p.sizes q.sizes (p.count ∙ sym q.count) (sym p.text ∙ q.text)
 
   -- ---- the edge
-
-  pub edge_given : (may : Path → Option (List ℕ) → Type 0) → IsSourceOf digest entries may → (size level : ℕ) → n ≡ size →
-      level ≤ 7 → 0 < width_of size level → (bytes : List ℕ) →
-      may (Tile level (edge_index_of size level) (width_of size level)) (Some bytes) →
-      bytes ≡ tile_bytes digest entries level (edge_index_of size level) (width_of size level)
-  edge_given may s size level same low some bytes m =
-      s.files (Tile level (edge_index_of size level) (width_of size level))
-      (subst (λ k. IsTreeFile k (Tile level (edge_index_of size level) (width_of size level))) (sym same)
-      (edge_tile_file size level low some)) (Some bytes) m
-
-  pub edge_gone : (may : Path → Option (List ℕ) → Type 0) → IsSourceOf digest entries may → (size level : ℕ) → n ≡ size →
-      level ≤ 7 → 0 < width_of size level → may (Tile level (edge_index_of size level) (width_of size level)) None →
-      GivesWay digest entries may (Tile level (edge_index_of size level) (width_of size level))
-  edge_gone may s size level same low some m =
-      s.files (Tile level (edge_index_of size level) (width_of size level))
-      (subst (λ k. IsTreeFile k (Tile level (edge_index_of size level) (width_of size level))) (sym same)
-      (edge_tile_file size level low some)) None m
 
   module _ (size level : ℕ) where
     abbrev at : ℕ
@@ -204,29 +174,6 @@ module _ (digest : List ℕ → List ℕ) (hash : IsDigest digest) (entries : Li
     edge_row w same text is =
         subst (λ k. IsRow k text (level_row digest entries level (256 * at) wide)) (sym same)
         (true_bytes_are_row level at wide text is)
-
-    -- the full tile that replaces the partial one
-    module _ (may : Path → Option (List ℕ) → Type 0) (way : GivesWay digest entries may (Tile level at wide)) (i : ℕ) (is : i ≡ at)
-      where
-        pub part_there : may (Tile level i 256) None → ⊥
-        part_there m = way.full None (subst (λ j. may (Tile level j 256) None) is m)
-
-        part_goes : (bytes : List ℕ) → may (Tile level i 256) (Some bytes) →
-            GoesOn (Tile level at wide) (tile_bytes digest entries level at wide) bytes
-        part_goes bytes m = way.full (Some bytes) (subst (λ j. may (Tile level j 256) (Some bytes)) is m)
-
-        module _ (bytes text : List ℕ) (m : may (Tile level i 256) (Some bytes)) (text_is : text ≡ bytes) (w : ℕ) (same : w ≡ wide)
-          where
-            pub part_fits : 32 * w ≤ length text
-            part_fits = omega (arith, ap length text_is, (part_goes bytes m).whole, same)
-
-            pub part_row : (part : List ℕ) → part ≡ slice_range text 0 (32 * w) →
-                IsRow w part (level_row digest entries level (256 * at) wide)
-            part_row part cut =
-                let whole : 32 * w - 0 ≡ 32 * wide = omega (arith, same) in
-                subst (λ k. IsRow k part (level_row digest entries level (256 * at) wide)) (sym same)
-                (cut_row level at wide bytes part (part_goes bytes m)
-                (cut ∙ ((λ j. take (whole j) text) ∙ ap (take (32 * wide)) text_is)))
 
   -- rows that were read one after another
   pub rows_true : (size : ℕ) (vs : List (Vec (List ℕ) Global)) (edge : Edge) → edge.size ≡ size → edge.rows ≡ items_of vs →

@@ -20,13 +20,17 @@ CountsFailure old new (Err Collision) = new ≡ old
 CountsFailure old new (Err Source) = new ≡ one_more old
 CountsFailure old new (Err OutOfMemory) = new ≡ old
 
+-- the fault names a file for which that holds. It is no collision
+abbrev pub NamesFile : (Path → Type 0) → ReadFault → Type 0
+NamesFile Is (NoFile path) = Is path
+NamesFile Is (FalseFile path) = Is path
+NamesFile Is Collision = ⊥
+NamesFile Is Source = ⊤
+NamesFile Is OutOfMemory = ⊤
+
 -- the source failed, or memory was refused
 abbrev pub IsFailure : ReadFault → Type 0
-IsFailure (NoFile path) = ⊥
-IsFailure (FalseFile path) = ⊥
-IsFailure Collision = ⊥
-IsFailure Source = ⊤
-IsFailure OutOfMemory = ⊤
+IsFailure = NamesFile (λ path. ⊥)
 
 -- the fault of a read whose file is false, or for which memory was refused
 abbrev pub found_in : {T E : Type 0} → Result (Option T) E → Path → Result T ReadFault

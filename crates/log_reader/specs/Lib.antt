@@ -8,14 +8,6 @@ pub mod Truth
 pub mod Holding
 pub mod Nodes
 pub mod FullRows
+pub mod Parts
 pub mod FalseFiles
 pub mod FalseEdges
-pub mod Wanted
-pub mod FindFaults
-pub mod Counts
-pub mod Answers
-pub mod Sources
-pub mod InTurn
-pub mod Each
-pub mod Rows
-pub mod Mixes

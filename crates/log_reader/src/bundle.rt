@@ -1,20 +1,19 @@
 //! Verified bundles of a log.
-ghost use Rattle.std.specs.Prelude.{◌≡◌, ◌↔◌, ◌+◌, ◌*◌, ◌<◌, ◌≤◌, ◌++◌, ℕ, IfErr, IfOk, IsSomeAnd, IsTrue, List, length};
-ghost use Rattle.tlog_tiles.specs.Bundle.{bundle_text};
+ghost use Rattle.std.specs.Prelude.{◌≡◌, ◌↔◌, ◌*◌, ◌<◌, ◌≤◌, ℕ, IfErr, IfOk, IsTrue, List, Some, length};
 ghost use Rattle.tlog_tiles.specs.Tiles.{bundle_bytes};
 ghost use Rattle.tlog_tiles.specs.declared.paths.Path.TheVariants.{Entries};
-ghost use Rattle.mirror_model.specs.TrueLaws.{AreShort};
 ghost use Rattle.mirror_sources.specs.Source.{StaysWithin};
 ghost use Rattle.mirror_sources.specs.Recorded.{KeepsRecord};
-ghost use Rattle.log_reader.specs.Faults.{CountsFailure};
-ghost use Rattle.log_reader.specs.FalseFiles.{IsEndGiven, IsStartGiven, NamesEnd, NamesFalse, NamesFull, NamesGone};
-ghost use Rattle.log_reader.specs.Holding.{GivesWay, IsEnd, IsEndRow, IsSourceOf, IsTileHash, ReadsOf, ReadsTrue, row_width};
+ghost use Rattle.log_reader.specs.Faults.{CountsFailure, NamesFile};
+ghost use Rattle.log_reader.specs.FalseFiles.{IsFalseEnd, NamesFalse, NamesFull};
+ghost use Rattle.log_reader.specs.Holding.{IsEndRow, IsSourceOf, IsTileHash, ReadsOf, ReadsTrue, row_width};
+ghost use Rattle.log_reader.specs.Parts.{IsPartGiven};
 ghost use Rattle.log_reader.specs.Verified.{HasLeaves, IsVerifiedBundle};
 ghost use Rattle.log_reader.specs.Ways.{IsShownBundle};
 ghost use Rattle.log_reader.specs.declared.verify.FullFile.TheVariants.{Bundle};
 
 use crate::fault::ReadFault;
-use crate::found::{get_file, or_false};
+use crate::found::{get_file, get_partial, or_false};
 use crate::reader::LogReader;
 use crate::verify::{FullFile, leaves_of, verified};
 use crate::walk::go_to;
@@ -22,7 +21,7 @@ use mirror_sources::Source;
 use std::alloc::{AllocError, Global};
 use tlog_hash::{Hash, TreeHash};
 use tlog_shape::edge_index;
-use tlog_tiles::{Path, split_entry};
+use tlog_tiles::Path;
 
 // The bytes of a full bundle that has that hash.
 fn read_full<H: TreeHash, S: Source>(
@@ -32,6 +31,8 @@ fn read_full<H: TreeHash, S: Source>(
     hash: &Hash,
 ) -> Result<Vec<u8>, ReadFault>
     ensures bytes { IfOk result (λ bytes. IsVerifiedBundle H.digest hash.now bytes.items) }
+    ensures given { IfOk result
+        (λ bytes. S.may_answer source.old (Entries index 256) (Some bytes.items)) }
     ensures later { StaysWithin (S.may_answer source.old) (S.may_answer source.new) }
     ensures kept { KeepsRecord (S.files source.old) (S.files source.new) }
     ensures counted { CountsFailure (S.failed source.old) (S.failed source.new) result }
@@ -42,7 +43,7 @@ fn read_full<H: TreeHash, S: Source>(
         (λ bytes. bytes.items ≡ bundle_bytes entries index 256) }
 {
     let path = Path::Entries { index, width: 256 };
-    let bytes = get_file(source, &path, path)?;
+    let bytes = get_file(source, &path)?;
     let row = or_false(verified::<H>(alloc, FullFile::Bundle, hash, &bytes), path)?;
     drop(row);
     Ok(bytes)
@@ -65,87 +66,6 @@ fn has_leaves<H: TreeHash>(alloc: Global, row: &[Hash], bytes: &[u8]) -> Result<
     }
 }
 
-// The first `count` entries of a bundle. None: it has fewer.
-fn first_entries(bundle: &[u8], count: usize) -> Option<&[u8]>
-    ensures { (entries : List (List ℕ)) (rest : List ℕ) → length entries ≡ count → AreShort entries
-        → bundle.now ≡ bundle_text entries ++ rest
-        → IsSomeAnd result (λ part. part.now ≡ bundle_text entries) }
-{
-    let mut rest = bundle;
-    for _ in 0..count {
-        let (_entry, after) = split_entry(rest)?;
-        rest = after;
-    }
-    bundle.get(..bundle.len().saturating_sub(rest.len()))
-}
-
-// A copy of the first `count` entries of a bundle. None: it has fewer.
-fn copy_first(alloc: Global, bundle: &[u8], count: usize) -> Result<Option<Vec<u8>>, AllocError>
-    ensures { (entries : List (List ℕ)) (rest : List ℕ) → length entries ≡ count → AreShort entries
-        → bundle.now ≡ bundle_text entries ++ rest
-        → IfOk result (λ found. IsSomeAnd found (λ part. part.items ≡ bundle_text entries)) }
-{
-    match first_entries(bundle, count) {
-        Some(part) => Ok(Some(Vec::from_slice(alloc, part)?)),
-        None => Ok(None),
-    }
-}
-
-// The entries of a partial bundle, from the start of its full bundle. A log may have deleted the partial one.
-fn read_part<H: TreeHash, S: Source>(
-    alloc: Global,
-    source: &mut S,
-    path: Path,
-    index: u64,
-    count: usize,
-) -> Result<Vec<u8>, ReadFault>
-    ensures got { IfOk result (λ bytes. IsStartGiven (S.may_answer source.old) index count
-        bytes.items) }
-    ensures names { IfErr result
-        (NamesGone (S.may_answer source.old) index count path) }
-    ensures later { StaysWithin (S.may_answer source.old) (S.may_answer source.new) }
-    ensures kept { KeepsRecord (S.files source.old) (S.files source.new) }
-    ensures counted { CountsFailure (S.failed source.old) (S.failed source.new) result }
-    ensures honest { (entries : List (List ℕ)) → AreShort entries
-        → 256 * index + count ≤ length entries
-        → GivesWay H.digest entries (S.may_answer source.old) (Entries index count)
-        → ReadsTrue result (λ bytes. bytes.items ≡ bundle_bytes entries index count) }
-{
-    let full = Path::Entries { index, width: 256 };
-    let bytes = get_file(source, &full, path)?;
-    or_false(copy_first(alloc, &bytes, count), full)
-}
-
-// The bytes of a partial bundle of the log. If the source lacks it, they come from the start of the full bundle.
-#[tactic(auto, using(crate::proofs::Kept::kept_twice))]
-fn get_end<H: TreeHash, S: Source>(
-    alloc: Global,
-    source: &mut S,
-    index: u64,
-    count: usize,
-) -> Result<Vec<u8>, ReadFault>
-    requires { count ≤ 256 }
-    ensures got { IfOk result (λ bytes. IsEndGiven (S.may_answer source.old) index count
-        bytes.items) }
-    ensures names { (row : List (List ℕ)) → length row ≡ count
-        → IfErr result (NamesEnd H.digest (S.may_answer source.old) row index) }
-    ensures later { StaysWithin (S.may_answer source.old) (S.may_answer source.new) }
-    ensures kept { KeepsRecord (S.files source.old) (S.files source.new) }
-    ensures counted { CountsFailure (S.failed source.old) (S.failed source.new) result }
-    ensures honest { (entries : List (List ℕ)) → IsEnd (length entries) index count
-        → IsSourceOf H.digest entries (S.may_answer source.old)
-        → ReadsTrue result (λ bytes. bytes.items ≡ bundle_bytes entries index count) }
-{
-    let path = Path::Entries {
-        index,
-        width: count as u32,
-    };
-    match source.get(&path)? {
-        Some(bytes) => Ok(bytes),
-        None => read_part::<H, S>(alloc, source, path, index, count),
-    }
-}
-
 // The bytes of the bundle at the end of the log, which has to have the leaf hashes of the edge.
 fn read_end<H: TreeHash, S: Source>(
     alloc: Global,
@@ -155,22 +75,26 @@ fn read_end<H: TreeHash, S: Source>(
 ) -> Result<Vec<u8>, ReadFault>
     requires { length row.now ≤ 256 }
     ensures bytes { IfOk result (λ bytes. HasLeaves H.digest (length row.now) bytes.items row.now) }
+    ensures given { IfOk result (λ bytes. IsPartGiven (S.may_answer source.old)
+        (Entries index (length row.now)) bytes.items) }
     ensures later { StaysWithin (S.may_answer source.old) (S.may_answer source.new) }
     ensures kept { KeepsRecord (S.files source.old) (S.files source.new) }
     ensures counted { CountsFailure (S.failed source.old) (S.failed source.new) result }
-    ensures names { IfErr result (NamesEnd H.digest (S.may_answer source.old) row.now index) }
+    ensures names { IfErr result
+        (NamesFile (IsFalseEnd H.digest (S.may_answer source.old) row.now index)) }
     ensures honest { (entries : List (List ℕ)) → IsEndRow H.digest entries index row.now
         → IsSourceOf H.digest entries (S.may_answer source.old) → ReadsTrue result
         (λ bytes. bytes.items ≡ bundle_bytes entries index (length row.now)) }
 {
-    let bytes = get_end::<H, S>(alloc, source, index, row.len())?;
+    let path = Path::Entries {
+        index,
+        width: row.len() as u32,
+    };
+    let bytes = get_partial(alloc, source, &path)?;
     if has_leaves::<H>(alloc, row, &bytes)? {
         Ok(bytes)
     } else {
-        Err(ReadFault::FalseFile(Path::Entries {
-            index,
-            width: row.len() as u32,
-        }))
+        Err(ReadFault::FalseFile(path))
     }
 }
 
@@ -197,6 +121,8 @@ impl<H: TreeHash> LogReader<H> {
         ensures root { self.new.root ≡ self.old.root }
         ensures shown { IfOk result
             (λ bytes. IsShownBundle H.digest self.old.edge index bytes.items) }
+        ensures given { IfOk result (λ bytes. IsPartGiven (S.may_answer source.old)
+            (Entries index (row_width self.old.edge.size 0 index)) bytes.items) }
         ensures later { StaysWithin (S.may_answer source.old) (S.may_answer source.new) }
         ensures kept { KeepsRecord (S.files source.old) (S.files source.new) }
         ensures counted { CountsFailure (S.failed source.old) (S.failed source.new) result }

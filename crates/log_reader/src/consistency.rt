@@ -1,7 +1,6 @@
 //! Consistency proofs of a log, made from verified rows.
-ghost use Rattle.std.specs.Prelude.{◌≡◌, ◌+◌, ◌++◌, ◌∷◌, ◌^◌, ◌<◌, ◌≤◌, [], IfErr, IfOk, Ok, if◌then◌else◌, length};
+ghost use Rattle.std.specs.Prelude.{◌≡◌, ◌+◌, ◌^◌, ◌<◌, ◌≤◌, IfErr, IfOk, Ok, length};
 ghost use Rattle.tlog_hash.specs.Rows.{part};
-ghost use Rattle.tlog_hash.specs.Tree.{mth};
 ghost use Rattle.tlog_proof.specs.Made.{Holds, asked_proof};
 ghost use Rattle.tlog_proof.specs.declared.proof.Ask.TheVariants.{Consistency};
 ghost use Rattle.mirror_sources.specs.Source.{StaysWithin};
@@ -11,7 +10,7 @@ ghost use Rattle.log_reader.specs.FalseFiles.{NamesFalseIfFile};
 ghost use Rattle.log_reader.specs.Holding.{ReadsTilesOf};
 ghost use Rattle.log_reader.specs.Nodes.{IsNodeRange, IsSubproofAdded};
 ghost use Rattle.log_reader.specs.Proving.{IsConsistencyTo};
-ghost use Rattle.log_reader.specs.Requested.{IsProofTile, IsTileOverNode, IsWholeOrLeft, RequestsOnly};
+ghost use Rattle.log_reader.specs.Requested.{IsProofTile, IsWholeOrLeft, RequestsOnly};
 
 use crate::checked::checked;
 use crate::fault::ReadFault;
@@ -22,37 +21,6 @@ use std::alloc::Global;
 use tlog_hash::{Hash, TreeHash};
 use tlog_proof::{HashPath, Proof};
 use tlog_shape::split;
-
-// Adds the hash of a node to a path, unless the checker has it. Returns the hash.
-#[tactic(auto, using(crate::proofs::Kept::kept_once))]
-fn add_whole<H: TreeHash, S: Source>(
-    alloc: Global,
-    reader: &mut LogReader<H>,
-    source: &mut S,
-    node: (u64, u64),
-    held: bool,
-    path: &mut Vec<Hash>,
-) -> Result<Hash, ReadFault>
-    requires { IsNodeRange reader.old.edge.size node.0 node.1 }
-    ensures edge { reader.new.edge ≡ reader.old.edge }
-    ensures root { reader.new.root ≡ reader.old.root }
-    ensures later { StaysWithin (S.may_answer source.old) (S.may_answer source.new) }
-    ensures kept { KeepsRecord (S.files source.old) (S.files source.new) }
-    ensures asks { RequestsOnly (S.asked source.old) (S.asked source.new)
-        (IsTileOverNode reader.old.edge.size node.0 node.1) }
-    ensures counted { CountsFailure (S.failed source.old) (S.failed source.new) result }
-    ensures names { IfErr result
-        (NamesFalseIfFile H.digest (S.may_answer source.old) reader.old.edge) }
-    ensures honest { ReadsTilesOf H.digest reader.old reader.new (S.may_answer source.old) result
-        (λ entries hash. (hash ≡ mth H.digest (part node.0 node.1 entries))
-        × (path.new.items ≡ path.old.items ++ (if held then [] else hash ∷ []))) }
-{
-    let hash = node_hash::<H, S>(alloc, reader, source, node.0, node.1)?;
-    if !held {
-        path.push(hash)?;
-    }
-    Ok(hash)
-}
 
 // Adds the path from the first entries of a node to all its entries: SUBPROOF of RFC 6962, section 2.1.2. If the first
 // tree is the whole node, `held` is true if the checker knows its root. Returns the hash of these first entries, to which the nodes of
@@ -87,7 +55,10 @@ fn add_subproof<H: TreeHash, S: Source>(
 {
     let (start, len) = node;
     if first == len {
-        return add_whole::<H, S>(alloc, reader, source, node, held, path);
+        if held {
+            return node_hash::<H, S>(alloc, reader, source, start, len);
+        }
+        return add_node::<H, S>(alloc, reader, source, node, path);
     }
     let k = split(len);
     if first <= k {
@@ -97,7 +68,7 @@ fn add_subproof<H: TreeHash, S: Source>(
     }
     let right = (start + k, len - k);
     let end = add_subproof::<H, S>(alloc, reader, source, right, first - k, false, path)?;
-    let left = add_whole::<H, S>(alloc, reader, source, (start, k), false, path)?;
+    let left = add_node::<H, S>(alloc, reader, source, (start, k), path)?;
     Ok(H::node(&left, &end))
 }
 

@@ -1,86 +1,25 @@
 //! The edge rows from the files of a source.
-ghost use Rattle.std.specs.Prelude.{◌≡◌, ◌<◌, ◌≤◌, ◌*◌, ℕ, List, IfErr, IfNone, IfOk, IfSome, length, slice_range};
-ghost use Rattle.tlog_shape.specs.Edge.{edge_index_of, width_of};
-ghost use Rattle.tlog_tiles.specs.Row.{IsRow};
-ghost use Rattle.tlog_tiles.specs.declared.paths.Path.TheVariants.{Tile};
+ghost use Rattle.std.specs.Prelude.{◌≡◌, ◌<◌, ◌≤◌, ℕ, List, IfErr, IfOk, length};
+ghost use Rattle.tlog_shape.specs.Edge.{width_of};
 ghost use Rattle.mirror_sources.specs.Source.{StaysWithin};
 ghost use Rattle.mirror_sources.specs.Recorded.{KeepsRecord};
 ghost use Rattle.log_reader.specs.Faults.{CountsFailure};
-ghost use Rattle.log_reader.specs.FalseEdges.{IsEdgeGiven, IsLowest, IsPartGiven, IsRowGiven, NamesFalseEdge, NamesFalsePart, NamesNoPart};
+ghost use Rattle.log_reader.specs.FalseEdges.{IsEdgeGiven, IsLowest, IsRowGiven, NamesFalseEdge, NamesFalsePart};
 ghost use Rattle.log_reader.specs.EdgeRows.{RowIsTrue, hash_of_edge};
-ghost use Rattle.log_reader.specs.Holding.{GivesWay, IsEdgeRowOf, IsSourceOf, ReadsLog, ReadsTrue};
+ghost use Rattle.log_reader.specs.Holding.{IsEdgeRowOf, IsSourceOf, ReadsLog, ReadsTrue};
 ghost use Rattle.log_reader.specs.Ways.{AreHashesOf, HasEdgeHashes};
 
 use crate::edge_row::edge_path;
 use crate::edge_rows::EdgeRows;
 use crate::fault::ReadFault;
-use crate::found::{get_file, or_false};
+use crate::found::{get_partial, or_false};
 use crate::hashed_edge::HashedEdge;
-use crate::verify::is_same;
+use crate::verify::{is_same, row_in};
 use mirror_sources::Source;
-use std::alloc::{AllocError, Global};
+use std::alloc::Global;
 use tlog_hash::{Hash, TreeHash};
-use tlog_shape::{edge_index, edge_width};
-use tlog_tiles::{Path, RowFault, read_row};
-
-/// The row of that width in some bytes. None: they are not such a row.
-pub(crate) fn row_in(
-    alloc: Global,
-    width: u32,
-    bytes: &[u8],
-) -> Result<Option<Vec<Hash>>, AllocError>
-    ensures row { IfOk result (λ found. IfSome found (λ row. IsRow width bytes.now row.items)) }
-    ensures none { IfOk result (λ found. IfNone found ((row : List (List ℕ))
-        → ¬ IsRow width bytes.now row)) }
-{
-    match read_row(alloc, width, bytes) {
-        Ok(row) => Ok(Some(row)),
-        Err(RowFault::RowLength) => Ok(None),
-        Err(RowFault::OutOfMemory) => Err(AllocError),
-    }
-}
-
-// The row of that width at the start of some bytes. None: there is no such row.
-fn first_row_in(alloc: Global, width: u32, bytes: &[u8]) -> Result<Option<Vec<Hash>>, AllocError>
-    requires { width ≤ 256 }
-    ensures row { IfOk result (λ found. IfSome found
-        (λ row. IsRow width (slice_range bytes.now 0 (32 * width)) row.items)) }
-    ensures none { IfOk result (λ found. IfNone found (32 * width ≤ length bytes.now
-        → (row : List (List ℕ)) → ¬ IsRow width (slice_range bytes.now 0 (32 * width)) row)) }
-{
-    match bytes.get(..32 * width as usize) {
-        Some(part) => row_in(alloc, width, part),
-        None => Ok(None),
-    }
-}
-
-// The hashes of a partial tile, from the start of its full tile. A log may have deleted the partial one.
-fn read_part<H: TreeHash, S: Source>(
-    alloc: Global,
-    source: &mut S,
-    size: u64,
-    level: u32,
-) -> Result<Vec<Hash>, ReadFault>
-    requires { level ≤ 7 }
-    ensures row { IfOk result (λ row. AreHashesOf (width_of size level) row.items) }
-    ensures got { IfOk result
-        (λ row. IsPartGiven (S.may_answer source.old) size level row.items) }
-    ensures names { IfErr result (NamesNoPart (S.may_answer source.old) size level) }
-    ensures later { StaysWithin (S.may_answer source.old) (S.may_answer source.new) }
-    ensures kept { KeepsRecord (S.files source.old) (S.files source.new) }
-    ensures counted { CountsFailure (S.failed source.old) (S.failed source.new) result }
-    ensures honest { (entries : List (List ℕ)) → GivesWay H.digest entries
-        (S.may_answer source.old) (Tile level (edge_index_of size level) (width_of size level))
-        → ReadsTrue result (λ row. IsEdgeRowOf H.digest size level entries row.items) }
-{
-    let full = Path::Tile {
-        level,
-        index: edge_index(size, level),
-        width: 256,
-    };
-    let bytes = get_file(source, &full, edge_path(size, level))?;
-    or_false(first_row_in(alloc, edge_width(size, level), &bytes), full)
-}
+use tlog_shape::edge_width;
+use tlog_tiles::Path;
 
 // The row of a level of the edge, empty if the level has none.
 #[tactic(auto, using(crate::proofs::Kept::kept_twice, crate::proofs::Kept::kept_once))]
@@ -107,9 +46,7 @@ fn read_edge_row<H: TreeHash, S: Source>(
         return Ok(Vec::new(alloc));
     }
     let path = edge_path(size, level);
-    let Some(bytes) = source.get(&path)? else {
-        return read_part::<H, S>(alloc, source, size, level);
-    };
+    let bytes = get_partial(alloc, source, &path)?;
     or_false(row_in(alloc, width, &bytes), path)
 }
 

@@ -55,15 +55,15 @@ fn add_path<H: TreeHash, S: Source>(
         return Ok(());
     }
     let k = split(len);
-    let beside = if index < k {
+    if index < k {
         add_path::<H, S>(alloc, reader, source, (start, k), index, path)?;
-        (start + k, len - k)
-    } else {
-        let right = (start + k, len - k);
-        add_path::<H, S>(alloc, reader, source, right, index - k, path)?;
-        (start, k)
-    };
-    add_node::<H, S>(alloc, reader, source, beside, path)
+        add_node::<H, S>(alloc, reader, source, (start + k, len - k), path)?;
+        return Ok(());
+    }
+    let right = (start + k, len - k);
+    add_path::<H, S>(alloc, reader, source, right, index - k, path)?;
+    add_node::<H, S>(alloc, reader, source, (start, k), path)?;
+    Ok(())
 }
 
 impl<H: TreeHash> LogReader<H> {

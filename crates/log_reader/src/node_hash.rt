@@ -1,7 +1,6 @@
 //! The hashes of the nodes of a tree.
-ghost use Rattle.std.specs.Prelude.{◌≡◌, ◌+◌, ◌*◌, ◌%◌, ◌^◌, ◌<◌, ◌≤◌, ◌++◌, ◌∷◌, [], ℕ, IfErr, IfOk, IsSomeAnd, List, drop, length, take};
+ghost use Rattle.std.specs.Prelude.{◌≡◌, ◌+◌, ◌*◌, ◌^◌, ◌<◌, ◌≤◌, ◌++◌, ◌∷◌, [], ℕ, IfErr, IfOk, IsSomeAnd, List, drop, length, take};
 ghost use Rattle.tlog_shape.specs.Edge.{edge_index_of, width_of};
-ghost use Rattle.tlog_shape.specs.Split.{IsPowerOfTwo};
 ghost use Rattle.tlog_hash.specs.Rows.{part};
 ghost use Rattle.tlog_hash.specs.Tree.{fold_of, mth};
 ghost use Rattle.mirror_sources.specs.Source.{StaysWithin};
@@ -36,37 +35,6 @@ pub(crate) fn fold_part<H: TreeHash>(row: &[Hash], first: u32, count: u32) -> Op
     Some(fold::<H>(part))
 }
 
-// The hash of a node whose number of entries is a power of two: some hashes of a tile's row lead to it.
-#[tactic(auto, using(crate::proofs::Kept::kept_once))]
-fn perfect_hash<H: TreeHash, S: Source>(
-    alloc: Global,
-    reader: &mut LogReader<H>,
-    source: &mut S,
-    start: u64,
-    len: u64,
-) -> Result<Hash, ReadFault>
-    requires within { start + len ≤ reader.old.edge.size }
-    requires power { IsPowerOfTwo len }
-    requires aligned { start % len ≡ 0 }
-    ensures edge { reader.new.edge ≡ reader.old.edge }
-    ensures root { reader.new.root ≡ reader.old.root }
-    ensures later { StaysWithin (S.may_answer source.old) (S.may_answer source.new) }
-    ensures kept { KeepsRecord (S.files source.old) (S.files source.new) }
-    ensures asks { RequestsOnly (S.asked source.old) (S.asked source.new)
-        (IsTileOverNode reader.old.edge.size start len) }
-    ensures counted { CountsFailure (S.failed source.old) (S.failed source.new) result }
-    ensures names { IfErr result
-        (NamesFalseIfFile H.digest (S.may_answer source.old) reader.old.edge) }
-    ensures honest { ReadsTilesOf H.digest reader.old reader.new (S.may_answer source.old) result
-        (λ entries hash. hash ≡ mth H.digest (part start len entries)) }
-{
-    let level = top_level(len);
-    go_to::<H, S>(alloc, reader, source, level, edge_index(start, level))?;
-    reader
-        .node(edge_width(start, level), edge_width(len, level))
-        .ok_or(ReadFault::Collision)
-}
-
 // The hash of the last entries: those from hash `first` on in the edge row of that level, and all after that row.
 fn end_hash<H: TreeHash>(
     alloc: Global,
@@ -86,8 +54,8 @@ fn end_hash<H: TreeHash>(
     }
 }
 
-/// The hash of a node of the tree: of the `len` entries from `start` on. If `len` is not a power of two, they are the last entries of the
-/// tree.
+/// The hash of a node of the tree: of the `len` entries from `start` on. If `len` is a power of two, some hashes of a tile's row lead to
+/// it. If not, they are the last entries of the tree.
 #[tactic(auto, using(crate::proofs::Kept::kept_once))]
 pub(crate) fn node_hash<H: TreeHash, S: Source>(
     alloc: Global,
@@ -109,15 +77,18 @@ pub(crate) fn node_hash<H: TreeHash, S: Source>(
     ensures honest { ReadsTilesOf H.digest reader.old reader.new (S.may_answer source.old) result
         (λ entries hash. hash ≡ mth H.digest (part start len entries)) }
 {
-    if is_perfect(len) {
-        return perfect_hash::<H, S>(alloc, reader, source, start, len);
-    }
     let level = top_level(len);
+    if is_perfect(len) {
+        go_to::<H, S>(alloc, reader, source, level, edge_index(start, level))?;
+        return reader
+            .node(edge_width(start, level), edge_width(len, level))
+            .ok_or(ReadFault::Collision);
+    }
     let hash = end_hash::<H>(alloc, reader.edge(), level, edge_width(start, level))?;
     hash.ok_or(ReadFault::Collision)
 }
 
-/// Adds the hash of a node to a path.
+/// Adds the hash of a node to a path. Returns the hash.
 #[tactic(auto, using(crate::proofs::Kept::kept_once))]
 pub(crate) fn add_node<H: TreeHash, S: Source>(
     alloc: Global,
@@ -125,7 +96,7 @@ pub(crate) fn add_node<H: TreeHash, S: Source>(
     source: &mut S,
     node: (u64, u64),
     path: &mut Vec<Hash>,
-) -> Result<(), ReadFault>
+) -> Result<Hash, ReadFault>
     requires { IsNodeRange reader.old.edge.size node.0 node.1 }
     ensures edge { reader.new.edge ≡ reader.old.edge }
     ensures root { reader.new.root ≡ reader.old.root }
@@ -137,10 +108,10 @@ pub(crate) fn add_node<H: TreeHash, S: Source>(
     ensures names { IfErr result
         (NamesFalseIfFile H.digest (S.may_answer source.old) reader.old.edge) }
     ensures honest { ReadsTilesOf H.digest reader.old reader.new (S.may_answer source.old) result
-        (λ entries _. path.new.items
-        ≡ path.old.items ++ mth H.digest (part node.0 node.1 entries) ∷ []) }
+        (λ entries hash. (hash ≡ mth H.digest (part node.0 node.1 entries))
+        × (path.new.items ≡ path.old.items ++ hash ∷ [])) }
 {
     let hash = node_hash::<H, S>(alloc, reader, source, node.0, node.1)?;
     path.push(hash)?;
-    Ok(())
+    Ok(hash)
 }

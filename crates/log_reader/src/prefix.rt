@@ -1,13 +1,12 @@
 //! A log at a smaller size.
 ghost use Rattle.std.specs.Prelude.{◌≡◌, ◌≤◌, ℕ, All, IfErr, IfOk, length, take};
-ghost use Rattle.tlog_shape.specs.Edge.{edge_index_of, width_of};
 ghost use Rattle.mirror_sources.specs.Source.{StaysWithin};
 ghost use Rattle.mirror_sources.specs.Recorded.{KeepsRecord};
 ghost use Rattle.log_reader.specs.Faults.{CountsFailure};
 ghost use Rattle.log_reader.specs.FalseFiles.{NamesFalse};
 ghost use Rattle.log_reader.specs.EdgeRows.{RowIsTrue};
 ghost use Rattle.log_reader.specs.Holding.{IsEdgeRowOf, IsReaderOf, ReadsTilesOf};
-ghost use Rattle.log_reader.specs.Ways.{HasEdgeHashes, IsShownEdge, IsShownPart, IsShownStart};
+ghost use Rattle.log_reader.specs.Ways.{HasEdgeHashes, IsShownEdge, IsShownPart};
 
 use crate::edge_row::edge_path;
 use crate::edge_rows::EdgeRows;
@@ -30,41 +29,9 @@ fn copy_start(alloc: Global, row: &[Hash], width: usize) -> Result<Vec<Hash>, Al
     copy_row(alloc, &row[..width])
 }
 
-// The row of a level of the edge of the first entries. The level has a row.
-fn first_row<H: TreeHash, S: Source>(
-    alloc: Global,
-    reader: &mut LogReader<H>,
-    source: &mut S,
-    size: u64,
-    level: u32,
-) -> Result<Vec<Hash>, ReadFault>
-    requires level { level ≤ 7 }
-    requires within { size ≤ reader.old.edge.size }
-    ensures edge { reader.new.edge ≡ reader.old.edge }
-    ensures root { reader.new.root ≡ reader.old.root }
-    ensures count { IfOk result (λ row. length row.items ≡ width_of size level) }
-    ensures sizes { IfOk result (λ row. All (λ hash. length hash ≡ 32) row.items) }
-    ensures shown { IfOk result (λ row. IsShownStart H.digest reader.old.edge level
-        (edge_index_of size level) (width_of size level) row.items) }
-    ensures later { StaysWithin (S.may_answer source.old) (S.may_answer source.new) }
-    ensures kept { KeepsRecord (S.files source.old) (S.files source.new) }
-    ensures counted { CountsFailure (S.failed source.old) (S.failed source.new) result }
-    ensures names { IfErr result (NamesFalse H.digest (S.may_answer source.old) reader.old.edge) }
-    ensures honest { ReadsTilesOf H.digest reader.old reader.new (S.may_answer source.old) result
-        (λ entries row. IsEdgeRowOf H.digest size level (take size entries) row.items) }
-{
-    let width = edge_width(size, level);
-    let index = edge_index(size, level);
-    let row = reader.row(alloc, source, level, index)?;
-    if row.len() < width as usize {
-        return Err(ReadFault::NoFile(edge_path(size, level)));
-    }
-    Ok(copy_start(alloc, &row, width as usize)?)
-}
-
 // The row of a level of the edge of the first entries, empty if the level has none.
 #[tactic(auto, using(crate::proofs::Kept::kept_once))]
-fn first_row_if_any<H: TreeHash, S: Source>(
+fn first_row<H: TreeHash, S: Source>(
     alloc: Global,
     reader: &mut LogReader<H>,
     source: &mut S,
@@ -83,10 +50,16 @@ fn first_row_if_any<H: TreeHash, S: Source>(
     ensures honest { ReadsTilesOf H.digest reader.old reader.new (S.may_answer source.old) result
         (λ entries row. IsEdgeRowOf H.digest size level (take size entries) row.items) }
 {
-    if edge_width(size, level) == 0 {
+    let width = edge_width(size, level);
+    if width == 0 {
         return Ok(Vec::new(alloc));
     }
-    first_row::<H, S>(alloc, reader, source, size, level)
+    let index = edge_index(size, level);
+    let row = reader.row(alloc, source, level, index)?;
+    if row.len() < width as usize {
+        return Err(ReadFault::NoFile(edge_path(size, level)));
+    }
+    Ok(copy_start(alloc, &row, width as usize)?)
 }
 
 // The edge of the first entries.
@@ -113,7 +86,7 @@ fn first_edge<H: TreeHash, S: Source>(
 {
     let mut rows = Vec::new(alloc);
     for level in 0..8u32 {
-        rows.push(first_row_if_any::<H, S>(alloc, reader, source, size, level)?)?;
+        rows.push(first_row::<H, S>(alloc, reader, source, size, level)?)?;
     }
     Ok(EdgeRows::new(size, rows))
 }

@@ -10,11 +10,10 @@ ghost use Rattle.log_reader.specs.Requested.{RequestsOnly};
 ghost use Rattle.log_reader.specs.Verified.{IsVerifiedRow, Verifies};
 ghost use Rattle.log_reader.specs.declared.verify.FullFile.TheVariants.{Tile};
 
-use crate::edge_files::row_in;
 use crate::fault::ReadFault;
 use crate::found::{get_file, or_false};
 use crate::full_row::FullRow;
-use crate::verify::is_same;
+use crate::verify::{is_same, row_in};
 use mirror_sources::Source;
 use std::alloc::{AllocError, Global};
 use tlog_hash::{Hash, TreeHash};
@@ -67,6 +66,6 @@ pub(crate) fn read_tile<H: TreeHash, S: Source>(
         index,
         width: 256,
     };
-    let bytes = get_file(source, &path, path)?;
+    let bytes = get_file(source, &path)?;
     or_false(verified_row::<H>(alloc, hash, &bytes), path)
 }

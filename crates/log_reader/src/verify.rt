@@ -1,6 +1,7 @@
 //! The conditions on a full file.
 ghost use Rattle.std.specs.Prelude.{◌≡◌, ◌↔◌, IsTrue, ◌≤◌, ℕ, List, IfNone, IfOk, IfSome, map};
 ghost use Rattle.tlog_hash.specs.Tree.{leaf_hash};
+ghost use Rattle.tlog_tiles.specs.Row.{IsRow};
 ghost use Rattle.log_reader.specs.Verified.{IsRowOf, HasLeaves, Verifies};
 
 use std::alloc::{AllocError, Global};
@@ -60,6 +61,23 @@ pub fn leaves_of<H: TreeHash>(
     }
 }
 
+/// The row of that width in some bytes. None: they are not such a row.
+pub(crate) fn row_in(
+    alloc: Global,
+    width: u32,
+    bytes: &[u8],
+) -> Result<Option<Vec<Hash>>, AllocError>
+    ensures row { IfOk result (λ found. IfSome found (λ row. IsRow width bytes.now row.items)) }
+    ensures none { IfOk result (λ found. IfNone found ((row : List (List ℕ))
+        → ¬ IsRow width bytes.now row)) }
+{
+    match read_row(alloc, width, bytes) {
+        Ok(row) => Ok(Some(row)),
+        Err(RowFault::RowLength) => Ok(None),
+        Err(RowFault::OutOfMemory) => Err(AllocError),
+    }
+}
+
 // The row of a full file. None: the bytes are not a full file.
 fn row_of<H: TreeHash>(
     alloc: Global,
@@ -72,11 +90,7 @@ fn row_of<H: TreeHash>(
         → ¬ IsRowOf H.digest kind bytes.now row)) }
 {
     match kind {
-        FullFile::Tile => match read_row(alloc, 256, bytes) {
-            Ok(row) => Ok(Some(row)),
-            Err(RowFault::RowLength) => Ok(None),
-            Err(RowFault::OutOfMemory) => Err(AllocError),
-        },
+        FullFile::Tile => row_in(alloc, 256, bytes),
         FullFile::Bundle => leaves_of::<H>(alloc, 256, bytes),
     }
 }

@@ -70,6 +70,16 @@ fn ask_now<S: Read + Write + Drop>(alloc: Global, site: &Site, one: &mut Sent<S>
     }
 }
 
+// The same, with all the time of a request from now on.
+fn ask_afresh<D: Dial>(alloc: Global, site: &Site, dial: &mut D, one: &mut Sent<D::Stream>)
+    ensures path { one.new.path ≡ one.old.path }
+{
+    match dial.restart(&mut one.stream) {
+        Ok(()) => ask_now(alloc, site, one),
+        Err(_) => one.stage = Stage::Lost,
+    }
+}
+
 // Sends the request, if it was not sent yet and the connection stands. It waits for no connection.
 fn ask_ready<D: Dial>(alloc: Global, site: &Site, dial: &mut D, one: &mut Sent<D::Stream>)
     ensures path { one.new.path ≡ one.old.path }
@@ -78,10 +88,7 @@ fn ask_ready<D: Dial>(alloc: Global, site: &Site, dial: &mut D, one: &mut Sent<D
         return;
     }
     match dial.stands(&mut one.stream) {
-        Ok(true) => match dial.restart(&mut one.stream) {
-            Ok(()) => ask_now(alloc, site, one),
-            Err(_) => one.stage = Stage::Lost,
-        },
+        Ok(true) => ask_afresh(alloc, site, dial, one),
         Ok(false) => {}
         Err(_) => one.stage = Stage::Lost,
     }
@@ -311,9 +318,8 @@ impl<S: Read + Write + Drop> Ahead<S> {
         Some(self.sent.remove(i))
     }
 
-    /// Waits until the request is sent and its reply begins, or no other waits for its connection. In the meantime it
-    /// sends each other request whose connection stands.
-    pub(crate) fn attend<D: Dial<Stream = S>>(
+    /// Waits until the request is sent or has failed. In the meantime it sends each other request whose connection stands.
+    pub(crate) fn ask_due<D: Dial<Stream = S>>(
         &mut self,
         alloc: Global,
         site: &Site,
@@ -325,16 +331,45 @@ impl<S: Read + Write + Drop> Ahead<S> {
     {
         for _ in 0..u64::MAX {
             ask_ready(alloc, site, dial, one);
-            self.ask(alloc, site, dial);
-            let asked = one.stage != Stage::Begun;
-            if asked && !self.sent.iter().any(|other| other.stage == Stage::Begun) {
+            if one.stage != Stage::Begun {
                 return;
             }
-            match dial.watch(&mut one.stream, asked) {
+            self.ask(alloc, site, dial);
+            match dial.watch(&mut one.stream, false) {
+                Ok(false) => {}
+                Ok(true) => return ask_afresh(alloc, site, dial, one),
+                Err(_) => return,
+            }
+        }
+    }
+
+    /// Waits until there are bytes to read of the stream, while a request waits for its connection. It sends each one whose
+    /// connection stands. So no read of the stream holds up a request.
+    pub(crate) fn attend<D: Dial<Stream = S>>(
+        &mut self,
+        alloc: Global,
+        site: &Site,
+        dial: &mut D,
+        stream: &mut S,
+    )
+        ensures most { self.new.most ≡ self.old.most }
+        ensures quiet { stream.new ≡ stream.old }
+    {
+        for _ in 0..u64::MAX {
+            if !self.has_begun() {
+                return;
+            }
+            self.ask(alloc, site, dial);
+            match dial.watch(stream, true) {
                 Ok(false) => {}
                 _ => return,
             }
         }
+    }
+
+    // Whether a request waits for its connection.
+    fn has_begun(&self) -> bool {
+        self.sent.iter().any(|one| one.stage == Stage::Begun)
     }
 
     /// Waits until the server has finished with all requests that were sent, and drops their replies. Once one is silent

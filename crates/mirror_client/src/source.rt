@@ -4,7 +4,8 @@ ghost use Rattle.mirror_sources.specs.Source.{CountsGet, IsShortAnswer};
 ghost use Rattle.mirror_client.specs.Waits.{Spends, SpendsWait};
 ghost use Rattle.mirror_client.specs.declared.limits.TheConstants.{MAX_WAIT};
 
-use crate::ahead::{Ahead, Stage, receive_ahead};
+use crate::ahead::{Ahead, Sent, Stage, receive_ahead};
+use crate::attended::{Attended, attend_dialled};
 use crate::dial::Dial;
 use crate::exchange::exchange;
 use crate::failed::{FailedGet, Miss, Reason};
@@ -25,7 +26,8 @@ use tlog_tiles::Path;
 /// With the prefix `/2026` it gets `tile/0/000` by `GET /2026/tile/0/000 HTTP/1.0`.
 ///
 /// A hint names the next paths. The source then begins connections for the first of them, each for one request, and waits
-/// for none. It sends each request as soon as its connection stands, and reads each reply when its path is needed. A
+/// for none. It sends each request as soon as its connection stands, also while it reads another reply, and reads each
+/// reply when its path is needed. Then its place is free for the next path of the hint, until a get fails. A
 /// hint closes the requests that are out for other paths. If a connection fails, the number of requests that are out then
 /// becomes the limit, until a get comes while none is out.
 ///
@@ -52,6 +54,8 @@ pub struct HttpSource<D: Dial + Drop> {
     ahead: Ahead<D::Stream>,
     patience: Patience,
     times: ReplyTimes,
+    // The paths of the last hint that were not got since. None after a get that failed.
+    hinted: Vec<Path>,
     failures: u64,
     last_failed: Option<FailedGet>,
 }
@@ -81,6 +85,7 @@ impl<D: Dial + Drop> HttpSource<D> {
             ahead: Ahead::new(alloc, pace.ahead),
             patience: Patience::new(pace.wait),
             times: ReplyTimes::new(),
+            hinted: Vec::new(alloc),
             failures: 0,
             last_failed: None,
         }
@@ -111,8 +116,32 @@ impl<D: Dial + Drop> HttpSource<D> {
         self.ahead.tempo.end(end);
         if answer.is_ok() {
             self.times.keep(end.saturating_sub(begin));
+            self.send_next(path);
+        } else {
+            self.hinted.clear();
         }
         answer
+    }
+
+    // Keeps the paths of a hint. If memory is refused, none is kept.
+    fn keep_hint(&mut self, paths: &[Path])
+        ensures { self.new ≡ self.old }
+    {
+        self.hinted.clear();
+        if self.hinted.extend_from_slice(paths).is_err() {
+            self.hinted.clear();
+        }
+    }
+
+    // Takes the hint again, without the path that was got, whose place is free for another request.
+    fn send_next(&mut self, path: &Path)
+        ensures { self.new ≡ self.old }
+    {
+        self.hinted.retain(|next| *next != *path);
+        if !self.hinted.is_empty() {
+            self.ahead
+                .send(self.alloc, &self.site, &mut self.dial, &self.hinted);
+        }
     }
 
     // The body of the reply for that path. It waits while the server is busy.
@@ -233,7 +262,18 @@ impl<D: Dial + Drop> HttpSource<D> {
             return Err(SourceFault::Failed);
         }
         self.ahead
-            .attend(self.alloc, &self.site, &mut self.dial, &mut one);
+            .ask_due(self.alloc, &self.site, &mut self.dial, &mut one);
+        let one = Sent {
+            path: one.path,
+            stream: Attended {
+                alloc: self.alloc,
+                site: &self.site,
+                dial: &mut self.dial,
+                ahead: &mut self.ahead,
+                stream: one.stream,
+            },
+            stage: one.stage,
+        };
         receive_ahead(self.alloc, &self.site, one, miss)
     }
 
@@ -289,7 +329,14 @@ impl<D: Dial + Drop> HttpSource<D> {
             let _late = self.ahead.delay(&mut self.dial);
         }
         *miss = None;
-        exchange(self.alloc, self.dial.dial(), &self.site, path, miss)
+        let dialled = attend_dialled(
+            self.alloc,
+            &self.site,
+            self.dial.dial(),
+            &mut self.dial,
+            &mut self.ahead,
+        );
+        exchange(self.alloc, dialled, &self.site, path, miss)
     }
 }
 
@@ -329,6 +376,7 @@ impl<D: Dial + Drop> Source for HttpSource<D> {
     }
 
     fn expect(&mut self, paths: &[Path]) {
+        self.keep_hint(paths);
         self.ahead
             .send(self.alloc, &self.site, &mut self.dial, paths);
     }

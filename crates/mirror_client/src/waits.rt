@@ -49,7 +49,7 @@ impl Waits {
     }
 
     /// Waits until that connection stands or, if its request was sent, until there are bytes to read of it; until another
-    /// one stands; or for that time. Returns whether it was that connection; `true` also if it was never added.
+    /// one stands; or for that time. Returns whether it was that connection. If it was never added, it is added now.
     ///
     /// # Errors
     ///
@@ -61,11 +61,9 @@ impl Waits {
             Interest::WRITABLE
         };
         let registry = self.poll.registry();
-        if registry
-            .reregister(&mut SourceFd(&fd), WANTED, interest)
-            .is_err()
-        {
-            return Ok(true);
+        let mut wanted = SourceFd(&fd);
+        if registry.reregister(&mut wanted, WANTED, interest).is_err() {
+            registry.register(&mut wanted, WANTED, interest)?;
         }
         match self.poll.poll(&mut self.events, Some(time)) {
             Err(error) if error.kind() != ErrorKind::Interrupted => Err(error),

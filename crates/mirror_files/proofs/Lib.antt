@@ -17,6 +17,7 @@ pub mod OneLoad
 pub mod RefusedNotes
 pub mod Saved
 pub mod Prefixes
+pub mod Flushing
 pub mod Orders
 pub mod Moments
 pub mod Exported

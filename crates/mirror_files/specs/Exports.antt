@@ -10,6 +10,7 @@ use Rattle.mirror_sources.specs.Recorded.{KeepsRecord, AddsToRecord, Rose}
 use Rattle.mirror_folders.specs.Shelf.{Put, HasPut, Stands, RecordsNone, RecordsSome}
 use Rattle.mirror_folders.specs.Files.{files_at, paths_of, served_bytes}
 use Rattle.mirror_folders.specs.Holding.{IsMoment}
+use Rattle.mirror_folders.specs.Flushes.{Flushes, FlushesPuts, SecuresPuts}
 use Rattle.mirror_files.specs.declared.export_fault.ExportFault.{ExportFault}
 use Rattle.mirror_files.specs.declared.export_fault.ExportFault.TheVariants.{NothingComplete, ShelfInUse}
 use Rattle.mirror_files.specs.declared.export_fault.ExportFault.TheVariants.{ShelfFault, OutOfMemory}
@@ -85,3 +86,10 @@ CountsExport old new (Err NothingComplete) = new ≡ old
 CountsExport old new (Err ShelfInUse) = new ≡ old
 CountsExport old new (Err ShelfFault) = Rose old new
 CountsExport old new (Err OutOfMemory) = new ≡ old
+
+-- at Ok each tile and bundle that was put was flushed before the checkpoint was put. After a fault the shelf still has those that
+-- were put to flush
+abbrev pub FlushesExport : {T E : Type 0} → Option (List Put) → Option (List Put) → Option Flushes → Option Flushes →
+    Result T E → Type 0
+FlushesExport old new first last (Ok x) = FlushesPuts old new first last
+FlushesExport old new first last (Err e) = SecuresPuts old new first last

@@ -10,6 +10,7 @@ use Rattle.mirror_folders.specs.Shelf.{Put, Stands, RecordsRead}
 use Rattle.mirror_files.specs.Exports.{AddsPrefix}
 use Rattle.mirror_folders.specs.Holding.{IsMoment}
 use Rattle.mirror_folders.specs.Since.{files_since}
+use Rattle.mirror_folders.specs.Flushes.{Flushes, FlushesPuts, SecuresPuts}
 use Rattle.mirror_folders.specs.Holding.{HoldsFiles, HoldsLog}
 use Rattle.mirror_files.specs.UpdateLaws.{IsWholeAt}
 use Rattle.mirror_files.specs.declared.export_fault.UpdateFault.{UpdateFault}
@@ -102,3 +103,10 @@ CountsUpdate old new (Err NothingComplete) = new ≡ old
 CountsUpdate old new (Err OtherLog) = new ≡ old
 CountsUpdate old new (Err ShelfFault) = Rose old new
 CountsUpdate old new (Err OutOfMemory) = new ≡ old
+
+-- at Ok each tile and bundle that was put was flushed before the checkpoint was put, if that was not there already. After a fault the
+-- shelf still has those that were put to flush
+abbrev pub FlushesUpdate : {T : Type 0} → Option (List Put) → Option (List Put) → Option Flushes → Option Flushes →
+    Result T UpdateFault → Type 0
+FlushesUpdate old new first last (Ok x) = FlushesPuts old new first last ⊎ KeepsRecord old new
+FlushesUpdate old new first last (Err e) = SecuresPuts old new first last

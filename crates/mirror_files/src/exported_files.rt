@@ -5,7 +5,9 @@ ghost use Rattle.tlog_tiles.specs.Tiles.{IsWithin};
 ghost use Rattle.mirror_trees.specs.Tops.{IsListOf};
 ghost use Rattle.mirror_files.specs.Exports.{AddsFiles};
 ghost use Rattle.mirror_folders.specs.Files.{served_bytes, files_at, kind_paths, kind_level};
+ghost use Rattle.mirror_folders.specs.Flushes.{SecuresPuts};
 ghost use Rattle.mirror_folders.specs.Shelf.{CountsFailures};
+ghost use Rattle.mirror_files.specs.Exports.{FlushesExport};
 ghost use Rattle.mirror_folders.specs.Since.{is_new, since_parts, since_paths};
 
 use mirror_folders::{FileKind, Shelf, ShelfError, files_to_put, lacks, level_at, path_at};
@@ -51,6 +53,8 @@ fn put_file<H: TreeHash, S: Shelf>(
     ensures recorded { (entries : List (List ℕ)) → IsListOf H.digest top.now entries
         → AddsFiles (S.puts shelf.old) (S.puts shelf.new)
         (files_at H.digest top.now.note entries (path ∷ [])) result }
+    ensures secured { SecuresPuts (S.puts shelf.old) (S.puts shelf.new) (S.flushes shelf.old)
+        (S.flushes shelf.new) }
     ensures counted { CountsFailures (S.failed shelf.old) (S.failed shelf.new) result }
 {
     let bytes = file_bytes(alloc, top, path)?;
@@ -71,6 +75,8 @@ fn put_new<H: TreeHash, S: Shelf>(
     ensures recorded { (entries : List (List ℕ)) → IsListOf H.digest top.now entries
         → AddsFiles (S.puts shelf.old) (S.puts shelf.new)
         (files_at H.digest top.now.note entries (filter (is_new since) (path ∷ []))) result }
+    ensures secured { SecuresPuts (S.puts shelf.old) (S.puts shelf.new) (S.flushes shelf.old)
+        (S.flushes shelf.new) }
     ensures counted { CountsFailures (S.failed shelf.old) (S.failed shelf.new) result }
 {
     if !lacks(since, &path) {
@@ -94,6 +100,8 @@ fn put_kind<H: TreeHash, S: Shelf>(
         → AddsFiles (S.puts shelf.old) (S.puts shelf.new)
         (files_at H.digest top.now.note entries
         (filter (is_new since) (kind_paths top.now.size kind))) result }
+    ensures secured { SecuresPuts (S.puts shelf.old) (S.puts shelf.new) (S.flushes shelf.old)
+        (S.flushes shelf.new) }
     ensures counted { CountsFailures (S.failed shelf.old) (S.failed shelf.new) result }
 {
     let level = level_at(kind);
@@ -111,6 +119,7 @@ fn put_kind<H: TreeHash, S: Shelf>(
 // Gives the shelf the number of files to put, including the checkpoint.
 fn expect_files<S: Shelf>(shelf: &mut S, size: u64, since: u64)
     ensures puts { S.puts shelf.new ≡ S.puts shelf.old }
+    ensures still { S.flushes shelf.new ≡ S.flushes shelf.old }
     ensures failed { S.failed shelf.new ≡ S.failed shelf.old }
     ensures expected { IfSome (S.expected shelf.new)
         (λ all. all ≡ length (since_paths since size)) }
@@ -131,6 +140,8 @@ pub(crate) fn put_parts<H: TreeHash, S: Shelf>(
     ensures recorded { (entries : List (List ℕ)) → IsListOf H.digest top.now entries
         → AddsFiles (S.puts shelf.old) (S.puts shelf.new)
         (files_at H.digest top.now.note entries (since_parts since top.now.size)) result }
+    ensures secured { SecuresPuts (S.puts shelf.old) (S.puts shelf.new) (S.flushes shelf.old)
+        (S.flushes shelf.new) }
     ensures counted { CountsFailures (S.failed shelf.old) (S.failed shelf.new) result }
 {
     expect_files(shelf, size, since);
@@ -151,6 +162,8 @@ pub(crate) fn put_served<H: TreeHash, S: Shelf>(
     ensures recorded { (entries : List (List ℕ)) → IsListOf H.digest top.now entries
         → AddsFiles (S.puts shelf.old) (S.puts shelf.new)
         (files_at H.digest top.now.note entries (since_paths 0 top.now.size)) result }
+    ensures flushed { FlushesExport (S.puts shelf.old) (S.puts shelf.new) (S.flushes shelf.old)
+        (S.flushes shelf.new) result }
     ensures counted { CountsFailures (S.failed shelf.old) (S.failed shelf.new) result }
 {
     put_parts(alloc, top, size, 0, shelf)?;

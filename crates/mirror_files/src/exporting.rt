@@ -1,7 +1,7 @@
 //! A mirror exported onto a shelf.
 ghost use Rattle.std.specs.Prelude.{◌≡◌, ◌↔◌, None};
 ghost use Rattle.mirror_model.specs.Reports.{SaysServed};
-ghost use Rattle.mirror_files.specs.Exports.{CheckpointIsLast, CountsExport, Exports};
+ghost use Rattle.mirror_files.specs.Exports.{CheckpointIsLast, CountsExport, Exports, FlushesExport};
 
 use crate::export_fault::ExportFault;
 use crate::exported_files::put_served;
@@ -39,6 +39,8 @@ pub fn export<H: TreeHash, S: Shelf>(
     // bytes.
     ensures last { CheckpointIsLast H.digest mirror.now.view (S.puts shelf.old) (S.puts shelf.new) }
 
+    ensures flushed { FlushesExport (S.puts shelf.old) (S.puts shelf.new) (S.flushes shelf.old)
+        (S.flushes shelf.new) result }
     ensures blamed { CountsExport (S.failed shelf.old) (S.failed shelf.new) result }
 {
     let Some(top) = mirror.top_leaves(alloc) else {

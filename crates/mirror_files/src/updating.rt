@@ -3,7 +3,8 @@ ghost use Rattle.std.specs.Prelude.{◌≡◌, ◌↔◌, ℕ, List, Some, None,
 ghost use Rattle.mirror_model.specs.Reports.{SaysServed};
 ghost use Rattle.mirror_trees.specs.Tops.{IsListOf};
 ghost use Rattle.mirror_files.specs.Beginnings.{PutsLast, UpdatesTop};
-ghost use Rattle.mirror_files.specs.Updates.{CountsUpdate, StaysWhole, Updates};
+ghost use Rattle.mirror_files.specs.Updates.{CountsUpdate, FlushesUpdate, StaysWhole, Updates};
+ghost use Rattle.mirror_folders.specs.Flushes.{FlushesAtOk};
 
 use crate::beginning::size_found;
 use crate::export_fault::UpdateFault;
@@ -51,6 +52,7 @@ fn put_last<S: ReadableShelf>(
 ) -> Result<(), UpdateFault>
     ensures puts { PutsLast (S.puts shelf.old) (S.puts shelf.new)
         (option_map (λ v. v.items) found.now) note.now result }
+    ensures flushed { FlushesAtOk (S.flushes shelf.old) (S.flushes shelf.new) result }
     ensures counted { CountsUpdate (S.failed shelf.old) (S.failed shelf.new) result }
 {
     let again = shelf.read(&Path::Checkpoint)?;
@@ -73,6 +75,8 @@ fn update_to<H: TreeHash, S: ReadableShelf>(
     ensures recorded { (entries : List (List ℕ)) → IsListOf H.digest top.now entries
         → UpdatesTop H.digest top.now origin.now entries (S.puts shelf.old) (S.puts shelf.new)
         result }
+    ensures flushed { FlushesUpdate (S.puts shelf.old) (S.puts shelf.new) (S.flushes shelf.old)
+        (S.flushes shelf.new) result }
     ensures counted { CountsUpdate (S.failed shelf.old) (S.failed shelf.new) result }
 {
     let found = shelf.read(&Path::Checkpoint)?;
@@ -122,6 +126,8 @@ pub fn update<H: TreeHash, S: ReadableShelf>(
     ensures whole { StaysWhole H.digest mirror.now.view (S.puts shelf.old) (S.puts shelf.new)
         result }
 
+    ensures flushed { FlushesUpdate (S.puts shelf.old) (S.puts shelf.new) (S.flushes shelf.old)
+        (S.flushes shelf.new) result }
     ensures blamed { CountsUpdate (S.failed shelf.old) (S.failed shelf.new) result }
 {
     let Some(top) = mirror.top_ranges() else {

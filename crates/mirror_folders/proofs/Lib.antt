@@ -5,6 +5,7 @@ pub mod AllFiles
 pub mod Filters
 pub mod PlaceWidths
 pub mod NewFiles
+pub mod Securing
 pub mod Standing
 pub mod FoundOnce
 pub mod PathLists

@@ -1,5 +1,6 @@
 //! A folder as a shelf.
-ghost use Rattle.std.specs.Prelude.{◌≡◌};
+ghost use Rattle.std.specs.Prelude.{◌≡◌, ◌≢◌, [], Contains, OnOk};
+ghost use Rattle.tlog_tiles.specs.declared.paths.Path.TheVariants.{Checkpoint};
 ghost use Rattle.mirror_folders.specs.Shelf.{CountsFailures};
 
 use crate::damaged::DamagedFile;
@@ -7,7 +8,7 @@ use crate::failed::FailedFile;
 use crate::flush::flush_folder;
 use crate::folders::NamedFolders;
 use crate::leftovers::Leftovers;
-use crate::place::{count_failure, file_path, folder_of, is_missing};
+use crate::place::{count_failure, file_path, folder_of, is_there};
 use crate::reading::read_file;
 use crate::replace::put_whole;
 use crate::shelf::{ReadableShelf, Shelf, ShelfError};
@@ -102,7 +103,12 @@ impl Recent {
         folder: &str,
         path: &Path,
         bytes: &[u8],
-    ) -> io::Result<()> {
+    ) -> io::Result<()>
+        ensures noted { OnOk result (path.now ≢ Checkpoint
+            → Contains self.new.unflushed.paths.items path.now) }
+        ensures flushed { OnOk result (path.now ≡ Checkpoint
+            → self.new.unflushed.paths.items ≡ []) }
+    {
         let place = file_path(alloc, folder, path)?;
         self.write_at(files, alloc, folder, path, place.as_str(), bytes)
     }
@@ -117,7 +123,12 @@ impl Recent {
         path: &Path,
         place: &str,
         bytes: &[u8],
-    ) -> io::Result<()> {
+    ) -> io::Result<()>
+        ensures noted { OnOk result (path.now ≢ Checkpoint
+            → Contains self.new.unflushed.paths.items path.now) }
+        ensures flushed { OnOk result (path.now ≡ Checkpoint
+            → self.new.unflushed.paths.items ≡ []) }
+    {
         let inner = folder_of(place);
         fs::create_dir_all(files, inner)?;
         self.turn_to(files, alloc, inner)?;
@@ -173,10 +184,7 @@ impl<'a, R: Files> DirShelf<'a, R> {
         let place = file_path(self.alloc, self.folder(), path)?;
         let about = self.files.metadata(place.as_str());
         drop(place);
-        match about {
-            Ok(_) => Ok(true),
-            Err(e) => { if is_missing(&e) { Ok(false) } else { Err(e) } }
-        }
+        is_there(about)
     }
 
     // The shelf's answer for an answer of the system about that file; it counts and keeps a failure.

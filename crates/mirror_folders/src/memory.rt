@@ -9,7 +9,7 @@ use std::marker::Model;
 use tlog_tiles::Path;
 
 /// A shelf in memory: it records what it holds, and never fails. Contracts see the list of its puts, the oldest first.
-/// It is the folder with every name: `open` changes nothing.
+/// They also see what a folder would flush to the device, and when. It is the folder with every name: `open` changes nothing.
 ///
 /// ```text
 /// let mut shelf = MemShelf::new(alloc);
@@ -19,32 +19,41 @@ use tlog_tiles::Path;
 #[derive(Drop)]
 pub struct MemShelf {
     puts: Vec<(Path, Vec<u8>)>,
+    // The files that were put or found. Those before the last checkpoint, and it too, are flushed.
+    secured: Vec<Path>,
+    flushed: usize,
     alloc: Global,
 }
 
 impl Model for MemShelf {
-    ghost use Rattle.std.specs.Prelude.{List, map};
-    ghost use Rattle.mirror_folders.specs.Shelf.{Put};
+    ghost use Rattle.std.specs.Prelude.{map};
+    ghost use Rattle.mirror_folders.specs.Flushes.{InMemory};
 
-    ghost Value = { List Put };
+    ghost Value = { InMemory };
 
-    ghost view = { λ a. map (λ put. (put.0, put.1.items)) a.puts.items };
+    ghost view = { λ a. record {
+      puts = map (λ put. (put.0, put.1.items)) a.puts.items;
+      flushes = record { files = a.secured.items; flushed = a.flushed };
+    } };
 }
 
 impl MemShelf {
     /// A shelf that holds nothing. It takes no memory.
     pub fn new(alloc: Global) -> Self
-        ensures { result ≡ [] }
+        ensures puts { result.puts ≡ [] }
+        ensures flushes { result.flushes ≡ record { files = []; flushed = 0 } }
     {
         MemShelf {
             puts: Vec::new(alloc),
+            secured: Vec::new(alloc),
+            flushed: 0,
             alloc,
         }
     }
 
     /// The puts, the oldest first. It takes no memory.
     pub fn puts(&self) -> &[(Path, Vec<u8>)]
-        ensures { map (λ put. (put.0, put.1.items)) result.now ≡ self.now }
+        ensures { map (λ put. (put.0, put.1.items)) result.now ≡ self.now.puts }
     {
         self.puts.as_slice()
     }
@@ -83,7 +92,9 @@ fn last_put<'a>(puts: &'a [(Path, Vec<u8>)], path: &Path) -> Option<&'a [u8]>
 impl Shelf for MemShelf {
     ghost use Rattle.std.specs.Prelude.{Some};
 
-    ghost puts = { λ s. Some s };
+    ghost puts = { λ s. Some s.puts };
+
+    ghost flushes = { λ s. Some s.flushes };
 
     ghost failed = { λ _. 0 };
 
@@ -95,13 +106,22 @@ impl Shelf for MemShelf {
         let Ok(bytes) = Vec::from_slice(self.alloc, bytes) else {
             return Err(ShelfError::OutOfMemory);
         };
+        if self.secured.push(*path).is_err() {
+            return Err(ShelfError::OutOfMemory);
+        }
+        if is_same(path, &Path::Checkpoint) {
+            self.flushed = self.secured.len();
+        }
         match self.puts.push((*path, bytes)) {
             Ok(()) => Ok(()),
             Err(_) => Err(ShelfError::OutOfMemory),
         }
     }
 
-    fn flush_before_checkpoint(&mut self, _path: &Path) -> Result<(), ShelfError> {
+    fn flush_before_checkpoint(&mut self, path: &Path) -> Result<(), ShelfError> {
+        if self.secured.push(*path).is_err() {
+            return Err(ShelfError::OutOfMemory);
+        }
         Ok(())
     }
 
@@ -127,7 +147,7 @@ impl ReadableShelf for MemShelf {
 impl NamedFolders for MemShelf {
     ghost use Rattle.std.specs.Prelude.{Some};
 
-    ghost held = { λ s _. Some s };
+    ghost held = { λ s _. Some s.puts };
 
     fn open(&mut self, _name: &str) -> Result<(), AllocError> {
         Ok(())

@@ -1,7 +1,7 @@
 //! The paths of a log's files in a folder.
-ghost use Rattle.std.specs.Prelude.{◌≡◌, IfOk, string_bytes};
+ghost use Rattle.std.specs.Prelude.{◌≡◌, IfErr, IfOk, IsFalse, IsTrue, string_bytes};
 ghost use Rattle.mirror_sources.specs.Recorded.{one_more};
-ghost use Rattle.mirror_folders.specs.Places.{LiesAt};
+ghost use Rattle.mirror_folders.specs.Places.{LiesAt, SaysMissing};
 
 use std::alloc::Global;
 use std::io;
@@ -38,8 +38,21 @@ pub(crate) fn name_of(path: &str) -> &str {
 }
 
 // Whether the system says that there is no file at a path, or that a plain file blocks the way to it.
-pub(crate) fn is_missing(e: &io::Error) -> bool {
+pub(crate) fn is_missing(e: &io::Error) -> bool
+    ensures { IsTrue result → SaysMissing e.now }
+{
     e.kind() == ErrorKind::NotFound || e.kind() == ErrorKind::NotADirectory
+}
+
+// Whether something is at a path, by the system's answer about it. Only an error that says that it is missing means that nothing
+// is there.
+pub(crate) fn is_there<T: Drop>(about: io::Result<T>) -> io::Result<bool>
+    ensures { IfOk result (λ there. IsFalse there → IfErr about SaysMissing) }
+{
+    match about {
+        Ok(_) => Ok(true),
+        Err(e) => { if is_missing(&e) { Ok(false) } else { Err(e) } }
+    }
 }
 
 // A count of failures after one more.

@@ -1,7 +1,7 @@
 //! Reads a log's files in a folder.
-ghost use Rattle.std.specs.Prelude.{◌+◌, ◌≤◌, IfOk, IfSome, vec_len};
+ghost use Rattle.std.specs.Prelude.{◌+◌, ◌≤◌, IfErr, IfNone, IfOk, IfSome, vec_len};
 ghost use Rattle.byte_streams.specs.Streams.{TakesAtMost};
-ghost use Rattle.mirror_folders.specs.Places.{longest_file};
+ghost use Rattle.mirror_folders.specs.Places.{SaysMissing, longest_file};
 
 use crate::place::{file_path, is_missing};
 use byte_streams::{WatchedStream, read_all};
@@ -24,12 +24,13 @@ pub(crate) fn read_file<R: Files>(
     read_opened(alloc, open_plain(files, place.as_str()))
 }
 
-// The bytes of a file that was opened; `None` if there is no file.
+// The bytes of a file that was opened; `None` if there is no file. Only an error that says that the file is missing means that.
 fn read_opened<F: io::Read + Drop>(
     alloc: Global,
     opened: io::Result<F>,
 ) -> io::Result<Option<Vec<u8>>>
-    ensures { IfOk result (λ found. IfSome found (λ bytes. vec_len bytes ≤ longest_file)) }
+    ensures short { IfOk result (λ found. IfSome found (λ bytes. vec_len bytes ≤ longest_file)) }
+    ensures none { IfOk result (λ found. IfNone found (IfErr opened SaysMissing)) }
 {
     match opened {
         Ok(file) => {

@@ -30,12 +30,17 @@ impl From<AllocError> for ShelfError {
 /// Keeps the files of a log by their paths.
 /// `DirShelf` keeps them in a folder, a file for each path, as `tile/0/000`.
 pub trait Shelf {
-    ghost use Rattle.std.specs.Prelude.{◌≡◌, ℕ, List, Option, None, IfOk, IfSome};
+    ghost use Rattle.std.specs.Prelude.{◌≡◌, ℕ, List, Option, None, IfOk, IfSome, OnOk};
+    ghost use Rattle.tlog_tiles.specs.declared.paths.Path.TheVariants.{Checkpoint};
     ghost use Rattle.mirror_sources.specs.Recorded.{KeepsRecord};
     ghost use Rattle.mirror_folders.specs.Shelf.{Put, RecordsPut, RecordsHas, CountsFailures};
+    ghost use Rattle.mirror_folders.specs.Flushes.{Flushes, FlushesAll, SecuresAtOk};
 
     /// The puts, the oldest first, if the shelf records them. Each path has the bytes of the last put there.
     ghost puts: { Self → Option (List Put) } = { λ _. None };
+
+    /// The files that were put or found, and how many of them were flushed to the device, if the shelf records them.
+    ghost flushes: { Self → Option Flushes } = { λ _. None };
 
     /// The number of calls that failed.
     ghost failed: { Self → ℕ };
@@ -51,15 +56,21 @@ pub trait Shelf {
     fn has(&mut self, path: &Path) -> Result<bool, ShelfError>
         ensures answer { IfOk result (λ b. RecordsHas (puts self.old) path.now b) }
         ensures same { KeepsRecord (puts self.old) (puts self.new) }
+        ensures still { flushes self.new ≡ flushes self.old }
         ensures counted { CountsFailures (failed self.old) (failed self.new) result };
 
-    /// Puts a file at the path, as a whole.
+    /// Puts a file at the path, as a whole. Before a checkpoint is put, all files that were put or found before it are flushed to
+    /// the device.
     ///
     /// # Errors
     ///
     /// Those of `has`; the path is then unchanged.
     fn put(&mut self, path: &Path, bytes: &[u8]) -> Result<(), ShelfError>
         ensures recorded { RecordsPut (puts self.old) (puts self.new) (path.now, bytes.now) result }
+        ensures secured { SecuresAtOk (λ p. p ≡ path.now) (flushes self.old) (flushes self.new)
+            result }
+        ensures flushed { OnOk result (path.now ≡ Checkpoint
+            → FlushesAll (flushes self.old) (flushes self.new)) }
         ensures counted { CountsFailures (failed self.old) (failed self.new) result };
 
     /// The caller relies on the file at the path, as an earlier run may have put it. So it is flushed to the device
@@ -70,6 +81,8 @@ pub trait Shelf {
     /// Those of `has`. All that was put stays.
     fn flush_before_checkpoint(&mut self, path: &Path) -> Result<(), ShelfError>
         ensures same { KeepsRecord (puts self.old) (puts self.new) }
+        ensures secured { SecuresAtOk (λ p. p ≡ path.now) (flushes self.old) (flushes self.new)
+            result }
         ensures counted { CountsFailures (failed self.old) (failed self.new) result };
 
     /// The number of calls that failed; the count stops at its greatest value, 2^64 - 1.
@@ -80,6 +93,7 @@ pub trait Shelf {
     /// number.
     fn expect(&mut self, files: u64)
         ensures puts { puts self.new ≡ puts self.old }
+        ensures still { flushes self.new ≡ flushes self.old }
         ensures failed { failed self.new ≡ failed self.old }
         ensures expected { IfSome (expected self.new) (λ all. all ≡ files) };
 }
@@ -105,12 +119,14 @@ pub trait ReadableShelf: Shelf {
         ensures answer { IfOk result
             (λ found. RecordsRead (Self.puts self.old) path.now (option_map (λ v. v.items) found)) }
         ensures same { KeepsRecord (Self.puts self.old) (Self.puts self.new) }
+        ensures still { Self.flushes self.new ≡ Self.flushes self.old }
         ensures counted { CountsFailures (Self.failed self.old) (Self.failed self.new) result };
 
     /// The caller needs the file at the path, but it is missing or false. A shelf that can name such a file keeps the first one; this
     /// default keeps none. All that was put stays.
     fn note_damaged(&mut self, _path: &Path)
         ensures puts { Self.puts self.new ≡ Self.puts self.old }
+        ensures still { Self.flushes self.new ≡ Self.flushes self.old }
         ensures failed { Self.failed self.new ≡ Self.failed self.old }
     {}
 

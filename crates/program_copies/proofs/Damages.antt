@@ -9,6 +9,7 @@ use Rattle.mirror_sources.specs.Recorded.{KeepsRecord}
 use Rattle.mirror_http.specs.declared.resource.Resource.{Resource}
 use Rattle.mirror_http.specs.declared.resource.Resource.TheVariants.{File, Status, Forks, Missing, Proof}
 use Rattle.log_reader.specs.EdgeRows.{Edge}
+use Rattle.tlog_proof.specs.declared.proof.Ask.{Ask}
 use Rattle.log_reader.proofs.FalseEdges.{edge_given}
 use Rattle.log_reader.proofs.FalseFiles.{false_given}
 use Rattle.copy_reader.specs.Copies.{HasCheckpoint}
@@ -36,9 +37,10 @@ module _ (digest : List ℕ → List ℕ) (size : ℕ) (root : List ℕ) where
     within_before edge path (inr h) =
         inr (h.0, h.1, false_given digest (RecordsRead held) (RecordsRead after) earlier h.0 path h.2)
 
-    proof_before : (path : Path) → IsDamagedProof digest after size root path → IsDamagedProof digest held size root path
-    proof_before path (inl h) = inl (edge_given (RecordsRead held) (RecordsRead after) size earlier digest root path h)
-    proof_before path (inr h) = elim h.2 [
+    proof_before : (ask : Ask) (path : Path) → IsDamagedProof digest after ask size root path →
+        IsDamagedProof digest held ask size root path
+    proof_before ask path (inl h) = inl (edge_given (RecordsRead held) (RecordsRead after) size earlier digest root path h)
+    proof_before ask path (inr h) = elim h.2 [
       | inl same ↦ inr (h.0, h.1, inl same)
       | inr wrong ↦ inr (h.0, h.1, inr (within_before h.0 path wrong))
     ]
@@ -49,15 +51,16 @@ module _ (digest : List ℕ → List ℕ) (size : ℕ) (root : List ℕ) where
     for_before Status path h = h
     for_before Forks path h = h
     for_before (Missing n q) path h = h
-    for_before (Proof ask) path h = proof_before path h
+    for_before (Proof ask) path h = proof_before ask path h
 
     -- what was named after the puts were kept is named before
-    pub proof_names_before : (fault : CopyFault) → NamesProof digest after size root fault → NamesProof digest held size root fault
-    proof_names_before BadOrigin h = tt
-    proof_names_before (Head fault) h = tt
-    proof_names_before (CopyDamaged path) h = proof_before path h
-    proof_names_before ShelfFault h = tt
-    proof_names_before OutOfMemory h = tt
+    pub proof_names_before : (ask : Ask) (fault : CopyFault) → NamesProof digest after ask size root fault →
+        NamesProof digest held ask size root fault
+    proof_names_before ask BadOrigin h = tt
+    proof_names_before ask (Head fault) h = tt
+    proof_names_before ask (CopyDamaged path) h = proof_before ask path h
+    proof_names_before ask ShelfFault h = tt
+    proof_names_before ask OutOfMemory h = tt
 
     pub names_before : (fault : CopyFault) → NamesFile digest after size root fault → NamesFile digest held size root fault
     names_before BadOrigin h = tt
@@ -75,20 +78,21 @@ module _ (digest : List ℕ → List ℕ) (size : ℕ) (root : List ℕ) where
     opened_names ShelfFault h = tt
     opened_names OutOfMemory h = tt
 
-    pub opened_names_proof : (fault : CopyFault) → NamesEdgeDamage digest held size root fault → NamesProof digest held size root fault
-    opened_names_proof BadOrigin h = tt
-    opened_names_proof (Head fault) h = tt
-    opened_names_proof (CopyDamaged path) h = inl h
-    opened_names_proof ShelfFault h = tt
-    opened_names_proof OutOfMemory h = tt
+    pub opened_names_proof : (ask : Ask) (fault : CopyFault) → NamesEdgeDamage digest held size root fault →
+        NamesProof digest held ask size root fault
+    opened_names_proof ask BadOrigin h = tt
+    opened_names_proof ask (Head fault) h = tt
+    opened_names_proof ask (CopyDamaged path) h = inl h
+    opened_names_proof ask ShelfFault h = tt
+    opened_names_proof ask OutOfMemory h = tt
 
-    pub proof_names : (edge : Edge) → IsEdgeTo digest size root edge → (fault : CopyFault) →
-        NamesProofDamage digest held edge fault → NamesProof digest held size root fault
-    proof_names edge to BadOrigin h = tt
-    proof_names edge to (Head fault) h = tt
-    proof_names edge to (CopyDamaged path) h = inr (edge, to, h)
-    proof_names edge to ShelfFault h = tt
-    proof_names edge to OutOfMemory h = tt
+    pub proof_names : (ask : Ask) (edge : Edge) → IsEdgeTo digest size root edge → (fault : CopyFault) →
+        NamesProofDamage digest held edge ask fault → NamesProof digest held ask size root fault
+    proof_names ask edge to BadOrigin h = tt
+    proof_names ask edge to (Head fault) h = tt
+    proof_names ask edge to (CopyDamaged path) h = inr (edge, to, h)
+    proof_names ask edge to ShelfFault h = tt
+    proof_names ask edge to OutOfMemory h = tt
 
     -- the same, of the copy's checkpoint
     pub file_under : (origin : List ℕ) (keys : List Key) → HasCheckpoint origin keys held size root → (fault : CopyFault) →
@@ -99,13 +103,14 @@ module _ (digest : List ℕ → List ℕ) (size : ℕ) (root : List ℕ) where
     file_under origin keys has ShelfFault h = tt
     file_under origin keys has OutOfMemory h = tt
 
-    pub proof_under : (origin : List ℕ) (keys : List Key) → HasCheckpoint origin keys held size root → (fault : CopyFault) →
-        NamesProof digest held size root fault → NamesUnder digest origin keys held (IsDamagedProof digest held) fault
-    proof_under origin keys has BadOrigin h = tt
-    proof_under origin keys has (Head fault) h = tt
-    proof_under origin keys has (CopyDamaged path) h = (size, root, has, h)
-    proof_under origin keys has ShelfFault h = tt
-    proof_under origin keys has OutOfMemory h = tt
+    pub proof_under : (ask : Ask) (origin : List ℕ) (keys : List Key) → HasCheckpoint origin keys held size root →
+        (fault : CopyFault) → NamesProof digest held ask size root fault →
+        NamesUnder digest origin keys held (IsDamagedProof digest held ask) fault
+    proof_under ask origin keys has BadOrigin h = tt
+    proof_under ask origin keys has (Head fault) h = tt
+    proof_under ask origin keys has (CopyDamaged path) h = (size, root, has, h)
+    proof_under ask origin keys has ShelfFault h = tt
+    proof_under ask origin keys has OutOfMemory h = tt
 
     -- the file that a read names
     pub read_names : (edge : Edge) → IsEdgeTo digest size root edge → (fault : CopyFault) → NamesDamage digest held edge fault →
@@ -147,13 +152,13 @@ module _ (digest : List ℕ → List ℕ) (origin : List ℕ) (keys : List Key) 
   opened_under ShelfFault h = tt
   opened_under OutOfMemory h = tt
 
-  pub opened_under_proof : (fault : CopyFault) → NamesOpenDamage digest held origin keys fault →
-      NamesUnder digest origin keys held (IsDamagedProof digest held) fault
-  opened_under_proof BadOrigin h = tt
-  opened_under_proof (Head fault) h = tt
-  opened_under_proof (CopyDamaged path) h = (h.0, h.1, h.2, inl h.3)
-  opened_under_proof ShelfFault h = tt
-  opened_under_proof OutOfMemory h = tt
+  pub opened_under_proof : (ask : Ask) (fault : CopyFault) → NamesOpenDamage digest held origin keys fault →
+      NamesUnder digest origin keys held (IsDamagedProof digest held ask) fault
+  opened_under_proof ask BadOrigin h = tt
+  opened_under_proof ask (Head fault) h = tt
+  opened_under_proof ask (CopyDamaged path) h = (h.0, h.1, h.2, inl h.3)
+  opened_under_proof ask ShelfFault h = tt
+  opened_under_proof ask OutOfMemory h = tt
 
 -- the opened folder has the content of the folder of that name
 pub names_there : {T : Type 0} (digest : List ℕ → List ℕ) (origin : List ℕ) (keys : List Key) (x y : Option (List Put))

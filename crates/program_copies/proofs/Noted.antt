@@ -1,5 +1,6 @@
 -- The facts about the note, the copy, the output and the evidence of a run.
-use Rattle.std.proofs.Common.{◌≡◌, inr, ℕ, List, IfErr, Option, Some, None, Result, Ok, Err, sym, subst, ◌∙◌}
+use Rattle.std.proofs.Common.{◌≡◌, inr, ℕ, List, IfErr, IfOk, Option, Some, None, Result, Ok, Err, refl, sym, subst, ◌∙◌}
+use Rattle.std.proofs.KnownBytes.{Keeps-refl}
 use Rattle.std.specs.Io.KnownBytes.{Keeps}
 use Rattle.std.proofs.lemmas.List.Elements.{All-weaker}
 use Rattle.std.proofs.lemmas.Option.{none-some}
@@ -8,7 +9,9 @@ use Rattle.signed_note.specs.Keys.{Key}
 use Rattle.mirror_folders.specs.Shelf.{Put}
 use Rattle.copy_places.specs.declared.places.Places.{Places}
 use Rattle.copy_places.specs.Requests.{IsGivenOrMayGive}
-use Rattle.copy_places.specs.GatheredFrom.{AreCandidates}
+use Rattle.copy_places.specs.GatheredFrom.{AreCandidates, AreFirstCandidates}
+use Rattle.copy_places.proofs.GatheredFrom.{first_candidates}
+use Rattle.copy_follow.proofs.Noted.{says_so}
 use Rattle.copy_places.specs.Candidates.{note_of}
 use Rattle.copy_places.specs.declared.candidate.Candidate.{Candidate}
 use Rattle.copy_follow.specs.Blame.{CountsFollowFault}
@@ -17,11 +20,12 @@ use Rattle.copy_follow.specs.OneHonestRun.{IsHonestAmong, IsHonestRun, ReachesLo
 use Rattle.copy_follow.specs.Runs.{FollowsCandidates}
 use Rattle.copy_follow.specs.Says.{Says}
 use Rattle.copy_follow.specs.RunStanding.{IsFollowed}
+use Rattle.copy_follow.specs.Told.{TellsLarger}
 use Rattle.copy_follow.specs.declared.follow_fault.FollowFault.{FollowFault}
 use Rattle.copy_follow.specs.declared.follow_fault.FollowFault.TheVariants as following
 use Rattle.copy_follow.specs.declared.report.Followed.{Followed}
 use Rattle.program_io.specs.Named.{HasContents, NamedFile}
-use Rattle.program_copies.specs.Following.{AreRunCandidates, CopyFollowed, CountsRun, EndsFollowing, Follows, FollowsIn, IsNoteOf, HonestSuffices, PrintsSettled, ReachesIn, ReachesRun, ReadsGiven, ReadsNote, PrintsDone, SettlesRun, SufficesForRun}
+use Rattle.program_copies.specs.Following.{AreRunCandidates, CopyFollowed, CountsRun, EndsBefore, EndsFollowing, Follows, IsNoteOf, HonestSuffices, PrintsSettled, ReachesRun, ReadsGiven, ReadsNote, PrintsDone, RunsFollow, SettlesRun, SufficesForRun}
 use Rattle.program_copies.specs.declared.follow_fault.FollowRunFault.{FollowRunFault}
 use Rattle.program_copies.specs.declared.follow_fault.FollowRunFault.TheVariants.{File, CopyInUse, OutOfMemory, Follow, WriteFault, Evidence, EvidenceAndOutput}
 
@@ -80,29 +84,10 @@ module _ (digest : List ℕ → List ℕ) (origin : List ℕ) (keys : List Key) 
   follows_recorded done (Err (Evidence fault)) copy tells = record { done = done; copy = copy_had done copy; tells = tells }
   follows_recorded done (Err (EvidenceAndOutput fault)) copy tells = record { done = done; copy = copy_had done copy; tells = tells }
 
-  -- the copy was not followed, and nothing was written
-  pub follows_ended : (fault : FollowRunFault) → FollowsIn digest origin keys so held before put (Err fault) →
-      Keeps old new → left ≡ recorded → Follows digest origin keys other forks held before put recorded left old new (Err fault)
-  follows_ended (File fault) copy text files = absurd copy
-  follows_ended CopyInUse copy text files = record { copy = copy; text = text; files = files }
-  follows_ended OutOfMemory copy text files = record { copy = copy; text = text; files = files }
-  follows_ended (Follow fault) copy text files = record { copy = follows_had copy; text = text; files = files }
-  follows_ended WriteFault copy text files = absurd copy
-  follows_ended (Evidence fault) copy text files = absurd copy
-  follows_ended (EvidenceAndOutput fault) copy text files = absurd copy
-
-  -- a fact about a run with notes for which "so" holds is a fact for each weaker condition
-  pub follows_weaker : (r : Result ℕ FollowRunFault) →
-      Follows digest origin keys so forks held before put recorded left old new r →
-      Follows digest origin keys other forks held before put recorded left old new r
-  follows_weaker (Ok status) h = record { done = h.done; copy = copy_had h.done h.copy; tells = h.tells }
-  follows_weaker (Err (File fault)) h = record { copy = h.copy; text = h.text; files = h.files }
-  follows_weaker (Err CopyInUse) h = record { copy = h.copy; text = h.text; files = h.files }
-  follows_weaker (Err OutOfMemory) h = record { copy = h.copy; text = h.text; files = h.files }
-  follows_weaker (Err (Follow fault)) h = record { copy = follows_had h.copy; text = h.text; files = h.files }
-  follows_weaker (Err WriteFault) h = record { done = h.done; copy = copy_had h.done h.copy; tells = h.tells }
-  follows_weaker (Err (Evidence fault)) h = record { done = h.done; copy = copy_had h.done h.copy; tells = h.tells }
-  follows_weaker (Err (EvidenceAndOutput fault)) h = record { done = h.done; copy = copy_had h.done h.copy; tells = h.tells }
+  -- `follow` ended, and nothing was written
+  pub follows_ended : (fault : FollowFault) → FollowsCandidates digest origin keys so held put → Keeps old new →
+      left ≡ recorded → Follows digest origin keys other forks held before put recorded left old new (Err (Follow fault))
+  follows_ended fault copy text files = record { copy = follows_had copy; text = text; files = files }
 
 module _ (origin : List ℕ) (keys : List Key) (forks : Option (List ℕ)) (done : Followed)
     (recorded left : Option (List NamedFile)) (old new : Option (List ℕ)) where
@@ -121,14 +106,15 @@ module _ (origin : List ℕ) (keys : List Key) (forks : Option (List ℕ)) (done
 
 -- a fact about the gathered candidates holds for the candidates of the run, and for the printed result
 module _ {S : Type 0} (digest : List ℕ → List ℕ) (origin : List ℕ) (keys : List Key)
-    (may : S → Path → Option (List ℕ) → Type 0) (places left_places : Places S) (files : Option (List NamedFile))
-    (name given : Option (List ℕ)) (held put : Option (List Put)) (forks : Option (List ℕ)) (done : Followed)
+    (may : S → Path → Option (List ℕ) → Type 0) (failed : S → ℕ) (asked : S → Option (List Path))
+    (places left_places : Places S) (files : Option (List NamedFile)) (name given : Option (List ℕ)) (held put : Option (List Put)) (forks : Option (List ℕ)) (done : Followed)
     (recorded left : Option (List NamedFile)) (old new : Option (List ℕ)) (reads : ReadsNote files name (Ok given))
-    (says : Says digest origin (AreCandidates may origin keys places left_places given) held put done) where
+    (says : Says digest origin (AreCandidates may origin keys places left_places given) held put done)
+    (larger : TellsLarger digest may failed asked places left_places done) where
   abbrev Settled : Result ℕ FollowRunFault → Type 0
   Settled r =
-      PrintsSettled digest origin keys (AreRunCandidates may origin keys places left_places files name) held put forks
-      recorded left old new r
+      PrintsSettled digest may failed asked origin keys places left_places
+      (AreRunCandidates may origin keys places left_places files name) held put forks recorded left old new r
 
   settled : (r : Result ℕ FollowRunFault) → PrintsDone origin keys forks done recorded left old new r → Settled r
   settled r tells = record {
@@ -143,12 +129,13 @@ module _ {S : Type 0} (digest : List ℕ → List ℕ) (origin : List ℕ) (keys
       lines = says.lines;
       noted = says.noted;
     };
+    larger = larger;
     tells = tells;
   }
 
   pub says_printed : (r : Result ℕ FollowRunFault) → PrintsDone origin keys forks done recorded left old new r →
-      SettlesRun digest origin keys (AreRunCandidates may origin keys places left_places files name) held put forks
-      recorded left old new r
+      SettlesRun digest may failed asked origin keys places left_places
+      (AreRunCandidates may origin keys places left_places files name) held put forks recorded left old new r
   says_printed (Ok status) tells = settled (Ok status) tells
   says_printed (Err (File fault)) tells = tt
   says_printed (Err CopyInUse) tells = tt
@@ -157,20 +144,6 @@ module _ {S : Type 0} (digest : List ℕ → List ℕ) (origin : List ℕ) (keys
   says_printed (Err WriteFault) tells = settled (Err WriteFault) tells
   says_printed (Err (Evidence fault)) tells = settled (Err (Evidence fault)) tells
   says_printed (Err (EvidenceAndOutput fault)) tells = settled (Err (EvidenceAndOutput fault)) tells
-
--- the copy was not followed
-pub says_ended : (digest : List ℕ → List ℕ) (origin : List ℕ) (keys : List Key) (so : List Candidate → Type 0)
-    (held put : Option (List Put)) (forks : Option (List ℕ)) (recorded left : Option (List NamedFile))
-    (old new : Option (List ℕ)) (before : Option (List Put)) (such : List ℕ → Type 0) (fault : FollowRunFault) →
-    FollowsIn digest origin keys such held before put (Err fault) →
-    SettlesRun digest origin keys so held put forks recorded left old new (Err fault)
-says_ended digest origin keys so held put forks recorded left old new before such (File fault) copy = tt
-says_ended digest origin keys so held put forks recorded left old new before such CopyInUse copy = tt
-says_ended digest origin keys so held put forks recorded left old new before such OutOfMemory copy = tt
-says_ended digest origin keys so held put forks recorded left old new before such (Follow fault) copy = tt
-says_ended digest origin keys so held put forks recorded left old new before such WriteFault copy = absurd copy
-says_ended digest origin keys so held put forks recorded left old new before such (Evidence fault) copy = absurd copy
-says_ended digest origin keys so held put forks recorded left old new before such (EvidenceAndOutput fault) copy = absurd copy
 
 -- ---- the reasons why `follow` ends
 
@@ -257,27 +230,6 @@ module _ (digest : List ℕ → List ℕ) {S : Type 0} (may : S → Path → Opt
     reaches = λ h. reaches_told (λ f. ReachesSize h.size (Ok f)) forks done from left r brought (size h) tells;
   })
 
-  ended_in : (so : Followed → Type 0) (fault : FollowRunFault) → ReachesIn so (Err fault) →
-      ReachesRun digest origin held put old new so (Err fault)
-  ended_in so (File f) h = tt
-  ended_in so CopyInUse h = tt
-  ended_in so OutOfMemory h = tt
-  ended_in so (Follow f) h = h
-  ended_in so WriteFault h = absurd h
-  ended_in so (Evidence f) h = absurd h
-  ended_in so (EvidenceAndOutput f) h = absurd h
-
-  -- the copy was not followed, and nothing was written
-  pub suffices_ended : (fault : FollowRunFault) →
-      ((h : Greatest) → ReachesIn (λ f. ReachesLog digest h.entries h.size (Ok f)) (Err fault)) →
-      ((h : Among) → ReachesIn (λ f. ReachesSize h.size (Ok f)) (Err fault)) → Suffices (Err fault)
-  suffices_ended fault log size = for_run (Err fault) (record {
-    given = given;
-    reads = reads;
-    suffices = λ h. ended_in (λ f. ReachesLog digest h.entries h.size (Ok f)) fault (log h);
-    reaches = λ h. ended_in (λ f. ReachesSize h.size (Ok f)) fault (size h);
-  })
-
 -- the folder has the same content
 module _ (digest : List ℕ → List ℕ) {S : Type 0} (may : S → Path → Option (List ℕ) → Type 0) (origin : List ℕ)
     (x y : Places S) (so : List Candidate → Type 0) (r : Result Followed FollowFault) where
@@ -301,3 +253,56 @@ pub whole_same : (digest : List ℕ → List ℕ) (origin : List ℕ) (keys : Li
 whole_same digest origin keys so a b put last same kept f =
     subst (λ o. FollowsCandidates digest origin keys so o last) same
     (subst (λ o. FollowsCandidates digest origin keys so b o) (sym kept) f)
+
+-- the facts about the candidates, between two calls that put nothing
+pub says_same : (digest : List ℕ → List ℕ) {S : Type 0} (may : S → Path → Option (List ℕ) → Type 0) (failed : S → ℕ)
+    (asked : S → Option (List Path)) (origin : List ℕ) (keys : List Key) (x y : Places S) (given : Option (List ℕ))
+    (a b put last : Option (List Put)) → b ≡ a → last ≡ put → (r : Result Followed FollowFault) →
+    IfOk r (Says digest origin (AreFirstCandidates may failed asked origin keys x y given) b put) →
+    IfOk r (Says digest origin (AreCandidates may origin keys x y given) a last)
+says_same digest may failed asked origin keys x y given a b put last same kept r h =
+    subst (λ o. IfOk r (Says digest origin (AreCandidates may origin keys x y given) o last)) same
+    (subst (λ o. IfOk r (Says digest origin (AreCandidates may origin keys x y given) b o)) (sym kept)
+    (says_so digest origin (AreFirstCandidates may failed asked origin keys x y given) (AreCandidates may origin keys x y given)
+    (first_candidates origin keys may failed asked x y given) b put r h))
+
+-- ---- a run that ends before the folder is open
+
+module _ (digest : List ℕ → List ℕ) {S : Type 0} (may : S → Path → Option (List ℕ) → Type 0) (failed : S → ℕ)
+    (asked : S → Option (List Path)) (origin : List ℕ) (keys : List Key) (places : Places S)
+    (name forks : Option (List ℕ)) (held before put : Option (List Put)) (failures more_failures : ℕ)
+    (recorded : Option (List NamedFile)) (old : Option (List ℕ)) where
+  pub runs_early : (fault : FollowRunFault) → EndsBefore recorded name before put fault → more_failures ≡ failures →
+      RunsFollow digest may failed asked origin keys places places name forks held before put failures more_failures recorded
+      recorded old old (Err fault)
+  runs_early (File fault) ends counted = record {
+    follows = record { copy = ends.copy; text = Keeps-refl old; files = refl };
+    says = tt;
+    ends = λ other e. absurd cc;
+    given = ends.given;
+    counted = counted;
+    status = tt;
+    suffices = tt;
+  }
+  runs_early CopyInUse ends counted = record {
+    follows = record { copy = ends.copy; text = Keeps-refl old; files = refl };
+    says = tt;
+    ends = λ other e. absurd cc;
+    given = ends.given;
+    counted = counted;
+    status = tt;
+    suffices = record { given = ends.given.0; reads = ends.given.1; suffices = λ h. tt; reaches = λ h. tt };
+  }
+  runs_early OutOfMemory ends counted = record {
+    follows = record { copy = ends.copy; text = Keeps-refl old; files = refl };
+    says = tt;
+    ends = λ other e. absurd cc;
+    given = ends.given;
+    counted = counted;
+    status = tt;
+    suffices = record { given = ends.given.0; reads = ends.given.1; suffices = λ h. tt; reaches = λ h. tt };
+  }
+  runs_early (Follow fault) ends counted = absurd ends.is_early
+  runs_early WriteFault ends counted = absurd ends.is_early
+  runs_early (Evidence fault) ends counted = absurd ends.is_early
+  runs_early (EvidenceAndOutput fault) ends counted = absurd ends.is_early

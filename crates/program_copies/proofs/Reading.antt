@@ -16,6 +16,7 @@ use Rattle.program_reports.specs.declared.reports.Report.{Report as Printout}
 use Rattle.copy_reader.specs.Damage.{NamesProofDamage}
 use Rattle.copy_reader.specs.Faults.{CountsRead, IsReadFault}
 use Rattle.copy_reader.specs.WholeCopies.{GivesOr, HoldsWhole, IsShelfFailure, OpensWhole, ReadsCopyOf}
+use Rattle.copy_reader.proofs.Ends.{end_before}
 use Rattle.copy_reader.proofs.WholeCopies.{files_later}
 use Rattle.copy_reader.specs.Proofs.{IsTrueText}
 use Rattle.tlog_proof.specs.declared.proof.Ask.{Ask}
@@ -71,18 +72,18 @@ pub opened_checkpoint : (digest : List ℕ → List ℕ) (origin : List ℕ) (ke
     HasCheckpoint origin keys held reader.edge.size reader.root
 opened_checkpoint digest origin keys held opened reader h is = subst (λ o. OpensCopy digest origin keys held (Ok o)) is h
 
--- the edge of an opened copy was read, and the bundle at its end
-pub read_at_end : (digest : List ℕ → List ℕ) (held : Option (List Put)) (opened : Option Reader) (reader : Reader) →
+-- the edge of an opened copy was read, and the bundle at its end, after the puts were kept
+pub read_at_end : (digest : List ℕ → List ℕ) (held after : Option (List Put)) → KeepsRecord held after → (opened : Option Reader) (reader : Reader) →
     IfSome opened (λ r. IsEdgeGiven (RecordsRead held) r.edge.size r.edge) → opened ≡ Some reader →
-    HasEdgeHashes reader.edge → hash_of_edge digest reader.edge ≡ reader.root → IsEndShown digest reader.edge →
+    HasEdgeHashes reader.edge → hash_of_edge digest reader.edge ≡ reader.root → IsEndShown digest after reader.edge →
     IsReadAtEnd digest held reader.edge.size reader.root
-read_at_end digest held opened reader h is hashes leads end = record {
+read_at_end digest held after kept opened reader h is hashes leads end = record {
   edge = reader.edge;
   hashes = hashes;
   size_is = refl;
   leads = leads;
   given = subst (λ o. IfSome o (λ r. IsEdgeGiven (RecordsRead held) r.edge.size r.edge)) is h;
-  end = end;
+  end = end_before digest held after kept reader.edge end;
 }
 
 -- the report on a log whose edge and end were read
@@ -182,17 +183,17 @@ module _ (digest : List ℕ → List ℕ) (origin : List ℕ) (keys : List Key) 
   proof_refused ShelfFault r = tt
   proof_refused OutOfMemory r = tt
 
-  proof_named : (fault : CopyFault) → NamesProofDamage digest after reader.edge fault →
-      NamesUnder digest origin keys held (IsDamagedProof digest held) fault
+  proof_named : (fault : CopyFault) → NamesProofDamage digest after reader.edge ask fault →
+      NamesUnder digest origin keys held (IsDamagedProof digest held ask) fault
   proof_named fault h =
-      proof_under digest reader.edge.size reader.root held origin keys checkpoint fault
-      (proof_names_before digest reader.edge.size reader.root held after kept fault
-      (proof_names digest reader.edge.size reader.root after reader.edge to fault h))
+      proof_under digest reader.edge.size reader.root held ask origin keys checkpoint fault
+      (proof_names_before digest reader.edge.size reader.root held after kept ask fault
+      (proof_names digest reader.edge.size reader.root after ask reader.edge to fault h))
 
   -- a report on the opened log is a report on the copy
   pub proof_of_copy : (result : Result Printout CopyAskFault) →
       ReportsAsk digest reader.edge.size reader.root (IsProvable digest reader after) ask result →
-      IfErr result (NamesAsked digest after reader.edge) → ReportsProof digest origin keys held ask result
+      IfErr result (NamesAsked digest after reader.edge ask) → ReportsProof digest origin keys held ask result
   proof_of_copy (Ok report) p d = record {
     size = reader.edge.size;
     root = reader.root;

@@ -25,6 +25,19 @@ pub counts_after : (a b : ℕ) (fault : RepairFault) → b ≡ a → CountsRepai
 counts_after a b (Note fault) same counted = same
 counts_after a b (Copy fault) same counted = subst (λ n. CountsFault a n fault) (sym same) counted
 
+-- a repair between two calls that put nothing and did not fail
+pub repairs_between : (digest : List ℕ → List ℕ) {S : Type 0} (may : S → Path → Option (List ℕ) → Type 0) (failed : S → ℕ)
+    (asked : S → Option (List Path)) (origin : List ℕ) (keys : List Key) (places left : Places S)
+    (held a b put : Option (List Put)) (failures m n more : ℕ) (from to : Repaired) (answer : Result (Unit {0}) RepairFault) →
+    a ≡ held → put ≡ b → m ≡ failures → more ≡ n →
+    RepairsCopy digest may failed asked origin keys places left a b m n from to answer →
+    RepairsCopy digest may failed asked origin keys places left held put failures more from to answer
+repairs_between digest may failed asked origin keys places left held a b put failures m n more from to answer p q r s h =
+    subst (λ o. RepairsCopy digest may failed asked origin keys places left o put failures more from to answer) p
+    (subst (λ o. RepairsCopy digest may failed asked origin keys places left a o failures more from to answer) (sym q)
+    (subst (λ k. RepairsCopy digest may failed asked origin keys places left a b k more from to answer) r
+    (subst (λ k. RepairsCopy digest may failed asked origin keys places left a b m k from to answer) (sym s) h)))
+
 module _ (digest : List ℕ → List ℕ) {S : Type 0} (may : S → Path → Option (List ℕ) → Type 0) (failed : S → ℕ)
     (asked : S → Option (List Path)) (origin : List ℕ) (keys : List Key) (places left_places : Places S)
     (name forks : Option (List ℕ)) (held before put : Option (List Put)) (failures more_failures : ℕ)
@@ -68,7 +81,7 @@ module _ (digest : List ℕ → List ℕ) {S : Type 0} (may : S → Path → Opt
       RepairsCopy digest may failed asked origin keys places mid_places held mid failures mid_failures from to answer →
       (text : Option (List ℕ)) (printed : Bool) → printed ≡ true → PrintsRepair to.put old text answer (Ok printed) →
       (r : Result ℕ FollowRunFault) →
-      RunsFollow digest may origin keys mid_places left_places name forks mid mid put mid_failures more_failures recorded left
+      RunsFollow digest may failed asked origin keys mid_places left_places name forks mid mid put mid_failures more_failures recorded left
       text new r →
       FollowsPrinted digest may failed asked origin keys places left_places name forks held put failures more_failures recorded
       left old new from to r
@@ -90,7 +103,7 @@ module _ (digest : List ℕ → List ℕ) {S : Type 0} (may : S → Path → Opt
   pub unprinted_done : (mid_places : Places S) (mid : Option (List Put)) (mid_failures : ℕ) (answer : Result (Unit {0}) RepairFault) →
       RepairsCopy digest may failed asked origin keys places mid_places held mid failures mid_failures from to answer →
       (printed : Bool) → printed ≡ false → PrintsRepair to.put old new answer (Ok printed) → (fault : FollowRunFault) →
-      FollowsLost digest may origin keys mid_places left_places name forks mid put mid_failures more_failures recorded left fault →
+      FollowsLost digest may failed asked origin keys mid_places left_places name forks mid put mid_failures more_failures recorded left fault →
       Open (Err (Unprinted fault))
   unprinted_done mid_places mid mid_failures answer repairs printed is p fault follows =
       let q = line_of new answer printed false is p in

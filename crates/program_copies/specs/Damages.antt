@@ -10,9 +10,10 @@ use Rattle.mirror_http.specs.declared.request.Request.TheVariants.{Nothing, Unre
 use Rattle.mirror_http.specs.declared.resource.Resource.{Resource}
 use Rattle.mirror_http.specs.declared.resource.Resource.TheVariants.{File, Status, Forks, Missing, Proof}
 use Rattle.log_reader.specs.EdgeRows.{Edge}
+use Rattle.tlog_proof.specs.declared.proof.Ask.{Ask}
 use Rattle.log_reader.specs.FalseFiles.{IsFalseFile}
 use Rattle.copy_reader.specs.Copies.{HasCheckpoint, IsRefused}
-use Rattle.copy_reader.specs.Damage.{IsDamagedEdge, IsFalseWithin, NamesProofDamage}
+use Rattle.copy_reader.specs.Damage.{IsDamagedEdge, IsFalseWithin, IsUnprovable, NamesProofDamage}
 use Rattle.copy_reader.specs.declared.fault.CopyFault.{CopyFault}
 use Rattle.copy_reader.specs.declared.fault.CopyFault.TheVariants.{BadOrigin, Head, CopyDamaged, ShelfFault, OutOfMemory}
 use Rattle.program_copies.specs.CopyHeads.{CopyHead}
@@ -20,36 +21,14 @@ use Rattle.program_copies.specs.declared.fault.CopyAskFault.{CopyAskFault}
 use Rattle.program_copies.specs.declared.fault.CopyAskFault.TheVariants as asking
 use Rattle.program_copies.specs.GivenFiles.{IsEdgeTo}
 
-module _ (digest : List ℕ → List ℕ) (held : Option (List Put)) (size : ℕ) (root : List ℕ) where
-  -- the file is one of the edge, or false in the tree of an edge that leads to the root
-  abbrev pub IsDamagedFile : Path → Type 0
-  IsDamagedFile path =
-      IsDamagedEdge digest held size root path
-      ⊎ ((edge : Edge) × IsEdgeTo digest size root edge × IsFalseFile digest (RecordsRead held) edge path)
-
-  -- the file is one of the edge, or false in that tree, or in that of its first entries. It is the checkpoint if rows that lead to the root
-  -- make no proof that holds
+module _ (digest : List ℕ → List ℕ) (held : Option (List Put)) (ask : Ask) (size : ℕ) (root : List ℕ) where
+  -- the file is one of the edge, or false in the tree of an edge that leads to the root, or in that of its first entries. It is the
+  -- checkpoint only if no file is at fault: the rows of the proof all lead to the root, or it is too large for a text
   abbrev pub IsDamagedProof : Path → Type 0
   IsDamagedProof path =
       IsDamagedEdge digest held size root path
       ⊎ ((edge : Edge) × IsEdgeTo digest size root edge
-      × ((path ≡ Checkpoint) ⊎ IsFalseWithin digest (RecordsRead held) edge path))
-
-  -- the file is damaged, and the resource needs it
-  abbrev pub IsDamagedFor : Resource → Path → Type 0
-  IsDamagedFor (File wanted) path = IsDamagedFile path
-  IsDamagedFor Status path = ⊥
-  IsDamagedFor Forks path = ⊥
-  IsDamagedFor (Missing n r) path = ⊥
-  IsDamagedFor (Proof ask) path = IsDamagedProof path
-
-  -- CopyDamaged names such a file
-  abbrev pub NamesFor : Resource → CopyFault → Type 0
-  NamesFor resource BadOrigin = ⊤
-  NamesFor resource (Head fault) = ⊤
-  NamesFor resource (CopyDamaged path) = IsDamagedFor resource path
-  NamesFor resource ShelfFault = ⊤
-  NamesFor resource OutOfMemory = ⊤
+      × (((path ≡ Checkpoint) × IsUnprovable digest edge ask) ⊎ IsFalseWithin digest (RecordsRead held) edge path))
 
   -- CopyDamaged names such a file of a proof
   abbrev pub NamesProof : CopyFault → Type 0
@@ -58,6 +37,29 @@ module _ (digest : List ℕ → List ℕ) (held : Option (List Put)) (size : ℕ
   NamesProof (CopyDamaged path) = IsDamagedProof path
   NamesProof ShelfFault = ⊤
   NamesProof OutOfMemory = ⊤
+
+module _ (digest : List ℕ → List ℕ) (held : Option (List Put)) (size : ℕ) (root : List ℕ) where
+  -- the file is one of the edge, or false in the tree of an edge that leads to the root
+  abbrev pub IsDamagedFile : Path → Type 0
+  IsDamagedFile path =
+      IsDamagedEdge digest held size root path
+      ⊎ ((edge : Edge) × IsEdgeTo digest size root edge × IsFalseFile digest (RecordsRead held) edge path)
+
+  -- the file is damaged, and the resource needs it
+  abbrev pub IsDamagedFor : Resource → Path → Type 0
+  IsDamagedFor (File wanted) path = IsDamagedFile path
+  IsDamagedFor Status path = ⊥
+  IsDamagedFor Forks path = ⊥
+  IsDamagedFor (Missing n r) path = ⊥
+  IsDamagedFor (Proof ask) path = IsDamagedProof digest held ask size root path
+
+  -- CopyDamaged names such a file
+  abbrev pub NamesFor : Resource → CopyFault → Type 0
+  NamesFor resource BadOrigin = ⊤
+  NamesFor resource (Head fault) = ⊤
+  NamesFor resource (CopyDamaged path) = IsDamagedFor resource path
+  NamesFor resource ShelfFault = ⊤
+  NamesFor resource OutOfMemory = ⊤
 
   -- CopyDamaged names such a file of a tile or a bundle
   abbrev pub NamesFile : CopyFault → Type 0
@@ -83,10 +85,10 @@ module _ (digest : List ℕ → List ℕ) (origin : List ℕ) (keys : List Key) 
     pub named : NamesUnder IsOne fault
 
 -- the fault of a proof on a log whose checkpoint was read. Only a private contract cites it
-abbrev pub NamesAsked : (List ℕ → List ℕ) → Option (List Put) → Edge → CopyAskFault → Type 0
-NamesAsked digest held edge (asking.Copy fault) = NamesProofDamage digest held edge fault
-NamesAsked digest held edge (asking.Heads fault) = ⊤
-NamesAsked digest held edge (asking.Ask fault) = ⊤
+abbrev pub NamesAsked : (List ℕ → List ℕ) → Option (List Put) → Edge → Ask → CopyAskFault → Type 0
+NamesAsked digest held edge ask (asking.Copy fault) = NamesProofDamage digest held edge ask fault
+NamesAsked digest held edge ask (asking.Heads fault) = ⊤
+NamesAsked digest held edge ask (asking.Ask fault) = ⊤
 
 -- the same under that checkpoint, if there is one
 abbrev pub IsDamagedAt : (List ℕ → List ℕ) → Option (List Put) → Option CopyHead → Resource → Path → Type 0

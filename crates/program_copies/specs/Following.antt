@@ -16,6 +16,7 @@ use Rattle.copy_follow.specs.OneHonestRun.{IsHonestAmong, IsHonestRun, IsOfShelf
 use Rattle.copy_follow.specs.Runs.{FollowsCandidates}
 use Rattle.copy_follow.specs.Says.{Says}
 use Rattle.copy_follow.specs.RunStanding.{IsFollowed}
+use Rattle.copy_follow.specs.Told.{TellsLarger}
 use Rattle.copy_follow.specs.declared.follow_fault.FollowFault.{FollowFault}
 use Rattle.copy_follow.specs.declared.follow_fault.FollowFault.TheVariants as following
 use Rattle.copy_follow.specs.declared.report.Followed.{Followed}
@@ -46,6 +47,20 @@ ReadsGiven recorded name (Err WriteFault) = (note : Option (List ℕ)) × ReadsN
 ReadsGiven recorded name (Err (Evidence fault)) = (note : Option (List ℕ)) × ReadsNote recorded name (Ok note)
 ReadsGiven recorded name (Err (EvidenceAndOutput fault)) = (note : Option (List ℕ)) × ReadsNote recorded name (Ok note)
 ReadsGiven recorded name (Ok x) = (note : Option (List ℕ)) × ReadsNote recorded name (Ok note)
+
+-- the faults before the folder is open
+abbrev pub IsEarly : FollowRunFault → Type 0
+IsEarly (File fault) = ⊤
+IsEarly CopyInUse = ⊤
+IsEarly OutOfMemory = ⊤
+IsEarly other = ⊥
+
+-- the run ended before the folder was open, and put nothing into it
+pub record EndsBefore (recorded : Option (List NamedFile)) (name : Option (List ℕ)) (before put : Option (List Put))
+    (fault : FollowRunFault) : Type 0 where
+  pub is_early : IsEarly fault
+  pub given : ReadsGiven {T = ℕ} recorded name (Err fault)
+  pub copy : put ≡ before
 
 -- the note is that of the named file. If none is named, it is one that a place may give for its checkpoint
 abbrev pub IsNoteOf : {S : Type 0} → (S → Path → Option (List ℕ) → Type 0) → Option (List NamedFile) →
@@ -81,17 +96,6 @@ module _ (digest : List ℕ → List ℕ) (origin : List ℕ) (keys : List Key) 
     pub whole : FollowsCandidates digest origin keys so held put
     pub brought : IsFollowed digest origin held put done
     pub forks : All (ShowsLine digest) done.forks.items
-
-  -- the puts into the folder. There are none if the folder was not held or not opened
-  abbrev pub FollowsIn : Option (List Put) → Option (List Put) → Result Followed FollowRunFault → Type 0
-  FollowsIn before put (Ok done) = CopyFollowed put done
-  FollowsIn before put (Err (File fault)) = ⊥
-  FollowsIn before put (Err CopyInUse) = put ≡ before
-  FollowsIn before put (Err OutOfMemory) = put ≡ before
-  FollowsIn before put (Err (Follow fault)) = FollowsCandidates digest origin keys so held put
-  FollowsIn before put (Err WriteFault) = ⊥
-  FollowsIn before put (Err (Evidence fault)) = ⊥
-  FollowsIn before put (Err (EvidenceAndOutput fault)) = ⊥
 
 -- the folder's number of failures rises by one at its fault, and at no other
 abbrev pub CountsRun : {T : Type 0} → ℕ → ℕ → Result T FollowRunFault → Type 0
@@ -150,14 +154,16 @@ module _ (origin : List ℕ) (keys : List Key) (forks : Option (List ℕ)) (done
 
 -- ---- what is said
 
-module _ (digest : List ℕ → List ℕ) (origin : List ℕ) (keys : List Key) (so : List Candidate → Type 0)
-    (held put : Option (List Put)) (forks : Option (List ℕ)) (recorded left : Option (List NamedFile))
-    (old new : Option (List ℕ)) where
+module _ (digest : List ℕ → List ℕ) {S : Type 0} (may : S → Path → Option (List ℕ) → Type 0) (failed : S → ℕ)
+    (asked : S → Option (List Path)) (origin : List ℕ) (keys : List Key) (places left_places : Places S)
+    (so : List Candidate → Type 0) (held put : Option (List Put)) (forks : Option (List ℕ))
+    (recorded left : Option (List NamedFile)) (old new : Option (List ℕ)) where
   -- the output and the evidence are of a result that states for each candidate how it was settled. So each note of the evidence is that of
-  -- a candidate, or the copy's
+  -- a candidate, or the copy's. Each larger candidate in the output agrees with the copy, or a proof could not be had
   pub record PrintsSettled (answer : Result ℕ FollowRunFault) : Type 0 where
     pub done : Followed
     pub says : Says digest origin so held put done
+    pub larger : TellsLarger digest may failed asked places left_places done
     pub tells : PrintsDone origin keys forks done recorded left old new answer
 
   -- this holds once the copy was followed
@@ -172,17 +178,6 @@ module _ (digest : List ℕ → List ℕ) (origin : List ℕ) (keys : List Key) 
   SettlesRun (Err (EvidenceAndOutput fault)) = PrintsSettled (Err (EvidenceAndOutput fault))
 
 -- ---- one honest place
-
--- "so" holds for the answer. Or `follow` ended since the folder failed or is in use, or memory was refused
-abbrev pub ReachesIn : (Followed → Type 0) → Result Followed FollowRunFault → Type 0
-ReachesIn so (Ok done) = so done
-ReachesIn so (Err (File fault)) = ⊥
-ReachesIn so (Err CopyInUse) = ⊤
-ReachesIn so (Err OutOfMemory) = ⊤
-ReachesIn so (Err (Follow fault)) = IsOfShelfOrMemory fault
-ReachesIn so (Err WriteFault) = ⊥
-ReachesIn so (Err (Evidence fault)) = ⊥
-ReachesIn so (Err (EvidenceAndOutput fault)) = ⊥
 
 module _ (digest : List ℕ → List ℕ) (origin : List ℕ) (held put : Option (List Put)) (old new : Option (List ℕ))
     (so : Followed → Type 0) where
@@ -268,9 +263,10 @@ module _ (digest : List ℕ → List ℕ) (origin : List ℕ) (keys : List Key) 
 
 -- ---- all that is said of a run
 
-module _ (digest : List ℕ → List ℕ) {S : Type 0} (may : S → Path → Option (List ℕ) → Type 0) (origin : List ℕ)
-    (keys : List Key) (places left_places : Places S) (name forks : Option (List ℕ)) (held before put : Option (List Put))
-    (failures more_failures : ℕ) (recorded left : Option (List NamedFile)) (old new : Option (List ℕ)) where
+module _ (digest : List ℕ → List ℕ) {S : Type 0} (may : S → Path → Option (List ℕ) → Type 0) (failed : S → ℕ)
+    (asked : S → Option (List Path)) (origin : List ℕ) (keys : List Key) (places left_places : Places S)
+    (name forks : Option (List ℕ)) (held before put : Option (List Put)) (failures more_failures : ℕ)
+    (recorded left : Option (List NamedFile)) (old new : Option (List ℕ)) where
   -- the candidates of the run
   abbrev pub OfRun : List Candidate → Type 0
   OfRun candidates = AreRunCandidates may origin keys places left_places recorded name candidates
@@ -279,7 +275,8 @@ module _ (digest : List ℕ → List ℕ) {S : Type 0} (may : S → Path → Opt
   pub record RunsFollow (answer : Result ℕ FollowRunFault) : Type 0 where
     pub follows :
         Follows digest origin keys (IsNoteOf may recorded name places) forks held before put recorded left old new answer
-    pub says : SettlesRun digest origin keys OfRun held put forks recorded left old new answer
+    pub says :
+        SettlesRun digest may failed asked origin keys places left_places OfRun held put forks recorded left old new answer
     pub ends : IfErr answer (λ e. (fault : FollowFault) → e ≡ Follow fault →
         EndsFollowing digest may origin keys held places left_places recorded name fault)
     pub given : ReadsGiven recorded name answer

@@ -86,7 +86,7 @@ module _ (digest : List ℕ → List ℕ) (origin : List ℕ) (keys : List Key) 
     -- the facts at each answer of the reporter
     abbrev pub ReportsProof : Result Printout CopyAskFault → Type 0
     ReportsProof (Ok report) = IsProofPrint report
-    ReportsProof (Err (asking.Copy fault)) = IsRefusedFor digest origin keys held (IsDamagedProof digest held) fault
+    ReportsProof (Err (asking.Copy fault)) = IsRefusedFor digest origin keys held (IsDamagedProof digest held ask) fault
     ReportsProof (Err (asking.Heads fault)) = ⊥
     ReportsProof (Err (asking.Ask (Report NothingComplete))) = IsEmptyCopy origin keys held
     ReportsProof (Err (asking.Ask (Report (Refused fault)))) = RefusesAsk fault

@@ -22,7 +22,7 @@ use Rattle.copy_follow.specs.Taken.{MayTake}
 use Rattle.copy_follow.specs.declared.bring_fault.BringFault.TheVariants as bring
 use Rattle.copy_follow.specs.declared.repaired.Repaired.{Repaired}
 use Rattle.program_io.specs.Named.{NamedFile}
-use Rattle.program_copies.specs.Following.{ReadsGiven, ReadsNote, RunsFollow}
+use Rattle.program_copies.specs.Following.{EndsBefore, ReadsNote, RunsFollow}
 use Rattle.program_copies.specs.declared.follow_fault.FollowRunFault.{FollowRunFault}
 use Rattle.program_copies.specs.declared.follow_fault.FollowRunFault.TheVariants as run
 use Rattle.program_copies.specs.declared.repair_fault.RepairFault.{RepairFault}
@@ -129,16 +129,17 @@ unprinted (Err fault) = fault
 
 -- ---- the run
 
-module _ (digest : List ℕ → List ℕ) {S : Type 0} (may : S → Path → Option (List ℕ) → Type 0) (origin : List ℕ)
-    (keys : List Key) (places left_places : Places S) (name forks : Option (List ℕ)) (held put : Option (List Put))
-    (failures more_failures : ℕ) (recorded left : Option (List NamedFile)) where
+module _ (digest : List ℕ → List ℕ) {S : Type 0} (may : S → Path → Option (List ℕ) → Type 0) (failed : S → ℕ)
+    (asked : S → Option (List Path)) (origin : List ℕ) (keys : List Key) (places left_places : Places S)
+    (name forks : Option (List ℕ)) (held put : Option (List Put)) (failures more_failures : ℕ)
+    (recorded left : Option (List NamedFile)) where
   -- the copy was followed with an output that goes nowhere
   pub record FollowsLost (fault : FollowRunFault) : Type 0 where
     pub lost : List ℕ
     pub answer : Result ℕ FollowRunFault
     pub follows :
-        RunsFollow digest may origin keys places left_places name forks held held put failures more_failures recorded left
-        (Some []) (Some lost) answer
+        RunsFollow digest may failed asked origin keys places left_places name forks held held put failures more_failures
+        recorded left (Some []) (Some lost) answer
     pub fault_is : fault ≡ unprinted answer
 
 module _ (digest : List ℕ → List ℕ) {S : Type 0} (may : S → Path → Option (List ℕ) → Type 0) (failed : S → ℕ)
@@ -158,15 +159,15 @@ module _ (digest : List ℕ → List ℕ) {S : Type 0} (may : S → Path → Opt
     pub text : Option (List ℕ)
     pub line : Appends old text (repaired_line to.put)
     pub does : RepairsAndThen (λ mid_places mid mid_failures.
-        RunsFollow digest may origin keys mid_places left_places name forks mid mid put mid_failures more_failures recorded
-        left text new answer)
+        RunsFollow digest may failed asked origin keys mid_places left_places name forks mid mid put mid_failures
+        more_failures recorded left text new answer)
 
   -- only a prefix of the line was written. The rest of the output went nowhere
   pub record FollowsUnprinted (fault : FollowRunFault) : Type 0 where
     pub line : AppendsPrefix old new (repaired_line to.put)
     pub does : RepairsAndThen (λ mid_places mid mid_failures.
-        FollowsLost digest may origin keys mid_places left_places name forks mid put mid_failures more_failures recorded left
-        fault)
+        FollowsLost digest may failed asked origin keys mid_places left_places name forks mid put mid_failures more_failures
+        recorded left fault)
 
   -- the run ended with the repair, whose answer this is. No evidence was put
   pub record EndsRepaired (printed : Type 0) (answer : Result (Unit {0}) RepairFault) : Type 0 where
@@ -187,22 +188,13 @@ module _ (digest : List ℕ → List ℕ) {S : Type 0} (may : S → Path → Opt
   RunsOpen (Err (Followed fault)) = FollowsPrinted (Err fault)
   RunsOpen (Err (Unprinted fault)) = FollowsUnprinted fault
 
--- the faults before the folder is open
-abbrev pub IsEarly : FollowRunFault → Type 0
-IsEarly (run.File fault) = ⊤
-IsEarly run.CopyInUse = ⊤
-IsEarly run.OutOfMemory = ⊤
-IsEarly other = ⊥
-
 module _ (digest : List ℕ → List ℕ) {S : Type 0} (may : S → Path → Option (List ℕ) → Type 0) (failed : S → ℕ)
     (asked : S → Option (List Path)) (origin : List ℕ) (keys : List Key) (places left_places : Places S)
     (name forks : Option (List ℕ)) (held before put : Option (List Put)) (failures more_failures : ℕ)
     (recorded left : Option (List NamedFile)) (old new : Option (List ℕ)) (from to : Repaired) where
   -- the run ended before the repair. Nothing was put, written or asked for
   pub record EndsEarly (fault : FollowRunFault) : Type 0 where
-    pub is_early : IsEarly fault
-    pub given : ReadsGiven {T = ℕ} recorded name (Err fault)
-    pub copy : put ≡ before
+    pub ends : EndsBefore recorded name before put fault
     pub text : Keeps old new
     pub files : left ≡ recorded
     pub places_are : left_places ≡ places

@@ -1,5 +1,5 @@
 //! The command `follow`: brings a copy in a folder to the newest checkpoint of some places.
-ghost use Rattle.std.specs.Prelude.{◌≡◌, ◌⊎◌, All, IfErr, IfOk, Ok, map, option_map};
+ghost use Rattle.std.specs.Prelude.{◌≡◌, ◌⊎◌, All, IfErr, IfOk, List, Ok, Option, map, option_map};
 ghost use Rattle.tlog_text.specs.Answers.{seen};
 ghost use Rattle.copy_places.specs.Requests.{IsGivenOrMayGive};
 ghost use Rattle.copy_places.specs.GatheredFrom.{AreCandidates};
@@ -11,7 +11,9 @@ ghost use Rattle.copy_follow.specs.OneHonestRun.{IsHonestAmong, IsHonestRun, Rea
 ghost use Rattle.copy_follow.specs.Runs.{FollowsCandidates};
 ghost use Rattle.copy_follow.specs.Says.{Says};
 ghost use Rattle.copy_follow.specs.RunStanding.{IsFollowed};
-ghost use Rattle.program_copies.specs.Following.{AreRunCandidates, CountsRun, EndsFollowing, Follows, FollowsIn, IsNoteOf, PrintsDone, ReachesIn, ReadsGiven, ReadsNote, RunsFollow, SettlesRun, SufficesForRun};
+ghost use Rattle.copy_follow.specs.Told.{TellsLarger};
+ghost use Rattle.mirror_folders.specs.Shelf.{Put};
+ghost use Rattle.program_copies.specs.Following.{EndsBefore, PrintsDone, ReadsNote, RunsFollow};
 
 use crate::evidence::write_evidence;
 use crate::follow_fault::FollowRunFault;
@@ -21,7 +23,7 @@ use byte_streams::write_whole;
 use copy_follow::{FollowFault, Followed, follow};
 use copy_places::Places;
 use mirror_sources::Source;
-use program_io::{CountedFolders, NamedFault, NamedFiles, Task};
+use program_io::{CountedFolders, NamedFault, NamedFiles, Task, report_puts};
 use signed_note::Verifier;
 use std::alloc::Global;
 use std::io::Write;
@@ -42,11 +44,8 @@ pub struct Following<'a> {
     pub progress: bool,
 }
 
-/// The given note: the bytes of its file, if one is named.
-pub(crate) fn read_given<F: NamedFiles>(
-    files: &F,
-    name: Option<&str>,
-) -> Result<Option<Vec<u8>>, NamedFault>
+// The given note: the bytes of its file, if one is named.
+fn read_given<F: NamedFiles>(files: &F, name: Option<&str>) -> Result<Option<Vec<u8>>, NamedFault>
     ensures { ReadsNote (F.puts files.now) (option_map (λ name. name.now) name.entry)
         (seen (option_map (λ bytes. bytes.items)) result) }
 {
@@ -56,16 +55,6 @@ pub(crate) fn read_given<F: NamedFiles>(
     match files.read(name) {
         Ok(bytes) => Ok(Some(bytes)),
         Err(fault) => Err(fault),
-    }
-}
-
-// Begins the lines of progress, if they are requested.
-fn begin_lines<D: CountedFolders>(folders: &mut D, progress: bool)
-    ensures puts { D.puts folders.new ≡ D.puts folders.old }
-    ensures failed { D.failed folders.new ≡ D.failed folders.old }
-{
-    if progress {
-        folders.begin(Task::Follow);
     }
 }
 
@@ -119,15 +108,17 @@ fn follow_reporting<H: TreeHash, D: CountedFolders, S: Source + Drop>(
         places.new following.now.origin.now (D.puts folders.old)
         (AreCandidates S.may_answer following.now.origin.now (map (λ k. key k) keys.now)
         places.old places.new (option_map (λ v. v.items) given))) → ReachesSize h.size result }
+    ensures tells { IfOk result (TellsLarger H.digest S.may_answer S.failed S.asked
+        places.old places.new) }
 {
-    begin_lines::<D>(folders, following.progress);
+    report_puts::<D>(folders, following.progress, Task::Follow);
     let done = follow::<H, D, S>(alloc, following.origin, keys, folders, places, given);
     end_lines::<D>(folders, following.progress, &done);
     done
 }
 
-/// Holds and opens the folder.
-pub(crate) fn open_held<D: CountedFolders, L: Hold>(
+// Holds and opens the folder.
+fn open_held<D: CountedFolders, L: Hold>(
     folders: &mut D,
     folder: &str,
     hold: &mut L,
@@ -146,49 +137,31 @@ pub(crate) fn open_held<D: CountedFolders, L: Hold>(
     }
 }
 
-// Holds and opens the folder, and follows the places into it.
-fn follow_into<H: TreeHash, D: CountedFolders, S: Source + Drop, L: Hold>(
+/// Reads the named note, if there is one, and then holds and opens the folder of the copy.
+pub(crate) fn begin_run<F: NamedFiles, D: CountedFolders, L: Hold>(
+    files: &F,
     folders: &mut D,
-    alloc: Global,
-    keys: &[Box<dyn Verifier>],
     following: &Following<'_>,
-    places: &mut Places<S>,
     hold: &mut L,
-    given: Option<Vec<u8>>,
-) -> Result<Followed, FollowRunFault>
-    ensures follows { FollowsIn H.digest following.now.origin.now
-        (map (λ k. key k) keys.now)
-        (IsGivenOrMayGive S.may_answer (option_map (λ v. v.items) given) places.old)
-        (D.held folders.old following.now.folder.now) (D.puts folders.old) (D.puts folders.new)
-        result }
-    ensures says { IfOk result (Says H.digest following.now.origin.now
-        (AreCandidates S.may_answer following.now.origin.now (map (λ k. key k) keys.now)
-        places.old places.new (option_map (λ v. v.items) given))
-        (D.held folders.old following.now.folder.now) (D.puts folders.new)) }
-    ensures ends { IfErr result (λ e. (fault : FollowFault) → e ≡ FollowRunFault.Follow fault
-        → EndsFor H.digest S.may_answer following.now.origin.now (map (λ k. key k) keys.now)
-        (D.held folders.old following.now.folder.now) places.old places.new
-        (option_map (λ v. v.items) given) fault) }
-    ensures counted { CountsRun (D.failed folders.old) (D.failed folders.new) result }
-    ensures suffices { (h : IsHonestRun H.digest S.may_answer
-        (D.held folders.old following.now.folder.now) places.old places.new
-        following.now.origin.now (AreCandidates S.may_answer following.now.origin.now
-        (map (λ k. key k) keys.now) places.old places.new (option_map (λ v. v.items) given)))
-        → ReachesIn (λ done. ReachesLog H.digest h.entries h.size (Ok done)) result }
-    ensures reaches { (h : IsHonestAmong H.digest S.may_answer (D.puts folders.new) places.old
-        places.new following.now.origin.now (D.held folders.old following.now.folder.now)
-        (AreCandidates S.may_answer following.now.origin.now (map (λ k. key k) keys.now)
-        places.old places.new (option_map (λ v. v.items) given)))
-        → ReachesIn (λ done. ReachesSize h.size (Ok done)) result }
+) -> Result<Option<Vec<u8>>, FollowRunFault>
+    ensures read { IfOk result (λ given. ReadsNote (F.puts files.now)
+        (option_map (λ name. name.now) following.now.checkpoint)
+        (Ok (option_map (λ v. v.items) given))) }
+    ensures opened { IfOk result
+        (λ _. D.puts folders.new ≡ D.held folders.old following.now.folder.now) }
+    ensures early { IfErr result (EndsBefore (F.puts files.now)
+        (option_map (λ name. name.now) following.now.checkpoint) (D.puts folders.old)
+        (D.puts folders.new)) }
+    ensures counted { D.failed folders.new ≡ D.failed folders.old }
 {
+    let given = match read_given(files, following.checkpoint) {
+        Ok(given) => given,
+        Err(fault) => return Err(FollowRunFault::File(fault)),
+    };
     match open_held::<D, L>(folders, following.folder, hold) {
-        Ok(()) => {}
-        Err(HoldFault::CopyInUse) => return Err(FollowRunFault::CopyInUse),
-        Err(HoldFault::OutOfMemory) => return Err(FollowRunFault::OutOfMemory),
-    }
-    match follow_reporting::<H, D, S>(folders, alloc, keys, following, places, given) {
-        Ok(done) => Ok(done),
-        Err(fault) => Err(FollowRunFault::Follow(fault)),
+        Ok(()) => Ok(given),
+        Err(HoldFault::CopyInUse) => Err(FollowRunFault::CopyInUse),
+        Err(HoldFault::OutOfMemory) => Err(FollowRunFault::OutOfMemory),
     }
 }
 
@@ -249,74 +222,17 @@ pub(crate) fn follow_open<
     requires { ReadsNote (F.puts files.old)
         (option_map (λ name. name.now) following.now.checkpoint)
         (Ok (option_map (λ v. v.items) given)) }
-    ensures { RunsFollow H.digest S.may_answer following.now.origin.now
-        (map (λ k. key k) keys.now) places.old places.new
+    ensures { (before : Option (List Put)) → RunsFollow H.digest S.may_answer S.failed S.asked
+        following.now.origin.now (map (λ k. key k) keys.now) places.old places.new
         (option_map (λ name. name.now) following.now.checkpoint)
         (option_map (λ name. name.now) following.now.forks) (D.puts folders.old)
-        (D.puts folders.old) (D.puts folders.new) (D.failed folders.old) (D.failed folders.new)
+        before (D.puts folders.new) (D.failed folders.old) (D.failed folders.new)
         (F.puts files.old) (F.puts files.new) (W.contents output.old) (W.contents output.new)
         result }
 {
     match follow_reporting::<H, D, S>(folders, alloc, keys, following, places, given) {
         Ok(done) => report_done(files, alloc, keys, following, &done, output),
         Err(fault) => Err(FollowRunFault::Follow(fault)),
-    }
-}
-
-// Reads the named note, follows the places, and reports the result.
-fn follow_and_report<
-    H: TreeHash,
-    F: NamedFiles,
-    D: CountedFolders,
-    S: Source + Drop,
-    L: Hold,
-    W: Write,
->(
-    files: &mut F,
-    folders: &mut D,
-    alloc: Global,
-    keys: &[Box<dyn Verifier>],
-    following: &Following<'_>,
-    places: &mut Places<S>,
-    hold: &mut L,
-    output: &mut W,
-) -> Result<u8, FollowRunFault>
-    ensures follows { Follows H.digest following.now.origin.now
-        (map (λ k. key k) keys.now)
-        (IsNoteOf S.may_answer (F.puts files.old)
-        (option_map (λ name. name.now) following.now.checkpoint) places.old)
-        (option_map (λ name. name.now) following.now.forks)
-        (D.held folders.old following.now.folder.now) (D.puts folders.old) (D.puts folders.new)
-        (F.puts files.old) (F.puts files.new) (W.contents output.old) (W.contents output.new)
-        result }
-    ensures says { SettlesRun H.digest following.now.origin.now (map (λ k. key k) keys.now)
-        (AreRunCandidates S.may_answer following.now.origin.now (map (λ k. key k) keys.now)
-        places.old places.new (F.puts files.old)
-        (option_map (λ name. name.now) following.now.checkpoint))
-        (D.held folders.old following.now.folder.now) (D.puts folders.new)
-        (option_map (λ name. name.now) following.now.forks) (F.puts files.old) (F.puts files.new)
-        (W.contents output.old) (W.contents output.new) result }
-    ensures ends { IfErr result (λ e. (fault : FollowFault) → e ≡ FollowRunFault.Follow fault
-        → EndsFollowing H.digest S.may_answer following.now.origin.now (map (λ k. key k) keys.now)
-        (D.held folders.old following.now.folder.now) places.old places.new (F.puts files.old)
-        (option_map (λ name. name.now) following.now.checkpoint) fault) }
-    ensures given { ReadsGiven (F.puts files.old)
-        (option_map (λ name. name.now) following.now.checkpoint) result }
-    ensures counted { CountsRun (D.failed folders.old) (D.failed folders.new) result }
-    ensures status { IfOk result (λ status. (status ≡ 0) ⊎ (status ≡ 3)) }
-    ensures suffices { SufficesForRun H.digest S.may_answer following.now.origin.now
-        (map (λ k. key k) keys.now) (D.held folders.old following.now.folder.now)
-        (D.puts folders.new) places.old places.new (F.puts files.old)
-        (option_map (λ name. name.now) following.now.checkpoint) (W.contents output.old)
-        (W.contents output.new) result }
-{
-    let given = match read_given(files, following.checkpoint) {
-        Ok(given) => given,
-        Err(fault) => return Err(FollowRunFault::File(fault)),
-    };
-    match follow_into::<H, D, S, L>(folders, alloc, keys, following, places, hold, given) {
-        Ok(done) => report_done(files, alloc, keys, following, &done, output),
-        Err(fault) => Err(fault),
     }
 }
 
@@ -358,7 +274,7 @@ pub fn run_follow<
     hold: &mut L,
     output: &mut W,
 ) -> Result<u8, FollowRunFault>
-    ensures { RunsFollow H.digest S.may_answer following.now.origin.now
+    ensures { RunsFollow H.digest S.may_answer S.failed S.asked following.now.origin.now
         (map (λ k. key k) keys.now) places.old places.new
         (option_map (λ name. name.now) following.now.checkpoint)
         (option_map (λ name. name.now) following.now.forks)
@@ -366,7 +282,11 @@ pub fn run_follow<
         (D.failed folders.old) (D.failed folders.new) (F.puts files.old) (F.puts files.new)
         (W.contents output.old) (W.contents output.new) result }
 {
-    follow_and_report::<H, F, D, S, L, W>(
-        files, folders, alloc, keys, following, places, hold, output,
+    let given = match begin_run::<F, D, L>(files, folders, following, hold) {
+        Ok(given) => given,
+        Err(fault) => return Err(fault),
+    };
+    follow_open::<H, F, D, S, W>(
+        files, folders, alloc, keys, following, places, given, output,
     )
 }

@@ -38,7 +38,6 @@ mod place;
 mod printing;
 mod prove;
 mod proving;
-mod range;
 mod repair;
 mod repair_fault;
 mod reply_fault;
@@ -68,7 +67,6 @@ pub use laws::{copies_answer_as_mirrors_law, proofs_law, refusals_law, status_la
 pub use opened::open_copy;
 pub use place::{Answered, FailedAt, PlaceSource, WatchedPlace};
 pub use prove::prove_copy;
-pub use range::EntryRange;
 pub use repair::run_repair;
 pub use repair_fault::{RepairFault, RepairRunFault};
 pub use reply_fault::CopyAnswerFault;

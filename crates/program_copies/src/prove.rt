@@ -67,7 +67,7 @@ fn read_report<H: TreeHash, D: ReadableShelf>(
     ensures same { KeepsRecord (D.puts shelf.old) (D.puts shelf.new) }
     ensures counted { CountsRead (D.failed shelf.old) (D.failed shelf.new) result }
     ensures damage { IfErr result
-        (NamesProofDamage H.digest (D.puts shelf.old) reader.old.edge) }
+        (NamesProofDamage H.digest (D.puts shelf.old) reader.old.edge ask) }
     ensures honest { IfErr result (λ fault. (entries : List (List ℕ))
         → IsProvable H.digest reader.old (D.puts shelf.old) entries → IsShelfFailure fault) }
 {
@@ -87,7 +87,8 @@ fn ask_reader<H: TreeHash, D: ReadableShelf>(
         (IsProvable H.digest reader.old (D.puts shelf.old)) ask result }
     ensures same { KeepsRecord (D.puts shelf.old) (D.puts shelf.new) }
     ensures counted { CountsAsk (D.failed shelf.old) (D.failed shelf.new) result }
-    ensures damage { IfErr result (NamesAsked H.digest (D.puts shelf.old) reader.old.edge) }
+    ensures damage { IfErr result
+        (NamesAsked H.digest (D.puts shelf.old) reader.old.edge ask) }
 {
     match refusal(ask, reader.size()) {
         Ok(()) => {}

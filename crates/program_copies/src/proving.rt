@@ -42,7 +42,7 @@ pub(crate) fn asked_proof<H: TreeHash, D: ReadableShelf>(
     ensures none { IfOk result (λ o. IfNone o (¬ IsWithin ask size)) }
     ensures same { KeepsRecord (D.puts shelf.old) (D.puts shelf.new) }
     ensures counted { CountsRead (D.failed shelf.old) (D.failed shelf.new) result }
-    ensures damage { IfErr result (NamesProof H.digest (D.puts shelf.old) size root.now) }
+    ensures damage { IfErr result (NamesProof H.digest (D.puts shelf.old) ask size root.now) }
     ensures honest { (entries : List (List ℕ))
         → HasLogOf H.digest (D.puts shelf.old) size root.now entries
         → IfErr result IsShelfFailure }

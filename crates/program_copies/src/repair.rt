@@ -9,8 +9,8 @@ ghost use Rattle.program_copies.specs.Following.{ReadsNote, RunsFollow};
 ghost use Rattle.program_copies.specs.Repairing.{CountsRepair, FollowsLost, IsRefused, Opens, OpensOwn, PrintsRepair, RepairsCopy, RunsOpen, RunsRepair, repaired_line};
 
 use crate::follow_fault::FollowRunFault;
-use crate::following::{Following, follow_open, open_held, read_given};
-use crate::hold::{Hold, HoldFault};
+use crate::following::{Following, begin_run, follow_open};
+use crate::hold::Hold;
 use crate::repair_fault::{RepairFault, RepairRunFault};
 use byte_streams::write_whole;
 use copy_follow::{BringFault, Repaired, repair_copy};
@@ -19,7 +19,7 @@ use log_reader::open_head;
 use mirror_folders::{ReadableShelf, ShelfError};
 use mirror_model::TakeFault;
 use mirror_sources::Source;
-use program_io::{CountedFolders, NamedFiles};
+use program_io::{CountedFolders, NamedFiles, Task, report_end, report_puts};
 use signed_note::Verifier;
 use std::alloc::{AllocError, Global};
 use std::io::Write;
@@ -125,6 +125,26 @@ fn repair_open<H: TreeHash, D: ReadableShelf, S: Source + Drop>(
     }
 }
 
+// The same, with lines of progress if they are requested. A repair that ends early has no last line.
+fn repair_reporting<H: TreeHash, D: CountedFolders, S: Source + Drop>(
+    folders: &mut D,
+    alloc: Global,
+    keys: &[Box<dyn Verifier>],
+    following: &Following<'_>,
+    places: &mut Places<S>,
+    repaired: &mut Repaired,
+) -> Result<(), RepairFault>
+    ensures { RepairsCopy H.digest S.may_answer S.failed S.asked following.now.origin.now
+        (map (λ k. key k) keys.now) places.old places.new (D.puts folders.old)
+        (D.puts folders.new) (D.failed folders.old) (D.failed folders.new) repaired.old
+        repaired.new result }
+{
+    report_puts::<D>(folders, following.progress, Task::Repair);
+    let answer = repair_open::<H, D, S>(folders, alloc, following.origin, keys, places, repaired);
+    report_end::<D>(folders, following.progress && answer.is_ok());
+    answer
+}
+
 // Writes the line of a repair with this answer. False: it was not written whole.
 fn print_repair<W: Write>(
     alloc: Global,
@@ -162,7 +182,7 @@ fn follow_unprinted<H: TreeHash, F: NamedFiles, D: CountedFolders, S: Source + D
     requires { ReadsNote (F.puts files.old)
         (option_map (λ name. name.now) following.now.checkpoint)
         (Ok (option_map (λ v. v.items) given)) }
-    ensures { FollowsLost H.digest S.may_answer following.now.origin.now
+    ensures { FollowsLost H.digest S.may_answer S.failed S.asked following.now.origin.now
         (map (λ k. key k) keys.now) places.old places.new
         (option_map (λ name. name.now) following.now.checkpoint)
         (option_map (λ name. name.now) following.now.forks) (D.puts folders.old)
@@ -201,7 +221,7 @@ fn repair_and_follow<H: TreeHash, F: NamedFiles, D: CountedFolders, S: Source + 
         (F.puts files.new) (W.contents output.old) (W.contents output.new) repaired.old
         repaired.new result }
 {
-    let answer = repair_open::<H, D, S>(folders, alloc, following.origin, keys, places, repaired);
+    let answer = repair_reporting::<H, D, S>(folders, alloc, keys, following, places, repaired);
     let printed = match print_repair(alloc, repaired.put(), answer, output) {
         Ok(printed) => printed,
         Err(fault) => return Err(fault),
@@ -269,17 +289,10 @@ pub fn run_repair<
         (D.failed folders.old) (D.failed folders.new) (F.puts files.old) (F.puts files.new)
         (W.contents output.old) (W.contents output.new) repaired.old repaired.new result }
 {
-    let given = match read_given(files, following.checkpoint) {
+    let given = match begin_run::<F, D, L>(files, folders, following, hold) {
         Ok(given) => given,
-        Err(fault) => return Err(RepairRunFault::Early(FollowRunFault::File(fault))),
+        Err(fault) => return Err(RepairRunFault::Early(fault)),
     };
-    match open_held::<D, L>(folders, following.folder, hold) {
-        Ok(()) => {}
-        Err(HoldFault::CopyInUse) => return Err(RepairRunFault::Early(FollowRunFault::CopyInUse)),
-        Err(HoldFault::OutOfMemory) => {
-            return Err(RepairRunFault::Early(FollowRunFault::OutOfMemory));
-        }
-    }
     repair_and_follow::<H, F, D, S, W>(
         files, folders, alloc, keys, following, places, given, output, repaired,
     )

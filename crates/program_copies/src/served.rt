@@ -6,9 +6,9 @@ ghost use Rattle.program_copies.specs.Served.{AnswersServed, WritesAll, WritesFi
 
 use crate::cutting::CutFault;
 use crate::entries_fault::StateEntriesFault;
-use crate::range::EntryRange;
 use crate::writing::{width_at, write_from};
 use mirror_trees::TopRanges;
+use program_words::commands::entries::EntryRange;
 use std::alloc::Global;
 use std::io::Write;
 use tlog_hash::TreeHash;

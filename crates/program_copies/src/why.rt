@@ -4,6 +4,7 @@ ghost use Rattle.program_io.specs.FileWhy.{IsWhyLine};
 ghost use Rattle.program_copies.specs.Whys.{AreWhyLines};
 
 use crate::place::{Answered, FailedAt, WatchedPlace};
+use base64::engine::general_purpose::STANDARD;
 use copy_places::{Place, Places, Wrong, WrongFile};
 use log_reader::open_head;
 use mirror_client::Reason;
@@ -12,7 +13,11 @@ use mirror_model::TakeFault;
 use program_io::{system_reason, why_line};
 use signed_note::Verifier;
 use std::alloc::{AllocError, Global};
+use tlog_hash::Hash;
 use tlog_tiles::Path;
+
+// The number of a root's bytes that a line has.
+const FRONT_LEN: usize = 3;
 
 // The reason why a file is wrong.
 fn reason_of_get(alloc: Global, reason: &Reason) -> Result<String, AllocError> {
@@ -31,15 +36,29 @@ fn reason_of_failed(alloc: Global, failed: Option<FailedAt>) -> Result<String, A
     }
 }
 
+// The reason why a file is false: it does not fit the checkpoint for which the place was asked. It may fit the place's own. In a repair that
+// is the copy's, which is not named.
+fn reason_of_false(alloc: Global, tried: Option<(u64, Hash)>) -> Result<String, AllocError> {
+    let Some(tried) = tried else {
+        return String::from_str(alloc, "false");
+    };
+    let size = tried.0;
+    let root = tried.1;
+    let mut text = format!(in alloc; "false for checkpoint {size} ")?;
+    STANDARD.encode_string(&root[..FRONT_LEN], &mut text)?;
+    text.push_str("..")?;
+    Ok(text)
+}
+
 // The reason why the first wrong file of a place is wrong.
 fn reason_of_file<S: WatchedPlace>(
     alloc: Global,
     source: &S,
-    wrong: Wrong,
+    file: &WrongFile,
 ) -> Result<String, AllocError> {
-    match wrong {
+    match file.wrong {
         Wrong::NotFound => String::from_str(alloc, "not found"),
-        Wrong::False => String::from_str(alloc, "false"),
+        Wrong::False => reason_of_false(alloc, file.tried),
         Wrong::Failed => reason_of_failed(alloc, source.first_failed()),
     }
 }
@@ -101,11 +120,11 @@ fn push_place<S: WatchedPlace + Drop>(
     if let Some(reason) = reason_of_note(alloc, origin, keys, source)? {
         return push_line(alloc, text, source.name(), &Path::Checkpoint, &reason);
     }
-    let Some(WrongFile { path, wrong }) = place.first_wrong() else {
+    let Some(file) = place.first_wrong() else {
         return Ok(());
     };
-    let reason = reason_of_file(alloc, source, wrong)?;
-    push_line(alloc, text, source.name(), &path, &reason)
+    let reason = reason_of_file(alloc, source, &file)?;
+    push_line(alloc, text, source.name(), &file.path, &reason)
 }
 
 // Adds the line about a file of the copy.
@@ -163,14 +182,15 @@ fn push_copy<D: ReadableShelf>(
 }
 
 /// The lines about the copy and the places of a run, in the order of the command's words. Each one at which something was wrong has one
-/// line, about the first such thing. After a repair the copy has a line for each file of `repaired`, the damaged files that the repair names.
+/// line, about the first such thing. A false file is named with the size and the beginning of the root of the checkpoint that it does not
+/// fit, unless a repair asked for it: then it does not fit the copy's. After a repair the copy has a line for each file of `repaired`, the damaged files that the repair names.
 /// Each line has at most 200 bytes with its newline, and no control character.
 ///
 /// ```text
 /// copy: tile/entries/000.p/3: false
 /// place: checkpoint: NoTrustedSignature
 /// log.example:80/2026: tile/entries/001: not found
-/// mirror: tile/entries/001: false
+/// mirror: tile/entries/001: false for checkpoint 600 CtTv..
 /// other.example:80: tile/1/000: status 503
 /// ```
 ///

@@ -4,7 +4,7 @@ ghost use Rattle.program_copies.specs.Shown.{AppendsFrom, BeginsFrom, IsNext};
 ghost use Rattle.program_copies.specs.Texts.{bundle_width};
 
 use crate::cutting::{Cut, CutFault, write_cut};
-use crate::range::EntryRange;
+use program_words::commands::entries::EntryRange;
 use std::alloc::Global;
 use std::io::Write;
 

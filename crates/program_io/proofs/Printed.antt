@@ -6,7 +6,7 @@ use Rattle.std.specs.Fmt.{decimal, digits, digits_onto, digit_glyph}
 use Rattle.std.proofs.lemmas.Bool.{lt-ltb}
 use Rattle.program_io.specs.declared.counts.Counts.{Counts}
 use Rattle.program_io.specs.declared.task.Task.{Task}
-use Rattle.program_io.specs.declared.task.Task.TheVariants.{Build, Pull, Export, Follow, Audit}
+use Rattle.program_io.specs.declared.task.Task.TheVariants.{Build, Pull, Export, Follow, Repair, Audit}
 use Rattle.program_io.specs.ProgressText.{comma_before, with_commas, count_text, files_text, size_text, task_text}
 use Rattle.program_io.specs.ProgressText.{counts_text, bytes_text, share_text, progress_text, older_text, grown_text, pulled_text, waited_text, line_of}
 use Rattle.program_io.specs.ProgressText.{is_printed, are_printed, IsLine}
@@ -111,6 +111,7 @@ printed_task Build = refl
 printed_task Pull = refl
 printed_task Export = refl
 printed_task Follow = refl
+printed_task Repair = refl
 printed_task Audit = refl
 
 printed_behind : (bytes : ℕ) → are_printed (codes ", " ++ size_text bytes) ≡ true
@@ -121,6 +122,7 @@ printed_bytes Build bytes = refl
 printed_bytes Pull bytes = refl
 printed_bytes Export bytes = refl
 printed_bytes Follow bytes = printed_behind bytes
+printed_bytes Repair bytes = printed_behind bytes
 printed_bytes Audit bytes = printed_behind bytes
 
 printed_share : (task : Task) (all : ℕ) (counts : Counts) → are_printed (share_text task all counts) ≡ true

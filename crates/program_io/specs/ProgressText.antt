@@ -6,7 +6,7 @@ use Rattle.std.specs.Fmt.{decimal}
 use Rattle.std.specs.List.{list_all}
 use Rattle.program_io.specs.declared.counts.Counts.{Counts}
 use Rattle.program_io.specs.declared.task.Task.{Task}
-use Rattle.program_io.specs.declared.task.Task.TheVariants.{Build, Pull, Export, Follow, Audit}
+use Rattle.program_io.specs.declared.task.Task.TheVariants.{Build, Pull, Export, Follow, Repair, Audit}
 
 -- ---- numbers
 
@@ -46,18 +46,20 @@ task_text Build = codes "build: "
 task_text Pull = codes "pull: "
 task_text Export = codes "export: "
 task_text Follow = codes "follow: "
+task_text Repair = codes "repair: "
 task_text Audit = codes "audit: "
 
 -- the number of files, and their bytes
 abbrev pub counts_text : Counts → List ℕ
 counts_text counts = files_text counts.files ++ (codes ", " ++ size_text counts.bytes)
 
--- the bytes of the files, if the number of all files is known; only two commands report them
+-- the bytes of the files, if the number of all files is known; only three commands report them
 abbrev pub bytes_text : Task → ℕ → List ℕ
 bytes_text Build bytes = []
 bytes_text Pull bytes = []
 bytes_text Export bytes = []
 bytes_text Follow bytes = codes ", " ++ size_text bytes
+bytes_text Repair bytes = codes ", " ++ size_text bytes
 bytes_text Audit bytes = codes ", " ++ size_text bytes
 
 -- the number of files done, and of all files

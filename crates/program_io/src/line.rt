@@ -10,7 +10,7 @@ use std::alloc::{AllocError, Global};
 const COLUMNS: usize = 79;
 
 /// The progress of a command, as one line of at most 80 bytes with its newline. The line has the number of files that were
-/// fetched or put, and the number of all files if it is known. If it is not known, and for `follow` and `audit`, the line
+/// fetched or put, and the number of all files if it is known. If it is not known, and for follows, repairs and audits, the line
 /// also has the bytes of those files. They are in the largest decimal unit that gives at least 1, rounded down.
 ///
 /// ```text
@@ -161,7 +161,7 @@ fn push_bytes(alloc: Global, text: &mut Vec<u8>, task: Task, bytes: u64) -> Resu
 {
     match task {
         Task::Build | Task::Pull | Task::Export => Ok(()),
-        Task::Follow | Task::Audit => {
+        Task::Follow | Task::Repair | Task::Audit => {
             text.extend_from_slice(b", ")?;
             push_size(alloc, text, bytes)
         }
@@ -237,6 +237,7 @@ fn push_task(text: &mut Vec<u8>, task: Task) -> Result<(), AllocError>
         Task::Pull => text.extend_from_slice(b"pull: "),
         Task::Export => text.extend_from_slice(b"export: "),
         Task::Follow => text.extend_from_slice(b"follow: "),
+        Task::Repair => text.extend_from_slice(b"repair: "),
         Task::Audit => text.extend_from_slice(b"audit: "),
     }
 }

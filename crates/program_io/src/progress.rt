@@ -44,6 +44,8 @@ pub struct Progress<C: Clock + Drop, W: Write + Drop> {
     due: Option<Instant>,
     // Whether the last line reports the current counts.
     is_recorded_now: bool,
+    // The length of the file that was read last.
+    last_len: usize,
 }
 
 impl<C: Clock + Drop, W: Write + Drop> Model for Progress<C, W> {
@@ -116,6 +118,16 @@ fn log_size(alloc: Global, note: &[u8]) -> Option<u64> {
     Some(checkpoint.size)
 }
 
+// The number of all files that a command reads, by the note of its checkpoint: a repair does not count the checkpoint itself. None: another
+// command, or the bytes are no such note, or memory was refused.
+fn files_under(alloc: Global, task: Task, note: &[u8]) -> Option<u64> {
+    match task {
+        Task::Audit => Some(files_to_put(log_size(alloc, note)?, 0)),
+        Task::Repair => Some(files_to_put(log_size(alloc, note)?, 0).saturating_sub(1)),
+        _ => None,
+    }
+}
+
 impl<C: Clock + Drop, W: Write + Drop> Progress<C, W> {
     /// A `Progress` that reports nothing yet. The call allocates no memory.
     pub fn new(alloc: Global, clock: C, writer: W) -> Self
@@ -133,6 +145,7 @@ impl<C: Clock + Drop, W: Write + Drop> Progress<C, W> {
             counts: Counts::new(),
             due: None,
             is_recorded_now: false,
+            last_len: 0,
         }
     }
 
@@ -166,19 +179,21 @@ impl<C: Clock + Drop, W: Write + Drop> Progress<C, W> {
         self.is_recorded_now = false;
     }
 
-    /// Records that an audit read a file. If it is the checkpoint, the number of all files is set to the number of files of
-    /// its log. For another file, another command, or bytes that are not the note of a checkpoint, nothing changes.
+    /// Records that an audit or a repair read a file. If it is the checkpoint, the number of all files is set to the number of files of
+    /// its log; a repair leaves out the checkpoint. For another command, or bytes that are not the note of a checkpoint, that number stays.
+    /// The file's length is kept for `count_true`.
     pub fn expect_log(&mut self, path: &Path, bytes: &[u8])
         ensures counts { self.new.counts ≡ self.old.counts }
         ensures task { self.new.task ≡ self.old.task }
         ensures due { self.new.due ≡ self.old.due }
         ensures writer { self.new.writer ≡ self.old.writer }
     {
-        if self.task != Task::Audit || *path != Path::Checkpoint {
+        self.last_len = bytes.len();
+        if *path != Path::Checkpoint {
             return;
         }
-        match log_size(self.alloc, bytes) {
-            Some(size) => self.expect(files_to_put(size, 0)),
+        match files_under(self.alloc, self.task, bytes) {
+            Some(all) => self.expect(all),
             None => {}
         }
     }
@@ -203,6 +218,13 @@ impl<C: Clock + Drop, W: Write + Drop> Progress<C, W> {
         match Instant::now(&self.clock) {
             Ok(now) => self.report_at(now),
             Err(_) => {}
+        }
+    }
+
+    /// Counts the file that a repair read last: it is true. It writes a line if it is time. For another command nothing changes.
+    pub fn count_true(&mut self) {
+        if self.task == Task::Repair {
+            self.count(self.last_len);
         }
     }
 

@@ -23,10 +23,12 @@ pub fn counted_source_law<S: Source + Drop, C: Clock + Drop, W: Write + Drop>()
         ≡ S.failed counted.source }
 {}
 
-/// The inner shelf of a counting shelf records the files that were put and the number of failed calls.
+/// The inner shelf of a counting shelf records the files that were put, the files to flush and the number of failed calls.
 pub fn counted_shelf_law<S: Shelf + Drop, C: Clock + Drop, W: Write + Drop>()
     ensures puts { (counted : _) → ⟦<CountingShelf<S, C, W> as Shelf>⟧.puts counted
         ≡ S.puts counted.shelf }
+    ensures flushes { (counted : _) → ⟦<CountingShelf<S, C, W> as Shelf>⟧.flushes counted
+        ≡ S.flushes counted.shelf }
     ensures failed { (counted : _) → ⟦<CountingShelf<S, C, W> as Shelf>⟧.failed counted
         ≡ S.failed counted.shelf }
 {}

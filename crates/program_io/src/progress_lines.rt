@@ -12,6 +12,7 @@ use std::io::Write;
 pub fn report_puts<D: CountedFolders>(folders: &mut D, progress: bool, task: Task)
     ensures puts { D.puts folders.new ≡ D.puts folders.old }
     ensures held { D.held folders.new ≡ D.held folders.old }
+    ensures failed { D.failed folders.new ≡ D.failed folders.old }
 {
     if progress {
         folders.begin(task);
@@ -22,6 +23,7 @@ pub fn report_puts<D: CountedFolders>(folders: &mut D, progress: bool, task: Tas
 pub fn report_end<D: CountedFolders>(folders: &mut D, progress: bool)
     ensures puts { D.puts folders.new ≡ D.puts folders.old }
     ensures held { D.held folders.new ≡ D.held folders.old }
+    ensures failed { D.failed folders.new ≡ D.failed folders.old }
 {
     if progress {
         folders.end();

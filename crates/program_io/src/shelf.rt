@@ -1,6 +1,8 @@
 //! A counting shelf.
-ghost use Rattle.std.specs.Prelude.{◌≡◌, Some, length};
+ghost use Rattle.std.specs.Prelude.{◌≡◌, OnOk, Some, length};
+ghost use Rattle.tlog_tiles.specs.declared.paths.Path.TheVariants.{Checkpoint};
 ghost use Rattle.mirror_folders.specs.Shelf.{RecordsPut, CountsFailures};
+ghost use Rattle.mirror_folders.specs.Flushes.{FlushesAll, SecuresAtOk};
 ghost use Rattle.program_io.specs.Counting.{CountsPut};
 
 use crate::folders::CountedFolders;
@@ -12,9 +14,9 @@ use std::io::Write;
 use std::time::Clock;
 use tlog_tiles::Path;
 
-/// A shelf that puts onto another shelf, and counts each file that is put, and its bytes. In contracts, the files that were
-/// put and the failures are those of the inner shelf (`counted_shelf_law`). If the inner shelf is one for folders with
-/// names, so is this one.
+/// A shelf that puts onto another shelf, and counts each file that is put, and its bytes. For a repair it also counts each file that was
+/// read and that the repair relies on. In contracts, the files that were put, the files to flush and the failures are those of the inner
+/// shelf (`counted_shelf_law`). If the inner shelf is one for folders with names, so is this one.
 ///
 /// ```text
 /// let mut shelf = CountingShelf::new(DirShelf::new(&rt, alloc, "log"), progress);
@@ -42,6 +44,8 @@ impl<S: Shelf + Drop, C: Clock + Drop, W: Write + Drop> CountingShelf<S, C, W> {
 impl<S: Shelf + Drop, C: Clock + Drop, W: Write + Drop> Shelf for CountingShelf<S, C, W> {
     ghost puts = { λ s. S.puts s.shelf };
 
+    ghost flushes = { λ s. S.flushes s.shelf };
+
     ghost failed = { λ s. S.failed s.shelf };
 
     ghost expected = { λ s. s.progress.all };
@@ -53,6 +57,10 @@ impl<S: Shelf + Drop, C: Clock + Drop, W: Write + Drop> Shelf for CountingShelf<
     fn put(&mut self, path: &Path, bytes: &[u8]) -> Result<(), ShelfError>
         ensures recorded { RecordsPut (S.puts self.old.shelf) (S.puts self.new.shelf)
             (path.now, bytes.now) result }
+        ensures secured { SecuresAtOk (λ p. p ≡ path.now) (S.flushes self.old.shelf)
+            (S.flushes self.new.shelf) result }
+        ensures flushed { OnOk result (path.now ≡ Checkpoint
+            → FlushesAll (S.flushes self.old.shelf) (S.flushes self.new.shelf)) }
         ensures counted { CountsFailures (S.failed self.old.shelf) (S.failed self.new.shelf)
             result }
         ensures counts { CountsPut (length bytes.now) self.old.progress.counts
@@ -64,7 +72,9 @@ impl<S: Shelf + Drop, C: Clock + Drop, W: Write + Drop> Shelf for CountingShelf<
     }
 
     fn flush_before_checkpoint(&mut self, path: &Path) -> Result<(), ShelfError> {
-        self.shelf.flush_before_checkpoint(path)
+        self.shelf.flush_before_checkpoint(path)?;
+        self.progress.count_true();
+        Ok(())
     }
 
     fn failures(&self) -> u64 {
@@ -75,6 +85,7 @@ impl<S: Shelf + Drop, C: Clock + Drop, W: Write + Drop> Shelf for CountingShelf<
         ensures shelf { self.new.shelf ≡ self.old.shelf }
         ensures all { self.new.progress.all ≡ Some files }
         ensures puts { S.puts self.new.shelf ≡ S.puts self.old.shelf }
+        ensures still { S.flushes self.new.shelf ≡ S.flushes self.old.shelf }
         ensures failed { S.failed self.new.shelf ≡ S.failed self.old.shelf }
     {
         self.progress.expect(files);
@@ -84,7 +95,11 @@ impl<S: Shelf + Drop, C: Clock + Drop, W: Write + Drop> Shelf for CountingShelf<
 impl<S: ReadableShelf + Drop, C: Clock + Drop, W: Write + Drop> ReadableShelf
     for CountingShelf<S, C, W> {
     fn read(&mut self, path: &Path) -> Result<Option<Vec<u8>>, ShelfError> {
-        self.shelf.read(path)
+        let found = self.shelf.read(path)?;
+        if let Some(bytes) = &found {
+            self.progress.expect_log(path, bytes);
+        }
+        Ok(found)
     }
 
     fn note_damaged(&mut self, path: &Path) {

@@ -12,6 +12,8 @@ pub enum Task {
     Export,
     /// Brings a copy to a larger checkpoint and puts its files.
     Follow,
+    /// Reads the files of a whole copy, and puts those that are missing or false.
+    Repair,
     /// Reads the files of a whole log.
     Audit,
 }

@@ -1,6 +1,5 @@
 //! The list of the groups of commands.
-ghost use Rattle.std.specs.Prelude.{◌≡◌};
-ghost use Rattle.std.specs.Result.{result_map_both};
+ghost use Rattle.std.specs.Prelude.{◌≡◌, IsErrAnd, MatchResult, Ok};
 
 use crate::fault::{Error, RunFault};
 use crate::keys::{Keys, key_lines};
@@ -42,12 +41,22 @@ where
         // Read once: each read in an arm costs the checker as much as the call.
         let (bytes, verifiers) = (keys.bytes, keys.verifiers);
         match command {
-            Command::State(state) => of_state(state_commands::run(self, bytes, verifiers, state)),
-            Command::Report(report) => of_report(copy_commands::run_report(
-                self, verifiers, report,
-            )),
-            Command::Copy(copy) => of_copy(copy_commands::run_copy(self, verifiers, copy)),
-            Command::Place(place) => of_place(copy_commands::run_place(self, verifiers, place)),
+            Command::State(state) => {
+                let answer = state_commands::run(self, bytes, verifiers, state);
+                of_run(answer, RunFault::State)
+            }
+            Command::Report(report) => {
+                let answer = copy_commands::run_report(self, verifiers, report);
+                of_run(answer, RunFault::Report)
+            }
+            Command::Copy(copy) => {
+                let answer = copy_commands::run_copy(self, verifiers, copy);
+                of_run(answer, RunFault::Report)
+            }
+            Command::Place(place) => {
+                let answer = copy_commands::run_place(self, verifiers, place);
+                of_run(answer, RunFault::Place)
+            }
         }
     }
 
@@ -66,51 +75,20 @@ impl<'r, 'i, 'o, 'e, R, F, D, I: Failing, O: Failing, E> WatchedEnv
     }
 }
 
-// The answers of commands, as those of a run.
-fn of_state(answer: Result<u8, state_commands::Error>) -> Result<u8, Error>
-    ensures { result ≡ result_map_both (λ status. status) (λ fault. RunFault.State fault) answer }
+// The answer of a command, as that of a run: `name` makes its fault one of a run.
+fn of_run<F: Drop, N: FnOnce(F) -> RunFault>(
+    answer: Result<u8, program_io::Error<F>>,
+    name: N,
+) -> Result<u8, Error>
+    requires { N.IsAlwaysCallable name }
+    ensures { MatchResult answer (λ status. result ≡ Ok status)
+        (λ fault. IsErrAnd result (N.post name fault)) }
 {
     match answer {
         Ok(status) => Ok(status),
         Err(error) => {
             let (fault, why) = error.into_parts();
-            Err(Error::new(RunFault::State(fault), why))
-        }
-    }
-}
-
-fn of_report(answer: Result<u8, copy_commands::ReportError>) -> Result<u8, Error>
-    ensures { result ≡ result_map_both (λ status. status) (λ fault. RunFault.Report fault) answer }
-{
-    match answer {
-        Ok(status) => Ok(status),
-        Err(error) => {
-            let (fault, why) = error.into_parts();
-            Err(Error::new(RunFault::Report(fault), why))
-        }
-    }
-}
-
-fn of_copy(answer: Result<u8, copy_commands::CopyError>) -> Result<u8, Error>
-    ensures { result ≡ result_map_both (λ status. status) (λ fault. RunFault.Copy fault) answer }
-{
-    match answer {
-        Ok(status) => Ok(status),
-        Err(error) => {
-            let (fault, why) = error.into_parts();
-            Err(Error::new(RunFault::Copy(fault), why))
-        }
-    }
-}
-
-fn of_place(answer: Result<u8, copy_commands::PlaceError>) -> Result<u8, Error>
-    ensures { result ≡ result_map_both (λ status. status) (λ fault. RunFault.Place fault) answer }
-{
-    match answer {
-        Ok(status) => Ok(status),
-        Err(error) => {
-            let (fault, why) = error.into_parts();
-            Err(Error::new(RunFault::Place(fault), why))
+            Err(Error::new(name(fault), why))
         }
     }
 }

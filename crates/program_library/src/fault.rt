@@ -1,5 +1,5 @@
 //! Why a run of the program was not done.
-use copy_commands::{CopyRunFault, PlaceRunFault, ReportRunFault};
+use copy_commands::{PlaceRunFault, ReportRunFault};
 use program_io::NamedFault;
 use program_words::CommandFault;
 use signed_note::KeyFileFault;
@@ -22,12 +22,9 @@ pub enum RunFault {
     /// A command that changes states, or writes files, was not done.
     #[error(transparent)]
     State(StateRunFault),
-    /// A command that prints what a state, a bundle or a proof says was not done.
+    /// A command that prints what a state, a copy, a bundle or a proof says was not done.
     #[error(transparent)]
     Report(ReportRunFault),
-    /// A command over a copy was not done.
-    #[error(transparent)]
-    Copy(CopyRunFault),
     /// A command over places was not done.
     #[error(transparent)]
     Place(PlaceRunFault),

@@ -9,7 +9,7 @@ use Rattle.mirror_folders.specs.Shelf.{Put}
 use Rattle.state_commands.specs.Building.{BuildsLogUnder}
 use Rattle.state_commands.specs.Signing.{first_secret}
 use Rattle.state_commands.specs.declared.build_fault.BuildFault.{BuildFault}
-use Rattle.state_commands.specs.Answers.{done, failed}
+use Rattle.program_io.specs.Performing.{done, failed}
 use Rattle.state_commands.specs.Entries.{AreEntries, ReadsEntries}
 use Rattle.state_commands.specs.declared.entries.EntriesFault.{EntriesFault}
 use Rattle.program_words.specs.declared.commands.build.Build.{Build as BuildWords}

@@ -6,7 +6,6 @@ pub mod Pulls
 pub mod Export
 pub mod Notes
 pub mod Commands
-pub mod Answers
 pub mod Gained
 pub mod Takes
 pub mod Merges

@@ -6,7 +6,7 @@ use Rattle.mirror_model.specs.Answered.{merge_answer_of}
 use Rattle.mirror_model.specs.Steps.{Answer, Done, Merges}
 use Rattle.mirror_model.specs.View.{View}
 use Rattle.program_io.specs.Named.{NamedFile}
-use Rattle.state_commands.specs.Answers.{failed}
+use Rattle.program_io.specs.Performing.{failed}
 use Rattle.program_io.specs.Named.{FailsToPut}
 use Rattle.program_io.specs.States.{OpensFile, WritesState}
 use Rattle.state_commands.specs.declared.work_fault.MergeFilesFault.{MergeFilesFault}

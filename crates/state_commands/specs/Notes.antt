@@ -2,7 +2,7 @@
 use Rattle.std.specs.Prelude.{◌≡◌, ℕ, List, Result, Ok, Err}
 use Rattle.std.specs.Io.KnownBytes.{Keeps}
 use Rattle.signed_note.specs.Keys.{Key}
-use Rattle.state_commands.specs.Answers.{done, failed}
+use Rattle.program_io.specs.Performing.{done, failed}
 use Rattle.state_commands.specs.NoteTexts.{WritesNotes}
 use Rattle.state_commands.specs.declared.work_fault.NotesFault.{NotesFault}
 use Rattle.program_words.specs.declared.commands.notes.Notes.{Notes as NotesWords}

@@ -11,7 +11,7 @@ use Rattle.state_commands.specs.Takes.{LeavesTaken}
 use Rattle.state_commands.specs.declared.item.ItemFiles.{ItemFiles}
 use Rattle.state_commands.specs.declared.item.ItemFiles.TheVariants.{Head, Tile, Bundle}
 use Rattle.state_commands.specs.declared.work_fault.TakeFilesFault.{TakeFilesFault}
-use Rattle.state_commands.specs.Answers.{done, failed}
+use Rattle.program_io.specs.Performing.{done, failed}
 use Rattle.program_io.specs.Moment.{Moment}
 use Rattle.state_commands.specs.declared.fault.StateRunFault.{StateRunFault}
 use Rattle.state_commands.specs.declared.fault.StateRunFault.TheVariants.{Take as TakeFault}

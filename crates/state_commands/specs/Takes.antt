@@ -10,7 +10,7 @@ use Rattle.mirror_model.specs.declared.items.Item.{Item}
 use Rattle.mirror_model.specs.declared.items.Item.TheVariants as item
 use Rattle.tlog_mirror.specs.Judged.{JudgesItem}
 use Rattle.program_io.specs.Named.{NamedFile}
-use Rattle.state_commands.specs.Answers.{done, failed}
+use Rattle.program_io.specs.Performing.{done, failed}
 use Rattle.program_io.specs.Named.{FailsToPut, FailsToRead, HasContents, HaveContents}
 use Rattle.program_io.specs.States.{BeginsWith, WritesState}
 use Rattle.state_commands.specs.declared.item.ItemFiles.{ItemFiles}

@@ -9,7 +9,7 @@ ghost use Rattle.state_commands.specs.Faults.{IsLate};
 ghost use Rattle.state_commands.specs.Export.{DoesExport, DoesUpdate};
 
 use crate::fault::{Error, StateRunFault};
-use crate::{ExportFileFault, UpdateFileFault, run_export, run_update};
+use crate::{FolderFault, run_export, run_update};
 use mirror_files::{ExportFault, UpdateFault};
 use program_io::why::{Why, of_folder, of_state};
 use program_io::{Env, RunFiles, RunFolders, Task, report_end, report_puts};
@@ -37,7 +37,7 @@ pub fn run<R, F: RunFiles, D: RunFolders, I: Read, O: Write, E: Write>(
     match put_all(&env.files, &mut env.folders, env.alloc, export, keys) {
         Ok(()) => Ok(0),
         Err(fault) => {
-            let why = why_of_export(env, export, fault);
+            let why = why_of(env, export, fault);
             Err(Error::new(StateRunFault::Export(fault), why))
         }
     }
@@ -50,7 +50,7 @@ fn put_all<F: RunFiles, D: RunFolders>(
     alloc: Global,
     export: &Export<'_>,
     keys: &[Box<dyn Verifier>],
-) -> Result<(), ExportFileFault>
+) -> Result<(), FolderFault>
     ensures { ExportsFile sha256 export.now.mirror.log.origin.now (map (λ k. key k) keys.now)
         (F.puts files.now) export.now.mirror.state.now (D.held folders.old export.now.folder.now)
         (D.puts folders.old) (D.puts folders.new) result }
@@ -87,8 +87,8 @@ pub fn run_with_update<R, F: RunFiles, D: RunFolders, I: Read, O: Write, E: Writ
     match put_new(&env.files, &mut env.folders, env.alloc, update, keys) {
         Ok(()) => Ok(0),
         Err(fault) => {
-            let why = why_of_update(env, update, fault);
-            Err(Error::new(StateRunFault::Update(fault), why))
+            let why = why_of(env, update, fault);
+            Err(Error::new(StateRunFault::Export(fault), why))
         }
     }
 }
@@ -100,7 +100,7 @@ fn put_new<F: RunFiles, D: RunFolders>(
     alloc: Global,
     update: &Export<'_>,
     keys: &[Box<dyn Verifier>],
-) -> Result<(), UpdateFileFault>
+) -> Result<(), FolderFault>
     ensures { UpdatesFile sha256 update.now.mirror.log.origin.now (map (λ k. key k) keys.now)
         (F.puts files.now) update.now.mirror.state.now (D.held folders.old update.now.folder.now)
         (D.puts folders.old) (D.puts folders.new) result }
@@ -119,54 +119,23 @@ fn put_new<F: RunFiles, D: RunFolders>(
     done
 }
 
-fn why_of_export<R, F: RunFiles, D: RunFolders, I, O, E>(
+// The thing that the fault is about: the state file, or the folder.
+fn why_of<R, F: RunFiles, D: RunFolders, I, O, E>(
     env: &Env<'_, '_, '_, '_, R, F, D, I, O, E>,
     export: &Export<'_>,
-    fault: ExportFileFault,
+    fault: FolderFault,
 ) -> Option<Why> {
+    let (alloc, state, folder) = (env.alloc, export.mirror.state, export.folder);
     match fault {
-        ExportFileFault::State(fault) => of_state(
-            env.alloc,
-            &env.files,
-            Some(export.mirror.state),
-            fault,
-        ),
-        ExportFileFault::Export(ExportFault::NothingComplete) => Why::of_thing(
-            env.alloc,
-            export.mirror.state,
-        ),
-        ExportFileFault::Export(ExportFault::ShelfInUse) => Why::of_thing(env.alloc, export.folder),
-        ExportFileFault::Export(ExportFault::ShelfFault) => of_folder(
-            env.alloc,
-            &env.folders,
-            export.folder,
-        ),
-        ExportFileFault::Export(ExportFault::OutOfMemory) | ExportFileFault::OutOfMemory => None,
-    }
-}
-
-fn why_of_update<R, F: RunFiles, D: RunFolders, I, O, E>(
-    env: &Env<'_, '_, '_, '_, R, F, D, I, O, E>,
-    update: &Export<'_>,
-    fault: UpdateFileFault,
-) -> Option<Why> {
-    match fault {
-        UpdateFileFault::State(fault) => of_state(
-            env.alloc,
-            &env.files,
-            Some(update.mirror.state),
-            fault,
-        ),
-        UpdateFileFault::Update(UpdateFault::NothingComplete) => Why::of_thing(
-            env.alloc,
-            update.mirror.state,
-        ),
-        UpdateFileFault::Update(UpdateFault::OtherLog) => Why::of_thing(env.alloc, update.folder),
-        UpdateFileFault::Update(UpdateFault::ShelfFault) => of_folder(
-            env.alloc,
-            &env.folders,
-            update.folder,
-        ),
-        UpdateFileFault::Update(UpdateFault::OutOfMemory) | UpdateFileFault::OutOfMemory => None,
+        FolderFault::State(fault) => of_state(alloc, &env.files, Some(state), fault),
+        FolderFault::Export(ExportFault::NothingComplete)
+        | FolderFault::Update(UpdateFault::NothingComplete) => Why::of_thing(alloc, state),
+        FolderFault::Export(ExportFault::ShelfInUse) | FolderFault::Update(UpdateFault::OtherLog) =>
+            Why::of_thing(alloc, folder),
+        FolderFault::Export(ExportFault::ShelfFault)
+        | FolderFault::Update(UpdateFault::ShelfFault) => of_folder(alloc, &env.folders, folder),
+        FolderFault::Export(ExportFault::OutOfMemory)
+        | FolderFault::Update(UpdateFault::OutOfMemory)
+        | FolderFault::OutOfMemory => None,
     }
 }

@@ -5,7 +5,7 @@ ghost use Rattle.program_io.specs.Named.{NamedFile};
 ghost use Rattle.state_commands.specs.Exported.{CountsFileExport, ExportsFile};
 ghost use Rattle.program_io.specs.States.{OpensFile};
 
-use crate::work_fault::ExportFileFault;
+use crate::work_fault::FolderFault;
 use mirror_files::export;
 use program_io::{CountedFolders, NamedFiles, open_state};
 use signed_note::Verifier;
@@ -32,7 +32,7 @@ pub fn run_export<H: TreeHash, F: NamedFiles, D: CountedFolders>(
     keys: &[Box<dyn Verifier>],
     state: &str,
     folder: &str,
-) -> Result<(), ExportFileFault>
+) -> Result<(), FolderFault>
     ensures answer { ExportsFile H.digest origin.now (map (λ k. key k) keys.now) (F.puts files.now)
         state.now (D.held folders.old folder.now) (D.puts folders.old) (D.puts folders.new) result }
     ensures blamed { CountsFileExport (D.failed folders.old) (D.failed folders.new) result }
@@ -43,7 +43,7 @@ pub fn run_export<H: TreeHash, F: NamedFiles, D: CountedFolders>(
             drop(mirror);
             done
         }
-        Err(fault) => Err(ExportFileFault::State(fault)),
+        Err(fault) => Err(FolderFault::State(fault)),
     }
 }
 
@@ -53,7 +53,7 @@ fn export_into<H: TreeHash, D: CountedFolders>(
     mirror: &Mirror<H>,
     folders: &mut D,
     folder: &str,
-) -> Result<(), ExportFileFault>
+) -> Result<(), FolderFault>
     ensures answer { (origin : List ℕ) (keys : List Key) (recorded : Option (List NamedFile))
         (state : List ℕ) → OpensFile H.digest origin keys recorded state (Ok mirror.now.view)
         → ExportsFile H.digest origin keys recorded state (D.held folders.old folder.now)
@@ -62,10 +62,10 @@ fn export_into<H: TreeHash, D: CountedFolders>(
 {
     match folders.open(folder) {
         Ok(()) => {}
-        Err(_) => return Err(ExportFileFault::OutOfMemory),
+        Err(_) => return Err(FolderFault::OutOfMemory),
     }
     match export(alloc, mirror, folders) {
         Ok(()) => Ok(()),
-        Err(fault) => Err(ExportFileFault::Export(fault)),
+        Err(fault) => Err(FolderFault::Export(fault)),
     }
 }

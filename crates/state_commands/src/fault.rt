@@ -1,8 +1,5 @@
 //! Why a command that changes states, or writes files, was not done.
-use crate::{
-    BuildFault, EntriesFault, ExportFileFault, MergeFilesFault, NotesFault, TakeFilesFault,
-    UpdateFileFault,
-};
+use crate::{BuildFault, EntriesFault, FolderFault, MergeFilesFault, NotesFault, TakeFilesFault};
 use mirror_pull::PullFault;
 use program_io::{NamedFault, StateFault};
 use std::fmt;
@@ -39,12 +36,9 @@ pub enum StateRunFault {
     /// The state after a pull was not written.
     #[error(transparent)]
     Out(NamedFault),
-    /// Not all files were exported.
+    /// Not all files were exported, or a folder was not brought up to date.
     #[error(transparent)]
-    Export(ExportFileFault),
-    /// A folder was not brought up to date.
-    #[error(transparent)]
-    Update(UpdateFileFault),
+    Export(FolderFault),
     /// Not all notes were written.
     #[error(transparent)]
     Notes(NotesFault),

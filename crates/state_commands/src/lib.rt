@@ -90,6 +90,4 @@ pub use noted::run_notes;
 pub use signing::signing_key;
 pub use taking::run_take;
 pub use update::run_update;
-pub use work_fault::{
-    ExportFileFault, MergeFilesFault, NotesFault, TakeFilesFault, UpdateFileFault,
-};
+pub use work_fault::{FolderFault, MergeFilesFault, NotesFault, TakeFilesFault};

@@ -5,7 +5,7 @@ ghost use Rattle.program_io.specs.Named.{NamedFile};
 ghost use Rattle.program_io.specs.States.{OpensFile};
 ghost use Rattle.state_commands.specs.Updated.{CountsFileUpdate, UpdatesFile};
 
-use crate::work_fault::UpdateFileFault;
+use crate::work_fault::FolderFault;
 use mirror_files::update;
 use program_io::{CountedFolders, NamedFiles, open_state};
 use signed_note::Verifier;
@@ -33,7 +33,7 @@ pub fn run_update<H: TreeHash, F: NamedFiles, D: CountedFolders>(
     keys: &[Box<dyn Verifier>],
     state: &str,
     folder: &str,
-) -> Result<(), UpdateFileFault>
+) -> Result<(), FolderFault>
     ensures answer { UpdatesFile H.digest origin.now (map (λ k. key k) keys.now) (F.puts files.now)
         state.now (D.held folders.old folder.now) (D.puts folders.old) (D.puts folders.new) result }
     ensures blamed { CountsFileUpdate (D.failed folders.old) (D.failed folders.new) result }
@@ -44,7 +44,7 @@ pub fn run_update<H: TreeHash, F: NamedFiles, D: CountedFolders>(
             drop(mirror);
             done
         }
-        Err(fault) => Err(UpdateFileFault::State(fault)),
+        Err(fault) => Err(FolderFault::State(fault)),
     }
 }
 
@@ -54,7 +54,7 @@ fn update_into<H: TreeHash, D: CountedFolders>(
     mirror: &Mirror<H>,
     folders: &mut D,
     folder: &str,
-) -> Result<(), UpdateFileFault>
+) -> Result<(), FolderFault>
     ensures answer { (origin : List ℕ) (keys : List Key) (recorded : Option (List NamedFile))
         (state : List ℕ) → OpensFile H.digest origin keys recorded state (Ok mirror.now.view)
         → UpdatesFile H.digest origin keys recorded state (D.held folders.old folder.now)
@@ -63,10 +63,10 @@ fn update_into<H: TreeHash, D: CountedFolders>(
 {
     match folders.open(folder) {
         Ok(()) => {}
-        Err(_) => return Err(UpdateFileFault::OutOfMemory),
+        Err(_) => return Err(FolderFault::OutOfMemory),
     }
     match update(alloc, mirror, folders) {
         Ok(()) => Ok(()),
-        Err(fault) => Err(UpdateFileFault::Update(fault)),
+        Err(fault) => Err(FolderFault::Update(fault)),
     }
 }

@@ -38,30 +38,20 @@ pub enum MergeFilesFault {
     Out(NamedFault),
 }
 
-/// Why a state file was not exported. The variants are in the order of the checks. It prints the name of the innermost variant.
+/// Why the files of a mirror were not put into a folder. The variants are in the order of the checks. It prints the name of the innermost
+/// variant.
 #[derive(Debug, Drop, Clone, Copy, Error)]
-pub enum ExportFileFault {
-    /// The file gave no mirror.
+pub enum FolderFault {
+    /// The state file gave no mirror.
     #[error(transparent)]
     State(StateFault),
     /// Memory for the folder's name was refused.
     #[error("OutOfMemory")]
     OutOfMemory,
-    /// Nothing is served, or not all files were put.
+    /// Of `export`: nothing is served, or not all files were put.
     #[error(transparent)]
     Export(ExportFault),
-}
-
-/// Why a folder was not updated. The variants are in the order of the checks. It prints the name of the innermost variant.
-#[derive(Debug, Drop, Clone, Copy, Error)]
-pub enum UpdateFileFault {
-    /// The file gave no mirror.
-    #[error(transparent)]
-    State(StateFault),
-    /// Memory for the folder's name was refused.
-    #[error("OutOfMemory")]
-    OutOfMemory,
-    /// The folder was not updated.
+    /// Of `export --update`: the folder was not updated.
     #[error(transparent)]
     Update(UpdateFault),
 }

@@ -96,7 +96,7 @@ fn a_refused_get_waits_for_what_is_out(rt: HostRuntime) -> Result<(), Fail> {
     let server = BundleServer::new(rt.alloc(), 3)?;
     let mut source = source_to(rt.alloc(), &server, 6)?;
     let answer = assert_got_in_turn(&rt, &mut source, 0..4);
-    assert_asked(&rt, &server, &[1, 1, 1, 1, 0, 0, 1, 1, 1, 0]);
+    assert_asked(&rt, &server, &[1, 1, 1, 1, 1, 1, 2, 1, 1, 0]);
     source.expect(bundles_from(4));
     assert!(rt; server.open() == 3);
     let rest = assert_got_in_turn(&rt, &mut source, 4..10);

@@ -1,7 +1,7 @@
 use Rattle.std.proofs.Common.{refl}
 use Rattle.program_io.specs.declared.check.CheckFault.TheVariants as check
 use Rattle.program_io.specs.Performing.{verdict_status}
-use Rattle.copy_commands.specs.declared.state_fault.ReportRunFault.TheVariants.{Check}
+use Rattle.copy_commands.specs.declared.fault.ReportRunFault.TheVariants.{Check}
 use Rattle.program_io.proofs.Performing.{performs_done, performs_part, verdict_is}
 use Rattle.copy_commands.proofs.check.run.Goals as goal
 

@@ -1,6 +1,6 @@
 use Rattle.std.proofs.Common.{inl, refl}
 use Rattle.program_io.specs.declared.root.RootFault.TheVariants as root
-use Rattle.copy_commands.specs.declared.state_fault.ReportRunFault.TheVariants.{Root}
+use Rattle.copy_commands.specs.declared.fault.ReportRunFault.TheVariants.{Root}
 use Rattle.program_io.proofs.Performing.{performs_done, performs_part}
 use Rattle.copy_commands.proofs.root.run.Goals as goal
 

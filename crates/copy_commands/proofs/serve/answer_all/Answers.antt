@@ -5,11 +5,11 @@ use Rattle.copy_commands.proofs.serve.answer_all.Goals as goal
 
 pub loop-preserved : goal.loop-preserved
 loop-preserved g c = (
-  kept_twice (g.D.Shelf.puts c.args.folders.now) (g.D.Shelf.puts c.loop.folders) (g.D.Shelf.puts c.answer_next.new.folders)
-      c.loop.invariant.0 c.answer_next.ensures.same,
+  kept_twice (g.D.Shelf.puts c.args.folders.now) (g.D.Shelf.puts c.loop.folders) (g.D.Shelf.puts c.answer_next_from_copy.new.folders)
+      c.loop.invariant.0 c.answer_next_from_copy.ensures.same,
   one_served sha256 _ _ (g.D.Shelf.puts c.args.folders.now) (g.D.Shelf.puts c.loop.folders) c.loop.invariant.0
       c.loop.counter (g.S.Clients.exchanges c.args.clients.now) (g.S.Clients.exchanges c.loop.clients)
-      (g.S.Clients.exchanges c.answer_next.new.self) c.in_ok-answer_next.field-0 c.answer_next.result
-      c.in_ok-answer_next.was c.loop.invariant.1 (c.answer_next.ensures.answer c.loop.invariant.2),
-  last_chain _ _ c.loop.kept c.answer_next.new.kept c.loop.invariant.2 c.answer_next.ensures.last,
+      (g.S.Clients.exchanges c.answer_next_from_copy.new.self) c.in_ok-answer_next_from_copy.field-0 c.answer_next_from_copy.result
+      c.in_ok-answer_next_from_copy.was c.loop.invariant.1 (c.answer_next_from_copy.ensures.answer c.loop.invariant.2),
+  last_chain _ _ c.loop.kept c.answer_next_from_copy.new.kept c.loop.invariant.2 c.answer_next_from_copy.ensures.last,
 )

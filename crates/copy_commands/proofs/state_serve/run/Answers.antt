@@ -1,5 +1,5 @@
 use Rattle.std.proofs.Common.{refl}
-use Rattle.copy_commands.specs.declared.state_fault.ReportRunFault.TheVariants.{State}
+use Rattle.copy_commands.specs.declared.fault.ReportRunFault.TheVariants.{State}
 use Rattle.program_io.proofs.Performing.{performs_failed}
 use Rattle.copy_commands.proofs.StateServing.{serves}
 use Rattle.program_io.proofs.Written.{keeps_itself}

@@ -28,6 +28,10 @@ use Rattle.copy_follow.proofs.Exits.{counted_last, early_exit, no_place}
 use Rattle.copy_follow.specs.Conflicts.{ConflictPutsNothing, IsNoConflict}
 use Rattle.copy_follow.specs.Faults.{BlamesPlaces, IsOfNoPlace}
 use Rattle.copy_follow.specs.Growing.{BringsTile, IsKnown}
+use Rattle.std.proofs.Common.{OnOk}
+use Rattle.mirror_folders.specs.Flushes.{Secures}
+use Rattle.copy_follow.specs.Secured.{IsNewBelow, IsNewInRow}
+use Rattle.copy_follow.proofs.Secured.{after_still, ok_weaker, row_first, row_more, tile_secured}
 use Rattle.copy_follow.proofs.bring.+tiles.Goals as goal
 
 pub bring_row-returns-in_default-clause-brings : goal.bring_row-returns-in_default-clause-brings
@@ -91,6 +95,8 @@ bring_row-loop-i-init g t c = record {
   taken = puts_none g.S.Source.may_answer g.S.Source.failed g.S.Source.asked c.args.places.now (g.D.Shelf.puts c.args.shelf.now)
       (g.D.Shelf.puts c.args.shelf.now) (kept_same (g.D.Shelf.puts c.args.shelf.now));
   early = λ same. kept_same (g.D.Shelf.puts c.args.shelf.now);
+  secured = row_first c.args.tip.now c.args.level c.args.index c.requires.beyond c.requires.above c.requires.level
+      c.args.row.now c.in-Some.first c.in-Some.ensures.first (g.D.Shelf.flushes c.args.shelf.now);
   brought = λ known is.
       so_far_first c.args.tip.now c.args.level c.args.index c.requires.beyond c.requires.above c.requires.level
       g.H.TreeHash.digest c.args.row.now known (g.D.Shelf.puts c.args.shelf.now) c.in-Some.first is c.in-Some.ensures.first;
@@ -106,6 +112,9 @@ bring_row-loop-i-preserved g t c = record {
   taken = puts_then g.S.Source.may_answer g.S.Source.failed g.S.Source.asked (IsNewFull c.args.tip.now.size) c.args.places.now
       c.loop-i.places c.loop-i.invariant.asks (g.D.Shelf.puts c.args.shelf.now) (g.D.Shelf.puts c.loop-i.shelf)
       (g.D.Shelf.puts c.bring_tile.new.shelf) c.loop-i.invariant.taken c.bring_tile.ensures.taken;
+  secured = row_more c.args.tip.now.size c.args.level c.args.index c.loop-i.i (g.D.Shelf.flushes c.args.shelf.now)
+      (g.D.Shelf.flushes c.loop-i.shelf) (g.D.Shelf.flushes c.bring_tile.new.shelf) c.loop-i.invariant.secured
+      c.in_ok-bring_tile.ensures.secured;
   early = λ same. absurd (let le = c.loop-i.auto.i in omega arith);
   brought = λ known is.
       let digest = g.H.TreeHash.digest in
@@ -549,3 +558,33 @@ bring_tile-returns-in_err-bring_row-clause-early g t c =
     let y = g.D.Shelf.puts c.bring_row.new.shelf in
     early_exit c.from_residual-in_err-bring_row.result c.in_err-bring_row.field-0.0 c.from_residual-in_err-bring_row.ensures start m x y
     (early_later (Unit {0}) (Unit {0}) start start m x w y c.in_err-bring_row.field-0.0 (λ h. (h, c.find.ensures.same)) c.in_err-bring_row.ensures.early)
+
+-- ---- the files to flush
+
+pub bring_row-returns-clause-secured : goal.bring_row-returns-clause-secured
+bring_row-returns-clause-secured g t c =
+    let end : c.loop-i.i ≡ length c.args.row.now = omega (arith, c.loop-i.auto.i-end c.in-Some.ensures.within) in
+    subst (λ n. Secures (IsNewInRow c.args.tip.now.size c.args.level c.args.index n) (g.D.Shelf.flushes c.args.shelf.now)
+    (g.D.Shelf.flushes c.loop-i.shelf)) end c.loop-i.invariant.secured
+
+pub bring_tile-returns-then-level-eq0-clause-secured : goal.bring_tile-returns-then-level-eq0-clause-secured
+bring_tile-returns-then-level-eq0-clause-secured g t c =
+    let zero : c.args.level ≡ 0 = omega arith in
+    subst (λ l. OnOk c.bring_bundle.result (Secures (IsNewBelow c.args.tip.now.size l c.args.index)
+    (g.D.Shelf.flushes c.args.shelf.now) (g.D.Shelf.flushes c.bring_bundle.new.shelf))) (sym zero) c.bring_bundle.ensures.secured
+
+pub bring_tile-returns-clause-secured : goal.bring_tile-returns-clause-secured
+bring_tile-returns-clause-secured g t c =
+    let flushes = g.D.Shelf.flushes in
+    let m = c.args.tip.now.size in
+    let level = c.args.level in
+    let index = c.args.index in
+    let x = flushes c.args.shelf.now in
+    let w = flushes c.find.new.shelf in
+    let y = flushes c.bring_row.new.shelf in
+    let some : 1 ≤ level = omega arith in
+    let long : length c.deref.result.now ≡ 256 = ap length c.deref.ensures.value ∙ c.in_ok-found.ensures.found.is_row.count in
+    let row = after_still (IsNewInRow m level index 256) x w y c.find.ensures.still
+    (subst (λ n. Secures (IsNewInRow m level index n) w y) long c.in_ok-bring_row.ensures.secured) in
+    ok_weaker c.keep.result (λ tile. tile_secured m level index some x y (flushes c.keep.new.shelf) row tile)
+    c.keep.ensures.secured

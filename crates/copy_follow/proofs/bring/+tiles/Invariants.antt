@@ -6,6 +6,8 @@ use Rattle.copy_follow.specs.Taken.{PutsTaken}
 use Rattle.std.proofs.Common.{◌≡◌, ◌+◌, ◌*◌, ◌^◌, ℕ, List}
 use Rattle.mirror_sources.specs.Recorded.{KeepsRecord}
 use Rattle.copy_follow.specs.Growing.{IsKnown, IsRowBrought}
+use Rattle.mirror_folders.specs.Flushes.{Secures}
+use Rattle.copy_follow.specs.Secured.{IsNewInRow}
 use Rattle.copy_follow.proofs.bring.+tiles.Given as goal
 
 abbrev pub decreases-bring_tile : goal.decreases-bring_tile
@@ -22,6 +24,7 @@ invariant-bring_row-loop-i g l = record {
       ((256 * l.index + l.i) * 256 ^ l.level)) l.fn.places l.places;
   taken : PutsTaken g.S.Source.may_answer l.fn.places (g.D.Shelf.puts l.fn.shelf) (g.D.Shelf.puts l.shelf);
   early : l.i ≡ l.first → KeepsRecord (g.D.Shelf.puts l.fn.shelf) (g.D.Shelf.puts l.shelf);
+  secured : Secures (IsNewInRow l.tip.size l.level l.index l.i) (g.D.Shelf.flushes l.fn.shelf) (g.D.Shelf.flushes l.shelf);
   brought : (known : List (List ℕ)) →
       IsKnown g.H.TreeHash.digest l.tip (l.index * 256 ^ (l.level + 1)) known →
       IsRowBrought g.H.TreeHash.digest l.tip l.level l.index l.row known (g.D.Shelf.puts l.fn.shelf)

@@ -23,6 +23,7 @@ use Rattle.copy_follow.specs.Conflicts.{IsNoConflict}
 use Rattle.copy_follow.specs.Faults.{BlamesPlaces, IsOfNoPlace}
 use Rattle.copy_follow.specs.Faults.{CountsFault}
 use Rattle.std.proofs.Common.{Err}
+use Rattle.copy_follow.proofs.Secured.{after_still, bundle_secured, ok_weaker}
 use Rattle.copy_follow.proofs.bring.bring_bundle.Goals as goal
 
 pub returns-in-Err-clause-brings : goal.returns-in-Err-clause-brings
@@ -299,3 +300,14 @@ returns-clause-early g c =
 pub returns-clause-empty : goal.returns-clause-empty
 returns-clause-empty g c =
     err_weaker c.keep-2.result IsNoConflict _ (λ e h is. h) c.keep-2.ensures.fault
+
+-- ---- the files to flush
+
+pub returns-clause-secured : goal.returns-clause-secured
+returns-clause-secured g c =
+    let flushes = g.D.Shelf.flushes in
+    let index = c.args.index in
+    let bundle = after_still (λ p. p ≡ Entries index 256) (flushes c.args.shelf.now) (flushes c.find.new.shelf)
+    (flushes c.keep.new.shelf) c.find.ensures.still c.in-Ok-keep.ensures.secured in
+    ok_weaker c.keep-2.result (λ tile. bundle_secured c.args.tip.now.size index (flushes c.args.shelf.now)
+    (flushes c.keep.new.shelf) (flushes c.keep-2.new.shelf) bundle tile) c.keep-2.ensures.secured

@@ -146,3 +146,10 @@ returns-in-Err-clause-sizes g c =
     sized_turn c.turn_of.result (IsOfFiles c.in-Err.fault) _ c.turn_of.ensures.files
     (subst (λ note. IsOfFiles c.in-Err.fault → AreSizesIn origin found note c.bring_copy.new.places.ends.sizes)
     c.deref.ensures.value c.in-Err.ensures.sizes)
+
+pub returns-in-Ok-clause-answered : goal.returns-in-Ok-clause-answered
+returns-in-Ok-clause-answered g c = λ no. absurd (no refl)
+
+pub returns-in-Err-clause-answered : goal.returns-in-Err-clause-answered
+returns-in-Err-clause-answered g c =
+    sized_turn c.turn_of.result (IsOfFiles c.in-Err.fault) _ c.turn_of.ensures.files c.in-Err.ensures.answered

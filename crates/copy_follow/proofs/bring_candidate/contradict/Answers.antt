@@ -7,8 +7,9 @@ returns-clause-counted g c =
     c.ask_proof-found.ensures.counted
 
 pub returns-clause-tells : goal.returns-clause-tells
-returns-clause-tells g c = λ fits.
-    told_asked g.H.TreeHash.digest g.S.Source.may_answer g.S.Source.failed g.S.Source.asked c.args.places.now
+returns-clause-tells g c = λ start before heard fits.
+    told_asked g.H.TreeHash.digest g.S.Source.may_answer g.S.Source.failed g.S.Source.asked start c.args.places.now
     c.ask_proof-found.new.places (g.D.Shelf.puts c.args.shelf.now) c.args.copy.now c.args.candidate.now
-    c.ask_proof-found.result c.outcome_of.result c.outcome_of.ensures.is c.requires c.ask_proof-found.ensures.asks
+    c.ask_proof-found.result c.outcome_of.result c.outcome_of.ensures.is c.requires before
+    c.ask_proof-found.ensures.asks heard c.ask_proof-found.ensures.answered
     c.ask_proof-found.ensures.agrees c.ask_proof-found.ensures.other c.ask_proof-found.ensures.lacks fits

@@ -16,7 +16,7 @@ use Rattle.copy_follow.specs.declared.follow_fault.FollowFault.TheVariants.{Sour
 use Rattle.copy_follow.specs.declared.run.Outcome.TheVariants.{NotHad}
 use Rattle.copy_places.specs.Candidates.{note_of}
 use Rattle.copy_follow.specs.Told.{AreSizesIn, HasReason}
-use Rattle.copy_follow.proofs.Telling.{fork_asked, sizes_of, tells_later, tells_other}
+use Rattle.copy_follow.proofs.Telling.{fork_asked, sizes_of, tells_asked, tells_other}
 use Rattle.copy_follow.proofs.bring_candidate.take_larger.Goals as goal
 
 pub returns-in-Err-clause-ends : goal.returns-in-Err-clause-ends
@@ -166,9 +166,10 @@ returns-in-Contradicts-clause-tells g c =
     let fits = sizes_of origin copy candidate sizes c.requires.copy c.requires.head
     (subst (λ note. AreSizesIn origin (Some note) (note_of candidate) sizes) c.as_slice.ensures.value
     (c.in-Ok.ensures.sizes (λ e. absurd (cc (e, c.in-Contradicts.is))))) in
-    tells_later g.H.TreeHash.digest g.S.Source.may_answer g.S.Source.failed g.S.Source.asked c.args.places.now
-    c.bring.new.places c.contradict.new.places (Some copy) candidate c.contradict.result c.bring.ensures.asks
-    (c.contradict.ensures.tells fits)
+    let heard = c.in-Ok.ensures.answered (λ e. absurd (cc (e, c.in-Contradicts.is))) in
+    tells_asked g.H.TreeHash.digest g.S.Source.may_answer g.S.Source.failed g.S.Source.asked c.args.places.now
+    c.contradict.new.places (Some copy) candidate c.contradict.result
+    (c.contradict.ensures.tells c.args.places.now c.bring.ensures.asks heard fits)
 
 pub returns-in-NotHad-clause-tells : goal.returns-in-NotHad-clause-tells
 returns-in-NotHad-clause-tells g c =
@@ -179,13 +180,14 @@ returns-in-NotHad-clause-tells g c =
     let fits = sizes_of origin copy candidate sizes c.requires.copy c.requires.head
     (subst (λ note. AreSizesIn origin (Some note) (note_of candidate) sizes) c.as_slice.ensures.value
     (c.in-Ok.ensures.sizes (λ e. absurd (cc (e, c.in-NotHad.is))))) in
-    let x = c.bring.new.places in
+    let heard = c.in-Ok.ensures.answered (λ e. absurd (cc (e, c.in-NotHad.is))) in
+    let x = c.args.places.now in
     let y = c.contradict-asked.new.places in
-    tells_later g.H.TreeHash.digest g.S.Source.may_answer g.S.Source.failed g.S.Source.asked c.args.places.now x y (Some copy)
-    candidate c.fork_or.result c.bring.ensures.asks
+    tells_asked g.H.TreeHash.digest g.S.Source.may_answer g.S.Source.failed g.S.Source.asked x y (Some copy) candidate
+    c.fork_or.result
     (fork_asked c.fork_or.result c.contradict-asked.result (HasReason g.H.TreeHash.digest g.S.Source.may_answer
-    g.S.Source.failed g.S.Source.asked x y (Some copy) candidate) (c.contradict-asked.ensures.tells fits)
-    c.fork_or.ensures.fork)
+    g.S.Source.failed g.S.Source.asked x y (Some copy) candidate)
+    (c.contradict-asked.ensures.tells x c.bring.ensures.asks heard fits) c.fork_or.ensures.fork)
 
 pub returns-in_default-clause-tells : goal.returns-in_default-clause-tells
 returns-in_default-clause-tells g c =

@@ -28,6 +28,9 @@ use Rattle.copy_follow.proofs.Exits.{counted_exit, err_exit}
 use Rattle.copy_follow.specs.Faults.{CountsFault}
 use Rattle.copy_follow.specs.Told.{AreSizesIn, IsSizeIn}
 use Rattle.copy_follow.proofs.Telling.{tip_files}
+use Rattle.copy_places.proofs.Answered.{answered_begun}
+use Rattle.copy_follow.specs.Secured.{IsNewFileOf}
+use Rattle.copy_follow.proofs.Secured.{flushed_after}
 use Rattle.copy_follow.proofs.copy.bring_copy.Goals as goal
 
 pub returns-in_err-head-clause-whole : goal.returns-in_err-head-clause-whole
@@ -393,3 +396,49 @@ returns-in-Err-done-clause-sizes g c =
       subst (λ n. IsSizeIn origin found n) (sym c.size-had.ensures) c.in-Ok.ensures.size,
       (head.1, rw c.in-Some.is at c.in_ok-head.ensures.found),
     ))
+
+-- ---- the answers that are kept
+
+pub returns-in_err-head-clause-answered : goal.returns-in_err-head-clause-answered
+returns-in_err-head-clause-answered g c =
+    err_exit _ c.from_residual.result OutOfMemory c.from_residual.ensures (λ no. absurd no)
+
+pub returns-in_default-clause-answered : goal.returns-in_default-clause-answered
+returns-in_default-clause-answered g c = λ no. absurd no
+
+pub returns-in-Err-clause-answered : goal.returns-in-Err-clause-answered
+returns-in-Err-clause-answered g c =
+    (λ of. tip_files _ g.H.TreeHash.digest c.args.origin.now (option_map (λ b. b.now) c.args.found)
+    (g.D.Shelf.puts c.args.shelf.now) c.in-Err.fault c.in-Err.ensures.blames c.in-Err.ensures.fault of)
+
+pub returns-in-Err-done-clause-answered : goal.returns-in-Err-done-clause-answered
+returns-in-Err-done-clause-answered g c =
+    let may = g.S.Source.may_answer in
+    (λ of. answered_begun may c.args.places.now c.keep_ends.new.self c.bring_from-done.new.places
+    (c.keep_ends.ensures.list ∙ c.begin.ensures.list) c.keep_ends.ensures.none c.bring_from-done.ensures.asks.answered)
+
+-- ---- the files that were flushed
+
+pub returns-in_err-head-clause-flushed : goal.returns-in_err-head-clause-flushed
+returns-in_err-head-clause-flushed g c =
+    IfOk-from_err c.from_residual.result _ c.from_residual.ensures.0
+
+pub returns-in-Err-clause-flushed : goal.returns-in-Err-clause-flushed
+returns-in-Err-clause-flushed g c =
+    tt
+
+pub returns-in-Err-done-clause-flushed : goal.returns-in-Err-done-clause-flushed
+returns-in-Err-done-clause-flushed g c =
+    tt
+
+pub returns-in-Ok-done-clause-flushed : goal.returns-in-Ok-done-clause-flushed
+returns-in-Ok-done-clause-flushed g c =
+    let flushes = g.D.Shelf.flushes in
+    let head = c.in-Some.head in
+    rw c.size-had.ensures record {
+      size = head.0;
+      root = head.1;
+      is_head = (rw c.in-Some.is at c.in_ok-head.ensures.found);
+      flushed = flushed_after (IsNewFileOf c.in-Ok.tip.size head.0) (flushes c.args.shelf.now) (flushes c.read_found.new.shelf)
+          (flushes c.bring_from-done.new.shelf) c.read_found.ensures.still c.in-Ok-done.ensures.flushed;
+    }

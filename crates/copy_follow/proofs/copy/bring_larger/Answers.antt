@@ -18,6 +18,9 @@ use Rattle.copy_follow.proofs.Between.{once_larger}
 use Rattle.copy_places.specs.AskedOnce.{AsksOnce}
 use Rattle.std.specs.Prelude.{⊤}
 use Rattle.std.proofs.Common.{inr}
+use Rattle.mirror_folders.specs.Flushes.{IsFlushedFirst}
+use Rattle.copy_follow.specs.Secured.{IsNewFileOf}
+use Rattle.copy_follow.proofs.Secured.{flushed_after, ok_weaker}
 use Rattle.copy_follow.proofs.copy.bring_larger.Goals as goal
 
 pub returns-in-Err-clause-brings : goal.returns-in-Err-clause-brings
@@ -148,3 +151,14 @@ returns-in-Err-clause-empty g c =
 pub returns-in-Err-clause-conflict : goal.returns-in-Err-clause-conflict
 returns-in-Err-clause-conflict g c =
     (λ is. c.find_new_edge.ensures.same)
+
+pub returns-clause-flushed : goal.returns-clause-flushed
+returns-clause-flushed g c =
+    let flushes = g.D.Shelf.flushes in
+    let m = c.args.tip.now.size in
+    let y = flushes c.find_new_edge.new.shelf in
+    let w = flushes c.bring_to_edge-done.new.shelf in
+    ok_weaker c.bring_to_edge-done.result (λ done. flushed_after (IsNewFileOf m c.args.candidate.now.size)
+    (flushes c.args.shelf.now) y w c.find_new_edge.ensures.still
+    (subst (λ n. IsFlushedFirst (IsNewFileOf m n) y w) c.in-Ok.ensures.leads.is_edge.size_is done))
+    c.bring_to_edge-done.ensures.flushed

@@ -10,6 +10,9 @@ use Rattle.copy_follow.proofs.Stays.{empty_stays, stays_later, stays_same}
 use Rattle.copy_follow.specs.declared.bring_fault.BringFault.TheVariants.{Contradiction}
 use Rattle.copy_follow.proofs.PrunedMoments.{empty_leaves, leaves_later, leaves_same}
 use Rattle.copy_follow.proofs.WholeMoments.{empty_ends, empty_whole, ends_later, whole_later, whole_same}
+use Rattle.std.proofs.Common.{◌≤◌, subst, arith}
+use Rattle.mirror_folders.specs.Flushes.{FlushesAll}
+use Rattle.copy_follow.proofs.Secured.{none_flushed, ok_weaker}
 use Rattle.copy_follow.proofs.copy.put_empty.Goals as goal
 
 pub returns-then-not-is_empty_root-clause-brings : goal.returns-then-not-is_empty_root-clause-brings
@@ -62,3 +65,12 @@ pub returns-clause-honest : goal.returns-clause-honest
 returns-clause-honest g c =
     spared_last c.put_last.result _ (λ e so root. so) c.args.tip.now.checkpoint
     (g.D.Shelf.puts c.expect_new.new.shelf) c.put_last.ensures.blames c.put_last.ensures.fault
+
+pub returns-clause-flushed : goal.returns-clause-flushed
+returns-clause-flushed g c =
+    let flushes = g.D.Shelf.flushes in
+    let z = flushes c.put_last.new.shelf in
+    let none = c.requires.empty in
+    let le : c.args.candidate.now.size ≤ c.args.tip.now.size = omega arith in
+    ok_weaker c.put_last.result (λ last. none_flushed c.args.tip.now.size c.args.candidate.now.size le
+    (flushes c.args.shelf.now) z (subst (λ q. FlushesAll q z) c.expect_new.ensures.still last)) c.put_last.ensures.flushed

@@ -4,7 +4,7 @@ use Rattle.mirror_model.specs.Heads.{IsHead}
 use Rattle.copy_follow.specs.Blame.{CountsFollowFault, by_copy}
 use Rattle.copy_follow.specs.RunStanding.{HoldsNoCopy}
 use Rattle.copy_reader.proofs.Ends.{read_before}
-use Rattle.copy_follow.proofs.CopyReads.{fault_counts, fault_ends, no_edge, no_head, read_some}
+use Rattle.copy_follow.proofs.CopyReads.{fault_counts, fault_ends, no_edge, no_head}
 use Rattle.copy_follow.proofs.copy_on_shelf.judge_copy.Goals as goal
 
 pub returns-in_default-clause-found : goal.returns-in_default-clause-found
@@ -50,11 +50,11 @@ returns-in-Err-clause-ends g c =
 
 pub returns-in_default-2-clause-some : goal.returns-in_default-2-clause-some
 returns-in_default-2-clause-some g c = λ e.
-    read_some (g.D.Shelf.puts c.args.shelf.now) c.in-Some.note.items (rw c.in-Some.is at c.in_ok-note.ensures.answer)
+    (c.in-Some.note.items, rw c.in-Some.is at c.in_ok-note.ensures.answer)
 
 pub returns-in-Err-clause-some : goal.returns-in-Err-clause-some
 returns-in-Err-clause-some g c = λ e.
-    read_some (g.D.Shelf.puts c.args.shelf.now) c.in-Some.note.items (rw c.in-Some.is at c.in_ok-note.ensures.answer)
+    (c.in-Some.note.items, rw c.in-Some.is at c.in_ok-note.ensures.answer)
 
 pub returns-clause-judged : goal.returns-clause-judged
 returns-clause-judged g c =

@@ -1,6 +1,7 @@
 use Rattle.std.proofs.Common.{◌∙◌}
 use Rattle.std.specs.Prelude.{⊤}
 use Rattle.std.proofs.lemmas.Result.{err_from_is_err_and}
+use Rattle.copy_reader.proofs.Ends.{end_before}
 use Rattle.copy_follow.proofs.CopyReads.{read_copy}
 use Rattle.copy_follow.proofs.copy_on_shelf.judge_files.Goals as goal
 
@@ -17,5 +18,6 @@ returns-clause-judged g c = record {
   size_is = c.in_ok-reader.ensures.size;
   leads = c.root-root.ensures.leads ∙ c.in_ok-reader.ensures.root;
   given = c.in_ok-reader.ensures.given;
-  end = c.in_ok-read_end.ensures.end;
+  end = end_before g.H.TreeHash.digest (g.D.Shelf.puts c.args.shelf.now) (g.D.Shelf.puts c.open_reader.new.shelf)
+      c.open_reader.ensures.same c.in_ok-reader.reader.edge c.in_ok-read_end.ensures.end;
 }

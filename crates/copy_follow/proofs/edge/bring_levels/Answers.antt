@@ -18,6 +18,10 @@ use Rattle.copy_places.specs.AskedOnce.{AsksOnce}
 use Rattle.copy_follow.specs.Asked.{IsFullBetween}
 use Rattle.std.proofs.Math.Nat.{div-mul-le_self}
 use Rattle.copy_follow.proofs.Exits.{counted_exit, err_exit}
+use Rattle.tlog_shape.specs.Edge.{width_of}
+use Rattle.mirror_folders.specs.Flushes.{Secures}
+use Rattle.copy_follow.specs.Secured.{IsNewInEdge, IsNewInRow}
+use Rattle.copy_follow.proofs.Secured as secured
 use Rattle.copy_follow.proofs.edge.bring_levels.Goals as goal
 
 pub loop-done-init : goal.loop-done-init
@@ -28,6 +32,7 @@ loop-done-init g c = record {
   taken = puts_none g.S.Source.may_answer g.S.Source.failed g.S.Source.asked c.args.places.now (g.D.Shelf.puts c.args.shelf.now)
       (g.D.Shelf.puts c.args.shelf.now) (kept_same (g.D.Shelf.puts c.args.shelf.now));
   early = λ within. kept_same (g.D.Shelf.puts c.args.shelf.now);
+  secured = secured.edge_first c.args.tip.now.size c.args.edge.now.size (g.D.Shelf.flushes c.args.shelf.now);
   brought = λ known is.
       edge_first g.H.TreeHash.digest c.args.tip.now c.args.edge.now known c.requires.widths (g.D.Shelf.puts c.args.shelf.now)
       c.requires.size is;
@@ -96,6 +101,24 @@ loop-done-preserved g c = record {
   taken = puts_then g.S.Source.may_answer g.S.Source.failed g.S.Source.asked (IsNewFull c.args.tip.now.size) c.args.places.now
       c.loop-done.places c.loop-done.invariant.asks (g.D.Shelf.puts c.args.shelf.now) (g.D.Shelf.puts c.loop-done.shelf)
       (g.D.Shelf.puts c.bring_row.new.shelf) c.loop-done.invariant.taken c.bring_row.ensures.taken;
+  secured =
+      let level = 7 - c.loop-done.done in
+      let low = 8 - c.loop-done.done in
+      let n = c.args.edge.now.size in
+      let m = c.args.tip.now.size in
+      let x = g.D.Shelf.flushes c.args.shelf.now in
+      let y = g.D.Shelf.flushes c.loop-done.shelf in
+      let z = g.D.Shelf.flushes c.bring_row.new.shelf in
+      let above : low ≡ level + 1 = omega arith in
+      let next : level ≡ 8 - (c.loop-done.done + 1) = omega arith in
+      let at : c.edge_index-index.result ≡ edge_index_of n level =
+      c.edge_index-index.ensures ∙ ap (λ k. edge_index_of k level) c.size.ensures in
+      let wide : length c.row.result.now ≡ width_of n level =
+      ap length c.row.ensures ∙ c.requires.widths level (omega arith) in
+      let row = subst (λ k. Secures (IsNewInRow m level k (width_of n level)) y z) at
+      (subst (λ k. Secures (IsNewInRow m level c.edge_index-index.result k) y z) wide c.in_ok-bring_row.ensures.secured) in
+      subst (λ k. Secures (IsNewInEdge m n k) x z) next
+      (secured.edge_more m n low level above x y z c.loop-done.invariant.secured row);
   early = λ within.
       let level = 7 - c.loop-done.done in
       let edge = c.args.edge.now in
@@ -220,3 +243,11 @@ returns-in_err-bring_row-clause-blames g c =
 pub returns-in_err-bring_row-clause-empty : goal.returns-in_err-bring_row-clause-empty
 returns-in_err-bring_row-clause-empty g c =
     err_exit _ c.from_residual.result c.in_err-bring_row.field-0.0 c.from_residual.ensures c.in_err-bring_row.ensures.empty
+
+-- ---- the files to flush
+
+pub returns-clause-secured : goal.returns-clause-secured
+returns-clause-secured g c =
+    let end : 8 - c.loop-done.done ≡ 1 = omega arith in
+    subst (λ k. Secures (IsNewInEdge c.args.tip.now.size c.args.edge.now.size k) (g.D.Shelf.flushes c.args.shelf.now)
+    (g.D.Shelf.flushes c.loop-done.shelf)) end c.loop-done.invariant.secured

@@ -27,6 +27,7 @@ use Rattle.copy_follow.proofs.Spared.{err_weaker}
 use Rattle.copy_follow.specs.Conflicts.{IsNoConflict}
 use Rattle.copy_follow.specs.Faults.{BlamesPlaces, IsOfNoPlace}
 use Rattle.std.proofs.Common.{Err}
+use Rattle.copy_follow.proofs.Secured.{after_still, no_bundle, ok_weaker, one_bundle}
 use Rattle.copy_follow.proofs.edge_bundle.bring_edge_bundle.Goals as goal
 
 pub returns-then-is_empty-clause-brings : goal.returns-then-is_empty-clause-brings
@@ -272,3 +273,23 @@ returns-clause-early g c =
 pub returns-clause-empty : goal.returns-clause-empty
 returns-clause-empty g c =
     err_weaker c.keep.result IsNoConflict _ (λ e h is. h) c.keep.ensures.fault
+
+-- ---- the files to flush
+
+pub returns-then-is_empty-clause-secured : goal.returns-then-is_empty-clause-secured
+returns-then-is_empty-clause-secured g c =
+    let none : length c.row-row.result.now ≡ 0 = search rules in
+    no_bundle c.args.edge.now.size (sym none ∙ (ap length c.row-row.ensures ∙ c.requires.widths 0 (omega arith)))
+    (g.D.Shelf.flushes c.args.shelf.now)
+
+pub returns-clause-secured : goal.returns-clause-secured
+returns-clause-secured g c =
+    let flushes = g.D.Shelf.flushes in
+    let n = c.args.edge.now.size in
+    let at : c.edge_index-index.result ≡ edge_index_of n 0 = c.edge_index-index.ensures ∙ ap (λ k. edge_index_of k 0) c.size.ensures in
+    let width : length c.row-row.result.now ≡ width_of n 0 = ap length c.row-row.ensures ∙ c.requires.widths 0 (omega arith) in
+    let path = Entries c.edge_index-index.result (length c.row-row.result.now) in
+    let same : path ≡ Entries (edge_index_of n 0) (width_of n 0) = λ j. Entries (at j) (width j) in
+    ok_weaker c.keep.result (λ kept. one_bundle n path same (flushes c.args.shelf.now) (flushes c.keep.new.shelf)
+    (after_still (λ p. p ≡ path) (flushes c.args.shelf.now) (flushes c.find_edge_bundle.new.shelf) (flushes c.keep.new.shelf)
+    c.find_edge_bundle.ensures.still kept)) c.keep.ensures.secured

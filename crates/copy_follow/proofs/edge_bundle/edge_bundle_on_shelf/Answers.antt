@@ -33,6 +33,7 @@ returns-in_err-bytes g c =
       fault = err_exit IsNoConflict exit.result fault exit.ensures step.fault;
       places = err_exit IsOfNoPlace exit.result fault exit.ensures step.places;
       same = step.same;
+      still = step.still;
       counted = counted_exit exit.result fault exit.ensures (failed c.args.shelf.now) (failed c.args.shelf.now)
           (failed c.read_partial.new.shelf) refl step.counted;
       taken = IfOk-from_err exit.result _ exit.ensures.0;
@@ -48,6 +49,7 @@ returns-in_err-found g c =
       fault = err_exit IsNoConflict exit.result OutOfMemory exit.ensures tt;
       places = err_exit IsOfNoPlace exit.result OutOfMemory exit.ensures tt;
       same = c.read_partial.ensures.same;
+      still = c.read_partial.ensures.still;
       counted = counted_exit exit.result OutOfMemory exit.ensures (failed c.args.shelf.now) (failed c.read_partial.new.shelf)
           (failed c.read_partial.new.shelf) c.in_ok-bytes.ensures.counted refl;
       taken = IfOk-from_err exit.result _ exit.ensures.0;

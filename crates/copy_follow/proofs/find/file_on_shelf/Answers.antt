@@ -30,6 +30,7 @@ returns-in_err-found g c =
       fault = err_exit IsNoConflict exit.result OutOfMemory exit.ensures tt;
       places = err_exit IsOfNoPlace exit.result OutOfMemory exit.ensures tt;
       same = c.read.ensures.same;
+      still = c.read.ensures.still;
       counted = counted_exit exit.result OutOfMemory exit.ensures (failed c.args.shelf.now) (failed c.read.new.self)
           (failed c.read.new.self) c.in_ok-bytes.ensures.counted refl;
       taken = IfOk-from_err exit.result _ exit.ensures.0;

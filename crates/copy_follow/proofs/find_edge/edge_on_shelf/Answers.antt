@@ -23,6 +23,7 @@ returns-in_err-edge g c = record {
       (g.D.Shelf.failed c.args.shelf.now) (g.D.Shelf.failed c.rows_on_shelf.new.shelf) refl c.in_err-edge.ensures.counted;
   places = err_exit _ c.from_residual.result c.in_err-edge.field-0.0 c.from_residual.ensures c.in_err-edge.ensures.places;
   same = c.rows_on_shelf.ensures.same;
+  still = c.rows_on_shelf.ensures.still;
   read = IfOk-from_err c.from_residual.result _ c.from_residual.ensures.0;
   none = IfOk-from_err c.from_residual.result _ c.from_residual.ensures.0;
   leads = IfOk-from_err c.from_residual.result _ c.from_residual.ensures.0;
@@ -35,6 +36,7 @@ returns-in_err-leads_to g c = record {
       (g.D.Shelf.failed c.rows_on_shelf.new.shelf) (g.D.Shelf.failed c.rows_on_shelf.new.shelf) c.in_ok-edge.ensures.counted refl;
   places = err_exit _ c.from_residual-in_err-leads_to.result OutOfMemory c.from_residual-in_err-leads_to.ensures tt;
   same = c.rows_on_shelf.ensures.same;
+  still = c.rows_on_shelf.ensures.still;
   read = IfOk-from_err c.from_residual-in_err-leads_to.result _ c.from_residual-in_err-leads_to.ensures.0;
   none = IfOk-from_err c.from_residual-in_err-leads_to.result _ c.from_residual-in_err-leads_to.ensures.0;
   leads = IfOk-from_err c.from_residual-in_err-leads_to.result _ c.from_residual-in_err-leads_to.ensures.0;

@@ -22,6 +22,7 @@ returns-in_err-edge g c =
     record {
       fault = err_exit IsNoConflict exit.result fault exit.ensures step.fault;
       same = step.same;
+      still = step.still;
       counted = counted_exit exit.result fault exit.ensures (failed c.args.shelf.now) (failed c.args.shelf.now)
           (failed c.edge_on_shelf.new.shelf) refl step.counted;
       asks = asks_same g.S.Source.may_answer g.S.Source.failed g.S.Source.asked (IsEdgeTile c.args.size) c.args.places.now;
@@ -40,6 +41,7 @@ returns-in_err-edge-2 g c =
     record {
       fault = err_exit IsNoConflict exit.result OutOfMemory exit.ensures tt;
       same = c.edge_on_shelf.ensures.same;
+      still = c.edge_on_shelf.ensures.still;
       counted = counted_exit exit.result OutOfMemory exit.ensures (failed c.args.shelf.now) (failed c.edge_on_shelf.new.shelf)
           (failed c.edge_on_shelf.new.shelf) c.in_ok-edge.ensures.counted refl;
       asks = c.edge_at_places.ensures.asks;

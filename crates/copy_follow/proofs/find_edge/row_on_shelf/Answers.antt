@@ -10,6 +10,7 @@ returns-in_err-bytes g c = record {
       (g.D.Shelf.failed c.args.shelf.now) (g.D.Shelf.failed c.read_partial.new.shelf) refl c.in_err-bytes.ensures.counted;
   places = err_exit _ c.from_residual.result c.in_err-bytes.field-0.0 c.from_residual.ensures c.in_err-bytes.ensures.places;
   same = c.read_partial.ensures.same;
+  still = c.read_partial.ensures.still;
   row = IfOk-from_err c.from_residual.result _ c.from_residual.ensures.0;
   none = IfOk-from_err c.from_residual.result _ c.from_residual.ensures.0;
 }

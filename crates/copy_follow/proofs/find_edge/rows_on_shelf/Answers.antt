@@ -19,6 +19,7 @@ loop-level-preserved g c =
     record {
       counted = c.in_ok-row.ensures.counted ∙ c.loop-level.invariant.counted;
       same = kept_then x y z c.loop-level.invariant.same c.row_on_shelf.ensures.same;
+      still = c.row_on_shelf.ensures.still ∙ c.loop-level.invariant.still;
       count = count_more before c.push.new.self.items c.in-Some.row level is c.loop-level.invariant.count;
       rows = rows_more (λ k row. IsRowRead x c.args.size k row) before c.push.new.self.items c.in-Some.row level is
           c.loop-level.invariant.count c.loop-level.invariant.rows
@@ -42,6 +43,7 @@ returns-in_err-row g c = record {
   places = err_exit _ c.from_residual.result c.in_err-row.field-0.0 c.from_residual.ensures c.in_err-row.ensures.places;
   same = kept_then (g.D.Shelf.puts c.args.shelf.now) (g.D.Shelf.puts c.loop-level.shelf) (g.D.Shelf.puts c.row_on_shelf.new.shelf)
       c.loop-level.invariant.same c.row_on_shelf.ensures.same;
+  still = c.row_on_shelf.ensures.still ∙ c.loop-level.invariant.still;
   edge = IfOk-from_err c.from_residual.result _ c.from_residual.ensures.0;
   none = IfOk-from_err c.from_residual.result _ c.from_residual.ensures.0;
 }
@@ -54,6 +56,7 @@ returns-in_err-push-in-Some g c = record {
   places = err_exit _ c.from_residual-in_err-push-in-Some.result OutOfMemory c.from_residual-in_err-push-in-Some.ensures tt;
   same = kept_then (g.D.Shelf.puts c.args.shelf.now) (g.D.Shelf.puts c.loop-level.shelf) (g.D.Shelf.puts c.row_on_shelf.new.shelf)
       c.loop-level.invariant.same c.row_on_shelf.ensures.same;
+  still = c.row_on_shelf.ensures.still ∙ c.loop-level.invariant.still;
   edge = IfOk-from_err c.from_residual-in_err-push-in-Some.result _ c.from_residual-in_err-push-in-Some.ensures.0;
   none = IfOk-from_err c.from_residual-in_err-push-in-Some.result _ c.from_residual-in_err-push-in-Some.ensures.0;
 }

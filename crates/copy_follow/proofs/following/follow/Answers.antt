@@ -13,7 +13,10 @@ use Rattle.copy_follow.specs.Ending.{KeepsFault}
 use Rattle.copy_follow.specs.Says.{SettlesEach}
 use Rattle.copy_follow.specs.RunStanding.{HoldsNoCopy, IsCopyOfRun}
 use Rattle.copy_follow.specs.TurnsTaken.{HasTakenRun}
-use Rattle.copy_follow.proofs.Ending.{Reported, ends_lacking, ends_report, ends_run, ends_so, none_counts, report_counts, was_empty}
+use Rattle.copy_follow.proofs.Ending.{Reported, ends_lacking, ends_report, ends_run, ends_so, none_counts, once_lacking, once_report, once_run, report_counts, was_empty}
+use Rattle.copy_follow.proofs.CopyReads.{read_some}
+use Rattle.copy_follow.specs.Looks.{EndsTurns}
+use Rattle.copy_follow.proofs.Looks.{looks_first, looks_lacking, looks_report, looks_turns}
 use Rattle.copy_follow.proofs.Noted.{says_by}
 use Rattle.copy_follow.proofs.Shown.{reported_forks}
 use Rattle.copy_follow.proofs.Standing.{followed_by, had_found, known_found, read_found}
@@ -152,16 +155,21 @@ returns-clause-says g c =
     c.in_ok-copy.ensures.found (read_found digest origin x copy c.in_ok-copy.ensures.found)
     (c.in_ok-run.ensures.run.known x (known_found digest origin x (g.D.Shelf.puts c.judge_copy.new.shelf) copy
     c.in_ok-copy.ensures.found c.judge_copy.ensures.same))
-    (candidates_later origin _ g.S.Source.may_answer g.S.Source.failed g.S.Source.asked c.args.places.now
-    c.candidates_of.new.places c.take_turns.new.places (option_map (λ v. v.items) c.args.given)
-    c.in_ok-candidates.candidates.items c.take_turns.ensures.asks c.in_ok-candidates.ensures.gathered)
+    (record {
+      moment = c.candidates_of.new.places;
+      before = c.candidates_of.ensures.asks;
+      once = c.candidates_of.ensures.once;
+      after = c.take_turns.ensures.asks;
+      are = c.in_ok-candidates.ensures.gathered;
+    })
     rising
 
 pub returns-in_err-copy-clause-suffices : goal.returns-in_err-copy-clause-suffices
 returns-in_err-copy-clause-suffices g c = λ h.
     let p = err_from_is_err_and c.from_residual.result c.from_residual.ensures.1 in
     rw (p.1, p.2) (never_damaged g.H.TreeHash.digest c.args.origin.now h.entries (g.D.Shelf.puts c.args.shelf.now)
-    c.in_err-copy.field-0.0 h.holds c.in_err-copy.ensures.ends c.in_err-copy.ensures.some)
+    c.in_err-copy.field-0.0 h.holds c.in_err-copy.ensures.ends (λ e. let there = c.in_err-copy.ensures.some e in
+    read_some (g.D.Shelf.puts c.args.shelf.now) there.0 there.1))
 
 pub returns-in_err-candidates-clause-suffices : goal.returns-in_err-candidates-clause-suffices
 returns-in_err-candidates-clause-suffices g c = λ h.
@@ -226,7 +234,8 @@ pub returns-in_err-copy-clause-reaches : goal.returns-in_err-copy-clause-reaches
 returns-in_err-copy-clause-reaches g c = λ h.
     let p = err_from_is_err_and c.from_residual.result c.from_residual.ensures.1 in
     rw (p.1, p.2) (never_damaged g.H.TreeHash.digest c.args.origin.now h.entries (g.D.Shelf.puts c.args.shelf.now)
-    c.in_err-copy.field-0.0 h.holds c.in_err-copy.ensures.ends c.in_err-copy.ensures.some)
+    c.in_err-copy.field-0.0 h.holds c.in_err-copy.ensures.ends (λ e. let there = c.in_err-copy.ensures.some e in
+    read_some (g.D.Shelf.puts c.args.shelf.now) there.0 there.1))
 
 pub returns-in_err-candidates-clause-reaches : goal.returns-in_err-candidates-clause-reaches
 returns-in_err-candidates-clause-reaches g c = λ h.
@@ -298,3 +307,79 @@ returns-clause-tells g c =
     (c.in_ok-run.ensures.taken (subst (IsSorted turn_cmp) (sym c.deref.ensures.value) rising)))
     (subst (λ (l : List Candidate). All (IsTold digest may failed asked mid new run.copy run.forks.items) l)
     c.deref.ensures.value (c.in_ok-run.ensures.tells (subst (IsSorted turn_cmp) (sym c.deref.ensures.value) rising)))
+
+-- ---- places that give no candidate
+
+pub returns-in_err-copy-clause-passed : goal.returns-in_err-copy-clause-passed
+returns-in_err-copy-clause-passed g c =
+    let p = err_from_is_err_and c.from_residual.result c.from_residual.ensures.1 in
+    rw (p.1, p.2) (once_run _ _ _ _ c.in_err-copy.field-0.0 c.in_err-copy.ensures.ends)
+
+pub returns-in_err-candidates-clause-passed : goal.returns-in_err-candidates-clause-passed
+returns-in_err-candidates-clause-passed g c =
+    let p = err_from_is_err_and c.from_residual-in_err-candidates.result c.from_residual-in_err-candidates.ensures.1 in
+    rw (p.1, p.2) (once_lacking _ _ c.in_err-candidates.field-0.0 c.candidates_of.ensures.once)
+
+pub returns-in_err-run-clause-passed : goal.returns-in_err-run-clause-passed
+returns-in_err-run-clause-passed g c =
+    let p = err_from_is_err_and c.from_residual-in_err-run.result c.from_residual-in_err-run.ensures.1 in
+    rw (p.1, p.2) (once_run _ _ _ _ c.in_err-run.field-0.0 c.in_err-run.ensures.ends)
+
+pub returns-clause-passed : goal.returns-clause-passed
+returns-clause-passed g c =
+    let digest = g.H.TreeHash.digest in
+    let origin = c.args.origin.now in
+    let x = g.D.Shelf.puts c.args.shelf.now in
+    let copy = c.in_ok-copy.copy in
+    let candidates = c.in_ok-candidates.candidates.items in
+    let rising = c.in_ok-candidates.ensures.rising in
+    let run = c.in_ok-run.run' in
+    once_report _ _ digest candidates run c.report.result c.in_ok-candidates.ensures.some
+    (was_empty digest origin x copy candidates run
+    (subst (λ (l : List Candidate). HasTakenRun digest copy l run) c.deref.ensures.value
+    (c.in_ok-run.ensures.taken (subst (IsSorted turn_cmp) (sym c.deref.ensures.value) rising)))
+    c.in_ok-copy.ensures.found)
+    (subst (λ (l : List Candidate). KeepsFault digest l run) c.deref.ensures.value c.in_ok-run.ensures.fault)
+    (subst (λ (l : List Candidate). IfErr c.report.result (Reported l c.in_ok-run.run')) c.deref-2.ensures.value c.report.ensures.fault)
+
+-- ---- a fault of the copy
+
+pub returns-in_err-copy-clause-looks : goal.returns-in_err-copy-clause-looks
+returns-in_err-copy-clause-looks g c =
+    let p = err_from_is_err_and c.from_residual.result c.from_residual.ensures.1 in
+    rw (p.1, p.2) (
+      c.args.shelf.now,
+      looks_first _ (g.D.Shelf.puts c.args.shelf.now) _ c.in_err-copy.field-0.0
+          c.in_err-copy.ensures.ends c.in_err-copy.ensures.some,
+    )
+
+pub returns-in_err-candidates-clause-looks : goal.returns-in_err-candidates-clause-looks
+returns-in_err-candidates-clause-looks g c =
+    let p = err_from_is_err_and c.from_residual-in_err-candidates.result c.from_residual-in_err-candidates.ensures.1 in
+    rw (p.1, p.2) (
+      c.args.shelf.now,
+      looks_lacking _ (g.D.Shelf.puts c.args.shelf.now) (g.D.Shelf.puts c.args.shelf.now)
+          c.in_err-candidates.field-0.0,
+    )
+
+pub returns-in_err-run-clause-looks : goal.returns-in_err-run-clause-looks
+returns-in_err-run-clause-looks g c =
+    let p = err_from_is_err_and c.from_residual-in_err-run.result c.from_residual-in_err-run.ensures.1 in
+    let copy = c.in_ok-copy.copy in
+    let candidates = c.in_ok-candidates.candidates.items in
+    let look = c.in_err-run.ensures.looks (subst (IsSorted turn_cmp) (sym c.deref.ensures.value) c.in_ok-candidates.ensures.rising) in
+    rw (p.1, p.2) (
+      look.0,
+      looks_turns _ (g.D.Shelf.puts c.args.shelf.now) c.args.origin.now copy candidates c.in_ok-copy.ensures.found
+          c.in_ok-candidates.ensures.gave (g.D.Shelf.puts look.0) c.in_err-run.field-0.0
+          (subst (λ (l : List Candidate). EndsTurns copy l (g.D.Shelf.puts look.0) c.in_err-run.field-0.0) c.deref.ensures.value look.1),
+    )
+
+pub returns-clause-looks : goal.returns-clause-looks
+returns-clause-looks g c =
+    let digest = g.H.TreeHash.digest in
+    let run = c.in_ok-run.run' in
+    let x = g.D.Shelf.puts c.args.shelf.now in
+    looks_report _ x digest c.args.shelf.now c.in_ok-candidates.candidates.items run g.D.Shelf.puts c.report.result c.in_ok-candidates.ensures.some
+    (subst (λ (l : List Candidate). KeepsFault digest l run) c.deref.ensures.value c.in_ok-run.ensures.fault)
+    (subst (λ (l : List Candidate). IfErr c.report.result (Reported l c.in_ok-run.run')) c.deref-2.ensures.value c.report.ensures.fault)

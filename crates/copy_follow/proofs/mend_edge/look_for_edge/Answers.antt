@@ -54,9 +54,10 @@ returns-in-Ok-clause-none g c =
     let x = c.args.places.now in
     let y = c.edge_found.new.places in
     let none = rw c.in-Ok-None.field-0-is at c.in-Ok-None.ensures.none in
-    none_any c.in-Ok.found _ (
-      none.0,
-      λ log root t. none.1 log root
+    none_any c.in-Ok.found _ (record {
+      shelf = none.shelf;
+      own = none.own;
+      places = λ log root t. none.places log root
           (place_between may failed asked g.H.TreeHash.digest log so so (IsOfEdge c.args.size) x x y c.edge_in_wider_ones.new.places
-          (asks_same may failed asked so x) c.edge_found.ensures.asks c.edge_in_wider_ones.ensures.asks t),
-    )
+          (asks_same may failed asked so x) c.edge_found.ensures.asks c.edge_in_wider_ones.ensures.asks t);
+    })

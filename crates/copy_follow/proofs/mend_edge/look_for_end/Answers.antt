@@ -8,7 +8,8 @@ use Rattle.copy_places.proofs.Giving.{given_before}
 use Rattle.copy_follow.specs.Repaired.{BeginsBundle, IsOfEdge}
 use Rattle.copy_follow.specs.Taken.{MayTake}
 use Rattle.copy_follow.proofs.Cuts.{bundle_weaker, end_of, some_weaker}
-use Rattle.copy_places.proofs.TruePlaces.{place_between}
+use Rattle.copy_places.proofs.InVain.{parts_between}
+use Rattle.log_reader.specs.Verified.{HasLeaves}
 use Rattle.copy_follow.proofs.Lacking.{none_any}
 use Rattle.copy_follow.proofs.mend_edge.look_for_end.Goals as goal
 
@@ -61,9 +62,10 @@ returns-in-Ok-clause-none g c =
     let x = c.args.places.now in
     let y = c.end_found.new.places in
     let none = rw c.in-Ok-None.field-0-is at c.in-Ok-None.ensures.none in
-    none_any c.in-Ok.found _ (
-      none.0,
-      λ log short leaves t. none.1 log short leaves
-          (place_between may failed asked g.H.TreeHash.digest log so so (IsOfEdge c.args.size) x x y c.end_in_wider_ones.new.places
-          (asks_same may failed asked so x) c.end_found.ensures.asks c.end_in_wider_ones.ensures.asks t),
-    )
+    let row = c.args.row.now in
+    none_any c.in-Ok.found _ (record {
+      shelf = none.shelf;
+      places = parts_between may failed asked c.args.path.now (λ bytes. HasLeaves g.H.TreeHash.digest (length row) bytes row) so so
+          (IsOfEdge c.args.size) x x y c.end_in_wider_ones.new.places (asks_same may failed asked so x) c.end_found.ensures.asks
+          c.end_in_wider_ones.ensures.asks none.places;
+    })

@@ -12,11 +12,8 @@ use Rattle.copy_follow.proofs.Ends.{end_none, end_some, end_true}
 use Rattle.copy_follow.proofs.Earlier.{kept_then}
 use Rattle.copy_follow.proofs.Growth.{gathers_keep, gathers_none, gathers_then, kept_same, kept_adds}
 use Rattle.copy_follow.proofs.Mending.{counts_none, counts_then}
-use Rattle.mirror_model.specs.TrueLaws.{AreShort}
 use Rattle.mirror_sources.specs.Honest.{true_bytes}
-use Rattle.copy_places.specs.TrueAnswers.{HasTrueLeaves}
-use Rattle.copy_places.specs.TruePlaces.{HasTruePlace}
-use Rattle.copy_follow.specs.Lacked.{IsLacked, IsRecorded}
+use Rattle.copy_follow.specs.Lacked.{IsEndNowhere, IsLacked}
 use Rattle.copy_follow.specs.Named.{NamesAt}
 use Rattle.copy_follow.proofs.Lacking.{end_damaged, end_is, end_lacked}
 use Rattle.copy_follow.proofs.Naming.{names_at, names_lack, names_none, names_then}
@@ -228,12 +225,9 @@ returns-in-Ok-clause-goes_on g c = λ log short clear is some.
     let wide : width ≡ length (row_at edge 0) = ap length c.row-row.ensures in
     let some_row : 1 ≤ width = search rules in
     let none = rw c.in-Ok-None.field-0-is at c.in-Ok-None.ensures.none in
-    let none_row = subst (λ (r : List (List ℕ)).
-    ((bytes : List ℕ) → IsRecorded x path bytes → HasLeaves digest (length r) bytes r → ⊥)
-    × ((es : List (List ℕ)) → AreShort es → HasTrueLeaves digest es path r → HasTruePlace digest es may p q → ⊥))
-    c.row-row.ensures none in
+    let none_row = subst (λ (r : List (List ℕ)). IsEndNowhere digest may p q x path r) c.row-row.ensures none in
     inr (subst (λ o. IsLacked digest log may p q x o) (end_is digest hash log short edge widths is index width at wide some_row)
-    (end_lacked digest hash log short edge widths is index width at wide some_row may p q x none_row.0 none_row.1))
+    (end_lacked digest hash log short edge widths is index width at wide some_row may p q x none_row))
 
 pub returns-in-Ok-clause-names : goal.returns-in-Ok-clause-names
 returns-in-Ok-clause-names g c = λ log short clear is.
@@ -253,13 +247,10 @@ returns-in-Ok-clause-names g c = λ log short clear is.
     let wide : width ≡ length (row_at edge 0) = ap length c.row-row.ensures in
     let some_row : 1 ≤ width = search rules in
     let none = rw c.in-Ok-None.field-0-is at c.in-Ok-None.ensures.none in
-    let none_row = subst (λ (r : List (List ℕ)).
-    ((bytes : List ℕ) → IsRecorded x path bytes → HasLeaves digest (length r) bytes r → ⊥)
-    × ((es : List (List ℕ)) → AreShort es → HasTrueLeaves digest es path r → HasTruePlace digest es may p q → ⊥))
-    c.row-row.ensures none in
+    let none_row = subst (λ (r : List (List ℕ)). IsEndNowhere digest may p q x path r) c.row-row.ensures none in
     names_lack digest log x (g.D.Shelf.puts c.look_for_end.new.shelf) path c.args.repaired.now.damaged.items
     c.note_lack.new.repaired.damaged.items c.look_for_end.ensures.same
-    (end_damaged digest hash log short edge widths is index width at wide some_row x none_row.0) c.in-Ok.ensures.names
+    (end_damaged digest hash log short edge widths is index width at wide some_row x none_row.shelf) c.in-Ok.ensures.names
 
 pub returns-in-Ok-mend_partial-clause-goes_on : goal.returns-in-Ok-mend_partial-clause-goes_on
 returns-in-Ok-mend_partial-clause-goes_on g c = λ log short clear is positive.

@@ -54,6 +54,7 @@ returns-in_err-given g c = record {
       (g.D.Shelf.failed c.args.shelf.now) (g.D.Shelf.failed c.read_partial.new.shelf) refl c.in_err-given.ensures.counted;
   damaged = err_exit _ c.from_residual.result c.in_err-given.field-0.0 c.from_residual.ensures (inr c.in_err-given.ensures.places);
   same = c.read_partial.ensures.same;
+  still = c.read_partial.ensures.still;
   bundle = IfOk-from_err c.from_residual.result _ c.from_residual.ensures.0;
 }
 
@@ -64,5 +65,6 @@ returns-in_err-bytes g c = record {
       (g.D.Shelf.failed c.read_partial.new.shelf) (g.D.Shelf.failed c.read_partial.new.shelf) c.in_ok-given.ensures.counted refl;
   damaged = err_exit _ c.from_residual-in_err-bytes.result OutOfMemory c.from_residual-in_err-bytes.ensures (inr tt);
   same = c.read_partial.ensures.same;
+  still = c.read_partial.ensures.still;
   bundle = IfOk-from_err c.from_residual-in_err-bytes.result _ c.from_residual-in_err-bytes.ensures.0;
 }

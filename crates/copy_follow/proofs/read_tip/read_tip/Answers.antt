@@ -77,6 +77,7 @@ returns-in_err-head g c = record {
       (g.D.Shelf.failed c.read.new.self) (g.D.Shelf.failed c.read.new.self) c.in_ok-checkpoint.ensures.counted refl;
   damaged = err_exit _ c.from_residual-in_err-head.result OutOfMemory c.from_residual-in_err-head.ensures (inr tt);
   same = c.read.ensures.same;
+  still = c.read.ensures.still;
   tip = IfOk-from_err c.from_residual-in_err-head.result _ c.from_residual-in_err-head.ensures.0;
   size = IfOk-from_err c.from_residual-in_err-head.result _ c.from_residual-in_err-head.ensures.0;
 }
@@ -89,6 +90,7 @@ returns-in_err-edge g c = record {
   damaged = err_exit _ c.from_residual-in_err-edge.result c.in_err-edge.field-0.0 c.from_residual-in_err-edge.ensures (inr c.in_err-edge.ensures.places);
   same = kept_then (g.D.Shelf.puts c.args.shelf.now) (g.D.Shelf.puts c.read.new.self) (g.D.Shelf.puts c.edge_on_shelf.new.shelf) c.read.ensures.same
       c.edge_on_shelf.ensures.same;
+  still = c.edge_on_shelf.ensures.still ∙ c.read.ensures.still;
   tip = IfOk-from_err c.from_residual-in_err-edge.result _ c.from_residual-in_err-edge.ensures.0;
   size = IfOk-from_err c.from_residual-in_err-edge.result _ c.from_residual-in_err-edge.ensures.0;
 }

@@ -154,7 +154,7 @@ pub returns-in-Ok-None-clause-goes_on : goal.returns-in-Ok-None-clause-goes_on
 returns-in-Ok-None-clause-goes_on g c = λ log short long is clear.
     let none = rw c.in-Ok-None.field-0-is at c.in-Ok-None.ensures.none in
     over_edge g.H.TreeHash.digest log short g.S.Source.may_answer c.args.places.now c.look_for_edge.new.places
-    (g.D.Shelf.puts c.args.shelf.now) (g.D.Shelf.puts c.look_for_edge.new.shelf) c.args.size c.args.root.now long is none.0 none.1
+    (g.D.Shelf.puts c.args.shelf.now) (g.D.Shelf.puts c.look_for_edge.new.shelf) c.args.size c.args.root.now long is none
 
 pub returns-clause-goes_on : goal.returns-clause-goes_on
 returns-clause-goes_on g c =

@@ -19,6 +19,7 @@ use Rattle.copy_follow.proofs.Spared.{err_weaker}
 use Rattle.copy_follow.specs.Conflicts.{IsNoConflict}
 use Rattle.copy_follow.specs.Faults.{CountsFault}
 use Rattle.std.proofs.Common.{Err, subst}
+use Rattle.copy_follow.proofs.Secured.{all_flushed, ok_weaker}
 use Rattle.copy_follow.proofs.to_edge.bring_to_edge.Goals as goal
 
 pub returns-in-Err-bring_edge_bundle-clause-brings : goal.returns-in-Err-bring_edge_bundle-clause-brings
@@ -228,3 +229,13 @@ returns-in-Err-bring_edge_bundle-clause-early g c =
     let z = g.D.Shelf.puts c.bring_edge_bundle.new.shelf in
     (early_later (Unit {0}) (Unit {0}) 0 (edge_index_of c.args.edge.now.size 0 * 256) m x y z c.in-Err-bring_edge_bundle.fault
     (λ within. (omega arith, c.in-Ok.ensures.none within)) c.in-Err-bring_edge_bundle.ensures.early)
+
+-- ---- the files that were flushed
+
+pub returns-clause-flushed : goal.returns-clause-flushed
+returns-clause-flushed g c =
+    let flushes = g.D.Shelf.flushes in
+    ok_weaker c.put_last.result (λ last. all_flushed c.args.tip.now.size c.args.edge.now.size c.requires.size
+    (flushes c.args.shelf.now) (flushes c.bring_levels.new.shelf) (flushes c.bring_edge_bundle.new.shelf)
+    (flushes c.put_edge_tiles.new.shelf) (flushes c.put_last.new.shelf) c.in-Ok.ensures.secured
+    c.in-Ok-bring_edge_bundle.ensures.secured c.in-Ok-put_edge_tiles.ensures.secured last) c.put_last.ensures.flushed

@@ -9,6 +9,7 @@ use Rattle.copy_follow.specs.Standing.{RecordsStands}
 use Rattle.log_reader.specs.EdgeRows.{edge_tile, row_at}
 use Rattle.copy_follow.proofs.Growth.{gathers_none, kept_same}
 use Rattle.copy_follow.proofs.Finishing.{gathers_tile, new_tile, old_tile, puts_tile, tile_old, tile_put}
+use Rattle.copy_follow.proofs.Secured.{no_tile, ok_weaker, one_tile}
 use Rattle.copy_follow.proofs.to_edge.put_edge_tile.Goals as goal
 
 pub returns-then-is_empty-clause-puts : goal.returns-then-is_empty-clause-puts
@@ -71,3 +72,38 @@ returns-clause-puts g c = λ entries long row.
     (λ stands. tile_put digest m edge entries long y z level upto some_width new row bytes is puts
     (subst (λ p. RecordsStands y z p bytes) path stands))
     (gathers_tile digest m edge entries long y z level upto some_width new row bytes is puts)
+
+-- ---- the file to flush
+
+pub returns-then-is_empty-clause-secured : goal.returns-then-is_empty-clause-secured
+returns-then-is_empty-clause-secured g c =
+    let none : length c.row-row.result.now ≡ 0 = search rules in
+    let empty = subst (λ (r : List (List ℕ)). length r ≡ 0) c.row-row.ensures none in
+    let width = c.requires.widths c.args.level c.requires.level in
+    no_tile c.args.tip.now.size c.args.edge.now.size c.args.level (λ some. absurd (omega (arith, some, empty, width)))
+    (g.D.Shelf.flushes c.args.shelf.now)
+
+pub returns-then-is_old-clause-secured : goal.returns-then-is_old-clause-secured
+returns-then-is_old-clause-secured g c =
+    let edge = c.args.edge.now in
+    let level = c.args.level in
+    let same = c.is_old.ensures.0 c.if-is_old.true in
+    let index : edge_index_of edge.size level ≡ edge_index_of c.args.tip.now.size level =
+    ap (λ n. edge_index_of n level) (sym c.size.ensures) ∙ (same.0 ∙ ap (λ n. edge_index_of n level) c.size-2.ensures) in
+    let width : width_of edge.size level ≡ width_of c.args.tip.now.size level =
+    ap (λ n. width_of n level) (sym c.size.ensures) ∙ (same.1 ∙ ap (λ n. width_of n level) c.size-2.ensures) in
+    no_tile c.args.tip.now.size edge.size level
+    (λ some. old_tile edge c.args.tip.now.size level c.requires.level some index width) (g.D.Shelf.flushes c.args.shelf.now)
+
+pub returns-clause-secured : goal.returns-clause-secured
+returns-clause-secured g c =
+    let edge = c.args.edge.now in
+    let level = c.args.level in
+    let index : c.edge_index.result ≡ edge_index_of edge.size level =
+    c.edge_index.ensures ∙ ap (λ n. edge_index_of n level) c.size-3.ensures in
+    let width : c.edge_width.result ≡ width_of edge.size level =
+    c.edge_width.ensures ∙ ap (λ n. width_of n level) c.size-4.ensures in
+    let path : Tile level c.edge_index.result c.edge_width.result ≡ edge_tile edge level =
+    λ j. Tile level (index j) (width j) in
+    ok_weaker c.keep.result (one_tile c.args.tip.now.size edge.size level (Tile level c.edge_index.result c.edge_width.result)
+    path (g.D.Shelf.flushes c.args.shelf.now) (g.D.Shelf.flushes c.keep.new.shelf)) c.keep.ensures.secured

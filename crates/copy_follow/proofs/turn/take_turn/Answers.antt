@@ -1,5 +1,6 @@
 use Rattle.std.proofs.Common.{subst}
 use Rattle.copy_follow.proofs.Ending.{keeps_fault, source_blames}
+use Rattle.copy_follow.proofs.Runs.{each_none, each_then}
 use Rattle.copy_follow.proofs.Taken.{taken_turn}
 use Rattle.copy_follow.proofs.Turning.{run_turned}
 use Rattle.copy_follow.specs.RunStanding.{KnowsAfter}
@@ -32,7 +33,27 @@ returns-in-Ok-add-clause-taken g c =
 
 pub returns-in-Err-clause-suffices : goal.returns-in-Err-clause-suffices
 returns-in-Err-clause-suffices g c = λ stands larger h.
-    (c.in-Err.ensures.suffices stands larger h)
+    c.fault_now.ensures.spares (c.in-Err.ensures.suffices stands larger h)
+
+pub returns-in-Err-clause-keeps : goal.returns-in-Err-clause-keeps
+returns-in-Err-clause-keeps g c = λ notes listed.
+    let y = g.D.Shelf.puts c.turn_for.new.shelf in
+    let z = g.D.Shelf.puts c.fault_now.new.shelf in
+    each_then g.H.TreeHash.digest c.args.origin.now notes (g.D.Shelf.puts c.args.shelf.now) z y (c.turn_for.ensures.keeps notes listed)
+    (each_none g.H.TreeHash.digest c.args.origin.now notes y z c.fault_now.ensures.same)
+
+pub returns-in-Err-clause-counted : goal.returns-in-Err-clause-counted
+returns-in-Err-clause-counted g c =
+    c.fault_now.ensures.counted (g.D.Shelf.failed c.args.shelf.now) c.in-Err.ensures.counted
+
+pub returns-in-Err-clause-ends : goal.returns-in-Err-clause-ends
+returns-in-Err-clause-ends g c = c.fault_now.ensures.ends g.H.TreeHash.digest c.args.origin.now (g.D.Shelf.puts c.args.shelf.now) c.in-Err.ensures.ends
+
+pub returns-in-Err-clause-looks : goal.returns-in-Err-clause-looks
+returns-in-Err-clause-looks g c = (c.turn_for.new.shelf, c.fault_now.ensures.looks)
+
+pub returns-in-Err-add-clause-looks : goal.returns-in-Err-add-clause-looks
+returns-in-Err-add-clause-looks g c = (c.args.shelf.now, tt)
 
 pub returns-in-Ok-add-clause-suffices : goal.returns-in-Ok-add-clause-suffices
 returns-in-Ok-add-clause-suffices g c = λ stands larger h.

@@ -10,6 +10,7 @@ use Rattle.copy_follow.proofs.Runs.{each_none, each_then}
 use Rattle.copy_follow.proofs.Taken.{taken_all, taken_begin}
 use Rattle.copy_follow.proofs.Turning.{run_first, run_then}
 use Rattle.copy_follow.proofs.OneHonestRun.{pass_all, reach_all, reach_begin, reach_fails, reach_turn}
+use Rattle.copy_follow.proofs.Looks.{ends_turns}
 use Rattle.copy_follow.proofs.TurnOrder.{element}
 use Rattle.copy_follow.proofs.Telling.{told_all, told_begin}
 use Rattle.copy_follow.proofs.turns.take_each.Goals as goal
@@ -125,3 +126,13 @@ pub returns-clause-tells : goal.returns-clause-tells
 returns-clause-tells g c = λ rises.
     told_all g.H.TreeHash.digest g.S.Source.may_answer g.S.Source.failed g.S.Source.asked c.args.places.now c.loop-i.places
     c.args.candidates.now c.loop-i.i c.loop-i.run (omega (arith, c.loop-i-test.false)) (c.loop-i.invariant.tells rises)
+
+pub returns-in_err-take_turn_at-clause-looks : goal.returns-in_err-take_turn_at-clause-looks
+returns-in_err-take_turn_at-clause-looks g c =
+    let p = err_from_is_err_and c.from_residual.result c.from_residual.ensures.1 in
+    let look = c.in_err-take_turn_at.ensures.looks in
+    rw (p.1, p.2) (λ rises. (
+      look.0,
+      ends_turns g.H.TreeHash.digest c.args.copy c.args.candidates.now c.loop-i.i c.loop-i.run
+          (g.D.Shelf.puts look.0) c.in_err-take_turn_at.field-0.0 (c.loop-i.invariant.taken rises) look.1,
+    ))

@@ -4,6 +4,7 @@ use Rattle.copy_places.specs.Candidates.{turn_cmp}
 use Rattle.copy_places.proofs.Requests.{any_then}
 use Rattle.copy_follow.proofs.Looked.{counts_later, ends_later}
 use Rattle.copy_follow.proofs.Looking.{first_on, passes_on, run_on, source_on, taken_on}
+use Rattle.copy_follow.proofs.Looks.{turns_later}
 use Rattle.copy_follow.proofs.OneHonestRun.{put_later}
 use Rattle.copy_follow.proofs.Runs.{each_none, each_then}
 use Rattle.copy_follow.proofs.Telling.{told_on}
@@ -75,3 +76,7 @@ returns-in-Ok-clause-tells g c =
     told_on g.H.TreeHash.digest g.S.Source.may_answer g.S.Source.failed g.S.Source.asked c.args.places.now
     c.take_each.new.places c.look_again.new.places c.look_again.result (IsSorted turn_cmp c.args.candidates.now)
     c.args.candidates.now c.in-Ok.run' c.take_each.ensures.asks c.in-Ok.ensures.tells c.look_again.ensures.tells
+
+pub returns-in-Ok-clause-looks : goal.returns-in-Ok-clause-looks
+returns-in-Ok-clause-looks g c =
+    turns_later c.args.copy c.args.candidates.now _ g.D.Shelf.puts c.args.shelf.now c.look_again.result c.look_again.ensures.ends

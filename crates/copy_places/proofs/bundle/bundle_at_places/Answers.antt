@@ -5,6 +5,8 @@ use Rattle.copy_places.specs.TruePlaces.{IsTruePlace}
 use Rattle.copy_places.specs.Giving.{MayGive}
 use Rattle.copy_places.proofs.Asking.{asks_noted, asks_same, asks_then, blamed_all, blamed_turn, turn_of, turn_one}
 use Rattle.copy_places.proofs.Giving.{given_before}
+use Rattle.copy_places.proofs.InVain.{parts_all, parts_turn}
+use Rattle.log_reader.specs.Verified.{HasLeaves}
 use Rattle.copy_places.proofs.TruePlaces.{true_between, true_noted}
 use Rattle.copy_places.proofs.Giving.{part_weaker}
 use Rattle.copy_places.proofs.AskingOnce.{once_noted, once_last, once_turn, once_turns}
@@ -56,6 +58,10 @@ loop-turn-preserved g c =
             none entries short leaves (subst (λ j. IsTruePlace digest entries may y z j) (sym at)
             (true_between may failed asked digest entries so so so x y z z before now (asks_same may failed asked so z) k t))
       ];
+      none = parts_turn may failed asked c.args.path.now
+          (λ bytes. HasLeaves digest (length c.args.row.now) bytes c.args.row.now) so so x y z before now c.first-first.result
+          c.loop-turn.turn c.in_turn-index.result c.in_turn-index.ensures.turn c.loop-turn.invariant.none
+          (rw c.in-None.is at c.in_ok-found.ensures.none);
       blamed = blamed_turn g.S.Source.may_answer g.S.Source.failed g.S.Source.asked (IsPathOrFull c.args.path.now) (IsPathOrFull c.args.path.now)
           c.args.places.now c.loop-turn.places c.bundle_at_place.new.places c.loop-turn.invariant.asks c.bundle_at_place.ensures.asks
           c.first-first.result c.loop-turn.turn c.in_turn-index.result c.in_turn-index.ensures.turn c.loop-turn.invariant.blamed
@@ -104,3 +110,13 @@ returns-clause-blamed g c =
     blamed_all g.S.Source.may_answer g.S.Source.failed g.S.Source.asked (λ p. ⊥) c.args.places.now c.loop-turn.places
     c.note_lacked.new.self c.note_lacked.ensures.asks c.first-first.result c.loop-turn.turn c.first-first.ensures
     (omega (arith, long, past)) c.loop-turn.invariant.blamed
+
+pub returns-clause-none : goal.returns-clause-none
+returns-clause-none g c =
+    let row = c.args.row.now in
+    let long = c.len-turn-end.ensures in
+    let past = c.loop-turn-test.false in
+    parts_all g.S.Source.may_answer g.S.Source.failed g.S.Source.asked c.args.path.now
+    (λ bytes. HasLeaves g.H.TreeHash.digest (length row) bytes row) (IsPathOrFull c.args.path.now) (λ p. ⊥) c.args.places.now
+    c.loop-turn.places c.note_lacked.new.self c.loop-turn.invariant.asks c.note_lacked.ensures.asks c.first-first.result
+    c.loop-turn.turn c.first-first.ensures (omega (arith, long, past)) c.loop-turn.invariant.none

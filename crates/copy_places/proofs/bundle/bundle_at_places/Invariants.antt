@@ -1,8 +1,10 @@
-use Rattle.std.proofs.Common.{◌≢◌, ◌<◌, ℕ, List}
+use Rattle.std.proofs.Common.{◌≢◌, ◌<◌, ℕ, List, length}
+use Rattle.log_reader.specs.Verified.{HasLeaves}
 use Rattle.mirror_sources.specs.Files.{full_of}
 use Rattle.copy_places.specs.Asked.{IsAskedInTurn, IsPathOrFull}
 use Rattle.mirror_model.specs.TrueLaws.{AreShort}
 use Rattle.copy_places.specs.AskedOnce.{AsksOnce, IsBeforeTurn}
+use Rattle.copy_places.specs.InVain.{AtPlace, IsPartAskedInVain}
 use Rattle.copy_places.specs.PlaceGets.{AsksPlaces, IsBlamed}
 use Rattle.copy_places.specs.TruePlaces.{IsTruePlace}
 use Rattle.copy_places.specs.TrueAnswers.{HasTrueLeaves}
@@ -15,5 +17,7 @@ invariant-loop-turn g l = record {
   honest : (turn k : ℕ) → turn < l.turn → IsAskedInTurn l.first turn k → (entries : List (List ℕ)) →
       AreShort entries → HasTrueLeaves g.H.TreeHash.digest entries l.path l.row →
       IsTruePlace g.H.TreeHash.digest entries g.S.Source.may_answer l.fn.places l.places k → ⊥;
+  none : (turn k : ℕ) → turn < l.turn → IsAskedInTurn l.first turn k → AtPlace g.S.Source.may_answer l.fn.places l.places k
+      (IsPartAskedInVain l.path (λ bytes. HasLeaves g.H.TreeHash.digest (length l.row) bytes l.row));
   blamed : (turn k : ℕ) → turn < l.turn → IsAskedInTurn l.first turn k → IsBlamed l.fn.places l.places k;
 }

@@ -4,7 +4,7 @@ use Rattle.copy_places.specs.AskedOnce.{IsAtPlace}
 use Rattle.copy_places.specs.Giving.{MayGive}
 use Rattle.copy_places.proofs.Asking.{asks_noted, asks_same}
 use Rattle.copy_places.proofs.AskingOnce.{once_noted}
-use Rattle.copy_places.proofs.GivenRows.{from_widths, mix_from, true_mix}
+use Rattle.copy_places.proofs.RowsGiven.{from_widths, mix_from, true_mix}
 use Rattle.copy_places.proofs.TruePlaces.{true_between}
 use Rattle.copy_places.proofs.edge.edge_at_place.Goals as goal
 

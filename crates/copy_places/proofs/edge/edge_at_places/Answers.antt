@@ -11,7 +11,7 @@ use Rattle.copy_places.proofs.Asking.{asks_noted, asks_same, asks_then, blamed_a
 use Rattle.copy_places.proofs.Giving.{given_before}
 use Rattle.copy_places.proofs.TruePlaces.{true_between, true_noted}
 use Rattle.copy_places.proofs.Giving.{edge_weaker}
-use Rattle.copy_places.proofs.GivenRows.{added_from, adds_weaker, all_widths, among_from}
+use Rattle.copy_places.proofs.RowsGiven.{added_from, adds_weaker, all_widths, among_from}
 use Rattle.copy_places.proofs.AskingOnce.{once_noted, once_same, once_last, once_turn, once_turns}
 use Rattle.copy_places.proofs.edge.edge_at_places.Goals as goal
 

@@ -10,7 +10,7 @@ use Rattle.copy_places.specs.declared.mix.GivenRows.{GivenRows}
 use Rattle.copy_places.proofs.Asking.{asks_same, asks_then}
 use Rattle.copy_places.proofs.AskingOnce.{once_same}
 use Rattle.copy_places.proofs.EdgeLevels.{once_last_level, once_level, once_levels}
-use Rattle.copy_places.proofs.GivenRows.{before_taken, one_failures, still_failures}
+use Rattle.copy_places.proofs.RowsGiven.{before_taken, one_failures, still_failures}
 use Rattle.copy_places.proofs.Mixing.{items_next}
 use Rattle.copy_places.proofs.TruePlaces.{true_between}
 use Rattle.copy_places.proofs.edge.rows_at_place.Goals as goal

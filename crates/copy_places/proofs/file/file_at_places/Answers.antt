@@ -1,4 +1,4 @@
-use Rattle.std.proofs.Common.{◌≡◌, ◌<◌, ℕ, List, inl, inr, get_or, subst, arith, length}
+use Rattle.std.proofs.Common.{◌≡◌, ◌<◌, ℕ, List, inl, inr, get_or, subst, sym, arith, length}
 use Rattle.std.proofs.lemmas.Bool.{cases_lt}
 use Rattle.log_reader.specs.Verified.{Verifies}
 use Rattle.copy_places.specs.Asked.{IsAskedInVain, IsAskedInTurn}
@@ -8,6 +8,7 @@ use Rattle.copy_places.proofs.AskingOnce.{noted_once, once_last, once_noted, onc
 use Rattle.copy_places.proofs.TruePlaces.{lacks_none}
 use Rattle.copy_places.specs.AskedOnce.{IsBeforeTurn}
 use Rattle.tlog_tiles.specs.declared.paths.Path.{Path}
+use Rattle.copy_places.specs.declared.place.Place.{Place}
 use Rattle.copy_places.proofs.file.file_at_places.Goals as goal
 
 pub returns-in_err-found-clause-asks : goal.returns-in_err-found-clause-asks
@@ -121,3 +122,18 @@ returns-clause-blamed g c =
     c.note_lacked.new.self c.note_lacked.ensures.asks c.first-first.result c.loop-turn.turn
     (λ some. let first = c.first-first.ensures (omega (arith, same, some)) in omega (arith, first, same))
     (omega (arith, long, past, same)) c.loop-turn.invariant.blamed
+
+pub returns-clause-none : goal.returns-clause-none
+returns-clause-none g c = λ k lt d.
+    let n = length c.args.places.now.list.items in
+    let long = c.len-turn-end.ensures in
+    let past = c.loop-turn-test.false in
+    let same = c.expect_from.ensures.count in
+    let within : c.first-first.result < n = let first = c.first-first.ensures (omega (arith, same, lt)) in omega (arith, first, same) in
+    let at = turn_of c.first-first.result k n lt within in
+    let before = at.1 in
+    subst (λ (l : List (Place g.row.S.Denot)). IsAskedInVain (g.S.Source.may_answer (get_or c.args.places.now.list.items k d).source)
+    (get_or c.args.places.now.list.items k d).failures (get_or l k d).failures c.args.path.now
+    (λ bytes. (row : List (List ℕ)) × Verifies g.H.TreeHash.digest c.args.kind c.args.hash.now bytes row))
+    (sym c.note_lacked.ensures.list)
+    (c.loop-turn.invariant.none at.0 k d (omega (arith, before, long, past, same)) at.2)

@@ -5,7 +5,7 @@ use Rattle.copy_places.specs.KeptRows.{AreKeptRows, IsKeptRow}
 use Rattle.copy_places.specs.Mixes.{given_at}
 use Rattle.copy_places.specs.declared.mix.GivenRows.{GivenRows}
 use Rattle.copy_places.proofs.AskingEnds.{ends_same, ends_then, still_size}
-use Rattle.copy_places.proofs.GivenRows.{some_mapped}
+use Rattle.copy_places.proofs.RowsGiven.{some_mapped}
 use Rattle.copy_places.proofs.KeptRows.{row_later}
 use Rattle.copy_places.proofs.Mixing.{items_next}
 use Rattle.copy_places.proofs.kept.kept_rows.Goals as goal

@@ -1,4 +1,4 @@
-use Rattle.std.proofs.Common.{◌≡◌, ℕ, List, length, Some, inr, sym, ap, subst, ◌∙◌}
+use Rattle.std.proofs.Common.{◌≡◌, ℕ, List, length, None, Some, inl, inr, refl, sym, ap, subst, ◌∙◌}
 use Rattle.mirror_sources.specs.Files.{full_of}
 use Rattle.mirror_sources.specs.Honest.{true_bytes}
 use Rattle.tlog_tiles.specs.Cut.{IsFileCut}
@@ -100,3 +100,29 @@ pub returns-clause-blamed : goal.returns-clause-blamed
 returns-clause-blamed g c =
     blamed_failed g.S.Source.may_answer g.S.Source.failed g.S.Source.asked (λ p. p ≡ c.full-full_path.result) c.args.places.now
     c.get.new.self c.get.ensures.asks c.args.index (λ d. rw c.in-Failed.is at (c.in_ok-full.ensures.answer d))
+
+pub returns-in-Some-clause-gave : goal.returns-in-Some-clause-gave
+returns-in-Some-clause-gave g c = λ d.
+    let path = c.args.path.now in
+    inr (
+      Some c.in-File.full.items,
+      rw c.full-full_path.ensures at (rw c.in-File.is at (c.in_ok-full.ensures.answer d)),
+      subst (λ (b : List ℕ). IsFileCut path 256 c.in-File.full.items b) (sym c.in_ok-from_slice-in-Some.ensures.items)
+          (subst (λ (f : List ℕ). IsFileCut path 256 f c.in-Some.part.now) c.deref.ensures.value c.in-Some.ensures.some),
+    )
+
+pub returns-in-File-clause-gave : goal.returns-in-File-clause-gave
+returns-in-File-clause-gave g c = λ d.
+    inr (
+      Some c.in-File.full.items,
+      rw c.full-full_path.ensures at (rw c.in-File.is at (c.in_ok-full.ensures.answer d)),
+      λ part cut. c.in-None.ensures.none part
+          (subst (λ (f : List ℕ). IsFileCut c.args.path.now 256 f part) (sym c.deref.ensures.value) cut),
+    )
+
+pub returns-in-NotFound-clause-gave : goal.returns-in-NotFound-clause-gave
+returns-in-NotFound-clause-gave g c = λ d.
+    inr (None, rw c.full-full_path.ensures at (rw c.in-NotFound.is at (c.in_ok-full.ensures.answer d)), refl)
+
+pub returns-clause-gave : goal.returns-clause-gave
+returns-clause-gave g c = λ d. inl (rw c.in-Failed.is at (c.in_ok-full.ensures.answer d))

@@ -1,8 +1,10 @@
-use Rattle.std.proofs.Common.{◌≡◌, ℕ, List, Option, Vec, Global, Some, inl, inr, ap}
+use Rattle.std.proofs.Common.{◌≡◌, ℕ, List, Option, Vec, Global, Some, inl, inr, get_or, refl, ap, arith}
 use Rattle.std.specs.Prelude.{option_map, IfNone}
 use Rattle.mirror_sources.specs.Files.{full_of}
 use Rattle.copy_places.specs.Asked.{IsPathOrFull}
 use Rattle.copy_places.specs.Giving.{MayGive, PartOf}
+use Rattle.copy_places.specs.InVain.{AtPlace, GivesCut, GivesPart}
+use Rattle.copy_places.proofs.InVain.{part_of_cut}
 use Rattle.copy_places.specs.TrueAnswers.{FindsPart, FindsTrue}
 use Rattle.copy_places.proofs.Asking.{asks_same, asks_then, asks_weaker, blamed_failed, blamed_then}
 use Rattle.copy_places.proofs.Giving.{given_before}
@@ -108,3 +110,29 @@ returns-in-NotFound-clause-blamed g c =
     (λ o h. none_weaker o (IsBlamed y z c.args.index) (IsBlamed x z c.args.index)
     (blamed_then g.S.Source.may_answer g.S.Source.failed g.S.Source.asked (λ p. p ≡ c.args.path.now) (λ p. p ≡ full_of c.args.path.now)
     x y z c.get.ensures.asks c.get_part.ensures.asks c.args.index) h) c.get_part.ensures.blamed
+
+pub returns-in-File-clause-gave : goal.returns-in-File-clause-gave
+returns-in-File-clause-gave g c = λ d.
+    inr (Some c.in-File.bytes.items, rw c.in-File.is at (c.in_ok-bytes.ensures.answer d), refl)
+
+pub returns-in-NotFound-clause-gave : goal.returns-in-NotFound-clause-gave
+returns-in-NotFound-clause-gave g c =
+    let may = g.S.Source.may_answer in
+    let x = c.args.places.now in
+    let y = c.get.new.self in
+    let z = c.get_part.new.places in
+    let index = c.args.index in
+    let path = c.args.path.now in
+    ok_weaker c.get_part.result
+    (λ (o : Option (Vec ℕ Global)). AtPlace may y z index (GivesCut path (option_map (λ v. v.items) o)))
+    (λ (o : Option (Vec ℕ Global)). AtPlace may x z index (GivesPart path (option_map (λ v. v.items) o)))
+    (λ o gave d.
+    let earlier = c.get.ensures.asks.each index d in
+    let later = c.get_part.ensures.asks.each index d in
+    part_of_cut path (may (get_or x.list.items index d).source) (may (get_or y.list.items index d).source) earlier.later
+    (get_or x.list.items index d).failures (get_or y.list.items index d).failures (get_or z.list.items index d).failures
+    (get_or z.list.items index d).failures earlier.more later.more (omega arith) (option_map (λ v. v.items) o)
+    (rw c.in-NotFound.is at (c.in_ok-bytes.ensures.answer d)) (gave d)) c.get_part.ensures.gave
+
+pub returns-in-Failed-clause-gave : goal.returns-in-Failed-clause-gave
+returns-in-Failed-clause-gave g c = λ d. inl (rw c.in-Failed.is at (c.in_ok-bytes.ensures.answer d))

@@ -6,7 +6,7 @@ use Rattle.copy_places.specs.FoundRows.{AreFoundRows, IsFoundRow}
 use Rattle.copy_places.specs.Mixes.{given_at}
 use Rattle.copy_places.specs.ShelfRows.{IsReadTile}
 use Rattle.copy_places.specs.declared.mix.GivenRows.{GivenRows}
-use Rattle.copy_places.proofs.GivenRows.{some_mapped}
+use Rattle.copy_places.proofs.RowsGiven.{some_mapped}
 use Rattle.copy_places.proofs.Mixing.{items_next}
 use Rattle.copy_places.proofs.ShelfRows.{shelf_row_before}
 use Rattle.copy_places.proofs.shelf_edge.rows_on_shelf.Goals as goal

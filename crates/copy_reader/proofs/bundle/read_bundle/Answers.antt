@@ -6,7 +6,8 @@ use Rattle.log_reader.specs.Faults.{CountsFailure}
 use Rattle.copy_reader.specs.Faults.{CountsRead}
 use Rattle.copy_reader.proofs.Exits.{read_exit}
 use Rattle.copy_reader.proofs.ShelfSources.{same_shelf}
-use Rattle.copy_reader.proofs.Damage.{damage_exit, read_damage}
+use Rattle.log_reader.specs.Holding.{row_width}
+use Rattle.copy_reader.proofs.Damage.{bundle_recorded, damage_exit, read_damage}
 use Rattle.copy_reader.specs.Damage.{NamesDamage}
 use Rattle.copy_reader.proofs.bundle.read_bundle.Goals as goal
 
@@ -30,6 +31,7 @@ returns-in_err-bundle g c =
       edge = c.in_err-bundle.ensures.edge;
       root = c.in_err-bundle.ensures.root;
       shown = IfOk-from_err c.from_residual.result _ c.from_residual.ensures.0;
+      given = IfOk-from_err c.from_residual.result _ c.from_residual.ensures.0;
       same = search (rules, one, kept);
       counted = search (rules, one, counted);
       damage = damage_exit (NamesDamage g.H.TreeHash.digest (g.D.Shelf.puts c.args.shelf.now) c.args.reader.now.edge)
@@ -41,6 +43,12 @@ returns-in_err-bundle g c =
           (g.D.Shelf.puts c.args.shelf.now) (ap g.D.Shelf.puts c.new-files.ensures.now) _ c.args.reader.now _
           c.in_err-bundle.field-0.0 c.from_residual.result c.from_residual.ensures c.in_err-bundle.ensures.honest;
     }
+
+pub returns-clause-given : goal.returns-clause-given
+returns-clause-given g c =
+    bundle_recorded g.H.TreeHash.digest c.new-files.result.shelf.ghost_name (g.D.Shelf.puts c.new-files.result.shelf.now)
+    (g.D.Shelf.puts c.args.shelf.now) (ap g.D.Shelf.puts c.new-files.ensures.now) c.args.index
+    (row_width c.args.reader.now.edge.size 0 c.args.index) c.in_ok-bundle.field-0.items c.in_ok-bundle.ensures.given
 
 pub returns-clause-same : goal.returns-clause-same
 returns-clause-same g c =

@@ -1,4 +1,4 @@
-use Rattle.std.proofs.Common.{◌≤◌, inr, length, refl, subst, take, ◌∙◌, arith}
+use Rattle.std.proofs.Common.{◌≤◌, inr, length, refl, subst, sym, take, ◌∙◌, arith}
 use Rattle.log_reader.proofs.FullTiles.{first_tiles}
 use Rattle.log_reader.proofs.NodeHashes.{if_ok}
 use Rattle.log_reader.proofs.TrueReads.{reads_more, tiles_later}
@@ -30,8 +30,8 @@ returns-in_err-first g c =
           let digest = g.H.TreeHash.digest in
           let may = g.S.Source.may_answer c.args.files.now in
           let edge = c.args.reader.now.edge in
-          names_exit (NamesWithin digest may edge) exit.result c.in_err-first.field-0.0 exit.ensures
-          (read_within digest may edge c.in_err-first.field-0.0 step.names);
+          names_exit (NamesWithin digest may edge c.args.ask) exit.result c.in_err-first.field-0.0 exit.ensures
+          (read_within digest may edge c.args.ask c.in_err-first.field-0.0 step.names);
       honest = λ entries r s.
           let went = step.honest entries r s in
           record {
@@ -99,12 +99,14 @@ returns-clause-honest g c = λ entries r s.
 pub returns-then-size-clause-names : goal.returns-then-size-clause-names
 returns-then-size-clause-names g c =
     IfErr-weaker c.whole_proof.result _ _
-    (whole_within g.H.TreeHash.digest (g.S.Source.may_answer c.args.files.now) c.args.reader.now.edge)
+    (whole_within g.H.TreeHash.digest (g.S.Source.may_answer c.args.files.now) c.args.reader.now.edge c.args.ask
+    (sym c.size.ensures ∙ (sym c.if-size.true ∙ c.tree_size-size.ensures)))
     c.whole_proof.ensures.names
 
 pub returns-clause-names : goal.returns-clause-names
 returns-clause-names g c =
     let may = g.S.Source.may_answer in
     IfErr-weaker c.whole_proof-2.result _ _
-    (first_within g.H.TreeHash.digest (may c.args.files.now) c.args.reader.now.edge c.in_ok-first.first.edge
-    c.in_ok-first.ensures.shown (may c.prefix.new.source) c.in_ok-first.ensures.later) c.whole_proof-2.ensures.names
+    (first_within g.H.TreeHash.digest (may c.args.files.now) c.args.reader.now.edge c.args.ask c.in_ok-first.first.edge
+    c.in_ok-first.ensures.shown (may c.prefix.new.source) c.in_ok-first.ensures.later
+    (c.in_ok-first.ensures.size ∙ c.tree_size-size.ensures)) c.whole_proof-2.ensures.names

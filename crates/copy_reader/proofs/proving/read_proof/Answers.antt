@@ -33,10 +33,10 @@ returns-in_err-proof_of g c =
       holds = IfOk-from_err c.from_residual.result _ c.from_residual.ensures.0;
       same = search (rules, one, kept);
       counted = search (rules, one, counted);
-      damage = damage_exit (NamesProofDamage g.H.TreeHash.digest (g.D.Shelf.puts c.args.shelf.now) c.args.reader.now.edge)
+      damage = damage_exit (NamesProofDamage g.H.TreeHash.digest (g.D.Shelf.puts c.args.shelf.now) c.args.reader.now.edge c.args.ask)
           c.from_residual.result _ c.from_residual.ensures
           (proof_damage g.H.TreeHash.digest c.new-files.result.shelf.ghost_name (g.D.Shelf.puts c.new-files.result.shelf.now)
-          (g.D.Shelf.puts c.args.shelf.now) (ap g.D.Shelf.puts c.new-files.ensures.now) c.args.reader.now.edge
+          (g.D.Shelf.puts c.args.shelf.now) (ap g.D.Shelf.puts c.new-files.ensures.now) c.args.reader.now.edge c.args.ask
           c.in_err-proof_of.field-0.0 c.in_err-proof_of.ensures.names);
       honest = read_err g.H.TreeHash.digest c.new-files.result.shelf.ghost_name (g.D.Shelf.puts c.new-files.result.shelf.now)
           (g.D.Shelf.puts c.args.shelf.now) (ap g.D.Shelf.puts c.new-files.ensures.now) _ c.args.reader.now _

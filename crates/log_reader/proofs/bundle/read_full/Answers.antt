@@ -18,6 +18,7 @@ returns-in_err-bytes g c =
     let step = c.in_err-bytes.ensures in
     record {
       bytes = IfOk-from_err exit.result _ exit.ensures.0;
+      given = IfOk-from_err exit.result _ exit.ensures.0;
       later = step.later;
       kept = step.kept;
       counted = counted_exit exit.result c.get_file.result c.in_err-bytes.field-0.0 exit.ensures c.in_err-bytes.was
@@ -43,6 +44,7 @@ returns-in_err-row g c =
     let mid = failed c.get_file.new.source in
     record {
       bytes = IfOk-from_err exit.result _ exit.ensures.0;
+      given = IfOk-from_err exit.result _ exit.ensures.0;
       later = step.later;
       kept = step.kept;
       counted = counted_exit exit.result c.or_false.result c.in_err-row.field-0.0 exit.ensures c.in_err-row.was old mid mid
@@ -86,6 +88,7 @@ returns g c =
             (IfOk-at_ok _ c.in_ok-row.was
             (found_ok c.verified.result _ c.or_false.result c.or_false.ensures _ _ (λ _ h. h) c.verified.ensures.found));
       };
+      given = step.answer;
       later = step.later;
       kept = step.kept;
       counted = step.counted;

@@ -1,4 +1,5 @@
-use Rattle.std.proofs.Common.{◌≡◌, ◌+◌, ◌-◌, ◌<◌, ◌≤◌, length, subst, sym, ap, rules, arith, refl, ◌∙◌}
+use Rattle.std.proofs.Common.{◌≡◌, ◌+◌, ◌-◌, ◌<◌, ◌≤◌, ◌++◌, ◌∷◌, [], if◌then◌else◌, length, subst, sym, ap, rules, arith, refl, ◌∙◌}
+use Rattle.std.proofs.lemmas.List.{append-nil}
 use Rattle.log_reader.specs.Nodes.{IsNodeRange}
 use Rattle.log_reader.proofs.FirstHashes.{left_added, right_added, whole_added}
 use Rattle.log_reader.proofs.NodeNumbers.{left_node, right_node}
@@ -11,28 +12,55 @@ use Rattle.log_reader.specs.Requested.{IsProofTile, IsTileOverNode, IsWholeOrLef
 use Rattle.log_reader.proofs.Requested.{left_tiles, left_whole, requests_twice, requests_wider, right_end, right_tiles, whole_tiles}
 use Rattle.log_reader.proofs.consistency.+add_subproof.Goals as goal
 
-pub returns-then-first-len : goal.returns-then-first-len
-returns-then-first-len g t c = record {
-  edge = c.add_whole.ensures.edge;
-  root = c.add_whole.ensures.root;
-  later = c.add_whole.ensures.later;
-  kept = c.add_whole.ensures.kept;
-  counted = c.add_whole.ensures.counted;
+pub returns-then-held : goal.returns-then-held
+returns-then-held g t c = record {
+  edge = c.node_hash.ensures.edge;
+  root = c.node_hash.ensures.root;
+  later = c.node_hash.ensures.later;
+  kept = c.node_hash.ensures.kept;
+  counted = c.node_hash.ensures.counted;
   asks = requests_wider _ _ _ _
       (whole_tiles c.args.reader.now.edge.size c.args.node.0 c.args.node.1 c.args.first (omega (arith, c.requires.node.some)) c.if-first-len.true
-      (c.requires.whole c.if-first-len.true)) c.add_whole.ensures.asks;
-  names = c.add_whole.ensures.names;
+      (c.requires.whole c.if-first-len.true)) c.node_hash.ensures.asks;
+  names = c.node_hash.ensures.names;
   honest = λ entries r s.
       let start = c.args.node.0 in
       let n = c.args.node.1 in
       let within : start + n ≤ length entries = subst (λ m. start + n ≤ m) r.size_is c.requires.node.within in
-      let went = c.add_whole.ensures.honest entries r s in
+      let went = c.node_hash.ensures.honest entries r s in
+      let old = c.args.path.now.items in
       record {
         reader_is = went.reader_is;
-        answer = reads_more c.add_whole.result _ _
-            (λ hash added. whole_added g.H.TreeHash.digest entries start n c.args.first c.args.held c.requires.some
-            c.requires.within within c.args.path.now.items c.add_whole.new.path.items hash c.if-first-len.true added.0 added.1)
-            went.answer;
+        answer = reads_more c.node_hash.result _ _
+            (λ hash is. whole_added g.H.TreeHash.digest entries start n c.args.first c.args.held c.requires.some
+            c.requires.within within old old hash c.if-first-len.true is
+            (sym (append-nil old) ∙ ap (λ b. old ++ (if b then [] else hash ∷ [])) (sym c.if-held.true))) went.answer;
+      };
+}
+
+pub returns-then-first-len : goal.returns-then-first-len
+returns-then-first-len g t c = record {
+  edge = c.add_node.ensures.edge;
+  root = c.add_node.ensures.root;
+  later = c.add_node.ensures.later;
+  kept = c.add_node.ensures.kept;
+  counted = c.add_node.ensures.counted;
+  asks = requests_wider _ _ _ _
+      (whole_tiles c.args.reader.now.edge.size c.args.node.0 c.args.node.1 c.args.first (omega (arith, c.requires.node.some)) c.if-first-len.true
+      (c.requires.whole c.if-first-len.true)) c.add_node.ensures.asks;
+  names = c.add_node.ensures.names;
+  honest = λ entries r s.
+      let start = c.args.node.0 in
+      let n = c.args.node.1 in
+      let within : start + n ≤ length entries = subst (λ m. start + n ≤ m) r.size_is c.requires.node.within in
+      let went = c.add_node.ensures.honest entries r s in
+      let old = c.args.path.now.items in
+      record {
+        reader_is = went.reader_is;
+        answer = reads_more c.add_node.result _ _
+            (λ hash is. whole_added g.H.TreeHash.digest entries start n c.args.first c.args.held c.requires.some
+            c.requires.within within old c.add_node.new.path.items hash c.if-first-len.true is.0
+            (is.1 ∙ ap (λ b. old ++ (if b then [] else hash ∷ [])) (sym c.if-held.false))) went.answer;
       };
 }
 
@@ -45,8 +73,8 @@ add_subproof-requires g t c κs within =
     c.split-k.ensures.value c.requires.some same in
     search (rules, left, whole)
 
-pub add_node-requires : goal.add_node-requires
-add_node-requires g t c =
+pub add_node-requires-then-first-k : goal.add_node-requires-then-first-k
+add_node-requires-then-first-k g t c =
     let start = c.args.node.0 in
     let n = c.args.node.1 in
     let k = c.split-k.result in
@@ -88,11 +116,11 @@ returns-in_err-add_node g t c =
       edge = step.edge ∙ below.edge;
       root = step.root ∙ below.root;
       later = stays_twice below.later step.later;
-      kept = kept_twice (files c.args.source.now) (files c.add_subproof.new.source) (files c.add_node.new.source) below.kept
+      kept = kept_twice (files c.args.source.now) (files c.add_subproof.new.source) (files c.add_node-then-first-k.new.source) below.kept
           step.kept;
-      counted = counted_exit exit.result c.add_node.result c.in_err-add_node.field-0.0 exit.ensures c.in_err-add_node.was
-          (failed c.args.source.now) (failed c.add_subproof.new.source) (failed c.add_node.new.source) below.counted
-          c.add_node.ensures.counted;
+      counted = counted_exit exit.result c.add_node-then-first-k.result c.in_err-add_node.field-0.0 exit.ensures c.in_err-add_node.was
+          (failed c.args.source.now) (failed c.add_subproof.new.source) (failed c.add_node-then-first-k.new.source) below.counted
+          c.add_node-then-first-k.ensures.counted;
       asks =
           let n = c.args.reader.now.edge.size in
           let start = c.args.node.0 in
@@ -123,7 +151,7 @@ returns-then-first-k g t c =
       edge = went.edge ∙ low.edge;
       root = went.root ∙ low.root;
       later = stays_twice low.later went.later;
-      kept = kept_twice (files c.args.source.now) (files c.add_subproof.new.source) (files c.add_node.new.source) low.kept went.kept;
+      kept = kept_twice (files c.args.source.now) (files c.add_subproof.new.source) (files c.add_node-then-first-k.new.source) low.kept went.kept;
       counted = went.counted ∙ low.counted;
       asks =
           let n = c.args.reader.now.edge.size in
@@ -146,8 +174,9 @@ returns-then-first-k g t c =
           record {
             reader_is = went.reader_is;
             answer = left_added g.H.TreeHash.digest entries start n c.args.first c.args.held c.requires.some c.requires.within within
-                c.args.path.now.items c.add_node.new.path.items c.in_ok-hash.hash c.split-k.result (omega arith) c.split-k.ensures.value
-                c.add_subproof.new.path.items c.if-first-k.true low.answer went.answer;
+                c.args.path.now.items c.add_node-then-first-k.new.path.items c.in_ok-hash.hash c.split-k.result (omega arith) c.split-k.ensures.value
+                c.add_subproof.new.path.items c.if-first-k.true low.answer
+                (went.answer.1 ∙ ap (λ hash. c.add_subproof.new.path.items ++ hash ∷ []) went.answer.0);
           };
     }
 
@@ -157,8 +186,8 @@ add_subproof-requires-2 g t c κs within =
     c.split-k.ensures.value in
     search (rules, right)
 
-pub add_whole-requires-2 : goal.add_whole-requires-2
-add_whole-requires-2 g t c =
+pub add_node-requires-2 : goal.add_node-requires-2
+add_node-requires-2 g t c =
     let start = c.args.node.0 in
     let n = c.args.node.1 in
     let k = c.split-k.result in
@@ -202,11 +231,11 @@ returns-in_err-left g t c =
       edge = step.edge ∙ below.edge;
       root = step.root ∙ below.root;
       later = stays_twice below.later step.later;
-      kept = kept_twice (files c.args.source.now) (files c.add_subproof-2.new.source) (files c.add_whole-2.new.source) below.kept
+      kept = kept_twice (files c.args.source.now) (files c.add_subproof-2.new.source) (files c.add_node-2.new.source) below.kept
           step.kept;
-      counted = counted_exit exit.result c.add_whole-2.result c.in_err-left.field-0.0 exit.ensures c.in_err-left.was
-          (failed c.args.source.now) (failed c.add_subproof-2.new.source) (failed c.add_whole-2.new.source) below.counted
-          c.add_whole-2.ensures.counted;
+      counted = counted_exit exit.result c.add_node-2.result c.in_err-left.field-0.0 exit.ensures c.in_err-left.was
+          (failed c.args.source.now) (failed c.add_subproof-2.new.source) (failed c.add_node-2.new.source) below.counted
+          c.add_node-2.ensures.counted;
       asks =
           let n = c.args.reader.now.edge.size in
           let start = c.args.node.0 in
@@ -240,7 +269,7 @@ returns g t c =
       edge = went.edge ∙ low.edge;
       root = went.root ∙ low.root;
       later = stays_twice low.later went.later;
-      kept = kept_twice (files c.args.source.now) (files c.add_subproof-2.new.source) (files c.add_whole-2.new.source) low.kept went.kept;
+      kept = kept_twice (files c.args.source.now) (files c.add_subproof-2.new.source) (files c.add_node-2.new.source) low.kept went.kept;
       counted = went.counted ∙ low.counted;
       asks =
           let n = c.args.reader.now.edge.size in
@@ -267,7 +296,7 @@ returns g t c =
           record {
             reader_is = went.reader_is;
             answer = right_added g.H.TreeHash.digest entries start n c.args.first c.args.held c.requires.some c.requires.within within
-                c.args.path.now.items c.add_whole-2.new.path.items c.node.result c.split-k.result (omega arith) c.split-k.ensures.value
+                c.args.path.now.items c.add_node-2.new.path.items c.node.result c.split-k.result (omega arith) c.split-k.ensures.value
                 c.add_subproof-2.new.path.items less c.if-first-k.false c.in_ok-end.end c.in_ok-left.left low.answer went.answer.0
                 went.answer.1 c.node.ensures;
           };

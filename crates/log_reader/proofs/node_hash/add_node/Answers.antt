@@ -1,4 +1,4 @@
-use Rattle.std.proofs.Common.{[], ◌∷◌, ◌++◌, ap, refl, ◌∙◌}
+use Rattle.std.proofs.Common.{refl}
 use Rattle.log_reader.specs.declared.fault.ReadFault.TheVariants.{OutOfMemory}
 use Rattle.log_reader.proofs.Exits.{counted_exit, failed_exit, memory_exit}
 use Rattle.log_reader.proofs.FalseFiles.{names_exit}
@@ -62,6 +62,6 @@ returns g c =
           let went = step.honest entries r s in
           record {
             reader_is = went.reader_is;
-            answer = c.in_ok-push.ensures.items ∙ ap (λ h. c.args.path.now.items ++ h ∷ []) went.answer;
+            answer = (went.answer, c.in_ok-push.ensures.items);
           };
     }

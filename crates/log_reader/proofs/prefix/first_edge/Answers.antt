@@ -23,13 +23,13 @@ loop-level-init g c = record {
   honest = λ entries r s. (r, λ k lt. absurd (omega (arith, lt)));
 }
 
-pub returns-in_err-first_row_if_any : goal.returns-in_err-first_row_if_any
-returns-in_err-first_row_if_any g c =
+pub returns-in_err-first_row : goal.returns-in_err-first_row
+returns-in_err-first_row g c =
     let files = g.S.Source.files in
     let failed = g.S.Source.failed in
     let exit = c.from_residual in
     let i = c.loop-level.invariant in
-    let step = c.in_err-first_row_if_any.ensures in
+    let step = c.in_err-first_row.ensures in
     record {
       edge = step.edge ∙ i.edge;
       root = step.root ∙ i.root;
@@ -37,19 +37,19 @@ returns-in_err-first_row_if_any g c =
       hashes = IfOk-from_err exit.result _ exit.ensures.0;
       shown = IfOk-from_err exit.result _ exit.ensures.0;
       later = stays_twice i.later step.later;
-      kept = kept_twice (files c.args.source.now) (files c.loop-level.source) (files c.first_row_if_any.new.source) i.kept
+      kept = kept_twice (files c.args.source.now) (files c.loop-level.source) (files c.first_row.new.source) i.kept
           step.kept;
-      counted = counted_exit exit.result c.first_row_if_any.result c.in_err-first_row_if_any.field-0.0 exit.ensures
-          c.in_err-first_row_if_any.was (failed c.args.source.now) (failed c.loop-level.source)
-          (failed c.first_row_if_any.new.source) i.counted c.first_row_if_any.ensures.counted;
-      names = names_exit (NamesFalse g.H.TreeHash.digest (g.S.Source.may_answer c.args.source.now) c.args.reader.now.edge) exit.result c.in_err-first_row_if_any.field-0.0
+      counted = counted_exit exit.result c.first_row.result c.in_err-first_row.field-0.0 exit.ensures
+          c.in_err-first_row.was (failed c.args.source.now) (failed c.loop-level.source)
+          (failed c.first_row.new.source) i.counted c.first_row.ensures.counted;
+      names = names_exit (NamesFalse g.H.TreeHash.digest (g.S.Source.may_answer c.args.source.now) c.args.reader.now.edge) exit.result c.in_err-first_row.field-0.0
           exit.ensures (names_before g.H.TreeHash.digest (g.S.Source.may_answer c.args.source.now) (g.S.Source.may_answer c.loop-level.source) i.later c.args.reader.now.edge
-          c.loop-level.reader.edge i.edge c.in_err-first_row_if_any.field-0.0 step.names);
+          c.loop-level.reader.edge i.edge c.in_err-first_row.field-0.0 step.names);
       honest = λ entries r s.
           let went = step.honest entries (i.honest entries r s).0 (tiles_later g.H.TreeHash.digest entries _ _ i.later s) in
           record {
             reader_is = went.reader_is;
-            answer = failed_exit exit.result _ c.in_err-first_row_if_any.field-0.0 exit.ensures went.answer;
+            answer = failed_exit exit.result _ c.in_err-first_row.field-0.0 exit.ensures went.answer;
           };
     }
 
@@ -59,7 +59,7 @@ returns-in_err-push g c =
     let failed = g.S.Source.failed in
     let exit = c.from_residual-in_err-push in
     let i = c.loop-level.invariant in
-    let step = c.in_ok-first_row_if_any.ensures in
+    let step = c.in_ok-first_row.ensures in
     record {
       edge = step.edge ∙ i.edge;
       root = step.root ∙ i.root;
@@ -67,9 +67,9 @@ returns-in_err-push g c =
       hashes = IfOk-from_err exit.result _ exit.ensures.0;
       shown = IfOk-from_err exit.result _ exit.ensures.0;
       later = stays_twice i.later step.later;
-      kept = kept_twice (files c.args.source.now) (files c.loop-level.source) (files c.first_row_if_any.new.source) i.kept
+      kept = kept_twice (files c.args.source.now) (files c.loop-level.source) (files c.first_row.new.source) i.kept
           step.kept;
-      counted = memory_exit exit.result exit.ensures (failed c.args.source.now) (failed c.first_row_if_any.new.source)
+      counted = memory_exit exit.result exit.ensures (failed c.args.source.now) (failed c.first_row.new.source)
           (step.counted ∙ i.counted);
       names = names_exit (NamesFalse g.H.TreeHash.digest (g.S.Source.may_answer c.args.source.now) c.args.reader.now.edge) exit.result OutOfMemory exit.ensures tt;
       honest = λ entries r s. record {
@@ -85,17 +85,17 @@ loop-level-preserved g c =
     let n = c.loop-level.level in
     let vs = c.loop-level.rows.items in
     let more = c.push.new.self.items in
-    let v = c.in_ok-first_row_if_any.field-0 in
+    let v = c.in_ok-first_row.field-0 in
     let files = g.S.Source.files in
     let may = g.S.Source.may_answer in
     let i = c.loop-level.invariant in
-    let step = c.in_ok-first_row_if_any.ensures in
+    let step = c.in_ok-first_row.ensures in
     let is = c.in_ok-push.ensures.items in
     record {
       edge = step.edge ∙ i.edge;
       root = step.root ∙ i.root;
       later = record { stays = λ path answer m. i.later.stays path answer (step.later.stays path answer m) };
-      kept = kept_twice (files c.args.source.now) (files c.loop-level.source) (files c.first_row_if_any.new.source) i.kept
+      kept = kept_twice (files c.args.source.now) (files c.loop-level.source) (files c.first_row.new.source) i.kept
           step.kept;
       counted = step.counted ∙ i.counted;
       count = count_more vs more v n is i.count;

@@ -1,11 +1,13 @@
-use Rattle.std.proofs.Common.{◌≤◌, ◌∙◌, ap, arith, length, subst, take, refl}
+use Rattle.std.proofs.Common.{◌≤◌, ◌∙◌, ap, arith, length, subst, sym, take, refl}
+use Rattle.std.proofs.lemmas.List.Elements.{All-nil}
 use Rattle.log_reader.specs.Holding.{true_row}
-use Rattle.log_reader.specs.Ways.{IsShownRow}
-use Rattle.log_reader.proofs.TruePrefixes.{start_is_true, start_within}
+use Rattle.log_reader.specs.Ways.{AreHashesOf, IsShownRow}
+use Rattle.log_reader.proofs.Kept.{kept_once}
+use Rattle.log_reader.proofs.TruePrefixes.{no_row_is_true, start_is_true, start_within}
 use Rattle.std.proofs.lemmas.Result.{IfOk-from_err}
 use Rattle.log_reader.specs.declared.fault.ReadFault.TheVariants.{OutOfMemory}
 use Rattle.log_reader.proofs.Exits.{counted_exit, failed_exit, memory_exit}
-use Rattle.tlog_shape.specs.Edge.{edge_index_of}
+use Rattle.tlog_shape.specs.Edge.{edge_index_of, width_of}
 use Rattle.log_reader.specs.Holding.{row_width}
 use Rattle.log_reader.proofs.FalseFiles.{names_exit, wide_in}
 use Rattle.log_reader.specs.FalseFiles.{NamesFalse}
@@ -19,9 +21,7 @@ returns-in_err-row g c =
     record {
       edge = step.edge;
       root = step.root;
-      count = IfOk-from_err exit.result _ exit.ensures.0;
-      sizes = IfOk-from_err exit.result _ exit.ensures.0;
-      shown = IfOk-from_err exit.result _ exit.ensures.0;
+      row = IfOk-from_err exit.result _ exit.ensures.0;
       later = step.later;
       kept = step.kept;
       counted = counted_exit exit.result c.row.result c.in_err-row.field-0.0 exit.ensures c.in_err-row.was
@@ -40,9 +40,7 @@ pub returns-then-len-width : goal.returns-then-len-width
 returns-then-len-width g c = record {
   edge = c.in_ok-row.ensures.edge;
   root = c.in_ok-row.ensures.root;
-  count = tt;
-  sizes = tt;
-  shown = tt;
+  row = tt;
   later = c.in_ok-row.ensures.later;
   kept = c.in_ok-row.ensures.kept;
   counted = c.in_ok-row.ensures.counted;
@@ -74,9 +72,7 @@ returns-in_err-copy_start g c =
     record {
       edge = step.edge;
       root = step.root;
-      count = IfOk-from_err exit.result _ exit.ensures.0;
-      sizes = IfOk-from_err exit.result _ exit.ensures.0;
-      shown = IfOk-from_err exit.result _ exit.ensures.0;
+      row = IfOk-from_err exit.result _ exit.ensures.0;
       later = step.later;
       kept = step.kept;
       counted = memory_exit exit.result exit.ensures (failed c.args.source.now) (failed c.row.new.source) step.counted;
@@ -98,12 +94,13 @@ returns g c =
     record {
       edge = step.edge;
       root = step.root;
-      count = copied.count ∙ c.edge_width-width.ensures;
-      sizes = copied.sizes;
-      shown = record {
-        row = row;
-        shown = subst (λ i. IsShownRow digest c.args.reader.now.edge c.args.level i row) c.edge_index-index.ensures step.shown;
-        start_is = start_is;
+      row = record {
+        hashes = record { count = copied.count ∙ c.edge_width-width.ensures; sizes = copied.sizes };
+        shown = λ some. record {
+          row = row;
+          shown = subst (λ i. IsShownRow digest c.args.reader.now.edge c.args.level i row) c.edge_index-index.ensures step.shown;
+          start_is = start_is;
+        };
       };
       later = step.later;
       kept = step.kept;
@@ -117,4 +114,26 @@ returns g c =
             answer = start_is_true digest entries c.args.size c.args.level within row c.in_ok-copy_start.field-0.items
                 (done.answer ∙ ap (true_row digest entries c.args.level) c.edge_index-index.ensures) start_is;
           };
+    }
+
+pub returns-then-width-eq0 : goal.returns-then-width-eq0
+returns-then-width-eq0 g c =
+    let none = sym c.edge_width-width.ensures ∙ c.if-width-eq0.true in
+    record {
+      edge = refl;
+      root = refl;
+      row = record {
+        hashes = subst (AreHashesOf (width_of c.args.size c.args.level)) (sym c.new.ensures.items)
+            (record { count = sym none; sizes = All-nil _ });
+        shown = λ some. absurd (omega (arith, some, none));
+      };
+      later = record { stays = λ path answer may. may };
+      kept = kept_once (g.S.Source.files c.args.source.now);
+      counted = refl;
+      names = tt;
+      honest = λ entries r s. record {
+        reader_is = r;
+        answer = no_row_is_true g.H.TreeHash.digest entries c.args.size c.args.level (take c.args.size entries) c.new.result.items
+            none c.new.ensures.items;
+      };
     }

@@ -1,4 +1,4 @@
-use Rattle.std.proofs.Common.{◌≡◌, ◌<◌, subst, sym, ◌∙◌, arith}
+use Rattle.std.proofs.Common.{◌≡◌, ◌<◌, refl, subst, sym, ◌∙◌, arith}
 use Rattle.std.proofs.lemmas.Result.{err_from_is_err_and}
 use Rattle.tlog_shape.specs.Edge.{edge_index_of}
 use Rattle.tlog_tiles.specs.declared.paths.Path.{Path}
@@ -6,6 +6,8 @@ use Rattle.tlog_tiles.specs.Tiles.{IsWithin}
 use Rattle.mirror_folders.specs.Files.{file_at, full_paths, kind_level, kind_path, partial_path}
 use Rattle.mirror_folders.specs.Since.{is_new}
 use Rattle.mirror_folders.proofs.FilePaths.{full_within, partial_within, partial_none, partial_some, index_is, path_is, width_is}
+use Rattle.mirror_folders.proofs.Securing.{puts_none, puts_then}
+use Rattle.mirror_files.proofs.Exported.{same_recorded}
 use Rattle.mirror_files.proofs.Orders.{first_cut, first_put, full_put}
 use Rattle.mirror_files.proofs.Prefixes.{adds_none, files_more, files_result, files_then}
 use Rattle.mirror_files.proofs.exported_files.put_kind.Goals as goal
@@ -28,6 +30,9 @@ loop-index-preserved g c =
           (puts c.loop-index.shelf) (puts c.put_new.new.shelf) (λ index. kind_path c.args.kind index 256)
           c.loop-index.index c.path_at.result c.path_at.ensures (c.loop-index.invariant.recorded entries is)
           (c.in_ok-put_new.ensures.recorded entries is);
+      secured = puts_then (puts c.args.shelf.now) (puts c.loop-index.shelf) (puts c.put_new.new.shelf)
+          (g.S.Shelf.flushes c.args.shelf.now) (g.S.Shelf.flushes c.loop-index.shelf) (g.S.Shelf.flushes c.put_new.new.shelf)
+          c.loop-index.invariant.secured c.in_ok-put_new.ensures.secured;
       counted = c.in_ok-put_new.ensures.counted ∙ c.loop-index.invariant.counted;
     }
 
@@ -101,3 +106,31 @@ returns-then-width-eq0-clause-recorded g c =
     (full_put file (is_new c.args.since) (puts c.args.shelf.now) (puts c.loop-index.shelf) n kind c.loop-index.index count
     (c.loop-index.invariant.recorded entries is))
     (rw (partial_none n kind (sym same ∙ c.if-width-eq0.true)) (adds_none (puts c.loop-index.shelf)))
+
+-- ---- the files to flush
+
+pub loop-index-init : goal.loop-index-init
+loop-index-init g c =
+    let puts = g.S.Shelf.puts c.args.shelf.now in
+    let flushes = g.S.Shelf.flushes c.args.shelf.now in
+    record {
+      recorded = λ entries is. adds_none puts;
+      secured = puts_none puts puts flushes flushes (same_recorded puts) refl;
+      counted = refl;
+    }
+
+pub returns-in_err-put_new-clause-secured : goal.returns-in_err-put_new-clause-secured
+returns-in_err-put_new-clause-secured g c =
+    let puts = g.S.Shelf.puts in
+    let flushes = g.S.Shelf.flushes in
+    puts_then (puts c.args.shelf.now) (puts c.loop-index.shelf) (puts c.put_new.new.shelf) (flushes c.args.shelf.now)
+    (flushes c.loop-index.shelf) (flushes c.put_new.new.shelf) c.loop-index.invariant.secured
+    c.in_err-put_new.ensures.secured
+
+pub returns-clause-secured : goal.returns-clause-secured
+returns-clause-secured g c =
+    let puts = g.S.Shelf.puts in
+    let flushes = g.S.Shelf.flushes in
+    puts_then (puts c.args.shelf.now) (puts c.loop-index.shelf) (puts c.put_new-2.new.shelf) (flushes c.args.shelf.now)
+    (flushes c.loop-index.shelf) (flushes c.put_new-2.new.shelf) c.loop-index.invariant.secured
+    c.put_new-2.ensures.secured

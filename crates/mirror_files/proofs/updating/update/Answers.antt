@@ -4,6 +4,7 @@ use Rattle.mirror_trees.proofs.ServedParts.{list_of}
 use Rattle.mirror_files.specs.declared.export_fault.UpdateFault.{UpdateFault}
 use Rattle.mirror_files.specs.declared.export_fault.UpdateFault.TheVariants.{NothingComplete}
 use Rattle.mirror_files.specs.Beginnings.{UpdatesTop}
+use Rattle.mirror_folders.proofs.Securing.{puts_none}
 use Rattle.mirror_files.proofs.Exported.{same_recorded}
 use Rattle.mirror_files.proofs.Updated.{not_nothing, updates_of}
 use Rattle.mirror_files.proofs.UpdateWhole.{nothing_whole, stays_whole}
@@ -17,6 +18,8 @@ returns-in_default g c =
       nothing = (λ _. c.in_default.ensures.none, λ _. refl);
       whole = nothing_whole g.H.TreeHash.digest c.args.mirror.now.view c.in_default.ensures.none
           (g.S.Shelf.puts c.args.shelf.now) (g.S.Shelf.puts c.args.shelf.now) (Err NothingComplete) kept;
+      flushed = puts_none (g.S.Shelf.puts c.args.shelf.now) (g.S.Shelf.puts c.args.shelf.now)
+          (g.S.Shelf.flushes c.args.shelf.now) (g.S.Shelf.flushes c.args.shelf.now) kept refl;
       blamed = refl;
     }
 
@@ -39,5 +42,6 @@ returns g c =
         λ nothing. absurd (not_nothing digest v top is nothing),
       );
       whole = stays_whole digest v top is (puts c.args.shelf.now) (puts c.update_to.new.shelf) c.update_to.result recorded;
+      flushed = c.update_to.ensures.flushed;
       blamed = c.update_to.ensures.counted;
     }

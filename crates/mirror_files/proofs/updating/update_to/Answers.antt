@@ -1,8 +1,10 @@
-use Rattle.std.proofs.Common.{ℕ, List, Some, sym, ap, subst, ◌∙◌}
+use Rattle.std.proofs.Common.{ℕ, List, Some, inr, sym, ap, subst, ◌∙◌}
 use Rattle.std.specs.Prelude.{option_map}
 use Rattle.std.proofs.lemmas.Bool.{false≢true}
 use Rattle.std.proofs.lemmas.Result.{err_from_is_err_and}
 use Rattle.mirror_files.specs.Beginnings.{PutsLast}
+use Rattle.mirror_folders.proofs.Securing.{puts_none, puts_then}
+use Rattle.mirror_files.proofs.Flushing.{update_last}
 use Rattle.mirror_files.proofs.Updated.{count_of, not_counted, top_goes_on}
 use Rattle.mirror_files.proofs.UpdateSteps.{cut_off, last_put, no_since, not_read}
 use Rattle.mirror_files.proofs.updating.update_to.Goals as goal
@@ -17,6 +19,8 @@ returns-in_err-found g c =
     rw (p.1, p.2) record {
       recorded = λ entries is. not_read g.H.TreeHash.digest c.args.top.now c.args.origin.now entries (Unit {0})
           (puts c.args.shelf.now) (puts c.read.new.self) e c.in_err-found.ensures.same;
+      flushed = puts_none (puts c.args.shelf.now) (puts c.read.new.self) (g.S.Shelf.flushes c.args.shelf.now)
+          (g.S.Shelf.flushes c.read.new.self) c.in_err-found.ensures.same c.in_err-found.ensures.still;
       counted = count_of (Unit {0}) (failed c.args.shelf.now) (failed c.read.new.self) e c.in_err-found.ensures.counted;
     }
 
@@ -31,6 +35,8 @@ returns-in_err-since g c =
     rw (p.1, p.2) record {
       recorded = λ entries is. no_since digest c.args.top.now c.args.origin.now entries (Unit {0}) (puts c.args.shelf.now)
           (puts c.read.new.self) _ fault c.in_ok-found.ensures.same c.in_ok-found.ensures.answer c.in_err-since.ensures;
+      flushed = puts_none (puts c.args.shelf.now) (puts c.read.new.self) (g.S.Shelf.flushes c.args.shelf.now)
+          (g.S.Shelf.flushes c.read.new.self) c.in_ok-found.ensures.same c.in_ok-found.ensures.still;
       counted = not_counted digest (Unit {0}) c.args.top.now c.args.origin.now _ (failed c.args.shelf.now)
           (failed c.read.new.self) fault c.in_err-since.ensures c.in_ok-found.ensures.counted;
     }
@@ -68,3 +74,30 @@ returns-clause-recorded g c =
     (c.in_ok-put_parts.ensures.recorded entries is)
     (subst (λ (l : List ℕ). PutsLast (puts c.put_parts.new.shelf) (puts c.put_last.new.shelf) found l c.put_last.result)
     note c.put_last.ensures.puts)
+
+-- ---- the files to flush
+
+pub returns-then-is_found-clause-flushed : goal.returns-then-is_found-clause-flushed
+returns-then-is_found-clause-flushed g c = inr c.in_ok-found.ensures.same
+
+pub returns-in_err-put_parts-clause-flushed : goal.returns-in_err-put_parts-clause-flushed
+returns-in_err-put_parts-clause-flushed g c =
+    let puts = g.S.Shelf.puts in
+    let flushes = g.S.Shelf.flushes in
+    let p = err_from_is_err_and c.from_residual-in_err-put_parts.result c.from_residual-in_err-put_parts.ensures.1 in
+    rw p.1 (puts_then (puts c.args.shelf.now) (puts c.read.new.self) (puts c.put_parts.new.shelf) (flushes c.args.shelf.now)
+    (flushes c.read.new.self) (flushes c.put_parts.new.shelf)
+    (puts_none (puts c.args.shelf.now) (puts c.read.new.self) (flushes c.args.shelf.now) (flushes c.read.new.self)
+    c.in_ok-found.ensures.same c.in_ok-found.ensures.still) c.in_err-put_parts.ensures.secured)
+
+pub returns-clause-flushed : goal.returns-clause-flushed
+returns-clause-flushed g c =
+    let puts = g.S.Shelf.puts in
+    let flushes = g.S.Shelf.flushes in
+    update_last (puts c.args.shelf.now) (puts c.put_parts.new.shelf) (puts c.put_last.new.shelf) (flushes c.args.shelf.now)
+    (flushes c.put_parts.new.shelf) (flushes c.put_last.new.shelf)
+    (puts_then (puts c.args.shelf.now) (puts c.read.new.self) (puts c.put_parts.new.shelf) (flushes c.args.shelf.now)
+    (flushes c.read.new.self) (flushes c.put_parts.new.shelf)
+    (puts_none (puts c.args.shelf.now) (puts c.read.new.self) (flushes c.args.shelf.now) (flushes c.read.new.self)
+    c.in_ok-found.ensures.same c.in_ok-found.ensures.still) c.in_ok-put_parts.ensures.secured)
+    (option_map (λ v. v.items) c.in_ok-found.found) _ c.put_last.result c.put_last.ensures.puts c.put_last.ensures.flushed

@@ -1,12 +1,11 @@
 use Rattle.std.proofs.Common.{◌≡◌, option_map, refl}
 use Rattle.std.proofs.KnownBytes.{Keeps-refl}
 use Rattle.program_copies.specs.Following.{IsNoteOf}
-use Rattle.program_copies.specs.declared.follow_fault.FollowRunFault.TheVariants as run
-use Rattle.program_copies.proofs.Noted.{ends_so, ends_recorded, follows_ended, follows_recorded, given_recorded, note_had, recorded_counts, says_printed, suffices_ended, suffices_recorded}
+use Rattle.program_copies.proofs.Noted.{ends_so, ends_recorded, follows_ended, follows_recorded, given_recorded, note_had, recorded_counts, says_printed, suffices_recorded}
 use Rattle.program_copies.proofs.following.follow_open.Goals as goal
 
 pub returns-in-Ok : goal.returns-in-Ok
-returns-in-Ok g c =
+returns-in-Ok g c = λ before.
     let digest = g.H.TreeHash.digest in
     let may = g.S.Source.may_answer in
     let recorded = g.F.NamedFiles.puts c.args.files.now in
@@ -17,9 +16,10 @@ returns-in-Ok g c =
     let tells = c.report_done.ensures.tells in
     record {
       follows = follows_recorded _ _ _ _ (IsNoteOf may recorded name c.args.places.now)
-          (note_had may recorded name c.args.places.now given c.requires) _ _ _ _ _ _ _ _ done c.report_done.result
+          (note_had may recorded name c.args.places.now given c.requires) _ before _ _ _ _ _ _ done c.report_done.result
           (record { whole = said.whole; brought = said.brought; forks = said.forks }) tells;
-      says = says_printed _ _ _ _ _ _ _ _ given _ _ _ done _ _ _ _ c.requires said.says c.report_done.result tells;
+      says = says_printed digest _ _ may g.S.Source.failed g.S.Source.asked c.args.places.now c.follow_reporting.new.places _ _ given
+          _ _ _ done _ _ _ _ c.requires said.says said.tells c.report_done.result tells;
       ends = ends_recorded digest may _ _ _ c.args.places.now c.follow_reporting.new.places _ _ given c.requires _ done _ _ _ _
           c.report_done.result tells;
       given = given_recorded _ _ given c.requires _ _ _ done _ _ _ _ c.report_done.result tells;
@@ -31,7 +31,7 @@ returns-in-Ok g c =
     }
 
 pub returns-in-Err : goal.returns-in-Err
-returns-in-Err g c =
+returns-in-Err g c = λ before.
     let digest = g.H.TreeHash.digest in
     let may = g.S.Source.may_answer in
     let recorded = g.F.NamedFiles.puts c.args.files.now in
@@ -41,7 +41,7 @@ returns-in-Err g c =
     let said = c.in-Err.ensures in
     record {
       follows = follows_ended _ _ _ _ (IsNoteOf may recorded name c.args.places.now)
-          (note_had may recorded name c.args.places.now given c.requires) _ _ _ _ _ _ _ _ (run.Follow fault) said.whole
+          (note_had may recorded name c.args.places.now given c.requires) _ before _ _ _ _ _ _ fault said.whole
           (Keeps-refl (g.W.Write.contents c.args.output.now)) refl;
       says = tt;
       ends = λ other e.
@@ -51,6 +51,5 @@ returns-in-Err g c =
       given = (given, c.requires);
       counted = said.counted;
       status = tt;
-      suffices = suffices_ended digest may _ _ _ _ c.args.places.now c.follow_reporting.new.places _ _ _ _ given c.requires
-          (run.Follow fault) said.suffices said.reaches;
+      suffices = record { given = given; reads = c.requires; suffices = said.suffices; reaches = said.reaches };
     }

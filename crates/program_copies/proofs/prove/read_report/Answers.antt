@@ -25,5 +25,5 @@ returns-clause-report g c = record {
 
 pub returns-in_err-text-clause-damage : goal.returns-in_err-text-clause-damage
 returns-in_err-text-clause-damage g c =
-    damage_exit (NamesProofDamage g.H.TreeHash.digest (g.D.Shelf.puts c.args.shelf.now) c.args.reader.now.edge)
+    damage_exit (NamesProofDamage g.H.TreeHash.digest (g.D.Shelf.puts c.args.shelf.now) c.args.reader.now.edge c.args.ask)
     c.from_residual.result c.in_err-text.field-0.0 c.from_residual.ensures c.in_err-text.ensures.damage

@@ -8,7 +8,7 @@ pub returns-in-Err-clause-answer : goal.returns-in-Err-clause-answer
 returns-in-Err-clause-answer g c = record {
   refused = c.in-Err.ensures.answer;
   named = opened_under_proof g.H.TreeHash.digest c.args.origin.now _
-      (g.D.NamedFolders.held c.args.folders.now c.args.folder.now) c.in-Err.fault c.in-Err.ensures.damage;
+      (g.D.NamedFolders.held c.args.folders.now c.args.folder.now) c.args.ask c.in-Err.fault c.in-Err.ensures.damage;
 }
 
 pub returns-clause-answer : goal.returns-clause-answer

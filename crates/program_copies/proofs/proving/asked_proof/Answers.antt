@@ -36,9 +36,9 @@ returns-clause-given g c = record {
 
 pub returns-in_err-opened-clause-damage : goal.returns-in_err-opened-clause-damage
 returns-in_err-opened-clause-damage g c =
-    damage_exit (NamesProof g.H.TreeHash.digest (g.D.Shelf.puts c.args.shelf.now) c.args.size c.args.root.now)
+    damage_exit (NamesProof g.H.TreeHash.digest (g.D.Shelf.puts c.args.shelf.now) c.args.ask c.args.size c.args.root.now)
     c.from_residual.result c.in_err-opened.field-0.0 c.from_residual.ensures
-    (opened_names_proof g.H.TreeHash.digest c.args.size c.args.root.now (g.D.Shelf.puts c.args.shelf.now)
+    (opened_names_proof g.H.TreeHash.digest c.args.size c.args.root.now (g.D.Shelf.puts c.args.shelf.now) c.args.ask
     c.in_err-opened.field-0.0 c.in_err-opened.ensures.damage)
 
 pub returns-in_err-text-clause-damage : goal.returns-in_err-text-clause-damage
@@ -50,9 +50,9 @@ returns-in_err-text-clause-damage g c =
       size_is = c.in_ok-opened.ensures.size;
       leads = c.root-root.ensures.leads ∙ c.in_ok-opened.ensures.root;
     } in
-    damage_exit (NamesProof digest (g.D.Shelf.puts c.args.shelf.now) c.args.size c.args.root.now)
+    damage_exit (NamesProof digest (g.D.Shelf.puts c.args.shelf.now) c.args.ask c.args.size c.args.root.now)
     c.from_residual-in_err-text.result c.in_err-text.field-0.0 c.from_residual-in_err-text.ensures
     (proof_names_before digest c.args.size c.args.root.now (g.D.Shelf.puts c.args.shelf.now) after c.in_ok-opened.ensures.same
-    c.in_err-text.field-0.0
-    (proof_names digest c.args.size c.args.root.now after c.in_ok-opened.opened.edge to c.in_err-text.field-0.0
+    c.args.ask c.in_err-text.field-0.0
+    (proof_names digest c.args.size c.args.root.now after c.args.ask c.in_ok-opened.opened.edge to c.in_err-text.field-0.0
     c.in_err-text.ensures.damage))

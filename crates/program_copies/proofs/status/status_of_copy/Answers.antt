@@ -40,5 +40,5 @@ returns-in-Ok-read_end-clause-answer g c =
     reports_read digest c.args.origin.now _ held reader c.size.result c.root.result c.report_of-in-Ok-read_end.result
     c.size.ensures c.root.ensures.root
     (opened_checkpoint digest _ _ held c.in-Ok.opened reader c.in-Ok.ensures.answer c.in-Some.is)
-    (read_at_end digest held c.in-Ok.opened reader c.in-Ok.ensures.given c.in-Some.is c.root.ensures.hashes c.root.ensures.leads
+    (read_at_end digest held (g.D.Shelf.puts c.open_copy.new.folders) c.in-Ok.ensures.opened c.in-Ok.opened reader c.in-Ok.ensures.given c.in-Some.is c.root.ensures.hashes c.root.ensures.leads
     c.in-Ok-read_end.ensures.end) c.report_of-in-Ok-read_end.ensures.report c.report_of-in-Ok-read_end.ensures.fault

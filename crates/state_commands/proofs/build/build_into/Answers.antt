@@ -1,5 +1,5 @@
 use Rattle.std.proofs.Common.{map, sym, ◌∙◌}
-use Rattle.state_commands.specs.Answers.{done, failed}
+use Rattle.program_io.specs.Performing.{done, failed}
 use Rattle.state_commands.proofs.Built.{built}
 use Rattle.state_commands.proofs.build.build_into.Goals as goal
 

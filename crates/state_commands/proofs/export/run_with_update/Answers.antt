@@ -1,5 +1,5 @@
 use Rattle.std.proofs.Common.{inl, refl}
-use Rattle.state_commands.specs.declared.fault.StateRunFault.TheVariants.{Update}
+use Rattle.state_commands.specs.declared.fault.StateRunFault.TheVariants.{Export}
 use Rattle.program_io.proofs.Performing.{performs_done, performs_failed}
 use Rattle.program_io.proofs.Written.{keeps_itself}
 use Rattle.state_commands.proofs.export.run_with_update.Goals as goal
@@ -10,5 +10,5 @@ returns-in-Ok-clause-does g c =
 
 pub returns-in-Err-clause-does : goal.returns-in-Err-clause-does
 returns-in-Err-clause-does g c =
-    performs_failed _ _ _ _ _ _ _ _ refl (Update c.in-Err.fault) _ c.new.ensures (keeps_itself _)
+    performs_failed _ _ _ _ _ _ _ _ refl (Export c.in-Err.fault) _ c.new.ensures (keeps_itself _)
     (c.in-Err.ensures, keeps_itself _)

@@ -8,7 +8,7 @@ returns-clause-asks g c =
     asks_well g.S.Source.may_answer g.S.Source.failed g.S.Source.asked (λ p. ⊥) c.args.self.now _ c.args.index
     c.index_mut.result.now c.note_wrong.new.self c.requires refl refl refl c.index_mut.ensures.value
     (asked_noted g.S.Source.may_answer g.S.Source.failed g.S.Source.asked (λ p. ⊥) c.index_mut.result.now c.note_wrong.new.self
-    c.args.path.now c.args.wrong c.note_wrong.ensures.source c.note_wrong.ensures.failures c.note_wrong.ensures.wrong)
+    c.args.path.now c.args.wrong c.args.self.now.tried c.note_wrong.ensures.source c.note_wrong.ensures.failures c.note_wrong.ensures.wrong)
     c.note_wrong.ensures.failures
 
 pub returns-clause-more : goal.returns-clause-more

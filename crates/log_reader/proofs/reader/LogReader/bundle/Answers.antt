@@ -1,4 +1,4 @@
-use Rattle.std.proofs.Common.{◌≡◌, ◌*◌, ◌/◌, ◌%◌, ◌<◌, ◌≤◌, ℕ, Global, Vec, [], ap, arith, get_or, length, refl, subst, sym, ◌∙◌}
+use Rattle.std.proofs.Common.{◌≡◌, ◌*◌, ◌/◌, ◌%◌, ◌<◌, ◌≤◌, ℕ, Global, Vec, [], ap, arith, get_or, inl, length, refl, subst, sym, ◌∙◌}
 use Rattle.std.proofs.lemmas.List.{get_or_read_under}
 use Rattle.tlog_shape.specs.Edge.{edge_index_of, width_of}
 use Rattle.tlog_hash.specs.Rows.{level_row}
@@ -17,8 +17,39 @@ use Rattle.log_reader.specs.Ways.{HasEdgeHashes}
 use Rattle.log_reader.proofs.Climbing.{shown_there}
 use Rattle.log_reader.proofs.FalseFiles.{bundle_named, end_named, names_before, names_exit, shown_below}
 use Rattle.log_reader.specs.FalseFiles.{NamesFalse}
-use Rattle.std.proofs.lemmas.Result.{IfErr-weaker}
+use Rattle.std.proofs.lemmas.Result.{IfErr-weaker, IfOk-weaker}
+use Rattle.log_reader.specs.Parts.{IsPartGiven}
+use Rattle.tlog_tiles.specs.declared.paths.Path.TheVariants.{Entries}
+use Rattle.log_reader.proofs.Parts.{bundle_before}
 use Rattle.log_reader.proofs.reader.LogReader.bundle.Goals as goal
+
+pub returns-then-index-edge_index-clause-given : goal.returns-then-index-edge_index-clause-given
+returns-then-index-edge_index-clause-given g c =
+    let may = g.S.Source.may_answer c.args.source.now in
+    let edge = c.args.self.now.edge in
+    let index = c.args.index in
+    let row = c.row.result.now in
+    let at : index ≡ edge_index_of edge.size 0 =
+    c.if-index-edge_index.true ∙ (c.edge_index.ensures ∙ ap (λ m. edge_index_of m 0) c.size.ensures) in
+    let is : row ≡ row_at edge 0 = c.row.ensures ∙ ap (λ e. row_at e 0) (c.rows.ensures ∙ c.edge.ensures.edge) in
+    let wide : length row ≡ row_width edge.size 0 index =
+    ap length is ∙ ((c.edge.ensures.hashes 0 (omega arith)).count
+    ∙ (sym (width_at_edge edge.size 0) ∙ ap (row_width edge.size 0) (sym at))) in
+    IfOk-weaker c.read_end.result _ _
+    (λ bytes h. subst (λ w. IsPartGiven may (Entries index w) bytes.items) wide h) c.read_end.ensures.given
+
+pub returns-in-Some-clause-given : goal.returns-in-Some-clause-given
+returns-in-Some-clause-given g c =
+    let may = g.S.Source.may_answer in
+    let n = c.args.self.now.edge.size in
+    let index = c.args.index in
+    let end : c.edge_index.result ≡ edge_index_of n 0 =
+    c.edge_index.ensures ∙ ap (λ m. edge_index_of m 0) c.size.ensures in
+    let before : index < edge_index_of n 0 = omega (arith, end, c.requires, c.if-index-edge_index.false) in
+    IfOk-weaker c.read_full.result _ _
+    (λ bytes h. subst (λ w. IsPartGiven (may c.args.source.now) (Entries index w) bytes.items) (sym (width_full n 0 index before))
+    (bundle_before (may c.args.source.now) (may c.go_to.new.source) c.in_ok-go_to.ensures.later index 256 bytes.items (inl h)))
+    c.read_full.ensures.given
 
 pub returns-then-index-edge_index-clause-honest : goal.returns-then-index-edge_index-clause-honest
 returns-then-index-edge_index-clause-honest g c = λ entries r s.
@@ -51,6 +82,7 @@ returns-in_err-go_to g c =
       edge = step.edge;
       root = step.root;
       shown = IfOk-from_err exit.result _ exit.ensures.0;
+      given = IfOk-from_err exit.result _ exit.ensures.0;
       later = step.later;
       kept = step.kept;
       counted = counted_exit exit.result c.go_to.result c.in_err-go_to.field-0.0 exit.ensures c.in_err-go_to.was
@@ -122,6 +154,7 @@ returns-in-None g c = record {
   edge = c.in_ok-go_to.ensures.edge;
   root = c.in_ok-go_to.ensures.root;
   shown = tt;
+  given = tt;
   later = c.in_ok-go_to.ensures.later;
   kept = c.in_ok-go_to.ensures.kept;
   counted = c.in_ok-go_to.ensures.counted;

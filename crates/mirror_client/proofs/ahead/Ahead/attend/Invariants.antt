@@ -1,6 +1,6 @@
 use Rattle.std.proofs.Common.{◌≡◌}
 use Rattle.mirror_client.proofs.ahead.Ahead.attend.Given as goal
 
--- the greatest number of requests and the path stay
+-- the greatest number of requests stays, and the stream
 abbrev pub invariant-loop : goal.invariant-loop
-invariant-loop g l = (l.self.most ≡ l.fn.self.most) × (l.one.path ≡ l.fn.one.path)
+invariant-loop g l = (l.self.most ≡ l.fn.self.most) × (l.stream ≡ l.fn.stream)

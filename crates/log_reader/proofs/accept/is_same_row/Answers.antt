@@ -1,5 +1,0 @@
-use Rattle.std.proofs.lemmas.Slice.Eq.{bytes_eq-Decides, slice_eq-Decides}
-use Rattle.log_reader.proofs.accept.is_same_row.Goals as goal
-
-pub returns : goal.returns
-returns c = slice_eq-Decides bytes_eq-Decides c.args.first.now c.args.second.now c.eq.result c.eq.ensures
