@@ -5,6 +5,7 @@ pub mod EndTiles
 pub mod GivenFrom
 pub mod Giving
 pub mod FoundRows
+pub mod Hints
 pub mod InVain
 pub mod KeptRows
 pub mod ShelfRows

@@ -1,5 +1,6 @@
 //! Files that will be requested soon.
-ghost use Rattle.std.specs.Prelude.{◌≤◌};
+ghost use Rattle.std.specs.Prelude.{◌≤◌, All, IfOk, OnOk};
+ghost use Rattle.copy_places.specs.Hints.{IsHinted};
 ghost use Rattle.copy_places.specs.PlaceGets.{AsksPlaces};
 
 use crate::places::Places;
@@ -14,6 +15,7 @@ const MOST_AHEAD: u64 = 64;
 // made from bundles, and not requested.
 fn push_tiles(paths: &mut Vec<Path>, index: u64, bundles: u64) -> Result<(), AllocError>
     requires { index ≤ bundles }
+    ensures { OnOk result (All IsHinted paths.old.items → All IsHinted paths.new.items) }
 {
     for done in 0..6u32 {
         let level = 6 - done;
@@ -30,7 +32,9 @@ fn push_tiles(paths: &mut Vec<Path>, index: u64, bundles: u64) -> Result<(), All
 }
 
 // The paths that are requested from that bundle on, in order, with 64 bundles at most. The tree has `bundles` full bundles.
-fn paths_from(alloc: Global, first: u64, bundles: u64) -> Result<Vec<Path>, AllocError> {
+fn paths_from(alloc: Global, first: u64, bundles: u64) -> Result<Vec<Path>, AllocError>
+    ensures { IfOk result (λ paths. All IsHinted paths.items) }
+{
     let mut paths = Vec::new(alloc);
     for index in first..bundles.min(first.saturating_add(MOST_AHEAD)) {
         paths.push(Path::Entries { index, width: 256 })?;

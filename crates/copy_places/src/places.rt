@@ -15,8 +15,9 @@ use tlog_tiles::Path;
 
 /// The places of a run, in the order in which they were added. What was learnt about them is kept from call to call.
 ///
-/// The place whose bytes verified last is asked first, then the others in order. Before it comes a place at which nothing was wrong, if
-/// that answers more than twice as fast. A place that failed 8 times in the run is not asked again.
+/// The place whose bytes verified last is asked first, then the others in order. Until bytes verified, that is the first place at which
+/// nothing was wrong. Before it comes a place at which nothing was wrong, if that answers more than twice as fast. A place that failed 8
+/// times in the run is not asked again.
 ///
 /// ```text
 /// let mut places = Places::new(alloc);
@@ -27,7 +28,7 @@ use tlog_tiles::Path;
 #[derive(Drop)]
 pub struct Places<S: Source + Drop> {
     list: Vec<Place<S>>,
-    verified_last: usize,
+    verified_last: Option<usize>,
     has_failed: bool,
     lacked: Option<Path>,
     first_lacked: Option<Path>,
@@ -43,7 +44,7 @@ impl<S: Source + Drop> Places<S> {
     {
         Places {
             list: Vec::new(alloc),
-            verified_last: 0,
+            verified_last: None,
             has_failed: false,
             lacked: None,
             first_lacked: None,
@@ -184,11 +185,26 @@ impl<S: Source + Drop> Places<S> {
         self.list.len()
     }
 
-    /// The place that is asked first: its bytes verified last, or nothing was wrong at it and it answers more than twice as fast.
+    // The first place at which nothing was wrong. If there is none, the first one.
+    fn first_right(&self) -> usize {
+        for (i, place) in self.list.iter().enumerate() {
+            if place.first_wrong().is_none() {
+                return i;
+            }
+        }
+        0
+    }
+
+    /// The place that is asked first: its bytes verified last, or nothing was wrong at it and it answers more than twice as fast. Until bytes
+    /// verified it is the first place at which nothing was wrong, so a silent place that is named first costs one wait.
     pub(crate) fn first(&self) -> usize
         ensures { 0 < length self.now.list.items → result < length self.now.list.items }
     {
-        let Some(last) = self.list.get(self.verified_last) else {
+        let index = match self.verified_last {
+            Some(index) => index,
+            None => self.first_right(),
+        };
+        let Some(last) = self.list.get(index) else {
             return 0;
         };
         for (i, place) in self.list.iter().enumerate() {
@@ -196,7 +212,7 @@ impl<S: Source + Drop> Places<S> {
                 return i;
             }
         }
-        self.verified_last
+        index
     }
 
     /// Begins a call: no place has failed in it yet, and no file is lacked.
@@ -239,7 +255,7 @@ impl<S: Source + Drop> Places<S> {
     pub(crate) fn note_verified(&mut self, index: usize)
         ensures { AsksPlaces S.may_answer S.failed S.asked (λ p. ⊥) self.old self.new }
     {
-        self.verified_last = index;
+        self.verified_last = Some(index);
     }
 
     /// Records that a file of a place was wrong. The place keeps the first such record only.
