@@ -20,7 +20,8 @@ pub(crate) fn folder_of(path: &str) -> &str {
 // Flushes a folder and all folders above it that its name contains, if the system allows it: the one below may be new there.
 pub(crate) fn flush_above<R: Files>(files: &R, folder: &str) {
     let mut above = folder;
-    for _ in 0..folder.len() {
+    // (a relative name is in the folder `.` besides)
+    for _ in 0..folder.len().saturating_add(1) {
         let _flushed = flush_name(files, above);
         let next = folder_of(above);
         if next == above {
