@@ -1,7 +1,8 @@
 //! Requests that are sent ahead, before their replies are needed.
-ghost use Rattle.std.specs.Prelude.{[], ◌≡◌, ◌<◌, ◌≤◌, ◌/◌, Contains, IfOk, IfSome, length, OnOk, option_map, slice_index_or, take, vec_len};
+ghost use Rattle.std.specs.Prelude.{[], ◌≡◌, ◌<◌, ◌≤◌, ◌+◌, ◌/◌, Contains, IfOk, IfSome, length, OnOk, option_map, slice_index_or, take, vec_len};
 ghost use Rattle.std.specs.Io.KnownBytes.{Appends, Consumes};
 ghost use Rattle.mirror_client.specs.Request.{request_text};
+ghost use Rattle.mirror_client.specs.Tempo.{IsAfterGood, IsSlowed, spent_by};
 ghost use Rattle.mirror_client.specs.declared.limits.TheConstants.{MOST_TAKEN};
 ghost use Rattle.mirror_sources.specs.Source.{IsShortAnswer};
 
@@ -410,11 +411,13 @@ impl<S: Read + Write + Drop> Ahead<S> {
         self.room = self.fair;
     }
 
-    /// A good reply. If the pace rises though no request had to wait for it, one more may be out.
-    pub(crate) fn answered(&mut self)
-        ensures { self.new.most ≡ self.old.most }
+    /// A good reply. If the pace rises though it mostly held up no request, one more may be out.
+    pub(crate) fn answered<D: Dial<Stream = S>>(&mut self, dial: &mut D)
+        ensures most { self.new.most ≡ self.old.most }
+        ensures fair { self.new.fair ≤ self.old.fair + 1 }
+        ensures pace { IsAfterGood self.new.tempo.good self.old.tempo.interval self.new.tempo.interval }
     {
-        if self.tempo.answered() && self.fair < self.most {
+        if self.tempo.answered(micros(dial.now())) && self.fair < self.most {
             self.fair += 1;
             self.room = self.fair;
         }
@@ -425,6 +428,9 @@ impl<S: Read + Write + Drop> Ahead<S> {
         ensures most { self.new.most ≡ self.old.most }
         ensures half { self.new.fair ≡ self.old.fair / 2 }
         ensures room { self.new.room ≤ self.new.fair }
+        ensures pace { (now : _) × IsSlowed self.old.tempo.good
+            (spent_by self.old.tempo.spent self.old.tempo.last now)
+            self.old.tempo.interval self.new.tempo.interval }
     {
         self.tempo.refused(micros(dial.now()));
         self.halve();
@@ -436,6 +442,7 @@ impl<S: Read + Write + Drop> Ahead<S> {
         ensures most { self.new.most ≡ self.old.most }
         ensures half { self.new.fair ≡ self.old.fair / 2 }
         ensures room { self.new.room ≤ self.new.fair }
+        ensures tempo { self.new.tempo ≡ self.old.tempo }
     {
         self.fair /= 2;
         self.room = self.room.min(self.fair);

@@ -40,8 +40,10 @@ use tlog_tiles::Path;
 /// A server that answers with the status 429 or 503 is busy. The source then waits for the seconds that `Retry-After`
 /// names (at least 1), or else for 1, 2, 4, 8, 16, 30, 30 and so on, where a good reply begins anew, and asks again.
 /// All waits together take at most `Pace::wait` seconds; if the next one would go beyond them, the get fails. After a
-/// refusal half as many requests are out, and requests are sent at the rate that was answered before. It rises by a
-/// twentieth after 64 good replies.
+/// refusal half as many requests are out, and requests are sent at the rate that was answered before: of the good replies
+/// since the refusal that set it, in the time for them, where a second counts at most from one reply to the next. If fewer
+/// than 16 were good, the rate stays, and they count for the next one. It rises by a twentieth after 64 good replies; if
+/// it mostly held up no request in the meantime, one more may be out.
 ///
 /// The other end decides the answer: contracts only say that it has at most 16,785,664 bytes. `Failed` if a connection,
 /// a write or a read fails, if the reply has more bytes, if `read_reply` refuses it, or if the server stays busy.
@@ -113,7 +115,6 @@ impl<D: Dial + Drop> HttpSource<D> {
         self.ahead.tempo.begin(begin);
         let answer = self.fetch(path);
         let end = micros(self.dial.now());
-        self.ahead.tempo.end(end);
         if answer.is_ok() {
             self.times.keep(end.saturating_sub(begin));
             self.send_next(path);
@@ -170,7 +171,7 @@ impl<D: Dial + Drop> HttpSource<D> {
     {
         if answer.is_ok() {
             self.patience.answered();
-            self.ahead.answered();
+            self.ahead.answered(&mut self.dial);
         }
     }
 

@@ -1,6 +1,6 @@
 //! The pace of requests to a server that was busy.
-ghost use Rattle.std.specs.Prelude.{◌≡◌, ◌≤◌};
-ghost use Rattle.mirror_client.specs.Tempo.{IsSlowed, raised};
+ghost use Rattle.std.specs.Prelude.{◌≡◌, ◌+◌, ◌-◌, ◌^◌, ◌≤◌, min};
+ghost use Rattle.mirror_client.specs.Tempo.{CountsOn, IsAfterGood, IsSlowed, raised, spent_by};
 ghost use Rattle.mirror_client.specs.declared.tempo.TheConstants.{SLOWEST};
 
 /// The number of microseconds whose unused requests may be made up for at once.
@@ -9,8 +9,15 @@ const CREDIT: u64 = 250_000;
 /// The greatest number of microseconds from one request to the next.
 const SLOWEST: u64 = 1_000_000;
 
-/// The greatest number of microseconds between two gets that counts as busy.
+/// The greatest number of microseconds from one reply to the next that counts. A server that names a long wait would be
+/// asked ever more slowly if it counted whole.
+const MOST_COUNTED: u64 = 1_000_000;
+
+/// The greatest number of microseconds before a get that counts as busy.
 const IDLE: u64 = 1_000_000;
+
+/// The number of good replies whose rate counts. The rate of fewer is decided by a single late one.
+const KNOWN: u64 = 16;
 
 /// The number of good replies after which the rate rises.
 const ENOUGH: u64 = 64;
@@ -24,22 +31,29 @@ pub(crate) struct Tempo {
     pub(crate) interval: u64,
     // The time of the next request.
     next: u64,
-    // The time of the last refusal or, before one, of the start; idle time is left out.
-    since: u64,
-    // The end of the last get.
-    last: u64,
-    // The good replies since the last refusal.
-    good: u64,
-    // Whether a request had its time to wait for since the last rise.
-    held: bool,
+    /// The time of the last reply, or of the end of idle time.
+    pub(crate) last: u64,
+    /// The good replies that count: those since the last refusal with enough of them before it.
+    pub(crate) good: u64,
+    /// The time that was spent on these.
+    pub(crate) spent: u64,
+    // How often the next request had its time to wait for, since the last rise.
+    held: u64,
     ghost slowest: { interval ≤ SLOWEST },
+}
+
+// The time that is spent by now.
+fn counted(spent: u64, last: u64, now: u64) -> u64
+    ensures { result ≡ spent_by spent last now }
+{
+    spent.saturating_add(now.saturating_sub(last).min(MOST_COUNTED))
 }
 
 // The time from one request to the next after a refusal: of the good replies before it, in the time that was spent.
 fn slowed(good: u64, spent: u64, old: u64) -> u64
     ensures { IsSlowed good spent old result }
 {
-    if good == 0 {
+    if good == 0 || (good < KNOWN && old > 0) {
         return old;
     }
     (spent / good).min(SLOWEST).max(1)
@@ -59,10 +73,10 @@ impl Tempo {
         Tempo {
             interval: 0,
             next: 0,
-            since: 0,
             last: 0,
             good: 0,
-            held: false,
+            spent: 0,
+            held: 0,
         }
     }
 
@@ -70,17 +84,9 @@ impl Tempo {
     pub(crate) fn begin(&mut self, now: u64)
         ensures { self.new.interval ≡ self.old.interval }
     {
-        let idle = now.saturating_sub(self.last);
-        if idle > IDLE {
-            self.since = self.since.saturating_add(idle);
+        if now.saturating_sub(self.last) > IDLE {
+            self.last = now;
         }
-    }
-
-    /// A get ends now.
-    pub(crate) fn end(&mut self, now: u64)
-        ensures { self.new.interval ≡ self.old.interval }
-    {
-        self.last = now;
     }
 
     /// The time until a request may be sent, 0 for now.
@@ -89,7 +95,7 @@ impl Tempo {
     {
         let delay = self.next.saturating_sub(now);
         if delay > 0 {
-            self.held = true;
+            self.held = self.held.saturating_add(1);
         }
         delay
     }
@@ -102,28 +108,42 @@ impl Tempo {
         self.next = from.saturating_add(self.interval);
     }
 
-    /// A good reply. After each 64 of them the rate rises by a twentieth. Returns whether it rose though no request had
-    /// to wait: then more requests may be out.
-    pub(crate) fn answered(&mut self) -> bool {
+    /// A good reply now. After each 64 of them the rate rises by a twentieth. Returns whether it rose though the next
+    /// request mostly had no time to wait for: then more requests may be out.
+    pub(crate) fn answered(&mut self, now: u64) -> bool
+        ensures last { self.new.last ≡ now }
+        ensures spent { self.new.spent ≡ spent_by self.old.spent self.old.last now }
+        ensures good { self.new.good ≡ min (self.old.good + 1) (2 ^ 64 - 1) }
+        ensures pace { IsAfterGood self.new.good self.old.interval self.new.interval }
+    {
+        self.spent = counted(self.spent, self.last, now);
+        self.last = now;
         self.good = self.good.saturating_add(1);
         if self.good % ENOUGH != 0 {
             return false;
         }
-        let free = !self.held;
-        self.held = false;
+        let free = self.held < ENOUGH / 2;
+        self.held = 0;
         self.interval = quickened(self.interval);
         free
     }
 
     /// A refusal now. From now on requests are sent at the rate that was answered before.
     pub(crate) fn refused(&mut self, now: u64)
-        ensures { (spent : _) × IsSlowed self.old.good spent self.old.interval self.new.interval }
+        ensures last { self.new.last ≡ now }
+        ensures pace { IsSlowed self.old.good (spent_by self.old.spent self.old.last now)
+            self.old.interval self.new.interval }
+        ensures counts { CountsOn self.old.good (spent_by self.old.spent self.old.last now)
+            self.new.good self.new.spent }
     {
-        let spent = now.saturating_sub(self.since);
-        self.interval = slowed(self.good, spent, self.interval);
-        self.since = now;
+        self.spent = counted(self.spent, self.last, now);
+        self.last = now;
         self.next = now;
-        self.good = 0;
-        self.held = false;
+        self.held = 0;
+        self.interval = slowed(self.good, self.spent, self.interval);
+        if self.good >= KNOWN {
+            self.good = 0;
+            self.spent = 0;
+        }
     }
 }
