@@ -21,7 +21,6 @@ pub mod Named
 pub mod Runs
 pub mod RunStanding
 pub mod Blame
-pub mod Renoting
 pub mod Turning
 pub mod Ending
 pub mod Rule
