@@ -31,5 +31,6 @@ pub mod Looking
 pub mod OneHonestRun
 pub mod Told
 pub mod LargerForks
+pub mod CopyForks
 pub mod Looks
 pub mod Exported
