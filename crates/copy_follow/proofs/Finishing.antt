@@ -408,8 +408,8 @@ module _ (digest : List ℕ → List ℕ) (tip : Tip) (edge : Edge) (note : List
 
 -- the answer of the last put is the answer
 pub ends_brought : (digest : List ℕ → List ℕ) (tip : Tip) (edge : Edge) (note : List ℕ) (known : List (List ℕ))
-    (x w v : Option (List Put)) {T E : Type 0} (r : Result T E) → PutsNote w v note r →
+    (x w v : Option (List Put)) {T E : Type 0} (r : Result T E) → PutsNote w v tip.checkpoint note r →
     (AddsToRecord w v ((Checkpoint, note) ∷ []) → IsCopyBrought digest tip edge note known x v) →
     (KeepsRecord w v → IsCutShort digest tip.size known x v) → BringsToEdge digest tip edge note known x v r
-ends_brought digest tip edge note known x w v (Ok a) puts brought cut = brought puts
+ends_brought digest tip edge note known x w v (Ok a) puts brought cut = brought puts.recorded
 ends_brought digest tip edge note known x w v (Err e) puts brought cut = cut puts

@@ -46,6 +46,7 @@ pub mod Ending
 pub mod Shown
 pub mod Turning
 pub mod TurnOrder
+pub mod OfCopy
 pub mod Taken
 pub mod Settled
 pub mod Noted
@@ -57,4 +58,5 @@ pub mod Adding
 pub mod Looked
 pub mod Telling
 pub mod LargerForks
+pub mod CopyForks
 pub mod Looks

@@ -20,7 +20,8 @@ use Rattle.copy_places.proofs.Points.{one_back, one_then}
 use Rattle.copy_follow.specs.Lining.{AddsBeside, AddsEqual, AddsToCopy, AloneAreOne, HasEqual, HasLeft, IsBeside, IsEqualAbove, IsLeastOrIn}
 use Rattle.copy_follow.specs.Rule.{ExceedsCopy, HasLine, IsEqualLine, IsLeastOf, IsLeft, copy_point, larger_cmp}
 use Rattle.copy_follow.specs.TurnsTaken.{IsLargerThan, IsLineUpTo, IsNextOf, IsRepeat}
-use Rattle.copy_follow.proofs.Taken.{all_added, in_some_line, within_added}
+use Rattle.copy_follow.proofs.OfCopy.{all_added, of_added}
+use Rattle.copy_follow.proofs.Taken.{in_some_line, within_added}
 use Rattle.copy_follow.proofs.TurnOrder.{again, next_of, root_first, root_tied, tied_size}
 
 pub itself : (c : Candidate) → IsSame c c
@@ -56,6 +57,7 @@ beside_none held c lines so = record {
   each = All-cons (IsBeside held lines) c [] so (All-nil (IsBeside held lines));
   within = λ all. all;
   lines = λ first candidates known listed l. l;
+  of_copy = λ first candidates listed all. all;
 }
 
 pub beside_added : {T E : Type 0} (r : Result T E) (held c : Candidate) (old new : List ForkLine) →
@@ -71,6 +73,8 @@ beside_added (Ok t) held c old new size apart shows kept has adds = record {
   lines = λ first candidates known listed l.
       lines_added first candidates held c old new adds (λ one. apart one.1) known
       (All-head (IsListed candidates) c [] listed) l;
+  of_copy = λ first candidates listed all.
+      of_added first candidates held c old new adds (λ one. apart one.1) (All-head (IsListed candidates) c [] listed) all;
 }
 beside_added (Err e) held c old new size apart shows kept has adds = tt
 
@@ -82,6 +86,7 @@ beside_first held lines = record {
   each = All-nil (IsBeside held lines);
   within = λ all. all;
   lines = λ first candidates known listed l. l;
+  of_copy = λ first candidates listed all. all;
 }
 
 pub beside_then : (held : Candidate) (cs : List Candidate) (i : ℕ) (x : Candidate) (old mid new : List ForkLine) →
@@ -112,6 +117,9 @@ beside_then held cs i x old mid new lt is p q =
       lines = λ first candidates known listed l.
           q.lines first candidates known (last candidates (take i cs) listed)
           (p.lines first candidates known (front candidates (take i cs) listed) l);
+      of_copy = λ first candidates listed all.
+          q.of_copy first candidates (last candidates (take i cs) listed)
+          (p.of_copy first candidates (front candidates (take i cs) listed) all);
     }
 
 pub beside_all : (held : Candidate) (cs : List Candidate) (i : ℕ) (old new : List ForkLine) → length cs ≤ i →
@@ -127,6 +135,7 @@ to_copy_some (Ok t) copy held cs old new is h = subst (λ o. AddsToCopy o cs old
   each = h.each;
   within = h.within;
   lines = λ first known l. h.lines first cs known each_listed l;
+  of_copy = λ first all. h.of_copy first cs each_listed all;
 })
   where
     each_listed : All (IsListed cs) cs
@@ -141,6 +150,7 @@ to_copy_none copy cs lines is = subst (λ o. AddsToCopy o cs lines lines) (sym i
   each = λ k d lt. tt;
   within = λ all. all;
   lines = λ first known l. l;
+  of_copy = λ first all. all;
 })
 
 -- ---- candidates of one size above the copy

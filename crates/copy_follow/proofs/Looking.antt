@@ -26,7 +26,7 @@ use Rattle.mirror_sources.specs.Recorded.{KeepsRecord}
 use Rattle.copy_follow.specs.Ending.{EndsAt, EndsRun, IsFirstFault, KeepsFault}
 use Rattle.copy_follow.specs.OneHonestRun.{HasReached, HasSize, IsHonestFirst, IsHonestListed, IsOfShelfOrMemory, TurnsReach}
 use Rattle.copy_follow.specs.RunStanding.{IsCopyOfRun, IsHeadOf}
-use Rattle.copy_follow.specs.TurnsTaken.{HasTaken, HasTakenRun, IsLineUpTo, IsOneOf}
+use Rattle.copy_follow.specs.TurnsTaken.{HasTaken, HasTakenRun, IsLineOfRun, IsLineUpTo, IsOneOf}
 use Rattle.copy_follow.specs.Turning.{IsRunFrom, ShowsTurn}
 use Rattle.copy_follow.specs.declared.follow_fault.FollowFault.{FollowFault}
 use Rattle.copy_follow.specs.declared.follow_fault.FollowFault.TheVariants as fault
@@ -35,6 +35,7 @@ use Rattle.copy_follow.specs.declared.run.Outcome.{Outcome}
 use Rattle.copy_follow.specs.declared.run.Outcome.TheVariants as turn
 use Rattle.copy_follow.proofs.Looked.{known_later}
 use Rattle.copy_follow.proofs.OneHonestRun.{honest_part}
+use Rattle.copy_follow.proofs.OfCopy.{of_added}
 use Rattle.copy_follow.proofs.Taken.{fork_apart, taken_lines, within_added}
 
 -- ---- the lines
@@ -47,6 +48,7 @@ module _ (digest : List ℕ → List ℕ) where
     kept = kept_itself lines;
     within = λ all. all;
     are = λ first cs known listed l. l;
+    of_copy = λ first cs listed all. all;
   }
 
   adds_now : (held c : Candidate) (proof : Option Proof) (old new : List ForkLine) → AreFork digest held c proof →
@@ -60,6 +62,7 @@ module _ (digest : List ℕ → List ℕ) where
         within = λ all. within_added held c old new adds apart all;
         are = λ first cs known listed l.
             lines_added first cs held c old new adds apart known (All-head (IsListed cs) c [] listed) l;
+        of_copy = λ first cs listed all. of_added first cs held c old new adds apart (All-head (IsListed cs) c [] listed) all;
       }
 
   pub adds_then : (held : Candidate) (all : List Candidate) (x : Candidate) (old mid new : List ForkLine) → Contains all x →
@@ -73,6 +76,10 @@ module _ (digest : List ℕ → List ℕ) where
         q.are first cs known
         (All-cons (IsListed cs) x [] (All-contains (IsListed cs) all x listed among) (All-nil (IsListed cs)))
         (p.are first cs known listed l);
+    of_copy = λ first cs listed l.
+        q.of_copy first cs
+        (All-cons (IsListed cs) x [] (All-contains (IsListed cs) all x listed among) (All-nil (IsListed cs)))
+        (p.of_copy first cs listed l);
   }
 
   pub adds_held : {T E : Type 0} (r : Result T E) (copy : Option Candidate) (held : Candidate) (all : List Candidate)
@@ -103,6 +110,7 @@ module _ (digest : List ℕ → List ℕ) where
       taken = subst (λ o. HasTaken digest first done o next.forks.items) (sym copy)
           (taken_lines digest first done run.copy run.forks.items next.forks.items h.taken a.kept (a.within h.taken.within));
       lines = a.are first done (known first done run.copy h.taken.one_of) h.listed h.lines;
+      of_copy = subst (λ o. All (IsLineOfRun first done o) next.forks.items) (sym copy) (a.of_copy first done h.listed h.of_copy);
       listed = subst (All (IsListed done)) (sym lacked) h.listed;
     };
   }

@@ -1,5 +1,5 @@
 -- The note of the copy at the end.
-use Rattle.std.proofs.Common.{◌≡◌, ◌⊎◌, inl, inr, ℕ, List, [], ◌++◌, length, Option, Some, None, Result, Ok, Err, IfOk, ap, sym, subst, ◌∙◌}
+use Rattle.std.proofs.Common.{◌≡◌, ◌⊎◌, inl, inr, ℕ, List, [], ◌++◌, length, All, Option, Some, None, Result, Ok, Err, IfOk, ap, sym, subst, ◌∙◌}
 use Rattle.std.specs.List.Sorted.{IsSorted}
 use Rattle.tlog_hash.specs.Tree.{mth}
 use Rattle.mirror_folders.specs.Shelf.{Put}
@@ -9,7 +9,7 @@ use Rattle.copy_places.specs.Candidates.{note_of, turn_cmp}
 use Rattle.copy_places.specs.Lines.{AreLines, IsListed}
 use Rattle.copy_places.specs.declared.candidate.Candidate.{Candidate}
 use Rattle.copy_places.specs.declared.fork_line.ForkLine.{ForkLine}
-use Rattle.copy_follow.specs.Rule.{copy_point}
+use Rattle.copy_follow.specs.Rule.{IsOfCopy, copy_point}
 use Rattle.copy_follow.specs.Says.{HasLeastInTheEnd, HasLeastNote, IsNoteOfOne, IsNoteUpTo, IsOldNote, IsUpToOld, Says, SettlesEach}
 use Rattle.copy_follow.specs.RunStanding.{HadCopy, IsCopyOfRun, IsCopyRead, IsFoundCopy, PrunedUnder, StandsUnder}
 use Rattle.copy_follow.specs.TurnsTaken.{HasTaken, HasTakenRun, IsGrown, IsOneOf}
@@ -124,10 +124,12 @@ pub says_by : (digest : List ℕ → List ℕ) (origin : List ℕ) (so : List Ca
     HasTakenRun digest first candidates run → SettlesEach digest candidates f) →
     IfOk r (λ f. (digest : List ℕ → List ℕ) (first : Option Candidate) →
     HasTakenRun digest first candidates run → AreLines first candidates f.forks.items) →
+    IfOk r (λ f. (digest : List ℕ → List ℕ) (first : Option Candidate) →
+    HasTakenRun digest first candidates run → All (IsOfCopy first candidates f.copy) f.forks.items) →
     HasTakenRun digest first candidates run → IsFoundCopy origin x first → HadCopy digest origin x first → IsCopyOfRun digest origin x w run.copy →
     so candidates → IsSorted turn_cmp candidates → IfOk r (Says digest origin so x w)
-says_by digest origin so x w first candidates run (Err e) copy settles lines h found had k gathered rising = tt
-says_by digest origin so x w first candidates run (Ok f) copy settles lines h found had k gathered rising = record {
+says_by digest origin so x w first candidates run (Err e) copy settles lines of_copy h found had k gathered rising = tt
+says_by digest origin so x w first candidates run (Ok f) copy settles lines of_copy h found had k gathered rising = record {
   candidates = candidates;
   gathered = gathered;
   rising = rising;
@@ -135,6 +137,7 @@ says_by digest origin so x w first candidates run (Ok f) copy settles lines h fo
   first = first;
   found = found;
   lines = lines digest first h;
+  of_copy = of_copy digest first h;
   noted = noted digest origin candidates f run.copy first run.forks.items copy h.taken x w had k;
 }
 
@@ -151,5 +154,6 @@ says_so digest origin so other f x w (Ok done) h = record {
   first = h.first;
   found = h.found;
   lines = h.lines;
+  of_copy = h.of_copy;
   noted = h.noted;
 }

@@ -271,12 +271,12 @@ module _ (digest : List ℕ → List ℕ) (hash : IsDigest digest) (origin note 
   -- a call that puts the checkpoint of an empty log
   pub empty_leaves : (size : ℕ) (root : List ℕ) → IsHead note origin size root → size ≡ 0 → root ≡ digest [] →
       (x w : Option (List Put)) → IsTipRead digest origin x tip → tip.checkpoint ≡ None → (r : Result T E) →
-      PutsNote x w note r → LeavesPruned digest origin note x w r
-  empty_leaves size root head none root_is x w t empty (Ok a) recorded =
+      PutsNote x w tip.checkpoint note r → LeavesPruned digest origin note x w r
+  empty_leaves size root head none root_is x w t empty (Ok a) put =
       leaves_brought digest hash origin note tip {T = T} {E = E} empty_edge root
       (let upto = t.empty empty in omega (arith, upto))
       (subst (λ n. IsHead note origin n root) none head) (empty_edge_hash digest ∙ sym root_is) x w t
-      (empty_brought digest tip note x w (t.empty empty) recorded) a
+      (empty_brought digest tip note x w (t.empty empty) put.recorded) a
   empty_leaves size root head none root_is x w t empty (Err e) kept =
       leaves_cut digest hash origin note tip {T = T} {E = E} x w t (λ known k. left_none digest tip.size known x w kept) e
 

@@ -29,7 +29,7 @@ use Rattle.copy_follow.proofs.TipReads.{stands_one}
 use Rattle.copy_follow.proofs.WholeMoments.{none_found}
 use Rattle.copy_places.specs.Candidates.{note_of}
 use Rattle.copy_places.specs.declared.candidate.Candidate.{Candidate}
-use Rattle.copy_follow.specs.Renoting.{IsNotePut}
+use Rattle.copy_follow.specs.Edges.{IsNotePut}
 use Rattle.copy_follow.specs.Runs.{KeepsUnder}
 use Rattle.copy_follow.specs.RunStanding.{EachIsBrought, IsHeadOf}
 use Rattle.copy_follow.proofs.Runs.{each_one}
@@ -185,7 +185,7 @@ module _ (digest : List ℕ → List ℕ) (origin note : List ℕ) where
     ]
 
   module _ (x z : Option (List Put)) (there : List ℕ) (size : ℕ) (root : List ℕ) (first : IsHead there origin size root)
-      (second : IsHead note origin size root) (p : IsNotePut x z there note) where
+      (second : IsHead note origin size root) (p : IsNotePut x z (Some there) note) where
     stood_at : (held : List Put) → x ≡ Some held → Stands held Checkpoint there
     stood_at held is = subst (λ o. RecordsRead o Checkpoint (Some there)) is p.stood
 

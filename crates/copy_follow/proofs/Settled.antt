@@ -12,11 +12,12 @@ use Rattle.copy_places.specs.declared.fork_line.ForkLine.{ForkLine}
 use Rattle.copy_places.proofs.LineLists.{lines_kept}
 use Rattle.copy_places.proofs.Points.{one_back, one_of_same, one_then}
 use Rattle.copy_follow.specs.Lining.{AddsToCopy, AloneAreOne, HasEqual, HasLeft, IsBeside, IsEqualAbove, IsLeastOrIn}
-use Rattle.copy_follow.specs.Rule.{ExceedsCopy, FollowsRule, HasLine, HasOneRoot, IsEqualLine, IsLeastOf, IsLeft, copy_point}
+use Rattle.copy_follow.specs.Rule.{ExceedsCopy, FollowsRule, HasLine, HasOneRoot, IsEqualLine, IsLeastOf, IsLeft, IsOfCopy, copy_point}
 use Rattle.copy_follow.specs.Says.{AgreesWithCopy, IsBehind, IsUnderCopy, SettlesEach}
-use Rattle.copy_follow.specs.TurnsTaken.{HasTaken, IsAgreed, IsBeyond, IsLargerThan, IsLineUpTo, IsOneOf, IsReported}
+use Rattle.copy_follow.specs.TurnsTaken.{HasTaken, IsAgreed, IsBeyond, IsLargerThan, IsLineOfRun, IsLineUpTo, IsOneOf, IsReported}
 use Rattle.copy_follow.specs.declared.report.Followed.{Followed}
 use Rattle.copy_follow.proofs.Lining.{larger_than, lines_join, one_least}
+use Rattle.copy_follow.proofs.OfCopy.{of_end}
 use Rattle.copy_follow.proofs.TurnOrder.{none_above}
 
 none_contained : {X : Type 0} (x : X) → Contains [] x → ⊥
@@ -95,6 +96,16 @@ module _ (copy : Option Candidate) (cs : List Candidate) (forks turns equal : Li
 
   all_above : All (λ line. ExceedsCopy (copy_point copy) line.small.size.0) equal
   all_above = All-weaker (IsEqualAbove copy cs) (λ line. ExceedsCopy (copy_point copy) line.small.size.0) (λ line x. x.1) equal e.only
+
+  -- the lines that are not above the copy are those of the turns
+  pub of_copy_new : (first : Option Candidate) → All (IsLineOfRun first cs copy) forks →
+      All (IsOfCopy first cs (copy_point copy)) New
+  of_copy_new first all =
+      All-append (IsOfCopy first cs (copy_point copy)) turns equal
+      (All-weaker (IsLineOfRun first cs copy) (IsOfCopy first cs (copy_point copy)) (λ line h upto. of_end first cs copy line h) turns
+      (a.of_copy first all))
+      (All-weaker (λ line. ExceedsCopy (copy_point copy) line.small.size.0) (IsOfCopy first cs (copy_point copy))
+      (λ line above upto. absurd (upto above)) equal all_above)
 
   -- a candidate above the copy that does not have the least root of its size is in a line
   pub in_new : (least c : Candidate) → IsLeastOf cs c.size.0 least → Contains cs c → IsLargerThan copy c →

@@ -98,7 +98,7 @@ larger_stays digest origin note tip edge x w t (Ok a) brings = tt
 larger_stays digest origin note tip edge x w t (Err e) brings = stays_cut digest origin tip x w t brings
 
 -- a call that puts only the checkpoint, for each answer
-pub empty_stays : (digest : List ℕ → List ℕ) (origin note : List ℕ) (x w : Option (List Put)) →
-    {T E : Type 0} (r : Result T E) → PutsNote x w note r → IfErr r (λ e. CopyStays digest origin x w)
-empty_stays digest origin note x w (Ok a) recorded = tt
-empty_stays digest origin note x w (Err e) kept = stays_same digest origin x w kept
+pub empty_stays : (digest : List ℕ → List ℕ) (origin note : List ℕ) (found : Option (List ℕ)) (x w : Option (List Put)) →
+    {T E : Type 0} (r : Result T E) → PutsNote x w found note r → IfErr r (λ e. CopyStays digest origin x w)
+empty_stays digest origin note found x w (Ok a) put = tt
+empty_stays digest origin note found x w (Err e) kept = stays_same digest origin x w kept

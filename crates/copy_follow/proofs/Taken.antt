@@ -1,16 +1,13 @@
 -- The facts about the candidates, turn after turn.
-use Rattle.std.proofs.Common.{◌≡◌, ◌≢◌, ◌⊎◌, inl, inr, ℕ, ◌+◌, ◌<◌, ◌≤◌, List, [], ◌∷◌, ◌++◌, length, get_or, take, drop, All, Contains, Option, Some, None, refl, sym, ap, subst, ◌∙◌, arith, Result, Ok, Err, IfOk, IfSome, OnOk, Ordering, Less, Greater, nat_cmp}
-use Rattle.std.specs.Cmp.Lexicographic.{slice_cmp}
+use Rattle.std.proofs.Common.{◌≡◌, ◌≢◌, ◌⊎◌, inl, inr, ℕ, ◌+◌, ◌<◌, ◌≤◌, List, [], ◌∷◌, ◌++◌, length, get_or, take, All, Contains, Option, Some, None, refl, sym, ap, subst, ◌∙◌, arith, Result, Ok, Err, IfOk, IfSome, OnOk}
 use Rattle.std.specs.List.Sorted.{IsSorted}
-use Rattle.std.specs.Ordering.{ordering_then}
-use Rattle.std.proofs.lemmas.Cmp.{by_ranked, ranked}
 use Rattle.std.proofs.lemmas.List.{take_all, take_more}
-use Rattle.std.proofs.lemmas.List.Elements.{All-append, All-cons, All-contains, All-drop, All-nil, All-push, All-take, All-weaker, Contains-append_left, Contains-push}
+use Rattle.std.proofs.lemmas.List.Elements.{All-contains, All-nil, All-push, All-weaker, Contains-append_left, Contains-push}
 use Rattle.tlog_proof.specs.declared.proof.Proof.{Proof}
-use Rattle.copy_places.specs.Adding.{AddsFork, AddsLine, IsForkLine}
+use Rattle.copy_places.specs.Adding.{AddsFork, IsForkLine}
 use Rattle.copy_places.specs.Agreeing.{Agrees}
 use Rattle.copy_places.specs.Candidates.{IsOnePoint, IsSame, note_of, point_of, turn_cmp}
-use Rattle.copy_places.specs.Lines.{AreLines, HasSmallFirst, IsFirstOrListed, IsInLine, IsInSomeLine, IsListed, KeepsLines}
+use Rattle.copy_places.specs.Lines.{AreLines, IsFirstOrListed, IsInLine, IsInSomeLine, IsListed, KeepsLines}
 use Rattle.copy_places.specs.Shown.{AreFork}
 use Rattle.copy_places.specs.declared.candidate.Candidate.{Candidate}
 use Rattle.copy_places.specs.declared.fork_line.ForkLine.{ForkLine}
@@ -20,11 +17,12 @@ use Rattle.copy_places.proofs.Points.{one_back, one_of_same, one_then, point_sam
 use Rattle.copy_follow.specs.Says.{IsNoteUpTo}
 use Rattle.copy_follow.specs.Turning.{ShowsTurn}
 use Rattle.copy_follow.specs.RunStanding.{KnowsAfter}
-use Rattle.copy_follow.specs.TurnsTaken.{AddsLacked, HasTaken, HasTakenRun, IsAbove, IsAdded, IsAgreed, IsBeyond, IsGrown, IsLargerThan, IsLineUpTo, IsNextOf, IsNoted, IsOneOf, IsRepeat, IsReported, SaysTurn}
+use Rattle.copy_follow.specs.TurnsTaken.{AddsLacked, HasTaken, HasTakenRun, IsAbove, IsAdded, IsAgreed, IsBeyond, IsGrown, IsLargerThan, IsLineOfRun, IsLineUpTo, IsNextOf, IsNoted, IsOneOf, IsRepeat, IsReported, SaysTurn}
 use Rattle.copy_follow.specs.declared.run.Run.{Run}
 use Rattle.copy_follow.specs.declared.run.Outcome.{Outcome}
 use Rattle.copy_follow.specs.declared.run.Outcome.TheVariants as turn
 use Rattle.copy_follow.proofs.Adding.{lines_forked}
+use Rattle.copy_follow.proofs.OfCopy.{all_added, first_upto, of_added, of_brought, of_still}
 use Rattle.copy_follow.proofs.TurnOrder.{again, element, next_of, note_itself, note_upto}
 
 -- ---- points
@@ -46,29 +44,6 @@ pub fork_apart : (digest : List ℕ → List ℕ) (held c : Candidate) (proof : 
 fork_apart digest held c proof (inl shown) p = omega (arith, shown.0, p.0)
 fork_apart digest held c proof (inr (inl shown)) p = omega (arith, shown.0, p.0)
 fork_apart digest held c proof (inr (inr equal)) p = equal.2 (sym p.1)
-
--- the smaller checkpoint of a line is not larger than the other
-small_upto : (n m : ℕ) (r : Ordering) → ordering_then (nat_cmp n m) r ≡ Less → n ≤ m
-small_upto n m r h =
-    by_ranked (n < m) (n ≡ m) (m < n) (nat_cmp n m) (ranked n m (nat_cmp n m) refl) (λ e lt. omega (arith, lt))
-    (λ e s. omega (arith, s)) (λ e gt. absurd (not_less (subst (λ o. ordering_then o r ≡ Less) e h)))
-  where
-    not_less : Greater ≡ Less → ⊥
-    not_less e = absurd (cc e)
-
-first_upto : (line : ForkLine) → HasSmallFirst line → line.small.size.0 ≤ line.large.size.0
-first_upto line h =
-    small_upto line.small.size.0 line.large.size.0 (slice_cmp nat_cmp line.small.root line.large.root) h
-
--- a line was added
-pub all_added : (P : ForkLine → Type 0) (line : ForkLine) (old new : List ForkLine) → AddsLine line old new → P line →
-    All P old → All P new
-all_added P line old new a p all = elim a.among [
-  | inl e ↦ subst (All P) (sym e) all
-  | inr (at, e) ↦ subst (All P) (sym e)
-      (All-append P (take at old) (line ∷ drop at old) (All-take P at old all)
-      (All-cons P line (drop at old) p (All-drop P at old all)))
-]
 
 line_within : (held c : Candidate) (line : ForkLine) → IsForkLine held c line → (IsOnePoint held c → ⊥) →
     line.small.size.0 ≤ held.size.0
@@ -377,6 +352,32 @@ module _ (digest : List ℕ → List ℕ) (first : Option Candidate) where
     lines_turned run next (turn.NotHad fault) h (forks, lacked) says shows =
         still_lines run.forks.items next.forks.items (ap (λ v. v.items) forks) h.lines
 
+    -- the candidate is a fork with the copy
+    of_forked : (copy : Option Candidate) (old new : List ForkLine) → copy ≢ None →
+        IfSome copy (λ held. AddsFork held c old new) → IfSome copy (λ held. IsOnePoint held c → ⊥) →
+        All (IsLineOfRun first done copy) old → All (IsLineOfRun first More copy) new
+    of_forked None old new some adds apart all = absurd (some refl)
+    of_forked (Some held) old new some adds apart all =
+        of_added first More held c old new adds apart (listed_now done c c (record { size_is = refl; root_is = refl; note_is = refl }))
+        (of_still first done c (Some held) (Some held) old old refl refl all)
+
+    of_turned : (run next : Run) (t : Outcome) → HasTakenRun digest first done run → IsNextOf done c →
+        KnowsAfter c t run.copy next.copy → IsAdded c t run next → SaysTurn digest run.copy c t →
+        ShowsTurn digest run.copy c t → All (IsLineOfRun first More next.copy) next.forks.items
+    of_turned run next turn.Agrees h is knows (forks, lacked) says shows =
+        of_still first done c run.copy next.copy run.forks.items next.forks.items knows (ap (λ v. v.items) forks) h.of_copy
+    of_turned run next turn.Brought h is knows (forks, lacked) says shows =
+        subst (λ x. All (IsLineOfRun first More x) next.forks.items) (sym knows.is)
+        (subst (All (IsLineOfRun first More (Some knows.now))) (sym (ap (λ v. v.items) forks))
+        (of_brought first done c knows.now knows.same is run.copy says h.taken.one_of run.forks.items h.of_copy))
+    of_turned run next (turn.Forks proof) h is knows (forks, adds, lacked) says shows =
+        subst (λ x. All (IsLineOfRun first More x) next.forks.items) (sym knows)
+        (of_forked run.copy run.forks.items next.forks.items says adds (apart_from run.copy proof shows) h.of_copy)
+    of_turned run next turn.Contradicts h is knows (forks, lacked) says shows =
+        of_still first done c run.copy next.copy run.forks.items next.forks.items knows (ap (λ v. v.items) forks) h.of_copy
+    of_turned run next (turn.NotHad fault) h is knows (forks, lacked) says shows =
+        of_still first done c run.copy next.copy run.forks.items next.forks.items knows (ap (λ v. v.items) forks) h.of_copy
+
     listed_turned : (run next : Run) (t : Outcome) → HasTakenRun digest first done run → IsAdded c t run next →
         All (IsListed More) next.not_had.items
     listed_turned run next turn.Agrees h (forks, lacked) =
@@ -396,6 +397,7 @@ module _ (digest : List ℕ → List ℕ) (first : Option Candidate) where
     taken_turn run next t h is knows added says shows = record {
       taken = turned run next t h.taken is knows added says shows;
       lines = lines_turned run next t h added says shows;
+      of_copy = of_turned run next t h is knows added says shows;
       listed = listed_turned run next t h added;
     }
 
@@ -427,6 +429,7 @@ module _ (digest : List ℕ → List ℕ) (first : Option Candidate) where
     taken = subst (λ o. HasTaken digest first [] o run.forks.items) (sym is)
         (taken_none digest first run.forks.items no_line);
     lines = lines_none first run.forks.items no_line;
+    of_copy = subst (All (IsLineOfRun first [] run.copy)) (sym no_line) (All-nil (IsLineOfRun first [] run.copy));
     listed = subst (All (IsListed [])) (sym none) (All-nil (IsListed []));
   }
 
@@ -453,6 +456,7 @@ module _ (digest : List ℕ → List ℕ) (first : Option Candidate) where
           taken = taken_again digest first (take i cs) x.0 run.copy run.forks.items h.taken a.one a.listed a.same
               a.note;
           lines = lines_more first (take i cs) x.0 run.forks.items h.lines;
+          of_copy = of_still first (take i cs) x.0 run.copy run.copy run.forks.items run.forks.items refl refl h.of_copy;
           listed = all_listed digest first (take i cs) x.0 run.not_had.items h.listed;
         })
 

@@ -450,18 +450,18 @@ module _ (digest : List ℕ → List ℕ) (origin note : List ℕ) (tip : Tip) (
   empty_leads : hash_of_edge digest empty_edge ≡ root
   empty_leads = empty_edge_hash digest ∙ sym root_is
 
-  pub empty_whole : {T E : Type 0} (r : Result T E) → PutsNote x w note r → KeepsCopy digest origin note x w
-  empty_whole (Ok a) recorded =
+  pub empty_whole : {T E : Type 0} (r : Result T E) → PutsNote x w tip.checkpoint note r → KeepsCopy digest origin note x w
+  empty_whole (Ok a) put =
       whole_brought digest origin note tip empty_edge root upto_none empty_head empty_leads x w t
-      (empty_brought digest tip note x w (t.empty empty) recorded)
+      (empty_brought digest tip note x w (t.empty empty) put.recorded)
   empty_whole (Err e) kept =
       whole_cut digest origin note tip x w t (λ known k. left_none digest tip.size known x w kept)
 
-  pub empty_ends : {T E : Type 0} (r : Result T E) → PutsNote x w note r →
+  pub empty_ends : {T E : Type 0} (r : Result T E) → PutsNote x w tip.checkpoint note r →
       OnOk r (IsBroughtTo digest origin note x w)
-  empty_ends (Ok a) recorded =
+  empty_ends (Ok a) put =
       brought_to digest origin note tip empty_edge root upto_none empty_head empty_leads x w t
-      (empty_brought digest tip note x w (t.empty empty) recorded)
+      (empty_brought digest tip note x w (t.empty empty) put.recorded)
   empty_ends (Err e) kept = tt
 
 -- ---- a call that brings a copy to a larger edge, for each answer

@@ -7,15 +7,20 @@ use Rattle.tlog_tiles.specs.Tiles.{IsWithin}
 use Rattle.log_reader.specs.EdgeRows.{Edge, RowIsTrue, edge_tile}
 use Rattle.mirror_sources.specs.Recorded.{AddsToRecord, KeepsRecord}
 use Rattle.mirror_sources.specs.Honest.{true_bytes}
-use Rattle.mirror_folders.specs.Shelf.{Put}
+use Rattle.mirror_folders.specs.Shelf.{Put, RecordsRead}
 use Rattle.mirror_folders.specs.FileLaws.{IsFileOf}
 use Rattle.copy_follow.specs.Standing.{RecordsStands}
 use Rattle.copy_follow.specs.Growing.{Tip, Obtains, HoldsBelow, IsCutShort}
 
--- the result of putting the checkpoint last, for each answer
-abbrev pub PutsNote : {T E : Type 0} → Option (List Put) → Option (List Put) → List ℕ → Result T E → Type 0
-PutsNote old new note (Ok x) = AddsToRecord old new ((Checkpoint, note) ∷ [])
-PutsNote old new note (Err e) = KeepsRecord old new
+-- the note was put while the shelf still had the checkpoint that was found, or still none
+pub record IsNotePut (old new : Option (List Put)) (found : Option (List ℕ)) (note : List ℕ) : Type 0 where
+  pub stood : RecordsRead old Checkpoint found
+  pub recorded : AddsToRecord old new ((Checkpoint, note) ∷ [])
+
+-- the result of putting a note in place of the checkpoint that was found, for each answer
+abbrev pub PutsNote : {T E : Type 0} → Option (List Put) → Option (List Put) → Option (List ℕ) → List ℕ → Result T E → Type 0
+PutsNote old new found note (Ok x) = IsNotePut old new found note
+PutsNote old new found note (Err e) = KeepsRecord old new
 
 module _ (digest : List ℕ → List ℕ) where
   -- all files below the rows of the levels from low on were brought, and these rows are true

@@ -21,7 +21,6 @@ pub mod Named
 pub mod Runs
 pub mod RunStanding
 pub mod Blame
-pub mod Renoting
 pub mod Turning
 pub mod Ending
 pub mod Rule
@@ -32,5 +31,6 @@ pub mod Looking
 pub mod OneHonestRun
 pub mod Told
 pub mod LargerForks
+pub mod CopyForks
 pub mod Looks
 pub mod Exported

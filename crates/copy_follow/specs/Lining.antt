@@ -6,7 +6,7 @@ use Rattle.copy_places.specs.Shown.{ShowsEach}
 use Rattle.copy_places.specs.declared.candidate.Candidate.{Candidate}
 use Rattle.copy_places.specs.declared.fork_line.ForkLine.{ForkLine}
 use Rattle.copy_follow.specs.Rule.{ExceedsCopy, IsEqualLine, IsLeastOf, IsLeft, copy_point, larger_cmp}
-use Rattle.copy_follow.specs.TurnsTaken.{IsLargerThan, IsLineUpTo}
+use Rattle.copy_follow.specs.TurnsTaken.{IsLargerThan, IsLineOfRun, IsLineUpTo}
 
 -- ---- the copy, and candidates of its size
 
@@ -23,6 +23,8 @@ pub record AddsBeside (copy : Candidate) (done : List Candidate) (old new : List
   pub within : All (IsLineUpTo (Some copy)) old → All (IsLineUpTo (Some copy)) new
   pub lines : (first : Option Candidate) (candidates : List Candidate) → IsFirstOrListed first candidates copy →
       All (IsListed candidates) done → AreLines first candidates old → AreLines first candidates new
+  pub of_copy : (first : Option Candidate) (candidates : List Candidate) → All (IsListed candidates) done →
+      All (IsLineOfRun first candidates (Some copy)) old → All (IsLineOfRun first candidates (Some copy)) new
 
 module _ (copy : Option Candidate) (candidates : List Candidate) where
   -- the same for all candidates, if there is a copy
@@ -33,6 +35,8 @@ module _ (copy : Option Candidate) (candidates : List Candidate) where
     pub within : All (IsLineUpTo copy) old → All (IsLineUpTo copy) new
     pub lines : (first : Option Candidate) → IfSome copy (IsFirstOrListed first candidates) →
         AreLines first candidates old → AreLines first candidates new
+    pub of_copy : (first : Option Candidate) → All (IsLineOfRun first candidates copy) old →
+        All (IsLineOfRun first candidates copy) new
 
   -- ---- candidates of one size above the copy
 

@@ -4,7 +4,7 @@ use Rattle.copy_places.specs.Lines.{AreLines, IsFirstOrListed, IsListed, KeepsLi
 use Rattle.copy_places.specs.Shown.{ShowsEach}
 use Rattle.copy_places.specs.declared.candidate.Candidate.{Candidate}
 use Rattle.copy_places.specs.declared.fork_line.ForkLine.{ForkLine}
-use Rattle.copy_follow.specs.TurnsTaken.{HasTakenRun, IsLineUpTo}
+use Rattle.copy_follow.specs.TurnsTaken.{HasTakenRun, IsLineOfRun, IsLineUpTo}
 use Rattle.copy_follow.specs.declared.run.Run.{Run}
 
 module _ (digest : List ℕ → List ℕ) where
@@ -15,6 +15,8 @@ module _ (digest : List ℕ → List ℕ) where
     pub within : All (IsLineUpTo copy) old → All (IsLineUpTo copy) new
     pub are : (first : Option Candidate) (candidates : List Candidate) → IfSome copy (IsFirstOrListed first candidates) →
         All (IsListed candidates) some → AreLines first candidates old → AreLines first candidates new
+    pub of_copy : (first : Option Candidate) (candidates : List Candidate) → All (IsListed candidates) some →
+        All (IsLineOfRun first candidates copy) old → All (IsLineOfRun first candidates copy) new
 
   -- the run has its copy and its fault still, and maybe more lines
   pub record LooksOn (old new : Run) : Type 0 where

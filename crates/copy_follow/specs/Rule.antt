@@ -1,11 +1,11 @@
--- The rule of lines: the fork lines and the larger ones of candidates that are larger than the copy.
-use Rattle.std.specs.Prelude.{◌≡◌, ◌≢◌, ◌↔◌, ℕ, ◌<◌, false, List, All, Contains, Option, Some, None, option_map, ⊤}
+-- The rule of lines: the fork lines and the larger ones of candidates that are larger than the copy, and the fork lines of the copy.
+use Rattle.std.specs.Prelude.{◌≡◌, ◌≢◌, ◌↔◌, ℕ, ◌<◌, ◌≤◌, false, List, All, Contains, Option, Some, None, option_map, ⊤}
 use Rattle.std.specs.Cmp.Lexicographic.{slice_cmp}
 use Rattle.std.specs.List.Sorted.{IsStrictlySortedBy}
 use Rattle.std.specs.Ordering.{is_gt, nat_cmp, ordering_then}
 use Rattle.std.specs.declared.cmp.Ordering.{Ordering}
 use Rattle.copy_places.specs.Candidates.{IsOnePoint, IsSame}
-use Rattle.copy_places.specs.Lines.{IsInSomeLine}
+use Rattle.copy_places.specs.Lines.{IsFirst, IsInSomeLine, IsListed}
 use Rattle.copy_places.specs.declared.candidate.Candidate.{Candidate}
 use Rattle.copy_places.specs.declared.fork_line.ForkLine.{ForkLine}
 
@@ -62,6 +62,33 @@ module _ (copy : Option (ℕ × List ℕ)) (candidates : List Candidate) (lines 
     pub only : All (λ line. ExceedsCopy copy line.small.size.0 → IsEqualLine candidates line) lines
     pub left : (point : ℕ × List ℕ) → Contains larger point ↔ IsLeft point
     pub rising : IsStrictlySortedBy larger_cmp larger
+
+-- ---- the lines of the copy
+
+-- the checkpoint has the size and root of the copy, if there is one
+abbrev pub IsCopyAt : Option (ℕ × List ℕ) → Candidate → Type 0
+IsCopyAt None checkpoint = ⊥
+IsCopyAt (Some copy) checkpoint = (copy.0 ≡ checkpoint.size.0) × (copy.1 ≡ checkpoint.root)
+
+-- the copy does not have more entries
+abbrev pub IsCopyUpTo : Option (ℕ × List ℕ) → ℕ → Type 0
+IsCopyUpTo None size = ⊤
+IsCopyUpTo (Some copy) size = copy.0 ≤ size
+
+-- the line is of a candidate and the copy, the smaller one first. Or it is of the first copy and a candidate that is not smaller than the
+-- copy
+pub data IsLineOfCopy (first : Option Candidate) (candidates : List Candidate) (copy : Option (ℕ × List ℕ)) (line : ForkLine)
+    : Type 0 where
+  OfSmaller : IsListed candidates line.small → IsCopyAt copy line.large → IsLineOfCopy first candidates copy line
+  OfLarger : IsListed candidates line.large → IsCopyAt copy line.small → IsLineOfCopy first candidates copy line
+  OfFirst :
+      IsListed candidates line.large → IsFirst first line.small → IsCopyUpTo copy line.large.size.0 →
+      IsLineOfCopy first candidates copy line
+
+-- this holds if the smaller checkpoint of the line is not larger than the copy
+abbrev pub IsOfCopy : Option Candidate → List Candidate → Option (ℕ × List ℕ) → ForkLine → Type 0
+IsOfCopy first candidates copy line =
+    ¬ ExceedsCopy copy line.small.size.0 → IsLineOfCopy first candidates copy line
 
 -- no size has two roots: each candidate has the least root of its size
 abbrev pub HasOneRoot : List Candidate → Type 0

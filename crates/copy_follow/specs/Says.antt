@@ -14,7 +14,7 @@ use Rattle.copy_places.specs.Candidates.{note_of, point_of, turn_cmp}
 use Rattle.copy_places.specs.Lines.{AreLines, IsInSomeLine}
 use Rattle.copy_places.specs.declared.candidate.Candidate.{Candidate}
 use Rattle.copy_places.specs.declared.fork_line.ForkLine.{ForkLine}
-use Rattle.copy_follow.specs.Rule.{FollowsRule}
+use Rattle.copy_follow.specs.Rule.{FollowsRule, IsOfCopy}
 use Rattle.copy_follow.specs.RunStanding.{IsFoundCopy}
 use Rattle.copy_follow.specs.declared.report.Followed.{Followed}
 
@@ -119,4 +119,5 @@ module _ (digest : List ℕ → List ℕ) where
     pub first : Option Candidate
     pub found : IsFoundCopy origin old first
     pub lines : AreLines first candidates followed.forks.items
+    pub of_copy : All (IsOfCopy first candidates followed.copy) followed.forks.items
     pub noted : HasLeastInTheEnd origin candidates old new followed

@@ -3,7 +3,7 @@ use Rattle.std.specs.Prelude.{◌≡◌, ◌≢◌, ◌⊎◌, ℕ, ◌-◌, ◌
 use Rattle.copy_places.specs.Agreeing.{Agrees}
 use Rattle.copy_places.specs.Candidates.{IsOnePoint, IsSame, note_of, point_of}
 use Rattle.copy_places.specs.Adding.{AddsFork}
-use Rattle.copy_places.specs.Lines.{AreLines, IsFirstOrListed, IsInSomeLine, IsListed, KeepsLines}
+use Rattle.copy_places.specs.Lines.{AreLines, IsFirst, IsFirstOrListed, IsInSomeLine, IsListed, KeepsLines}
 use Rattle.copy_places.specs.declared.candidate.Candidate.{Candidate}
 use Rattle.copy_places.specs.declared.fork_line.ForkLine.{ForkLine}
 use Rattle.copy_follow.specs.Says.{IsNoteUpTo}
@@ -74,6 +74,14 @@ abbrev pub IsLineUpTo : Option Candidate → ForkLine → Type 0
 IsLineUpTo None line = ⊥
 IsLineUpTo (Some copy) line = line.small.size.0 ≤ copy.size.0
 
+-- the line is of a candidate and the copy, the smaller one first. Or it is of the first copy and a candidate that is not smaller than the
+-- copy
+abbrev pub IsLineOfRun : Option Candidate → List Candidate → Option Candidate → ForkLine → Type 0
+IsLineOfRun first done None line = ⊥
+IsLineOfRun first done (Some copy) line =
+    (IsListed done line.small × IsOnePoint copy line.large × (line.small.size.0 ≤ copy.size.0))
+    ⊎ (IsListed done line.large × (IsFirst first line.small ⊎ IsSame copy line.small) × (copy.size.0 ≤ line.large.size.0))
+
 -- the copy is at least as large as the first copy. If both have one size, its note is not greater
 abbrev pub IsGrown : Option Candidate → Option Candidate → Type 0
 IsGrown None copy = ⊤
@@ -115,4 +123,5 @@ module _ (digest : List ℕ → List ℕ) where
   pub record HasTakenRun (first : Option Candidate) (done : List Candidate) (run : Run) : Type 0 where
     pub taken : HasTaken first done run.copy run.forks.items
     pub lines : AreLines first done run.forks.items
+    pub of_copy : All (IsLineOfRun first done run.copy) run.forks.items
     pub listed : All (IsListed done) run.not_had.items

@@ -1,4 +1,5 @@
 //! Laws of the definitions that the contracts cite.
+ghost use Rattle.copy_follow.specs.CopyForks.{CopyForksAreContradictions};
 ghost use Rattle.copy_follow.specs.LargerForks.{ContradictionsAreLines};
 ghost use Rattle.copy_follow.specs.Runs.{RunsKeepCopies};
 
@@ -16,4 +17,12 @@ pub fn run_law()
 /// what `tells` names for the candidate, share a digest.
 pub fn larger_fork_law<S: Source>()
     ensures { ContradictionsAreLines S.may_answer S.failed S.asked }
+{}
+
+/// At Ok of `follow` a candidate of at most as many entries as the copy is in a fork line with it exactly if its root is not that of the
+/// copy's first entries, by `forks` and `says`. The line may also be with the copy that was found first, which the copy begins with, if the
+/// candidate has as many entries as the copy. Premise: no two different strings of the copy's tree, and of the check of the proof that the
+/// candidate agrees, or of such a line, share a digest.
+pub fn copy_fork_law()
+    ensures { CopyForksAreContradictions }
 {}

@@ -31,7 +31,8 @@ pub(crate) fn put_last<D: ReadableShelf>(
     ensures fault { IfErr result IsNoConflict }
     ensures counted { CountsShelf (D.failed shelf.old) (D.failed shelf.new) result }
     ensures blames { IfErr result (BlamesLast tip.now.checkpoint (D.puts shelf.old)) }
-    ensures puts { PutsNote (D.puts shelf.old) (D.puts shelf.new) note.now result }
+    ensures puts { PutsNote (D.puts shelf.old) (D.puts shelf.new) tip.now.checkpoint
+        note.now result }
     ensures flushed { OnOk result (FlushesAll (D.flushes shelf.old) (D.flushes shelf.new)) }
 {
     let now = shelf.read(&Path::Checkpoint)?;

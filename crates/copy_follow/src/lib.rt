@@ -48,7 +48,7 @@ pub use copy_laws::{
     same_copy_law, stays_copy_law,
 };
 pub use follow_fault::FollowFault;
-pub use follow_laws::{larger_fork_law, run_law};
+pub use follow_laws::{copy_fork_law, larger_fork_law, run_law};
 pub use following::follow;
 pub use repair::repair_copy;
 pub use repaired::Repaired;

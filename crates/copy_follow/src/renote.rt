@@ -7,7 +7,7 @@ ghost use Rattle.copy_follow.specs.Ending.{EndsAt, EndsRun};
 ghost use Rattle.copy_follow.specs.Runs.{KeepsUnder};
 ghost use Rattle.copy_follow.specs.Says.{IsNoteUpTo};
 ghost use Rattle.copy_follow.specs.Turning.{ShowsTurn};
-ghost use Rattle.copy_follow.specs.Renoting.{PutsNoteOver};
+ghost use Rattle.copy_follow.specs.Edges.{PutsNote};
 ghost use Rattle.copy_follow.specs.RunStanding.{HasStanding, IsHeadOf, StandsAfter};
 ghost use Rattle.copy_follow.specs.TurnsTaken.{IsNoted, SaysTurn};
 
@@ -47,7 +47,7 @@ fn put_note<D: ReadableShelf>(
     copy: &Candidate,
     candidate: &Candidate,
 ) -> Result<(), FollowFault>
-    ensures puts { PutsNoteOver (D.puts shelf.old) (D.puts shelf.new) (note_of copy.now)
+    ensures puts { PutsNote (D.puts shelf.old) (D.puts shelf.new) (Some (note_of copy.now))
         (note_of candidate.now) result }
     ensures counted { CountsFollow (D.failed shelf.old) (D.failed shelf.new) result }
     ensures ends { IfErr result

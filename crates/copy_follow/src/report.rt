@@ -1,12 +1,12 @@
 //! The result of a run of turns.
-ghost use Rattle.std.specs.Prelude.{◌≡◌, ◌≢◌, ◌⊎◌, ◌↔◌, [], ℕ, IfErr, IfOk, IsFalse, IsTrue, List, None, Option, Some};
+ghost use Rattle.std.specs.Prelude.{◌≡◌, ◌≢◌, ◌⊎◌, ◌↔◌, [], ℕ, All, IfErr, IfOk, IsFalse, IsTrue, List, None, Option, Some};
 ghost use Rattle.std.specs.List.Sorted.{IsSorted};
 ghost use Rattle.copy_places.specs.Candidates.{turn_cmp};
 ghost use Rattle.copy_places.specs.Gathering.{option_or};
 ghost use Rattle.copy_places.specs.Lines.{AreLines, KeepsLines};
 ghost use Rattle.copy_places.specs.Shown.{ShowsEach};
 ghost use Rattle.copy_places.specs.declared.candidate.Candidate.{Candidate};
-ghost use Rattle.copy_follow.specs.Rule.{HasOneRoot, copy_point};
+ghost use Rattle.copy_follow.specs.Rule.{HasOneRoot, IsOfCopy, copy_point};
 ghost use Rattle.copy_follow.specs.Says.{IsBehind, SettlesEach};
 ghost use Rattle.copy_follow.specs.TurnsTaken.{HasTakenRun};
 
@@ -93,6 +93,9 @@ pub(crate) fn report(
     ensures lines { IfOk result (λ f. (digest : List ℕ → List ℕ) (first : Option Candidate)
         → HasTakenRun digest first candidates.now run
         → AreLines first candidates.now f.forks.items) }
+    ensures of_copy { IfOk result (λ f. (digest : List ℕ → List ℕ) (first : Option Candidate)
+        → HasTakenRun digest first candidates.now run
+        → All (IsOfCopy first candidates.now f.copy) f.forks.items) }
     ensures fault { IfErr result (λ e. (e ≡ FollowFault.OutOfMemory) ⊎ ((run.copy ≡ None)
         × (HasOneRoot candidates.now)
         × (e ≡ option_or run.first_fault FollowFault.NoCheckpoint))) }

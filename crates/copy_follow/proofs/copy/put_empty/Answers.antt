@@ -43,7 +43,7 @@ returns-clause-brings g c = λ before kept t.
           (λ t'. empty_ends digest origin candidate.note.now tip candidate.size candidate.root c.requires.head
           c.requires.empty root_is y w t' c.requires.none c.put_last.result c.put_last.ensures.puts),
       stays_later digest origin tip before y w c.put_last.result still t
-          (λ t'. empty_stays digest origin candidate.note.now y w c.put_last.result c.put_last.ensures.puts),
+          (λ t'. empty_stays digest origin candidate.note.now tip.checkpoint y w c.put_last.result c.put_last.ensures.puts),
       leaves_later digest g.met.H.TreeHash.digest_length origin candidate.note.now tip before y w c.put_last.result still t
           (λ t'. empty_leaves digest g.met.H.TreeHash.digest_length origin candidate.note.now tip candidate.size candidate.root
           c.requires.head c.requires.empty root_is y w t' c.requires.none c.put_last.result c.put_last.ensures.puts),

@@ -23,6 +23,7 @@ use Rattle.copy_follow.proofs.Standing.{followed_by, had_found, known_found, rea
 use Rattle.copy_follow.proofs.HonestRuns.{honest_first, honest_listed, one_given, part_stands, report_passes, report_reaches, some_given}
 use Rattle.copy_follow.proofs.OneHonestRun.{never_damaged}
 use Rattle.std.proofs.Common.{All}
+use Rattle.copy_follow.specs.Rule.{IsOfCopy}
 use Rattle.copy_follow.specs.Told.{IsTold}
 use Rattle.copy_follow.proofs.Telling.{told_report}
 use Rattle.copy_follow.proofs.following.follow.Goals as goal
@@ -150,6 +151,10 @@ returns-clause-says g c =
     (λ f. (digest : List ℕ → List ℕ) (first : Option Candidate) → HasTakenRun digest first l run →
     AreLines first l f.forks.items))
     c.deref-2.ensures.value c.report.ensures.lines)
+    (subst (λ (l : List Candidate). IfOk c.report.result
+    (λ f. (digest : List ℕ → List ℕ) (first : Option Candidate) → HasTakenRun digest first l run →
+    All (IsOfCopy first l f.copy) f.forks.items))
+    c.deref-2.ensures.value c.report.ensures.of_copy)
     (subst (λ (l : List Candidate). HasTakenRun digest copy l run) c.deref.ensures.value
     (c.in_ok-run.ensures.taken (subst (IsSorted turn_cmp) (sym c.deref.ensures.value) rising)))
     c.in_ok-copy.ensures.found (read_found digest origin x copy c.in_ok-copy.ensures.found)

@@ -3,8 +3,9 @@ use Rattle.copy_places.specs.Lines.{AreLines}
 use Rattle.copy_places.specs.Shown.{ShowsEach}
 use Rattle.copy_follow.specs.Lining.{HasLeft}
 use Rattle.copy_follow.specs.Says.{IsBehind}
-use Rattle.copy_follow.proofs.Settled.{has_one_root, lines_new, settles, shows_new}
-use Rattle.std.proofs.Common.{Contains}
+use Rattle.copy_follow.specs.Rule.{IsOfCopy, copy_point}
+use Rattle.copy_follow.proofs.Settled.{has_one_root, lines_new, of_copy_new, settles, shows_new}
+use Rattle.std.proofs.Common.{All, Contains}
 use Rattle.std.proofs.lemmas.List.Elements.{Contains-append_left}
 use Rattle.copy_follow.proofs.report.report.Goals as goal
 
@@ -35,6 +36,15 @@ returns-clause-lines c = λ digest first h.
     (subst (λ l. HasLeft copy cs l (length cs) larger) (c.deref-2.ensures.value ∙ c.in_ok-append.ensures.items)
     c.in_ok-larger.ensures)
     digest first h.taken h.lines)
+
+pub returns-clause-of_copy : goal.returns-clause-of_copy
+returns-clause-of_copy c = λ digest first h.
+    let copy = c.args.run.copy in
+    let cs = c.args.candidates.now in
+    subst (λ o. All (IsOfCopy first cs o) c.append.new.self.items) (sym c.point_of-copy.ensures)
+    (subst (All (IsOfCopy first cs (copy_point copy))) (sym c.in_ok-append.ensures.items)
+    (of_copy_new copy cs c.args.run.forks.items c.add_to_copy.new.lines.items c.in_ok-equal.equal.items
+    c.in_ok-add_to_copy.ensures c.in_ok-equal.ensures first h.of_copy))
 
 pub returns-clause-settles : goal.returns-clause-settles
 returns-clause-settles c = λ digest first h.
