@@ -101,7 +101,8 @@ fn put_damaged<D: ReadableShelf>(
     }
 }
 
-/// Puts the file, if the shelf lacks it or has other bytes there, and names it. A file that stands is flushed before a checkpoint is put.
+/// Puts the file, if the shelf lacks it or has other bytes there, and names it. A file that stands needs no flush, since a repair puts no
+/// checkpoint.
 pub(crate) fn mend<D: ReadableShelf>(
     shelf: &mut D,
     path: &Path,
@@ -122,10 +123,7 @@ pub(crate) fn mend<D: ReadableShelf>(
 {
     match damaged_at(shelf, path, bytes)? {
         Some(damaged) => put_damaged(shelf, path, bytes, damaged, repaired),
-        None => {
-            shelf.flush_before_checkpoint(path)?;
-            Ok(())
-        }
+        None => Ok(()),
     }
 }
 
@@ -215,7 +213,6 @@ pub(crate) fn mend_partial<D: ReadableShelf>(
         (RecordsHad (D.puts shelf.old) (D.puts shelf.new) path.now bytes.now) }
 {
     if gave_way(shelf, path, bytes)? {
-        shelf.flush_before_checkpoint(&path.full())?;
         return Ok(());
     }
     mend(shelf, path, bytes, repaired)
