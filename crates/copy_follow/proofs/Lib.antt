@@ -57,4 +57,6 @@ pub mod Adding
 pub mod Looked
 pub mod Telling
 pub mod LargerForks
+pub mod FileStrings
+pub mod Scripted
 pub mod Looks

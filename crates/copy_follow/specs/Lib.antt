@@ -32,5 +32,7 @@ pub mod Looking
 pub mod OneHonestRun
 pub mod Told
 pub mod LargerForks
+pub mod FileStrings
+pub mod Scripted
 pub mod Looks
 pub mod Exported
