@@ -39,7 +39,7 @@ some_width w some = grind (arith, nat_tests)
 
 -- ---- lists
 
-head_has : {X : Type 0} (x y : X) (xs : List X) → y ≡ x → Contains (y ∷ xs) x
+pub head_has : {X : Type 0} (x y : X) (xs : List X) → y ≡ x → Contains (y ∷ xs) x
 head_has x y xs e = (0, omega arith, e)
 
 -- the lists that the elements lead to have each element of one of them
@@ -55,7 +55,7 @@ flat_map_has {X} f xs x y c m = All-contains (λ z. Contains (f z) y → Contain
         (All-weaker (λ w. Contains (f w) y → Contains (flat_map f zs) y) (λ w. Contains (f w) y → Contains (flat_map f (z ∷ zs)) y)
         (λ w k h. Contains-append_right (f z) (flat_map f zs) y (k h)) zs (each zs))
 
-map_has : {X A : Type 0} (f : X → A) (xs : List X) (x : X) → Contains xs x → Contains (map f xs) (f x)
+pub map_has : {X A : Type 0} (f : X → A) (xs : List X) (x : X) → Contains xs x → Contains (map f xs) (f x)
 map_has {X} f xs x c = All-contains (λ z. Contains (map f xs) (f z)) xs x (each xs) c
   where
     each : (zs : List X) → All (λ z. Contains (map f zs) (f z)) zs
@@ -77,7 +77,7 @@ chosen f g (x ∷ xs) all =
 
 -- ---- rows
 
-same : (x : ℕ) → (x == x) ≡ true
+pub same : (x : ℕ) → (x == x) ≡ true
 same x = grind (arith, nat_tests)
 
 first_row : (width : ℕ) (whole bytes : List ℕ) (row : List (List ℕ)) → IsRow width bytes row → IsFirstOf whole bytes →

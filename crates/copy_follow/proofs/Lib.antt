@@ -59,4 +59,5 @@ pub mod Telling
 pub mod LargerForks
 pub mod FileStrings
 pub mod Scripted
+pub mod LogScripts
 pub mod Looks

@@ -34,5 +34,6 @@ pub mod Told
 pub mod LargerForks
 pub mod FileStrings
 pub mod Scripted
+pub mod LogScripts
 pub mod Looks
 pub mod Exported

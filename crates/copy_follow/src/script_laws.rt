@@ -1,4 +1,5 @@
 //! Laws of places that answer from scripts.
+ghost use Rattle.copy_follow.specs.LogScripts.{LogScriptsSuffice};
 ghost use Rattle.copy_follow.specs.Scripted.{ScriptsAreClear};
 
 use mirror_sources::Source;
@@ -9,4 +10,9 @@ use mirror_sources::Source;
 /// files on the shelf and those of all places lead to, share a digest.
 pub fn script_law<S: Source>()
     ensures { ScriptsAreClear S.may_answer }
+{}
+
+/// For each list of entries there is such a place: its list of files has all tiles and bundles that the entries determine.
+pub fn log_script_law()
+    ensures { LogScriptsSuffice }
 {}
