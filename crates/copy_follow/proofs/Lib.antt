@@ -60,4 +60,6 @@ pub mod LargerForks
 pub mod FileStrings
 pub mod Scripted
 pub mod LogScripts
+pub mod HonestForks
+pub mod ScriptExamples
 pub mod Looks

@@ -1,6 +1,6 @@
 -- The script of a log.
-use Rattle.std.proofs.Common.{◌≡◌, ℕ, zero, suc, ◌+◌, ◌-◌, ◌*◌, ◌/◌, ◌^◌, ◌<◌, ◌≤◌, Bool, true, cond, ◌==◌, nat_le, All, Contains, List, [], ◌∷◌}
-use Rattle.std.proofs.Common.{length, get_or, map, Option, Some, None, refl, sym, ap, subst, ◌∙◌, arith}
+use Rattle.std.proofs.Common.{◌≡◌, ℕ, ◌+◌, ◌-◌, ◌*◌, ◌/◌, ◌^◌, ◌<◌, ◌≤◌, Bool, true, cond, ◌==◌, nat_le, All, Contains, List, [], ◌∷◌}
+use Rattle.std.proofs.Common.{length, map, Option, Some, None, refl, sym, ap, subst, arith}
 use Rattle.std.specs.List.{flat_map, range_with_len}
 use Rattle.std.proofs.Math.Nat.{div-le_self, le-div_iff_mul-le}
 use Rattle.std.proofs.lemmas.Bool.Decides.{nat_tests}
@@ -13,13 +13,12 @@ use Rattle.tlog_tiles.specs.declared.paths.Path.TheVariants.{Checkpoint, Tile, E
 use Rattle.tlog_tiles.specs.Tiles.{IsTileWithin, IsWithin}
 use Rattle.mirror_sources.specs.Honest.{IsTrueAnswer, true_bytes}
 use Rattle.mirror_sources.specs.Source.{File}
-use Rattle.mirror_folders.specs.Shelf.{HasPut}
 use Rattle.copy_places.specs.TruePlaces.{GivesTrueFiles}
 use Rattle.copy_places.specs.declared.place.Place.{Place}
 use Rattle.copy_places.specs.declared.places.Places.{Places}
 use Rattle.copy_follow.specs.LogScripts.{LogScriptsSuffice, MayByScript, paths_at, paths_within, script_of_log}
 use Rattle.copy_follow.specs.Scripted.{AnswerFromScripts}
-use Rattle.copy_follow.proofs.FileStrings.{flat_map_has, head_has, map_has, same}
+use Rattle.copy_follow.proofs.FileStrings.{flat_map_has, head_has, map_has}
 use Rattle.copy_follow.proofs.Scripted.{scripts_are_clear}
 
 -- ---- the paths

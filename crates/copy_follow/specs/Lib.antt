@@ -35,5 +35,7 @@ pub mod LargerForks
 pub mod FileStrings
 pub mod Scripted
 pub mod LogScripts
+pub mod HonestForks
+pub mod ScriptExamples
 pub mod Looks
 pub mod Exported

@@ -54,4 +54,4 @@ pub use following::follow;
 pub use repair::repair_copy;
 pub use repaired::Repaired;
 pub use report::Followed;
-pub use script_laws::{log_script_law, script_law};
+pub use script_laws::{liar_example, log_script_law, script_law, whole_place_law};

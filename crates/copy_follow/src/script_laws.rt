@@ -1,5 +1,7 @@
 //! Laws of places that answer from scripts.
+ghost use Rattle.copy_follow.specs.HonestForks.{LogScriptsAreWhole, WholePlacesContradict};
 ghost use Rattle.copy_follow.specs.LogScripts.{LogScriptsSuffice};
+ghost use Rattle.copy_follow.specs.ScriptExamples.{LiarsAreAllowed};
 ghost use Rattle.copy_follow.specs.Scripted.{ScriptsAreClear};
 
 use mirror_sources::Source;
@@ -15,4 +17,18 @@ pub fn script_law<S: Source>()
 /// For each list of entries there is such a place: its list of files has all tiles and bundles that the entries determine.
 pub fn log_script_law()
     ensures { LogScriptsSuffice }
+{}
+
+/// A larger candidate is contradicted, as `larger_fork_law` wants it, if one place may give nothing but the true file for each path of its
+/// log, and did not fail. The others may answer anything. Premises: the smaller list is no prefix of the larger one, and no two different
+/// strings of its tree, and of that of as many of the larger one's entries, share a digest. A place with the script of the log that never
+/// failed is such a place.
+pub fn whole_place_law<S: Source>()
+    ensures contradicts { WholePlacesContradict S.may_answer S.failed S.asked }
+    ensures scripts { LogScriptsAreWhole }
+{}
+
+/// An example, under the test digest: one of two places gives the files of another log, and the other one is honest.
+pub fn liar_example()
+    ensures { LiarsAreAllowed }
 {}
