@@ -13,7 +13,7 @@ use Rattle.copy_places.specs.Answered.{IsPartAnswer, MustGive, MustGivePart}
 use Rattle.copy_places.specs.Nobodys.{AreGiven, IsWanted}
 use Rattle.copy_places.specs.declared.place.Place.{Place}
 use Rattle.copy_places.specs.declared.places.Places.{Places}
-use Rattle.copy_follow.specs.HonestForks.{HasWholePlace, LogScriptsAreWhole, WholePlacesContradict}
+use Rattle.copy_follow.specs.HonestForks.{HasWholePlace, LogScriptPlacesAreWhole, WholePlacesContradict}
 use Rattle.copy_follow.specs.LogScripts.{MayByScript}
 use Rattle.copy_follow.proofs.LogScripts.{answers_true}
 
@@ -79,14 +79,14 @@ whole_places_contradict may failed asked digest old new small large first entrie
   clear = clear;
 }
 
-pub log_scripts_are_whole : LogScriptsAreWhole
-log_scripts_are_whole digest entries old new log sound = record {
+pub log_script_places_are_whole : LogScriptPlacesAreWhole
+log_script_places_are_whole digest entries old new log sound = record {
   index = log.index;
   listed = log.listed;
   must = λ path within. (
     sound,
     λ d answer m.
-        answers_true digest entries path within answer
+        answers_true digest entries log.note path within answer
         (subst (λ (script : List File). MayByScript script path answer)
         (ap (λ (place : Place (List File)). place.source) (get_or_default old.list.items log.index d log.none log.listed) ∙ log.script) m),
   );

@@ -1,11 +1,11 @@
 -- The script of a log.
 use Rattle.std.proofs.Common.{◌≡◌, ℕ, ◌+◌, ◌-◌, ◌*◌, ◌/◌, ◌^◌, ◌<◌, ◌≤◌, Bool, true, cond, ◌==◌, nat_le, All, Contains, List, [], ◌∷◌}
-use Rattle.std.proofs.Common.{length, map, Option, Some, None, refl, sym, ap, subst, arith}
+use Rattle.std.proofs.Common.{inl, inr, length, map, Option, Some, None, refl, sym, ap, subst, arith}
 use Rattle.std.specs.List.{flat_map, range_with_len}
 use Rattle.std.proofs.Math.Nat.{div-le_self, le-div_iff_mul-le}
 use Rattle.std.proofs.lemmas.Bool.Decides.{nat_tests}
 use Rattle.std.proofs.lemmas.List.{get_or-map, length-map}
-use Rattle.std.proofs.lemmas.List.Elements.{All-contains, All-map, Contains-append_right}
+use Rattle.std.proofs.lemmas.List.Elements.{All-cons, All-contains, All-map, All-nil, Contains-append_cases, Contains-append_right}
 use Rattle.std.proofs.lemmas.List.FromFn.{get_or-range_with_len, length-range_with_len}
 use Rattle.tlog_shape.proofs.Levels.{level_positive}
 use Rattle.tlog_tiles.specs.declared.paths.Path.{Path}
@@ -16,7 +16,7 @@ use Rattle.mirror_sources.specs.Source.{File}
 use Rattle.copy_places.specs.TruePlaces.{GivesTrueFiles}
 use Rattle.copy_places.specs.declared.place.Place.{Place}
 use Rattle.copy_places.specs.declared.places.Places.{Places}
-use Rattle.copy_follow.specs.LogScripts.{LogScriptsSuffice, MayByScript, paths_at, paths_within, script_of_log}
+use Rattle.copy_follow.specs.LogScripts.{IsFileOfLog, LogScriptsAreWhole, LogScriptsSuffice, MayByScript, paths_at, paths_within, script_of_log}
 use Rattle.copy_follow.specs.Scripted.{AnswerFromScripts}
 use Rattle.copy_follow.proofs.FileStrings.{flat_map_has, head_has, map_has}
 use Rattle.copy_follow.proofs.Scripted.{scripts_are_clear}
@@ -74,32 +74,58 @@ all_paths n (Entries index width) within = in_paths n 0 index width within (Entr
 
 -- ---- the script
 
-module _ (digest : List ℕ → List ℕ) (entries : List (List ℕ)) where
-  all_true : All (λ (file : File). file.1 ≡ true_bytes digest entries file.0) (script_of_log digest entries)
-  unfolding script_of_log
+-- the first of a list that has an element is not that element
+in_rest : {X : Type 0} (first x : X) (xs : List X) → Contains (first ∷ xs) x → (first ≡ x → ⊥) → Contains xs x
+in_rest first x xs c differ = elim (Contains-append_cases (first ∷ []) xs x c) [
+  | inl one ↦
+      let is = All-contains (λ y. first ≡ y) (first ∷ []) x (All-cons (λ y. first ≡ y) first [] refl (All-nil (λ y. first ≡ y))) one in
+      absurd (differ is)
+  | inr rest ↦ rest
+]
+
+module _ (digest : List ℕ → List ℕ) (entries : List (List ℕ)) (note : List ℕ) where
+  abbrev true_files : List File
+  true_files = map (λ (path : Path). (path, true_bytes digest entries path)) (paths_within (length entries))
+
+  all_true : All (λ (file : File). file.1 ≡ true_bytes digest entries file.0) true_files
   all_true =
       All-map (λ (file : File). file.1 ≡ true_bytes digest entries file.0) (λ (path : Path). (path, true_bytes digest entries path))
       (paths_within (length entries)) (λ k d lt. refl)
 
-  script_has : (path : Path) → IsWithin (length entries) path → Contains (script_of_log digest entries) (path, true_bytes digest entries path)
+  file_there : (path : Path) (bytes : List ℕ) → IsFileOfLog digest entries note path bytes →
+      Contains (script_of_log digest entries note) (path, bytes)
   unfolding script_of_log
-  script_has path within =
-      map_has (λ (p : Path). (p, true_bytes digest entries p)) (paths_within (length entries)) path
-      (all_paths (length entries) path within)
+  file_there path bytes (inl is) =
+      head_has (path, bytes) (Checkpoint, note) true_files (λ i. (sym is.0 i, sym is.1 i))
+  file_there path bytes (inr is) =
+      Contains-append_right ((Checkpoint, note) ∷ []) true_files (path, bytes)
+      (subst (λ (b : List ℕ). Contains true_files (path, b)) (sym is.1)
+      (map_has (λ (p : Path). (p, true_bytes digest entries p)) (paths_within (length entries)) path
+      (all_paths (length entries) path is.0)))
+
+  no_note : (path : Path) (bytes : List ℕ) → IsWithin (length entries) path → ◌≡◌ {A = File} (Checkpoint, note) (path, bytes) → ⊥
+  no_note path bytes within e =
+      let is : Checkpoint ≡ path = ap (λ (file : File). file.0) e in
+      subst (IsWithin (length entries)) (sym is) within
 
   -- each answer by the script is a true file
   pub answers_true : (path : Path) → IsWithin (length entries) path → (answer : Option (List ℕ)) →
-      MayByScript (script_of_log digest entries) path answer → answer ≡ Some (true_bytes digest entries path)
+      MayByScript (script_of_log digest entries note) path answer → answer ≡ Some (true_bytes digest entries path)
+  unfolding script_of_log
   answers_true path within None none =
-      absurd (none (map_has (λ (file : File). file.0) (script_of_log digest entries) (path, true_bytes digest entries path)
-      (script_has path within)))
+      absurd (none (map_has (λ (file : File). file.0) (script_of_log digest entries note) (path, true_bytes digest entries path)
+      (file_there path (true_bytes digest entries path) (inr (within, refl)))))
   answers_true path within (Some bytes) has =
       ap (λ (b : List ℕ). Some b)
-      (All-contains (λ (file : File). file.1 ≡ true_bytes digest entries file.0) (script_of_log digest entries) (path, bytes) all_true has)
+      (All-contains (λ (file : File). file.1 ≡ true_bytes digest entries file.0) true_files (path, bytes) all_true
+      (in_rest (Checkpoint, note) (path, bytes) true_files has (no_note path bytes within)))
 
-  gives_true : GivesTrueFiles digest entries (MayByScript (script_of_log digest entries))
+  gives_true : GivesTrueFiles digest entries (MayByScript (script_of_log digest entries note))
   gives_true path within answer may =
       subst (IsTrueAnswer digest entries path) (sym (answers_true path within answer may)) refl
+
+pub log_scripts_are_whole : LogScriptsAreWhole
+log_scripts_are_whole = file_there
 
 -- places that answer by scripts answer from scripts
 by_scripts : (places : Places (List File)) →
@@ -120,7 +146,7 @@ log_scripts_suffice digest entries short size upto old new log held clear =
         none = log.none;
         listed = log.listed;
         gives = subst (λ (script : List File). GivesTrueFiles digest entries (MayByScript script)) (sym log.script)
-            (gives_true digest entries);
+            (gives_true digest entries log.note);
         asked = log.asked;
         answers = log.answers;
       };

@@ -20,23 +20,23 @@ use Rattle.copy_follow.specs.ScriptExamples.{LiarsAreAllowed, empty_entry, lying
 use Rattle.copy_follow.specs.Scripted.{AreFilesClear, IsHonestAndClear, all_files}
 use Rattle.copy_follow.proofs.LogScripts.{log_scripts_suffice}
 
-abbrev files : List File
-files = all_files [] (script_of_log sum_digest empty_entry ∷ lying_files ∷ [])
+abbrev files : List ℕ → List File
+files note = all_files [] (script_of_log sum_digest empty_entry note ∷ lying_files ∷ [])
 
 -- the strings of the tree, and those that the files lead to
-all_strings : strings sum_digest (take 1 empty_entry) ++ strings_of_files sum_digest 1 files
+all_strings : (note : List ℕ) → strings sum_digest (take 1 empty_entry) ++ strings_of_files sum_digest 1 (files note)
     ≡ (0 ∷ []) ∷ (0 ∷ []) ∷ (0 ∷ []) ∷ (0 ∷ 7 ∷ []) ∷ (0 ∷ 7 ∷ []) ∷ (0 ∷ 7 ∷ []) ∷ []
 unfolding script_of_log paths_within strings_of_files edges_for rows_for strings_of_first strings joins pairs_of mth fold_of tree_of tree_within
     split_of power_within sum_digest edge_levels
-all_strings = refl
+all_strings note = refl
 
 abbrev IsOneOfTwo : List ℕ → Type 0
 IsOneOfTwo x = (x ≡ 0 ∷ []) ⊎ (x ≡ 0 ∷ 7 ∷ [])
 
-one_of_two : (x : List ℕ) → Has (set.from_list (strings sum_digest (take 1 empty_entry) ++ strings_of_files sum_digest 1 files)) x →
+one_of_two : (note x : List ℕ) → Has (set.from_list (strings sum_digest (take 1 empty_entry) ++ strings_of_files sum_digest 1 (files note))) x →
     IsOneOfTwo x
-one_of_two x h =
-    let c = subst (λ (l : List (List ℕ)). Contains l x) all_strings (listed_from_has _ x h) in
+one_of_two note x h =
+    let c = subst (λ (l : List (List ℕ)). Contains l x) (all_strings note) (listed_from_has _ x h) in
     let a : List ℕ = 0 ∷ [] in
     let b : List ℕ = 0 ∷ 7 ∷ [] in
     All-contains IsOneOfTwo (a ∷ a ∷ a ∷ b ∷ b ∷ b ∷ []) x
@@ -58,23 +58,24 @@ same_string x y (inl p) (inr q) e = absurd (differ (ap sum_digest (sym p) ∙ (e
 same_string x y (inr p) (inl q) e = absurd (differ (ap sum_digest (sym q) ∙ (sym e ∙ ap sum_digest p)))
 same_string x y (inr p) (inr q) e = p ∙ sym q
 
-no_clash : AreFilesClear sum_digest (take 1 empty_entry) files
-no_clash = record { same = λ x y hx hy e. same_string x y (one_of_two x hx) (one_of_two y hy) e }
+no_clash : (note : List ℕ) → AreFilesClear sum_digest (take 1 empty_entry) (files note)
+no_clash note = record { same = λ x y hx hy e. same_string x y (one_of_two note x hx) (one_of_two note y hy) e }
 
 short : AreShort empty_entry
 short = All-cons (λ (entry : List ℕ). length entry < 2 ^ 16) [] [] (omega arith) (All-nil (λ (entry : List ℕ). length entry < 2 ^ 16))
 
-allowed : (honest liar : Place (List File)) (places : Places (List File)) → places.list.items ≡ honest ∷ liar ∷ [] →
-    honest.source ≡ script_of_log sum_digest empty_entry → honest.failures ≡ 0 → liar.source ≡ lying_files →
+allowed : (note : List ℕ) (honest liar : Place (List File)) (places : Places (List File)) → places.list.items ≡ honest ∷ liar ∷ [] →
+    honest.source ≡ script_of_log sum_digest empty_entry note → honest.failures ≡ 0 → liar.source ≡ lying_files →
     IsHonestAndClear sum_digest MayByScript [] places places empty_entry 1
-allowed honest liar places items script sound lies =
+allowed note honest liar places items script sound lies =
     let source = λ (place : Place (List File)). place.source in
-    let sources : map source places.list.items ≡ script_of_log sum_digest empty_entry ∷ lying_files ∷ [] =
+    let sources : map source places.list.items ≡ script_of_log sum_digest empty_entry note ∷ lying_files ∷ [] =
     ap (map source) items ∙ (λ i. script i ∷ lies i ∷ []) in
     let first : get_or places.list.items 0 honest ≡ honest = ap (λ xs. get_or xs 0 honest) items in
     let failures : (get_or places.list.items 0 honest).failures ≡ honest.failures = ap (λ (p : Place (List File)). p.failures) first in
     log_scripts_suffice sum_digest empty_entry short 1 (omega arith) places places
     (record {
+      note = note;
       none = honest;
       index = 0;
       listed = omega (arith, ap length items);
@@ -83,7 +84,7 @@ allowed honest liar places items script sound lies =
       answers = refl;
     })
     []
-    (subst (λ scripts. AreFilesClear sum_digest (take 1 empty_entry) (all_files [] scripts)) (sym sources) no_clash)
+    (subst (λ scripts. AreFilesClear sum_digest (take 1 empty_entry) (all_files [] scripts)) (sym sources) (no_clash note))
 
 bundle_differs : 0 ∷ 1 ∷ 7 ∷ [] ≢ true_bytes sum_digest empty_entry (Entries 0 1)
 bundle_differs e = let bad : 1 ≡ 0 = ap (λ (l : List ℕ). get_or l 1 0) e in omega (arith, bad)

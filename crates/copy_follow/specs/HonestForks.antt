@@ -32,7 +32,7 @@ WholePlacesContradict {S} may failed asked =
     HasWholePlace digest entries may old new → IsContradicted digest may failed asked old new small large first entries
 
 -- a place with the script of the log that never failed is such a place
-abbrev pub LogScriptsAreWhole : Type 0
-LogScriptsAreWhole =
+abbrev pub LogScriptPlacesAreWhole : Type 0
+LogScriptPlacesAreWhole =
     (digest : List ℕ → List ℕ) (entries : List (List ℕ)) (old new : Places (List File)) →
     (log : HasLogScript digest entries old new) → IsSound MayByScript old new log.index → HasWholePlace digest entries MayByScript old new

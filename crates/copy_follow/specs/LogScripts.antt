@@ -1,8 +1,9 @@
 -- The script of a log has all its files. A place with this script is honest, whatever the scripts of the other places have.
-use Rattle.std.specs.Prelude.{◌≡◌, ℕ, ◌+◌, ◌*◌, ◌^◌, ◌<◌, ◌≤◌, Contains, List, [], ◌∷◌, ◌==◌, get_or, if◌then◌else◌, length, map, nat_le, take, Option, Some, None}
+use Rattle.std.specs.Prelude.{◌≡◌, ◌⊎◌, ℕ, ◌+◌, ◌*◌, ◌^◌, ◌<◌, ◌≤◌, Contains, List, [], ◌∷◌, ◌==◌, get_or, if◌then◌else◌, length, map, nat_le, take, Option, Some, None}
 use Rattle.std.specs.List.{flat_map, range_with_len}
 use Rattle.tlog_tiles.specs.declared.paths.Path.{Path}
-use Rattle.tlog_tiles.specs.declared.paths.Path.TheVariants.{Tile, Entries}
+use Rattle.tlog_tiles.specs.declared.paths.Path.TheVariants.{Checkpoint, Tile, Entries}
+use Rattle.tlog_tiles.specs.Tiles.{IsWithin}
 use Rattle.mirror_model.specs.TrueLaws.{AreShort}
 use Rattle.mirror_sources.specs.Honest.{true_bytes}
 use Rattle.mirror_sources.specs.Source.{File}
@@ -30,16 +31,29 @@ paths_within n =
     (λ level. flat_map (λ index. flat_map (λ width. paths_at n level index width) (range_with_len 1 256)) (range_with_len 0 n))
     (range_with_len 0 8)
 
--- each of them, with its true bytes
-unfoldable pub script_of_log : (List ℕ → List ℕ) → List (List ℕ) → List File
-script_of_log digest entries = map (λ path. (path, true_bytes digest entries path)) (paths_within (length entries))
+-- the checkpoint's note, and each of these files with its true bytes
+unfoldable pub script_of_log : (List ℕ → List ℕ) → List (List ℕ) → List ℕ → List File
+script_of_log digest entries note =
+    (Checkpoint, note) ∷ map (λ path. (path, true_bytes digest entries path)) (paths_within (length entries))
+
+-- the bytes are the note, or those of a file that the entries determine
+abbrev pub IsFileOfLog : (List ℕ → List ℕ) → List (List ℕ) → List ℕ → Path → List ℕ → Type 0
+IsFileOfLog digest entries note path bytes =
+    ((path ≡ Checkpoint) × (bytes ≡ note)) ⊎ (IsWithin (length entries) path × (bytes ≡ true_bytes digest entries path))
+
+-- the script of a log has each such file, so what an honest source of a list of entries may give is in it
+abbrev pub LogScriptsAreWhole : Type 0
+LogScriptsAreWhole =
+    (digest : List ℕ → List ℕ) (entries : List (List ℕ)) (note : List ℕ) (path : Path) (bytes : List ℕ) →
+    IsFileOfLog digest entries note path bytes → Contains (script_of_log digest entries note) (path, bytes)
 
 -- one of the places has the script of a log of the entries. It did not fail, and was not given up
 pub record HasLogScript (digest : List ℕ → List ℕ) (entries : List (List ℕ)) (old new : Places (List File)) : Type 0 where
+  pub note : List ℕ
   pub none : Place (List File)
   pub index : ℕ
   pub listed : index < length old.list.items
-  pub script : (get_or old.list.items index none).source ≡ script_of_log digest entries
+  pub script : (get_or old.list.items index none).source ≡ script_of_log digest entries note
   pub asked : (get_or old.list.items index none).failures < 8
   pub answers : (get_or new.list.items index none).failures ≡ (get_or old.list.items index none).failures
 

@@ -22,6 +22,6 @@ pub record LiarsAreAllowed : Type 0 where
   pub false_bundle : 0 ∷ 1 ∷ 7 ∷ [] ≢ true_bytes sum_digest empty_entry (Entries 0 1)
   pub false_tile : sum_digest (0 ∷ 7 ∷ []) ≢ true_bytes sum_digest empty_entry (Tile 0 0 1)
   pub allowed :
-      (honest liar : Place (List File)) (places : Places (List File)) → places.list.items ≡ honest ∷ liar ∷ [] →
-      honest.source ≡ script_of_log sum_digest empty_entry → honest.failures ≡ 0 → liar.source ≡ lying_files →
+      (note : List ℕ) (honest liar : Place (List File)) (places : Places (List File)) → places.list.items ≡ honest ∷ liar ∷ [] →
+      honest.source ≡ script_of_log sum_digest empty_entry note → honest.failures ≡ 0 → liar.source ≡ lying_files →
       IsHonestAndClear sum_digest MayByScript [] places places empty_entry 1

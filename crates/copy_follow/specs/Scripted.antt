@@ -1,10 +1,11 @@
 -- Places that answer from scripts. One of them is honest, and the others may lie.
-use Rattle.std.specs.Prelude.{◌≡◌, ℕ, ◌<◌, ◌≤◌, Contains, List, [], ◌++◌, length, get_or, take, Option, Some}
+use Rattle.std.specs.Prelude.{◌≡◌, ◌⊎◌, ℕ, ◌<◌, ◌≤◌, Contains, List, [], ◌++◌, length, get_or, take, Option, Some}
 use Rattle.std.specs.FinSet as set
 use Rattle.std.specs.List.{flat_map}
 use Rattle.tlog_hash.specs.Tree.{mth, strings}
 use Rattle.tlog_tiles.specs.declared.paths.Path.{Path}
 use Rattle.node_store.specs.Strings.{NoClash}
+use Rattle.mirror_model.specs.Strings.{HasClash}
 use Rattle.mirror_model.specs.TrueLaws.{AreShort}
 use Rattle.mirror_sources.specs.Source.{File}
 use Rattle.mirror_folders.specs.Shelf.{Put}
@@ -48,3 +49,10 @@ ScriptsAreClear {S} may =
     (old new : Places S) → HasTruePlace digest entries may old new → (scripts : List (List File)) → AnswerFromScripts may old scripts →
     (held : List Put) → AreFilesClear digest (take size entries) (all_files held scripts) →
     IsHonestAndClear digest may held old new entries size
+
+-- either that holds of the files, or two different strings of these, which are finitely many, share a digest
+abbrev pub FilesAreClearOrClash : Type 0
+FilesAreClearOrClash =
+    (digest : List ℕ → List ℕ) (log : List (List ℕ)) (files : List File) →
+    AreFilesClear digest log files
+    ⊎ HasClash digest (set.from_list (strings digest log ++ strings_of_files digest (length log) files))
