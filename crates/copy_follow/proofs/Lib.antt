@@ -61,5 +61,6 @@ pub mod FileStrings
 pub mod Scripted
 pub mod LogScripts
 pub mod HonestForks
+pub mod HonestHeads
 pub mod ScriptExamples
 pub mod Looks

@@ -36,6 +36,7 @@ pub mod FileStrings
 pub mod Scripted
 pub mod LogScripts
 pub mod HonestForks
+pub mod HonestHeads
 pub mod ScriptExamples
 pub mod Looks
 pub mod Exported

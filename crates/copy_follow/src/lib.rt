@@ -54,4 +54,4 @@ pub use following::follow;
 pub use repair::repair_copy;
 pub use repaired::Repaired;
 pub use report::Followed;
-pub use script_laws::{liar_example, log_script_law, script_law, whole_place_law};
+pub use script_laws::{liar_example, log_script_law, noted_place_law, script_law, whole_place_law};
