@@ -19,8 +19,9 @@ use Rattle.copy_places.specs.declared.place.Place.{Place}
 use Rattle.copy_places.specs.declared.place.PlaceAnswer.{PlaceAnswer}
 use Rattle.copy_places.specs.declared.place.PlaceAnswer.TheVariants.{File, NotFound, Failed}
 use Rattle.copy_places.specs.declared.places.Places.{Places}
-use Rattle.copy_follow.specs.HonestHeads.{AreNotesTrue, HasNotedPlace, NotedPlacesLead}
+use Rattle.copy_follow.specs.HonestHeads.{AreNotesTrue, HasNotedPlace, NotedPlacesLead, ScriptsMakeHonestRuns}
 use Rattle.copy_follow.specs.OneHonestRun.{IsFirstPoint}
+use Rattle.copy_follow.proofs.Scripted.{scripts_are_clear}
 use Rattle.copy_follow.proofs.TurnOrder.{none_above}
 
 -- the sizes of one note
@@ -55,7 +56,7 @@ module _ (may : Path → Option (List ℕ) → Type 0) (m n : ℕ) (note : List 
 module _ {S : Type 0} (may : S → Path → Option (List ℕ) → Type 0) (digest : List ℕ → List ℕ) (origin : List ℕ) (keys : List Key)
     (old new : Places S) (note : List ℕ) (entries : List (List ℕ)) (size : ℕ)
     (opens : IsOpenHead note origin keys size (mth digest (take size entries))) (noted : HasNotedPlace may old new note)
-    (notes : AreNotesTrue may old new digest origin keys entries size) where
+    (notes : AreNotesTrue digest origin keys may old entries size) where
   gave_note : (candidates : List Candidate) (g : GiveCandidates may origin keys old new candidates) → Gave g.answers note
   gave_note candidates g =
       let at = noted.index in
@@ -114,3 +115,16 @@ module _ {S : Type 0} (may : S → Path → Option (List ℕ) → Type 0) (diges
 pub noted_places_lead : {S : Type 0} → (may : S → Path → Option (List ℕ) → Type 0) → NotedPlacesLead may
 noted_places_lead may digest origin keys old new note entries size opens noted notes candidates are rises =
     leads may digest origin keys old new note entries size opens noted notes candidates are rises
+
+pub scripts_make_honest_runs : {S : Type 0} → (may : S → Path → Option (List ℕ) → Type 0) → ScriptsMakeHonestRuns may
+scripts_make_honest_runs may digest entries short size upto old new true_place scripts answer held clear origin keys note opens noted notes
+    some holds =
+    record {
+      entries = entries;
+      size = size;
+      root = mth digest (take size entries);
+      some = some;
+      greatest = leads may digest origin keys old new note entries size opens noted notes;
+      honest = (scripts_are_clear may digest entries short size upto old new true_place scripts answer held clear).honest;
+      holds = holds;
+    }

@@ -1,6 +1,6 @@
 //! Laws of places that answer from scripts.
 ghost use Rattle.copy_follow.specs.HonestForks.{LogScriptPlacesAreWhole, WholePlacesContradict};
-ghost use Rattle.copy_follow.specs.HonestHeads.{NotedPlacesLead};
+ghost use Rattle.copy_follow.specs.HonestHeads.{NotedPlacesLead, ScriptsMakeHonestRuns};
 ghost use Rattle.copy_follow.specs.LogScripts.{LogScriptsAreWhole, LogScriptsSuffice};
 ghost use Rattle.copy_follow.specs.ScriptExamples.{LiarsAreAllowed};
 ghost use Rattle.copy_follow.specs.Scripted.{FilesAreClearOrClash, ScriptsAreClear};
@@ -33,9 +33,11 @@ pub fn whole_place_law<S: Source>()
 {}
 
 /// The greatest candidate is the checkpoint of one place, as `follow` wants it, if that place may give no other note, did not fail, and was
-/// not given up. The others may give any notes that do not open, and those of the first entries of the same log that are not larger.
+/// not given up. The others may give any notes that do not open, and those of the first entries of the same log that are not larger. With
+/// `script_law` this is all that `suffices` of `follow` wants of the places, but that there are candidates.
 pub fn noted_place_law<S: Source>()
-    ensures { NotedPlacesLead S.may_answer }
+    ensures leads { NotedPlacesLead S.may_answer }
+    ensures runs { ScriptsMakeHonestRuns S.may_answer }
 {}
 
 /// An example, under the test digest: one of two places gives the files of another log, and the other one is honest.
