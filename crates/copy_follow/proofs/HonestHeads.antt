@@ -1,5 +1,5 @@
 -- The greatest candidate is a checkpoint of the log.
-use Rattle.std.proofs.Common.{◌≡◌, inl, inr, ℕ, ◌<◌, ◌≤◌, All, Contains, List, [], ◌∷◌, length, get_or, map, take, Option, Some, None, Ok, refl, sym, ap, subst, ◌∙◌, arith}
+use Rattle.std.proofs.Common.{◌≡◌, inl, inr, ℕ, ◌<◌, ◌≤◌, Contains, List, [], ◌∷◌, length, get_or, take, Option, Some, None, refl, sym, ap, subst, ◌∙◌, arith}
 use Rattle.std.specs.List.Sorted.{IsSorted}
 use Rattle.std.proofs.lemmas.List.{get_or-map, length-map}
 use Rattle.std.proofs.lemmas.List.Elements.{All-contains, All-head, Contains-get_or}
@@ -15,7 +15,6 @@ use Rattle.copy_places.specs.Gathering.{Gave, IsGiven, IsNote}
 use Rattle.copy_places.specs.PlaceGets.{AnswersGet}
 use Rattle.copy_places.specs.Requests.{MayGiveNote}
 use Rattle.copy_places.specs.declared.candidate.Candidate.{Candidate}
-use Rattle.copy_places.specs.declared.place.Place.{Place}
 use Rattle.copy_places.specs.declared.place.PlaceAnswer.{PlaceAnswer}
 use Rattle.copy_places.specs.declared.place.PlaceAnswer.TheVariants.{File, NotFound, Failed}
 use Rattle.copy_places.specs.declared.places.Places.{Places}

@@ -1,4 +1,4 @@
--- Places that answer from scripts, of which one is honest.
+-- Places that answer from scripts. One of them is honest.
 use Rattle.std.proofs.Common.{◌≡◌, ◌≢◌, ◌⊎◌, Bool, true, false, true≢false, Decides, All, ◌∷◌, ◌++◌, sym, inl, inr, ℕ, ◌<◌, Contains, List, [], length, get_or, take, Option, Some, refl, arith}
 use Rattle.std.specs.Cmp.Lexicographic.{bytes_decides}
 use Rattle.std.specs.FinSet as set
