@@ -59,4 +59,10 @@ pub mod Looked
 pub mod Telling
 pub mod LargerForks
 pub mod CopyForks
+pub mod FileStrings
+pub mod Scripted
+pub mod LogScripts
+pub mod HonestForks
+pub mod HonestHeads
+pub mod ScriptExamples
 pub mod Looks

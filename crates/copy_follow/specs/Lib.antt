@@ -32,5 +32,11 @@ pub mod OneHonestRun
 pub mod Told
 pub mod LargerForks
 pub mod CopyForks
+pub mod FileStrings
+pub mod Scripted
+pub mod LogScripts
+pub mod HonestForks
+pub mod HonestHeads
+pub mod ScriptExamples
 pub mod Looks
 pub mod Exported
