@@ -1,19 +1,21 @@
 //! The command `follow`: brings a copy in a folder to the newest checkpoint of some places.
-ghost use Rattle.std.specs.Prelude.{◌≡◌, ◌⊎◌, All, IfErr, IfOk, List, Ok, Option, map, option_map};
+ghost use Rattle.std.specs.Prelude.{◌≡◌, ◌⊎◌, All, IfErr, IfOk, List, None, Ok, Option, map, option_map};
 ghost use Rattle.tlog_text.specs.Answers.{seen};
+ghost use Rattle.tlog_tiles.specs.declared.paths.Path.TheVariants.{Checkpoint};
+ghost use Rattle.copy_places.specs.AskedOnce.{AsksEachOnce};
 ghost use Rattle.copy_places.specs.Requests.{IsGivenOrMayGive};
-ghost use Rattle.copy_places.specs.GatheredFrom.{AreCandidates};
+ghost use Rattle.copy_places.specs.GatheredFrom.{AreCandidates, AreFirstCandidates};
 ghost use Rattle.copy_places.specs.Shown.{ShowsLine};
 ghost use Rattle.copy_follow.specs.Blame.{CountsFollow};
-ghost use Rattle.copy_follow.specs.Ending.{EndsFor};
+ghost use Rattle.copy_follow.specs.Ending.{EndsFor, EndsOnce};
 ghost use Rattle.copy_follow.specs.declared.follow_fault.FollowFault.{FollowFault};
 ghost use Rattle.copy_follow.specs.OneHonestRun.{IsHonestAmong, IsHonestRun, ReachesLog, ReachesSize};
 ghost use Rattle.copy_follow.specs.Runs.{FollowsCandidates};
 ghost use Rattle.copy_follow.specs.Says.{Says};
 ghost use Rattle.copy_follow.specs.RunStanding.{IsFollowed};
 ghost use Rattle.copy_follow.specs.Told.{TellsLarger};
-ghost use Rattle.mirror_folders.specs.Shelf.{Put};
-ghost use Rattle.program_copies.specs.Following.{EndsBefore, PrintsDone, ReadsNote, RunsFollow};
+ghost use Rattle.mirror_folders.specs.Shelf.{Put, RecordsRead};
+ghost use Rattle.program_copies.specs.Following.{EndsBefore, EndsByRunLook, LooksRun, PrintsDone, ReadsNote, RunsFollow};
 
 use crate::evidence::write_evidence;
 use crate::follow_fault::FollowRunFault;
@@ -93,12 +95,16 @@ fn follow_reporting<H: TreeHash, D: CountedFolders, S: Source + Drop>(
         (D.puts folders.old) (D.puts folders.new)) }
     ensures forks { IfOk result (λ done. All (ShowsLine H.digest) done.forks.items) }
     ensures says { IfOk result (Says H.digest following.now.origin.now
-        (AreCandidates S.may_answer following.now.origin.now (map (λ k. key k) keys.now)
-        places.old places.new (option_map (λ v. v.items) given))
+        (AreFirstCandidates S.may_answer S.failed S.asked following.now.origin.now
+        (map (λ k. key k) keys.now) places.old places.new (option_map (λ v. v.items) given))
         (D.puts folders.old) (D.puts folders.new)) }
     ensures ends { IfErr result (EndsFor H.digest S.may_answer following.now.origin.now
         (map (λ k. key k) keys.now) (D.puts folders.old) places.old places.new
         (option_map (λ v. v.items) given)) }
+    ensures looks { IfErr result (EndsByRunLook D.puts (IsGivenOrMayGive S.may_answer
+        (option_map (λ v. v.items) given) places.old) (D.puts folders.old)) }
+    ensures passed { IfErr result (EndsOnce (AsksEachOnce S.asked (λ k path. path ≡ Checkpoint)
+        places.old places.new) (RecordsRead (D.puts folders.old) Checkpoint None)) }
     ensures counted { CountsFollow (D.failed folders.old) (D.failed folders.new) result }
     ensures suffices { (h : IsHonestRun H.digest S.may_answer (D.puts folders.old) places.old
         places.new following.now.origin.now (AreCandidates S.may_answer following.now.origin.now
@@ -222,7 +228,10 @@ pub(crate) fn follow_open<
     requires { ReadsNote (F.puts files.old)
         (option_map (λ name. name.now) following.now.checkpoint)
         (Ok (option_map (λ v. v.items) given)) }
-    ensures { (before : Option (List Put)) → RunsFollow H.digest S.may_answer S.failed S.asked
+    ensures looks { LooksRun D.puts S.may_answer (F.puts files.old)
+        (option_map (λ name. name.now) following.now.checkpoint) places.old
+        (D.puts folders.old) result }
+    ensures runs { (before : Option (List Put)) → RunsFollow H.digest S.may_answer S.failed S.asked
         following.now.origin.now (map (λ k. key k) keys.now) places.old places.new
         (option_map (λ name. name.now) following.now.checkpoint)
         (option_map (λ name. name.now) following.now.forks) (D.puts folders.old)
@@ -274,7 +283,10 @@ pub fn run_follow<
     hold: &mut L,
     output: &mut W,
 ) -> Result<u8, FollowRunFault>
-    ensures { RunsFollow H.digest S.may_answer S.failed S.asked following.now.origin.now
+    ensures looks { LooksRun D.puts S.may_answer (F.puts files.old)
+        (option_map (λ name. name.now) following.now.checkpoint) places.old
+        (D.held folders.old following.now.folder.now) result }
+    ensures runs { RunsFollow H.digest S.may_answer S.failed S.asked following.now.origin.now
         (map (λ k. key k) keys.now) places.old places.new
         (option_map (λ name. name.now) following.now.checkpoint)
         (option_map (λ name. name.now) following.now.forks)
