@@ -23,7 +23,7 @@ use crate::hold::{Hold, HoldFault};
 use crate::text::{followed_status, followed_text};
 use byte_streams::write_whole;
 use copy_follow::{FollowFault, Followed, follow};
-use copy_places::Places;
+use copy_places::{ForkLine, Places};
 use mirror_sources::Source;
 use program_io::{CountedFolders, NamedFault, NamedFiles, Task, report_puts};
 use signed_note::Verifier;
@@ -208,7 +208,20 @@ fn report_done<F: NamedFiles, W: Write>(
     }
 }
 
-/// Follows the places into the open folder, and reports the result, after the named note was read.
+// The forks of a result.
+fn forks_of(done: Followed) -> Vec<ForkLine> {
+    let Followed {
+        copy: _,
+        old: _,
+        forks,
+        larger,
+        behind: _,
+    } = done;
+    drop(larger);
+    forks
+}
+
+/// Follows the places into the open folder, and reports the result, after the named note was read. `forks` gets the forks of the result.
 pub(crate) fn follow_open<
     H: TreeHash,
     F: NamedFiles,
@@ -224,6 +237,7 @@ pub(crate) fn follow_open<
     places: &mut Places<S>,
     given: Option<Vec<u8>>,
     output: &mut W,
+    forks: &mut Vec<ForkLine>,
 ) -> Result<u8, FollowRunFault>
     requires { ReadsNote (F.puts files.old)
         (option_map (λ name. name.now) following.now.checkpoint)
@@ -240,7 +254,11 @@ pub(crate) fn follow_open<
         result }
 {
     match follow_reporting::<H, D, S>(folders, alloc, keys, following, places, given) {
-        Ok(done) => report_done(files, alloc, keys, following, &done, output),
+        Ok(done) => {
+            let answer = report_done(files, alloc, keys, following, &done, output);
+            *forks = forks_of(done);
+            answer
+        }
         Err(fault) => Err(FollowRunFault::Follow(fault)),
     }
 }
@@ -252,12 +270,12 @@ pub(crate) fn follow_open<
 /// was not written. Returns the exit status: 3 if there is a fork, or a larger candidate to which the copy could not be brought, else 0.
 ///
 /// If the file of a note is named, that note is the only candidate, and no place is asked for its checkpoint. Once it was read, the folder of
-/// the copy is held, before it is read.
+/// the copy is held, before it is read. `forks` gets the forks of the result.
 ///
 /// ```text
 /// let following = Following { origin: "ex", folder: "log", checkpoint: None, forks: Some("forks"), progress: false };
 /// let mut hold = SystemHold::new(&rt, alloc);
-/// run_follow::<Sha256Tree, _, _, _, _, _>(&mut files, &mut folders, alloc, &keys, &following, &mut places, &mut hold, &mut output)? // 0
+/// run_follow::<Sha256Tree, _, _, _, _, _>(&mut files, &mut folders, alloc, &keys, &following, &mut places, &mut hold, &mut output, &mut forks)? // 0
 /// ```
 ///
 /// # Errors
@@ -282,6 +300,7 @@ pub fn run_follow<
     places: &mut Places<S>,
     hold: &mut L,
     output: &mut W,
+    forks: &mut Vec<ForkLine>,
 ) -> Result<u8, FollowRunFault>
     ensures looks { LooksRun D.puts S.may_answer (F.puts files.old)
         (option_map (λ name. name.now) following.now.checkpoint) places.old
@@ -299,6 +318,6 @@ pub fn run_follow<
         Err(fault) => return Err(fault),
     };
     follow_open::<H, F, D, S, W>(
-        files, folders, alloc, keys, following, places, given, output,
+        files, folders, alloc, keys, following, places, given, output, forks,
     )
 }
