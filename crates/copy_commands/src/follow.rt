@@ -10,7 +10,7 @@ ghost use Rattle.copy_commands.specs.Follow.{AnswersAmong, DoesFollow};
 use crate::place_fault::{PlaceError, PlaceRunFault};
 use crate::places::places_of;
 use copy_follow::{BringFault, FollowFault, Repaired};
-use copy_places::Places;
+use copy_places::{ForkLine, Places};
 use mirror_sources::Source;
 use program_copies::{
     FollowRunFault, Following, Hold, RepairFault, RepairRunFault, SystemHold, WatchedPlace,
@@ -99,7 +99,16 @@ where
 {
     let mut hold = SystemHold::new(env.rt, env.alloc);
     let mut repaired = Repaired::new(env.alloc);
-    let answer = repair_or_follow(env, keys, follow, &mut places, &mut hold, &mut repaired);
+    let mut forks = Vec::new(env.alloc);
+    let answer = repair_or_follow(
+        env,
+        keys,
+        follow,
+        &mut places,
+        &mut hold,
+        &mut repaired,
+        &mut forks,
+    );
     write_unlocked(follow, env.alloc, hold.unlocked(), env.errors);
     drop(hold);
     write_waits(follow.progress, env.alloc, &places, env.errors);
@@ -110,13 +119,15 @@ where
         &env.folders,
         &places,
         &repaired,
+        &forks,
         env.errors,
     );
+    drop(forks);
     let lacked = lacked_of(places, &repaired);
     followed(env, follow, lacked, answer)
 }
 
-// Follows the places, after a repair if the words ask for one.
+// Follows the places, after a repair if the words ask for one. `forks` gets the forks of the result.
 fn repair_or_follow<
     R,
     F: RunFiles,
@@ -133,6 +144,7 @@ fn repair_or_follow<
     places: &mut Places<S>,
     hold: &mut L,
     repaired: &mut Repaired,
+    forks: &mut Vec<ForkLine>,
 ) -> Result<u8, PlaceRunFault>
     requires { (repaired.old.put ≡ 0) × (repaired.old.damaged.items ≡ []) }
     ensures same { IsSameEnv env.old env.new }
@@ -158,6 +170,7 @@ fn repair_or_follow<
             hold,
             env.output,
             repaired,
+            forks,
         ) {
             Ok(status) => Ok(status),
             Err(fault) => Err(PlaceRunFault::Repair(fault)),
@@ -172,6 +185,7 @@ fn repair_or_follow<
             places,
             hold,
             env.output,
+            forks,
         ) {
             Ok(status) => Ok(status),
             Err(fault) => Err(PlaceRunFault::Follow(fault)),
@@ -338,14 +352,20 @@ fn write_whys<D: RunFolders, S: WatchedPlace + Drop, E: Write>(
     folders: &D,
     places: &Places<S>,
     repaired: &Repaired,
+    forks: &[ForkLine],
     errors: &mut E,
 ) {
     if follow.why {
         let repaired = repaired.damaged();
         let origin = follow.copy.log.origin;
         let folder = follow.copy.folder;
+        // Without a folder for evidence, nothing hangs on the copy's note.
+        let put: &[ForkLine] = match follow.forks {
+            Some(_) => forks,
+            None => &forks[..0],
+        };
         if let Ok(text) = follow_why::<D, S>(
-            alloc, origin, folder, keys, folders, places, repaired,
+            alloc, origin, folder, keys, folders, places, repaired, put,
         ) {
             write_front(errors, text.as_bytes());
         }

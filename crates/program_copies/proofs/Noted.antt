@@ -1,21 +1,23 @@
 -- The facts about the note, the copy, the output and the evidence of a run.
-use Rattle.std.proofs.Common.{◌≡◌, inr, ℕ, List, IfErr, IfOk, Option, Some, None, Result, Ok, Err, refl, sym, subst, ◌∙◌}
+use Rattle.std.proofs.Common.{◌≡◌, ◌⊎◌, inl, inr, ℕ, List, IfErr, IfOk, Option, Some, None, Result, Ok, Err, refl, sym, subst, ◌∙◌}
 use Rattle.std.proofs.KnownBytes.{Keeps-refl}
 use Rattle.std.specs.Io.KnownBytes.{Keeps}
 use Rattle.std.proofs.lemmas.List.Elements.{All-weaker}
 use Rattle.std.proofs.lemmas.Option.{none-some}
 use Rattle.tlog_tiles.specs.declared.paths.Path.{Path}
+use Rattle.tlog_tiles.specs.declared.paths.Path.TheVariants.{Checkpoint}
 use Rattle.signed_note.specs.Keys.{Key}
-use Rattle.mirror_folders.specs.Shelf.{Put}
+use Rattle.mirror_folders.specs.Shelf.{Put, RecordsRead}
 use Rattle.copy_places.specs.declared.places.Places.{Places}
 use Rattle.copy_places.specs.Requests.{IsGivenOrMayGive}
+use Rattle.copy_places.specs.AskedOnce.{AsksEachOnce}
 use Rattle.copy_places.specs.GatheredFrom.{AreCandidates, AreFirstCandidates}
-use Rattle.copy_places.proofs.GatheredFrom.{first_candidates}
 use Rattle.copy_follow.proofs.Noted.{says_so}
 use Rattle.copy_places.specs.Candidates.{note_of}
 use Rattle.copy_places.specs.declared.candidate.Candidate.{Candidate}
 use Rattle.copy_follow.specs.Blame.{CountsFollowFault}
-use Rattle.copy_follow.specs.Ending.{EndsFor}
+use Rattle.copy_follow.specs.Ending.{EndsFor, EndsOnce}
+use Rattle.copy_follow.specs.Looks.{EndsLooking, IsLookedAt}
 use Rattle.copy_follow.specs.OneHonestRun.{IsHonestAmong, IsHonestRun, ReachesLog, ReachesSize}
 use Rattle.copy_follow.specs.Runs.{FollowsCandidates}
 use Rattle.copy_follow.specs.Says.{Says}
@@ -25,7 +27,7 @@ use Rattle.copy_follow.specs.declared.follow_fault.FollowFault.{FollowFault}
 use Rattle.copy_follow.specs.declared.follow_fault.FollowFault.TheVariants as following
 use Rattle.copy_follow.specs.declared.report.Followed.{Followed}
 use Rattle.program_io.specs.Named.{HasContents, NamedFile}
-use Rattle.program_copies.specs.Following.{AreRunCandidates, CopyFollowed, CountsRun, EndsBefore, EndsFollowing, Follows, IsNoteOf, HonestSuffices, PrintsSettled, ReachesRun, ReadsGiven, ReadsNote, PrintsDone, RunsFollow, SettlesRun, SufficesForRun}
+use Rattle.program_copies.specs.Following.{AreRunCandidates, CopyFollowed, CountsRun, EndsBefore, EndsByRunLook, EndsFollowing, Follows, IsNoteOf, HonestSuffices, LooksRun, PrintsSettled, ReachesRun, ReadsGiven, ReadsNote, PrintsDone, RunsFollow, SettlesRun, SufficesForRun}
 use Rattle.program_copies.specs.declared.follow_fault.FollowRunFault.{FollowRunFault}
 use Rattle.program_copies.specs.declared.follow_fault.FollowRunFault.TheVariants.{File, CopyInUse, OutOfMemory, Follow, WriteFault, Evidence, EvidenceAndOutput}
 
@@ -109,33 +111,26 @@ module _ {S : Type 0} (digest : List ℕ → List ℕ) (origin : List ℕ) (keys
     (may : S → Path → Option (List ℕ) → Type 0) (failed : S → ℕ) (asked : S → Option (List Path))
     (places left_places : Places S) (files : Option (List NamedFile)) (name given : Option (List ℕ)) (held put : Option (List Put)) (forks : Option (List ℕ)) (done : Followed)
     (recorded left : Option (List NamedFile)) (old new : Option (List ℕ)) (reads : ReadsNote files name (Ok given))
-    (says : Says digest origin (AreCandidates may origin keys places left_places given) held put done)
+    (says : Says digest origin (AreFirstCandidates may failed asked origin keys places left_places given) held put done)
     (larger : TellsLarger digest may failed asked places left_places done) where
   abbrev Settled : Result ℕ FollowRunFault → Type 0
   Settled r =
       PrintsSettled digest may failed asked origin keys places left_places
-      (AreRunCandidates may origin keys places left_places files name) held put forks recorded left old new r
+      (AreRunCandidates may failed asked origin keys places left_places files name) held put forks recorded left old new r
 
   settled : (r : Result ℕ FollowRunFault) → PrintsDone origin keys forks done recorded left old new r → Settled r
   settled r tells = record {
     done = done;
-    says = record {
-      candidates = says.candidates;
-      gathered = record { given = given; reads = reads; are = says.gathered };
-      rising = says.rising;
-      settles = says.settles;
-      first = says.first;
-      found = says.found;
-      lines = says.lines;
-      noted = says.noted;
-    };
+    says = says_so digest origin (AreFirstCandidates may failed asked origin keys places left_places given)
+        (AreRunCandidates may failed asked origin keys places left_places files name)
+        (λ candidates are. record { given = given; reads = reads; are = are }) held put {E = FollowRunFault} (Ok done) says;
     larger = larger;
     tells = tells;
   }
 
   pub says_printed : (r : Result ℕ FollowRunFault) → PrintsDone origin keys forks done recorded left old new r →
       SettlesRun digest may failed asked origin keys places left_places
-      (AreRunCandidates may origin keys places left_places files name) held put forks recorded left old new r
+      (AreRunCandidates may failed asked origin keys places left_places files name) held put forks recorded left old new r
   says_printed (Ok status) tells = settled (Ok status) tells
   says_printed (Err (File fault)) tells = tt
   says_printed (Err CopyInUse) tells = tt
@@ -147,33 +142,107 @@ module _ {S : Type 0} (digest : List ℕ → List ℕ) (origin : List ℕ) (keys
 
 -- ---- the reasons why `follow` ends
 
-module _ (digest : List ℕ → List ℕ) {S : Type 0} (may : S → Path → Option (List ℕ) → Type 0) (origin : List ℕ)
-    (keys : List Key) (held : Option (List Put)) (x y : Places S) (recorded : Option (List NamedFile)) (name : Option (List ℕ))
-    (given : Option (List ℕ)) (reads : ReadsNote recorded name (Ok given)) where
+module _ (so other : List ℕ → Type 0) (weaker : (note : List ℕ) → so note → other note) (held now : Option (List Put)) where
+  had_so : (found : Option (List ℕ)) → RecordsRead held Checkpoint found ⊎ ((note : List ℕ) × (found ≡ Some note) × so note) →
+      RecordsRead held Checkpoint found ⊎ ((note : List ℕ) × (found ≡ Some note) × other note)
+  had_so found (inl h) = inl h
+  had_so found (inr h) = inr (h.0, h.1, weaker h.0 h.2)
+
+  looked_so : (fault : FollowFault) → IsLookedAt so held now fault → IsLookedAt other held now fault
+  looked_so fault l = record { found = l.found; had = had_so l.found l.had; ends = l.ends }
+
+  looks_so : (fault : FollowFault) → EndsLooking so held now fault → EndsLooking other held now fault
+  looks_so following.NoCheckpoint h = tt
+  looks_so (following.Head fault) h = tt
+  looks_so following.CopyDamaged h = looked_so following.CopyDamaged h
+  looks_so following.CopyInUse h = looked_so following.CopyInUse h
+  looks_so following.ShelfFault h = tt
+  looks_so following.Contradiction h = tt
+  looks_so following.Collision h = tt
+  looks_so following.NoFile h = tt
+  looks_so following.Source h = tt
+  looks_so following.OutOfMemory h = tt
+
+module _ (digest : List ℕ → List ℕ) {S : Type 0} (may : S → Path → Option (List ℕ) → Type 0) (asked : S → Option (List Path))
+    (origin : List ℕ) (keys : List Key) (held : Option (List Put)) (x y : Places S) (recorded : Option (List NamedFile))
+    (name : Option (List ℕ)) (given : Option (List ℕ)) (reads : ReadsNote recorded name (Ok given)) where
   memory_ends : (g : Option (List ℕ)) → EndsFor digest may origin keys held x y g following.OutOfMemory
   memory_ends None = tt
   memory_ends (Some note) = tt
 
-  pub ends_so : (fault : FollowFault) → EndsFor digest may origin keys held x y given fault →
-      EndsFollowing digest may origin keys held x y recorded name fault
-  ends_so fault ends = record { given = given; reads = reads; ends = ends }
+  ends_so : (fault : FollowFault) → EndsFor digest may origin keys held x y given fault →
+      EndsOnce (AsksEachOnce asked (λ k path. path ≡ Checkpoint) x y) (RecordsRead held Checkpoint None) fault →
+      EndsFollowing digest may asked origin keys held x y recorded name fault
+  ends_so fault ends passed = record { given = given; reads = reads; ends = ends; passed = passed }
+
+  pub ends_same : (fault other : FollowFault) → fault ≡ other → EndsFor digest may origin keys held x y given fault →
+      EndsOnce (AsksEachOnce asked (λ k path. path ≡ Checkpoint) x y) (RecordsRead held Checkpoint None) fault →
+      EndsFollowing digest may asked origin keys held x y recorded name other
+  ends_same fault other same ends passed =
+      subst (λ f. EndsFollowing digest may asked origin keys held x y recorded name f) same (ends_so fault ends passed)
 
   -- memory for the text was refused, after the copy was followed
-  pub ends_recorded : (forks : Option (List ℕ)) (done : Followed) (from left : Option (List NamedFile)) (old new : Option (List ℕ))
-      (r : Result ℕ FollowRunFault) → PrintsDone origin keys forks done from left old new r →
+  pub ends_recorded : (forks : Option (List ℕ)) (done : Followed) (from left : Option (List NamedFile))
+      (old new : Option (List ℕ)) (r : Result ℕ FollowRunFault) → PrintsDone origin keys forks done from left old new r →
       IfErr r (λ e. (fault : FollowFault) → e ≡ Follow fault →
-      EndsFollowing digest may origin keys held x y recorded name fault)
+      EndsFollowing digest may asked origin keys held x y recorded name fault)
   ends_recorded forks done from left old new (Ok status) tells = tt
   ends_recorded forks done from left old new (Err (File f)) tells = λ fault e. absurd tells
   ends_recorded forks done from left old new (Err CopyInUse) tells = λ fault e. absurd tells
   ends_recorded forks done from left old new (Err OutOfMemory) tells = λ fault e. absurd tells
   ends_recorded forks done from left old new (Err (Follow f)) tells = λ fault e.
       let same : f ≡ fault = cc in
-      ends_so fault
-      (subst (λ g. EndsFor digest may origin keys held x y given g) (sym tells.fault_is ∙ same) (memory_ends given))
+      subst (λ g. EndsFollowing digest may asked origin keys held x y recorded name g) (sym tells.fault_is ∙ same)
+      (ends_so following.OutOfMemory (memory_ends given) tt)
   ends_recorded forks done from left old new (Err WriteFault) tells = λ fault e. absurd cc
   ends_recorded forks done from left old new (Err (Evidence f)) tells = λ fault e. absurd cc
   ends_recorded forks done from left old new (Err (EvidenceAndOutput f)) tells = λ fault e. absurd cc
+
+-- the look at the folder's checkpoint, with the note of the named file, if one is named
+module _ {D S : Type 0} (puts : D → Option (List Put)) (may : S → Path → Option (List ℕ) → Type 0)
+    (recorded : Option (List NamedFile)) (name given : Option (List ℕ)) (x : Places S) (held : Option (List Put))
+    (reads : ReadsNote recorded name (Ok given)) where
+  abbrev LookedAt : FollowFault → Type 0
+  LookedAt fault = EndsByRunLook puts (IsNoteOf may recorded name x) held fault
+
+  pub looks_ended : (fault : FollowFault) → EndsByRunLook puts (IsGivenOrMayGive may given x) held fault →
+      LooksRun puts may recorded name x held (Err (Follow fault))
+  looks_ended fault l = λ other e.
+      let same : fault ≡ other = cc in
+      let seen : LookedAt fault = record {
+        look = l.look;
+        ends = looks_so (IsGivenOrMayGive may given x) (IsNoteOf may recorded name x)
+            (note_had may recorded name x given reads) held (puts l.look) fault l.ends;
+      } in
+      subst LookedAt same seen
+
+  -- memory for the text was refused, after the copy was followed
+  pub looks_recorded : (look : D) (origin : List ℕ) (keys : List Key) (forks : Option (List ℕ)) (done : Followed)
+      (from left : Option (List NamedFile)) (old new : Option (List ℕ)) (r : Result ℕ FollowRunFault) →
+      PrintsDone origin keys forks done from left old new r → LooksRun puts may recorded name x held r
+  looks_recorded look origin keys forks done from left old new (Ok status) tells = tt
+  looks_recorded look origin keys forks done from left old new (Err (File f)) tells = λ fault e. absurd tells
+  looks_recorded look origin keys forks done from left old new (Err CopyInUse) tells = λ fault e. absurd tells
+  looks_recorded look origin keys forks done from left old new (Err OutOfMemory) tells = λ fault e. absurd tells
+  looks_recorded look origin keys forks done from left old new (Err (Follow f)) tells = λ fault e.
+      let same : f ≡ fault = cc in
+      let memory : LookedAt following.OutOfMemory = record { look = look; ends = tt } in
+      subst LookedAt (sym tells.fault_is ∙ same) memory
+  looks_recorded look origin keys forks done from left old new (Err WriteFault) tells = λ fault e. absurd cc
+  looks_recorded look origin keys forks done from left old new (Err (Evidence f)) tells = λ fault e. absurd cc
+  looks_recorded look origin keys forks done from left old new (Err (EvidenceAndOutput f)) tells = λ fault e. absurd cc
+
+-- a run that ends before the folder is open has no such fault
+pub looks_early : {D S : Type 0} (puts : D → Option (List Put)) (may : S → Path → Option (List ℕ) → Type 0)
+    (recorded : Option (List NamedFile)) (name : Option (List ℕ)) (x : Places S) (held before put : Option (List Put))
+    (fault : FollowRunFault) → EndsBefore recorded name before put fault → LooksRun puts may recorded name x held (Err fault)
+looks_early puts may recorded name x held before put (File fault) ends = λ other e. absurd cc
+looks_early puts may recorded name x held before put CopyInUse ends = λ other e. absurd cc
+looks_early puts may recorded name x held before put OutOfMemory ends = λ other e. absurd cc
+looks_early puts may recorded name x held before put (Follow fault) ends = absurd ends.is_early
+looks_early puts may recorded name x held before put WriteFault ends = absurd ends.is_early
+looks_early puts may recorded name x held before put (Evidence fault) ends = absurd ends.is_early
+looks_early puts may recorded name x held before put (EvidenceAndOutput fault) ends = absurd ends.is_early
 
 -- ---- one honest place
 
@@ -255,16 +324,25 @@ whole_same digest origin keys so a b put last same kept f =
     (subst (λ o. FollowsCandidates digest origin keys so b o) (sym kept) f)
 
 -- the facts about the candidates, between two calls that put nothing
-pub says_same : (digest : List ℕ → List ℕ) {S : Type 0} (may : S → Path → Option (List ℕ) → Type 0) (failed : S → ℕ)
-    (asked : S → Option (List Path)) (origin : List ℕ) (keys : List Key) (x y : Places S) (given : Option (List ℕ))
+pub says_same : (digest : List ℕ → List ℕ) (origin : List ℕ) (so : List Candidate → Type 0)
     (a b put last : Option (List Put)) → b ≡ a → last ≡ put → (r : Result Followed FollowFault) →
-    IfOk r (Says digest origin (AreFirstCandidates may failed asked origin keys x y given) b put) →
-    IfOk r (Says digest origin (AreCandidates may origin keys x y given) a last)
-says_same digest may failed asked origin keys x y given a b put last same kept r h =
-    subst (λ o. IfOk r (Says digest origin (AreCandidates may origin keys x y given) o last)) same
-    (subst (λ o. IfOk r (Says digest origin (AreCandidates may origin keys x y given) b o)) (sym kept)
-    (says_so digest origin (AreFirstCandidates may failed asked origin keys x y given) (AreCandidates may origin keys x y given)
-    (first_candidates origin keys may failed asked x y given) b put r h))
+    IfOk r (Says digest origin so b put) → IfOk r (Says digest origin so a last)
+says_same digest origin so a b put last same kept r h =
+    subst (λ o. IfOk r (Says digest origin so o last)) same (subst (λ o. IfOk r (Says digest origin so b o)) (sym kept) h)
+
+-- what a fault says of the places, and of the copy, after a call that puts nothing
+pub passed_same : (once : Type 0) (a b : Option (List Put)) → b ≡ a → (r : Result Followed FollowFault) →
+    IfErr r (EndsOnce once (RecordsRead b Checkpoint None)) → IfErr r (EndsOnce once (RecordsRead a Checkpoint None))
+passed_same once a b same r h = subst (λ o. IfErr r (EndsOnce once (RecordsRead o Checkpoint None))) same h
+
+pub looks_same : {D : Type 0} (puts : D → Option (List Put)) (so : List ℕ → Type 0) (a b : Option (List Put)) → b ≡ a →
+    (r : Result Followed FollowFault) → IfErr r (λ e. (look : D) × EndsLooking so b (puts look) e) →
+    IfErr r (EndsByRunLook puts so a)
+looks_same puts so a b same (Ok done) h = tt
+looks_same puts so a b same (Err fault) h = record {
+  look = h.0;
+  ends = subst (λ o. EndsLooking so o (puts h.0) fault) same h.1;
+}
 
 -- ---- a run that ends before the folder is open
 

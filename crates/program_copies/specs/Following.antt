@@ -2,16 +2,19 @@
 use Rattle.std.specs.Prelude.{◌≡◌, ◌⊎◌, ℕ, All, IfErr, IfOk, List, Option, Some, None, Result, Ok, Err, ⊤}
 use Rattle.std.specs.Io.KnownBytes.{Appends, Keeps}
 use Rattle.tlog_tiles.specs.declared.paths.Path.{Path}
+use Rattle.tlog_tiles.specs.declared.paths.Path.TheVariants.{Checkpoint}
 use Rattle.byte_streams.specs.Streams.{AppendsPrefix}
 use Rattle.signed_note.specs.Keys.{Key}
-use Rattle.mirror_folders.specs.Shelf.{Put}
+use Rattle.mirror_folders.specs.Shelf.{Put, RecordsRead}
 use Rattle.copy_places.specs.declared.places.Places.{Places}
+use Rattle.copy_places.specs.AskedOnce.{AsksEachOnce}
 use Rattle.copy_places.specs.Requests.{MayGiveNote}
-use Rattle.copy_places.specs.GatheredFrom.{AreCandidates}
+use Rattle.copy_places.specs.GatheredFrom.{AreCandidates, AreFirstCandidates}
 use Rattle.copy_places.specs.Shown.{ShowsLine}
 use Rattle.copy_places.specs.declared.candidate.Candidate.{Candidate}
 use Rattle.copy_follow.specs.Blame.{CountsFollowFault}
-use Rattle.copy_follow.specs.Ending.{EndsFor}
+use Rattle.copy_follow.specs.Ending.{EndsFor, EndsOnce}
+use Rattle.copy_follow.specs.Looks.{EndsLooking}
 use Rattle.copy_follow.specs.OneHonestRun.{IsHonestAmong, IsHonestRun, IsOfShelfOrMemory, ReachesLog, ReachesSize}
 use Rattle.copy_follow.specs.Runs.{FollowsCandidates}
 use Rattle.copy_follow.specs.Says.{Says}
@@ -70,21 +73,36 @@ IsNoteOf may recorded (Some name) places note = HasContents recorded name note
 
 -- ---- the candidates
 
--- the candidates are the note of the named file. If none is named, they are exactly the notes that the places gave and that open
-pub record AreRunCandidates {S : Type 0} (may : S → Path → Option (List ℕ) → Type 0) (origin : List ℕ) (keys : List Key)
-    (old new : Places S) (recorded : Option (List NamedFile)) (name : Option (List ℕ)) (candidates : List Candidate)
-    : Type 0 where
+-- the candidates are the note of the named file. If none is named, they are exactly the notes that open, of those that the places gave
+-- first, when each was asked for its checkpoint once at most, and for no other file. A later failure of a place changes nothing of them
+pub record AreRunCandidates {S : Type 0} (may : S → Path → Option (List ℕ) → Type 0) (failed : S → ℕ)
+    (asked : S → Option (List Path)) (origin : List ℕ) (keys : List Key) (old new : Places S)
+    (recorded : Option (List NamedFile)) (name : Option (List ℕ)) (candidates : List Candidate) : Type 0 where
   pub given : Option (List ℕ)
   pub reads : ReadsNote recorded name (Ok given)
-  pub are : AreCandidates may origin keys old new given candidates
+  pub are : AreFirstCandidates may failed asked origin keys old new given candidates
+
+-- a look at the folder's checkpoint, at some moment of the run, shows that a fault of the copy is right
+pub record EndsByRunLook {D : Type 0} (puts : D → Option (List Put)) (so : List ℕ → Type 0) (held : Option (List Put))
+    (fault : FollowFault) : Type 0 where
+  pub look : D
+  pub ends : EndsLooking so held (puts look) fault
+
+-- the same for each fault of `follow`, where a checkpoint that was found later is that of a candidate of the run
+abbrev pub LooksRun : {D S : Type 0} → (D → Option (List Put)) → (S → Path → Option (List ℕ) → Type 0) →
+    Option (List NamedFile) → Option (List ℕ) → Places S → Option (List Put) → Result ℕ FollowRunFault → Type 0
+LooksRun puts may recorded name places held answer =
+    IfErr answer (λ e. (fault : FollowFault) → e ≡ Follow fault →
+    EndsByRunLook puts (IsNoteOf may recorded name places) held fault)
 
 -- a fault of `follow` has its reason, with the note of the named file, if one is named
 pub record EndsFollowing (digest : List ℕ → List ℕ) {S : Type 0} (may : S → Path → Option (List ℕ) → Type 0)
-    (origin : List ℕ) (keys : List Key) (held : Option (List Put)) (old new : Places S) (recorded : Option (List NamedFile))
-    (name : Option (List ℕ)) (fault : FollowFault) : Type 0 where
+    (asked : S → Option (List Path)) (origin : List ℕ) (keys : List Key) (held : Option (List Put)) (old new : Places S)
+    (recorded : Option (List NamedFile)) (name : Option (List ℕ)) (fault : FollowFault) : Type 0 where
   pub given : Option (List ℕ)
   pub reads : ReadsNote recorded name (Ok given)
   pub ends : EndsFor digest may origin keys held old new given fault
+  pub passed : EndsOnce (AsksEachOnce asked (λ k path. path ≡ Checkpoint) old new) (RecordsRead held Checkpoint None) fault
 
 -- ---- the copy
 
@@ -269,7 +287,7 @@ module _ (digest : List ℕ → List ℕ) {S : Type 0} (may : S → Path → Opt
     (recorded left : Option (List NamedFile)) (old new : Option (List ℕ)) where
   -- the candidates of the run
   abbrev pub OfRun : List Candidate → Type 0
-  OfRun candidates = AreRunCandidates may origin keys places left_places recorded name candidates
+  OfRun candidates = AreRunCandidates may failed asked origin keys places left_places recorded name candidates
 
   -- what is said of each answer
   pub record RunsFollow (answer : Result ℕ FollowRunFault) : Type 0 where
@@ -278,7 +296,7 @@ module _ (digest : List ℕ → List ℕ) {S : Type 0} (may : S → Path → Opt
     pub says :
         SettlesRun digest may failed asked origin keys places left_places OfRun held put forks recorded left old new answer
     pub ends : IfErr answer (λ e. (fault : FollowFault) → e ≡ Follow fault →
-        EndsFollowing digest may origin keys held places left_places recorded name fault)
+        EndsFollowing digest may asked origin keys held places left_places recorded name fault)
     pub given : ReadsGiven recorded name answer
     pub counted : CountsRun failures more_failures answer
     pub status : IfOk answer (λ status. (status ≡ 0) ⊎ (status ≡ 3))

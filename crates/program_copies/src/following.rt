@@ -1,19 +1,21 @@
 //! The command `follow`: brings a copy in a folder to the newest checkpoint of some places.
-ghost use Rattle.std.specs.Prelude.{◌≡◌, ◌⊎◌, All, IfErr, IfOk, List, Ok, Option, map, option_map};
+ghost use Rattle.std.specs.Prelude.{◌≡◌, ◌⊎◌, All, IfErr, IfOk, List, None, Ok, Option, map, option_map};
 ghost use Rattle.tlog_text.specs.Answers.{seen};
+ghost use Rattle.tlog_tiles.specs.declared.paths.Path.TheVariants.{Checkpoint};
+ghost use Rattle.copy_places.specs.AskedOnce.{AsksEachOnce};
 ghost use Rattle.copy_places.specs.Requests.{IsGivenOrMayGive};
-ghost use Rattle.copy_places.specs.GatheredFrom.{AreCandidates};
+ghost use Rattle.copy_places.specs.GatheredFrom.{AreCandidates, AreFirstCandidates};
 ghost use Rattle.copy_places.specs.Shown.{ShowsLine};
 ghost use Rattle.copy_follow.specs.Blame.{CountsFollow};
-ghost use Rattle.copy_follow.specs.Ending.{EndsFor};
+ghost use Rattle.copy_follow.specs.Ending.{EndsFor, EndsOnce};
 ghost use Rattle.copy_follow.specs.declared.follow_fault.FollowFault.{FollowFault};
 ghost use Rattle.copy_follow.specs.OneHonestRun.{IsHonestAmong, IsHonestRun, ReachesLog, ReachesSize};
 ghost use Rattle.copy_follow.specs.Runs.{FollowsCandidates};
 ghost use Rattle.copy_follow.specs.Says.{Says};
 ghost use Rattle.copy_follow.specs.RunStanding.{IsFollowed};
 ghost use Rattle.copy_follow.specs.Told.{TellsLarger};
-ghost use Rattle.mirror_folders.specs.Shelf.{Put};
-ghost use Rattle.program_copies.specs.Following.{EndsBefore, PrintsDone, ReadsNote, RunsFollow};
+ghost use Rattle.mirror_folders.specs.Shelf.{Put, RecordsRead};
+ghost use Rattle.program_copies.specs.Following.{EndsBefore, EndsByRunLook, LooksRun, PrintsDone, ReadsNote, RunsFollow};
 
 use crate::evidence::write_evidence;
 use crate::follow_fault::FollowRunFault;
@@ -21,7 +23,7 @@ use crate::hold::{Hold, HoldFault};
 use crate::text::{followed_status, followed_text};
 use byte_streams::write_whole;
 use copy_follow::{FollowFault, Followed, follow};
-use copy_places::Places;
+use copy_places::{ForkLine, Places};
 use mirror_sources::Source;
 use program_io::{CountedFolders, NamedFault, NamedFiles, Task, report_puts};
 use signed_note::Verifier;
@@ -93,12 +95,16 @@ fn follow_reporting<H: TreeHash, D: CountedFolders, S: Source + Drop>(
         (D.puts folders.old) (D.puts folders.new)) }
     ensures forks { IfOk result (λ done. All (ShowsLine H.digest) done.forks.items) }
     ensures says { IfOk result (Says H.digest following.now.origin.now
-        (AreCandidates S.may_answer following.now.origin.now (map (λ k. key k) keys.now)
-        places.old places.new (option_map (λ v. v.items) given))
+        (AreFirstCandidates S.may_answer S.failed S.asked following.now.origin.now
+        (map (λ k. key k) keys.now) places.old places.new (option_map (λ v. v.items) given))
         (D.puts folders.old) (D.puts folders.new)) }
     ensures ends { IfErr result (EndsFor H.digest S.may_answer following.now.origin.now
         (map (λ k. key k) keys.now) (D.puts folders.old) places.old places.new
         (option_map (λ v. v.items) given)) }
+    ensures looks { IfErr result (EndsByRunLook D.puts (IsGivenOrMayGive S.may_answer
+        (option_map (λ v. v.items) given) places.old) (D.puts folders.old)) }
+    ensures passed { IfErr result (EndsOnce (AsksEachOnce S.asked (λ k path. path ≡ Checkpoint)
+        places.old places.new) (RecordsRead (D.puts folders.old) Checkpoint None)) }
     ensures counted { CountsFollow (D.failed folders.old) (D.failed folders.new) result }
     ensures suffices { (h : IsHonestRun H.digest S.may_answer (D.puts folders.old) places.old
         places.new following.now.origin.now (AreCandidates S.may_answer following.now.origin.now
@@ -202,7 +208,20 @@ fn report_done<F: NamedFiles, W: Write>(
     }
 }
 
-/// Follows the places into the open folder, and reports the result, after the named note was read.
+// The forks of a result.
+fn forks_of(done: Followed) -> Vec<ForkLine> {
+    let Followed {
+        copy: _,
+        old: _,
+        forks,
+        larger,
+        behind: _,
+    } = done;
+    drop(larger);
+    forks
+}
+
+/// Follows the places into the open folder, and reports the result, after the named note was read. `forks` gets the forks of the result.
 pub(crate) fn follow_open<
     H: TreeHash,
     F: NamedFiles,
@@ -218,11 +237,15 @@ pub(crate) fn follow_open<
     places: &mut Places<S>,
     given: Option<Vec<u8>>,
     output: &mut W,
+    forks: &mut Vec<ForkLine>,
 ) -> Result<u8, FollowRunFault>
     requires { ReadsNote (F.puts files.old)
         (option_map (λ name. name.now) following.now.checkpoint)
         (Ok (option_map (λ v. v.items) given)) }
-    ensures { (before : Option (List Put)) → RunsFollow H.digest S.may_answer S.failed S.asked
+    ensures looks { LooksRun D.puts S.may_answer (F.puts files.old)
+        (option_map (λ name. name.now) following.now.checkpoint) places.old
+        (D.puts folders.old) result }
+    ensures runs { (before : Option (List Put)) → RunsFollow H.digest S.may_answer S.failed S.asked
         following.now.origin.now (map (λ k. key k) keys.now) places.old places.new
         (option_map (λ name. name.now) following.now.checkpoint)
         (option_map (λ name. name.now) following.now.forks) (D.puts folders.old)
@@ -231,7 +254,11 @@ pub(crate) fn follow_open<
         result }
 {
     match follow_reporting::<H, D, S>(folders, alloc, keys, following, places, given) {
-        Ok(done) => report_done(files, alloc, keys, following, &done, output),
+        Ok(done) => {
+            let answer = report_done(files, alloc, keys, following, &done, output);
+            *forks = forks_of(done);
+            answer
+        }
         Err(fault) => Err(FollowRunFault::Follow(fault)),
     }
 }
@@ -243,12 +270,12 @@ pub(crate) fn follow_open<
 /// was not written. Returns the exit status: 3 if there is a fork, or a larger candidate to which the copy could not be brought, else 0.
 ///
 /// If the file of a note is named, that note is the only candidate, and no place is asked for its checkpoint. Once it was read, the folder of
-/// the copy is held, before it is read.
+/// the copy is held, before it is read. `forks` gets the forks of the result.
 ///
 /// ```text
 /// let following = Following { origin: "ex", folder: "log", checkpoint: None, forks: Some("forks"), progress: false };
 /// let mut hold = SystemHold::new(&rt, alloc);
-/// run_follow::<Sha256Tree, _, _, _, _, _>(&mut files, &mut folders, alloc, &keys, &following, &mut places, &mut hold, &mut output)? // 0
+/// run_follow::<Sha256Tree, _, _, _, _, _>(&mut files, &mut folders, alloc, &keys, &following, &mut places, &mut hold, &mut output, &mut forks)? // 0
 /// ```
 ///
 /// # Errors
@@ -273,8 +300,12 @@ pub fn run_follow<
     places: &mut Places<S>,
     hold: &mut L,
     output: &mut W,
+    forks: &mut Vec<ForkLine>,
 ) -> Result<u8, FollowRunFault>
-    ensures { RunsFollow H.digest S.may_answer S.failed S.asked following.now.origin.now
+    ensures looks { LooksRun D.puts S.may_answer (F.puts files.old)
+        (option_map (λ name. name.now) following.now.checkpoint) places.old
+        (D.held folders.old following.now.folder.now) result }
+    ensures runs { RunsFollow H.digest S.may_answer S.failed S.asked following.now.origin.now
         (map (λ k. key k) keys.now) places.old places.new
         (option_map (λ name. name.now) following.now.checkpoint)
         (option_map (λ name. name.now) following.now.forks)
@@ -287,6 +318,6 @@ pub fn run_follow<
         Err(fault) => return Err(fault),
     };
     follow_open::<H, F, D, S, W>(
-        files, folders, alloc, keys, following, places, given, output,
+        files, folders, alloc, keys, following, places, given, output, forks,
     )
 }

@@ -14,7 +14,7 @@ use crate::hold::Hold;
 use crate::repair_fault::{RepairFault, RepairRunFault};
 use byte_streams::write_whole;
 use copy_follow::{BringFault, Repaired, repair_copy};
-use copy_places::Places;
+use copy_places::{ForkLine, Places};
 use log_reader::open_head;
 use mirror_folders::{ReadableShelf, ShelfError};
 use mirror_model::TakeFault;
@@ -178,6 +178,7 @@ fn follow_unprinted<H: TreeHash, F: NamedFiles, D: CountedFolders, S: Source + D
     following: &Following<'_>,
     places: &mut Places<S>,
     given: Option<Vec<u8>>,
+    forks: &mut Vec<ForkLine>,
 ) -> FollowRunFault
     requires { ReadsNote (F.puts files.old)
         (option_map (λ name. name.now) following.now.checkpoint)
@@ -191,7 +192,7 @@ fn follow_unprinted<H: TreeHash, F: NamedFiles, D: CountedFolders, S: Source + D
 {
     let mut lost = Vec::new(alloc);
     match follow_open::<H, F, D, S, Vec<u8>>(
-        files, folders, alloc, keys, following, places, given, &mut lost,
+        files, folders, alloc, keys, following, places, given, &mut lost, forks,
     ) {
         Ok(_) => FollowRunFault::WriteFault,
         Err(fault) => fault,
@@ -209,6 +210,7 @@ fn repair_and_follow<H: TreeHash, F: NamedFiles, D: CountedFolders, S: Source + 
     given: Option<Vec<u8>>,
     output: &mut W,
     repaired: &mut Repaired,
+    forks: &mut Vec<ForkLine>,
 ) -> Result<u8, RepairRunFault>
     requires { ReadsNote (F.puts files.old)
         (option_map (λ name. name.now) following.now.checkpoint)
@@ -228,14 +230,14 @@ fn repair_and_follow<H: TreeHash, F: NamedFiles, D: CountedFolders, S: Source + 
     };
     if printed {
         match follow_open::<H, F, D, S, W>(
-            files, folders, alloc, keys, following, places, given, output,
+            files, folders, alloc, keys, following, places, given, output, forks,
         ) {
             Ok(status) => Ok(status),
             Err(fault) => Err(RepairRunFault::Followed(fault)),
         }
     } else {
         let fault = follow_unprinted::<H, F, D, S>(
-            files, folders, alloc, keys, following, places, given,
+            files, folders, alloc, keys, following, places, given, forks,
         );
         Err(RepairRunFault::Unprinted(fault))
     }
@@ -244,13 +246,14 @@ fn repair_and_follow<H: TreeHash, F: NamedFiles, D: CountedFolders, S: Source + 
 /// Repairs the copy in the folder, and then does what `run_follow` does. The named note is read first, if there is one, and the folder is held.
 /// Then the copy's checkpoint has to open under the keys, and `copy_follow::repair_copy` repairs the copy under it. A folder without a
 /// checkpoint has nothing to repair. Then the line `repaired N` is written, with the number of files that were put, 0 too. It is written
-/// also where the repair fails, and it is followed by the output of `run_follow`. `repaired` gets what the repair did.
+/// also where the repair fails, and it is followed by the output of `run_follow`. `repaired` gets what the repair did, and
+/// `forks` the forks of the result.
 ///
 /// If that line cannot be written, the copy is followed nevertheless, and the evidence of its forks is put.
 ///
 /// ```text
 /// let mut repaired = Repaired::new(alloc);
-/// run_repair::<Sha256Tree, _, _, _, _, _>(&mut files, &mut folders, alloc, &keys, &following, &mut places, &mut hold, &mut output, &mut repaired)?
+/// run_repair::<Sha256Tree, _, _, _, _, _>(&mut files, &mut folders, alloc, &keys, &following, &mut places, &mut hold, &mut output, &mut repaired, &mut forks)?
 /// // 0, and the output is:
 /// //   repaired 1
 /// //   followed 600 CtTvclx+BXrchsWIiLJB6woH1kdkUrIootoUMsQZBJA= from 600
@@ -280,6 +283,7 @@ pub fn run_repair<
     hold: &mut L,
     output: &mut W,
     repaired: &mut Repaired,
+    forks: &mut Vec<ForkLine>,
 ) -> Result<u8, RepairRunFault>
     ensures { RunsRepair H.digest S.may_answer S.failed S.asked following.now.origin.now
         (map (λ k. key k) keys.now) places.old places.new
@@ -294,6 +298,6 @@ pub fn run_repair<
         Err(fault) => return Err(RepairRunFault::Early(fault)),
     };
     repair_and_follow::<H, F, D, S, W>(
-        files, folders, alloc, keys, following, places, given, output, repaired,
+        files, folders, alloc, keys, following, places, given, output, repaired, forks,
     )
 }

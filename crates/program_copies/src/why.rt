@@ -5,7 +5,7 @@ ghost use Rattle.program_copies.specs.Whys.{AreWhyLines};
 
 use crate::place::{Answered, FailedAt, WatchedPlace};
 use base64::engine::general_purpose::STANDARD;
-use copy_places::{Place, Places, Wrong, WrongFile};
+use copy_places::{ForkLine, Place, Places, Wrong, WrongFile};
 use log_reader::open_head;
 use mirror_client::Reason;
 use mirror_folders::{DamagedFile, ReadableShelf};
@@ -63,6 +63,20 @@ fn reason_of_file<S: WatchedPlace>(
     }
 }
 
+// The reason why a note is no checkpoint of the origin under the keys, if it is none.
+fn reason_of_head(
+    alloc: Global,
+    origin: &str,
+    keys: &[Box<dyn Verifier>],
+    note: &[u8],
+) -> Result<Option<String>, AllocError> {
+    match open_head(alloc, origin, keys, note) {
+        Ok(_) => Ok(None),
+        Err(TakeFault::OutOfMemory) => Err(AllocError),
+        Err(fault) => Ok(Some(fault.to_string(alloc)?)),
+    }
+}
+
 // The reason why a place's checkpoint is wrong, if it is: it is missing, or its note is no candidate.
 fn reason_of_note<S: WatchedPlace>(
     alloc: Global,
@@ -73,12 +87,36 @@ fn reason_of_note<S: WatchedPlace>(
     match source.answered() {
         Answered::Nothing => Ok(None),
         Answered::NotFound => Ok(Some(String::from_str(alloc, "not found")?)),
-        Answered::Note(note) => match open_head(alloc, origin, keys, note) {
-            Ok(_) => Ok(None),
-            Err(TakeFault::OutOfMemory) => Err(AllocError),
-            Err(fault) => Ok(Some(fault.to_string(alloc)?)),
-        },
+        Answered::Note(note) => reason_of_head(alloc, origin, keys, note),
     }
+}
+
+// The reason why the copy's note is no evidence under the keys, if the fork has it. Each other note is that of a candidate, which opened.
+fn reason_of_fork(
+    alloc: Global,
+    origin: &str,
+    keys: &[Box<dyn Verifier>],
+    fork: &ForkLine,
+) -> Result<Option<String>, AllocError> {
+    match reason_of_head(alloc, origin, keys, &fork.small.note)? {
+        Some(reason) => Ok(Some(reason)),
+        None => reason_of_head(alloc, origin, keys, &fork.large.note),
+    }
+}
+
+// The same for the first such fork.
+fn reason_of_forks(
+    alloc: Global,
+    origin: &str,
+    keys: &[Box<dyn Verifier>],
+    forks: &[ForkLine],
+) -> Result<Option<String>, AllocError> {
+    for fork in forks {
+        if let Some(reason) = reason_of_fork(alloc, origin, keys, fork)? {
+            return Ok(Some(reason));
+        }
+    }
+    Ok(None)
 }
 
 // The line about a file of a place, with a reason.
@@ -181,13 +219,34 @@ fn push_copy<D: ReadableShelf>(
     }
 }
 
+// Adds the line about the copy's checkpoint, if its note is in a fork and does not open under the keys. The copy was made under others. A run
+// judges its files, and not its note's signatures.
+fn push_forks(
+    alloc: Global,
+    text: &mut String,
+    origin: &str,
+    keys: &[Box<dyn Verifier>],
+    folder: &str,
+    forks: &[ForkLine],
+) -> Result<(), AllocError>
+    requires { AreWhyLines (string_bytes text.old) }
+    ensures { OnOk result (AreWhyLines (string_bytes text.new)) }
+{
+    match reason_of_forks(alloc, origin, keys, forks)? {
+        Some(reason) => push_line(alloc, text, folder, &Path::Checkpoint, &reason),
+        None => Ok(()),
+    }
+}
+
 /// The lines about the copy and the places of a run, in the order of the command's words. Each one at which something was wrong has one
 /// line, about the first such thing. A false file is named with the size and the beginning of the root of the checkpoint that it does not
 /// fit, unless a repair asked for it: then it does not fit the copy's. After a repair the copy has a line for each file of `repaired`, the damaged files that the repair names.
-/// Each line has at most 200 bytes with its newline, and no control character.
+/// It has one more line if its note is in one of the forks, and does not open under the keys: then it is evidence only under those with
+/// which the copy was made. Each line has at most 200 bytes with its newline, and no control character.
 ///
 /// ```text
 /// copy: tile/entries/000.p/3: false
+/// copy: checkpoint: NoTrustedSignature
 /// place: checkpoint: NoTrustedSignature
 /// log.example:80/2026: tile/entries/001: not found
 /// mirror: tile/entries/001: false for checkpoint 600 CtTv..
@@ -206,11 +265,13 @@ pub fn follow_why<D: ReadableShelf, S: WatchedPlace + Drop>(
     shelf: &D,
     places: &Places<S>,
     repaired: &[DamagedFile],
+    forks: &[ForkLine],
 ) -> Result<String, AllocError>
     ensures { IfOk result (λ text. AreWhyLines (string_bytes text)) }
 {
     let mut text = String::new(alloc);
     push_copy::<D>(alloc, &mut text, folder, shelf, repaired)?;
+    push_forks(alloc, &mut text, origin, keys, folder, forks)?;
     for place in places.list() {
         push_place(alloc, &mut text, origin, keys, place)?;
     }

@@ -36,7 +36,7 @@ returns-in-Ok-run_follow-clause-does g c = inl (
     left = c.run_follow.new.places;
     failures = _;
     more_failures = _;
-    runs = c.in-Ok-run_follow.ensures;
+    runs = c.in-Ok-run_follow.ensures.runs;
   },
 )
 
@@ -47,6 +47,6 @@ returns-in-Err-run_follow-clause-does g c = (
     left = c.run_follow.new.places;
     failures = _;
     more_failures = _;
-    runs = c.in-Err-run_follow.ensures;
+    runs = c.in-Err-run_follow.ensures.runs;
   },
 )

@@ -5,7 +5,7 @@ pub returns-in-Ok : goal.returns-in-Ok
 returns-in-Ok g c = record {
   lost = c.follow_open.new.output.items;
   answer = c.follow_open.result;
-  follows = rw c.new-lost.ensures.items at (c.follow_open.ensures (g.D.Shelf.puts c.args.folders.now));
+  follows = rw c.new-lost.ensures.items at (c.follow_open.ensures.runs (g.D.Shelf.puts c.args.folders.now));
   fault_is = rw c.in-Ok.is refl;
 }
 
@@ -13,6 +13,6 @@ pub returns : goal.returns
 returns g c = record {
   lost = c.follow_open.new.output.items;
   answer = c.follow_open.result;
-  follows = rw c.new-lost.ensures.items at (c.follow_open.ensures (g.D.Shelf.puts c.args.folders.now));
+  follows = rw c.new-lost.ensures.items at (c.follow_open.ensures.runs (g.D.Shelf.puts c.args.folders.now));
   fault_is = rw c.in-Err.is refl;
 }

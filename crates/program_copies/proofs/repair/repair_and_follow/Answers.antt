@@ -24,7 +24,7 @@ returns-in-Ok-follow_open g c =
     (g.W.Write.contents c.print_repair.new.output) c.in-Ok.printed c.if-printed.true (subst (λ n. PrintsRepair n (g.W.Write.contents c.args.output.now) (g.W.Write.contents c.print_repair.new.output)
     c.repair_reporting-answer.result (Ok c.in-Ok.printed)) c.put.ensures c.in-Ok.ensures)
     (Ok c.in-Ok-follow_open.status)
-    (rw c.in-Ok-follow_open.is at (c.follow_open.ensures (g.D.Shelf.puts c.repair_reporting-answer.new.folders)))
+    (rw c.in-Ok-follow_open.is at (c.follow_open.ensures.runs (g.D.Shelf.puts c.repair_reporting-answer.new.folders)))
 
 pub returns-in-Err-follow_open : goal.returns-in-Err-follow_open
 returns-in-Err-follow_open g c =
@@ -37,7 +37,7 @@ returns-in-Err-follow_open g c =
     (g.W.Write.contents c.print_repair.new.output) c.in-Ok.printed c.if-printed.true (subst (λ n. PrintsRepair n (g.W.Write.contents c.args.output.now) (g.W.Write.contents c.print_repair.new.output)
     c.repair_reporting-answer.result (Ok c.in-Ok.printed)) c.put.ensures c.in-Ok.ensures)
     (Err c.in-Err-follow_open.fault)
-    (rw c.in-Err-follow_open.is at (c.follow_open.ensures (g.D.Shelf.puts c.repair_reporting-answer.new.folders)))
+    (rw c.in-Err-follow_open.is at (c.follow_open.ensures.runs (g.D.Shelf.puts c.repair_reporting-answer.new.folders)))
 
 pub returns-else-printed : goal.returns-else-printed
 returns-else-printed g c =
