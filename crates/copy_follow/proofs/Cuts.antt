@@ -17,7 +17,7 @@ use Rattle.log_reader.specs.Ways.{HasEdgeHashes}
 use Rattle.log_reader.proofs.Truths.{shown_rows_are_true}
 use Rattle.copy_places.specs.Asked.{IsEdgeTile, IsPathOrFull}
 use Rattle.copy_places.specs.Giving.{IsEdgeFrom, IsFirstOf, IsRowFrom, PartOf}
-use Rattle.copy_follow.specs.Repaired.{AreEndsClear, BeginsBundle, BeginsTile, IsClearLog, IsEdgeCut, IsOfEdge}
+use Rattle.copy_follow.specs.Repaired.{AreEndsClear, BeginsBundle, BeginsTile, IsClearLog, IsEdgeCut, IsOfEdge, IsTreeClear}
 use Rattle.mirror_folders.specs.Shelf.{Put}
 use Rattle.copy_places.specs.PlaceGets.{AsksPlaces}
 use Rattle.copy_places.specs.declared.place.Place.{Place}
@@ -26,6 +26,7 @@ use Rattle.copy_places.proofs.Cutting.{cut_first}
 use Rattle.copy_places.proofs.Giving.{part_weaker}
 use Rattle.copy_follow.specs.Suffices.{IsEdgeTrue}
 use Rattle.copy_follow.specs.Taken.{MayTake, PutsTaken}
+use Rattle.copy_follow.proofs.Mending.{tree_clear}
 use Rattle.copy_follow.proofs.OnePlace.{taken_before}
 
 itself : (bytes : List ℕ) → IsFirstOf bytes bytes
@@ -94,6 +95,9 @@ module _ (digest : List ℕ → List ℕ) (hash : IsDigest digest) (log : List (
         (clear.edge edge (subst (λ k. IsEdgeCut take k edge) (sym long) from));
   }
 
+  pub cut_tree_clear : IsTreeClear digest log
+  cut_tree_clear = tree_clear digest log others (clear.edge edge (subst (λ k. IsEdgeCut take k edge) (sym long) from))
+
   pub cut_edge_true : IsEdgeTrue digest log edge
   cut_edge_true = record {
     size_is = from.size_is ∙ sym long;
@@ -142,6 +146,7 @@ module _ (digest : List ℕ → List ℕ) (log : List (List ℕ)) (take also : P
       bundle = λ index width bytes es part is.
           c.files.bundle index width bytes es (part_weaker also take more (Entries index width) bytes part) is;
     };
+    leaf_tiles = λ index bytes row taken is. c.leaf_tiles index bytes row (more (Tile 0 index 256) bytes taken) is;
     ends = ends_weaker c.ends;
     edge = λ edge cut. c.edge edge (edge_weaker also take more (length log) edge cut);
   }

@@ -43,7 +43,7 @@ use Rattle.copy_places.proofs.TruePlaces.{place_between}
 use Rattle.copy_follow.specs.Damaged.{IsEdgeWrong}
 use Rattle.copy_follow.specs.Found.{RecordsPartial}
 use Rattle.copy_follow.specs.Growing.{IsBelow, IsNewFile}
-use Rattle.copy_follow.specs.Lacked.{AtOkOrLack, GoesAlong, GoesBelow, GoesDown, GoesOverAll, IsEdgeLacked, IsEdgeNowhere, IsEndNowhere, IsFoundNowhere, IsHadOrLacked, IsLacked, IsNobodysFile, IsNobodysPart, IsOwnPart, IsRecorded, LacksBundle, LacksEnd, LacksTile, LeadsNowhere}
+use Rattle.copy_follow.specs.Lacked.{AtOkOrLack, GoesAlong, GoesBelow, GoesDown, GoesOverAll, IsEdgeLacked, IsEdgeNowhere, IsEndNowhere, IsFoundNowhere, IsHadOrLacked, IsLacked, IsNobodysFile, IsNobodysPart, IsOwnPart, IsRecorded, LacksBundle, LacksEnd, LacksLeafTile, LacksTile, LeadsNowhere, StandsOrNobodys}
 use Rattle.copy_follow.specs.Repaired.{IsLack, PutsTrue, RecordsHad}
 use Rattle.copy_follow.specs.Standing.{RecordsStands}
 use Rattle.copy_follow.specs.Suffices.{IsEdgeTrue, IsSpared, IsTileHash}
@@ -163,7 +163,9 @@ module _ {S : Type 0} (may : S → Path → Option (List ℕ) → Type 0) (faile
       }
 
       lacked_between : (path : Path) → IsLacked digest log may y z b path → IsLacked digest log may x w a path
-      lacked_between path (LacksBundle index n below) = LacksBundle index (nobodys_between (Entries index 256) n) below
+      lacked_between path (LacksBundle index n is) = LacksBundle index (nobodys_between path n) is
+      lacked_between path (LacksLeafTile index n bundle is) =
+          LacksLeafTile index (nobodys_between path n) (nobodys_between (Entries index 256) bundle) is
       lacked_between path (LacksTile level index some n below) =
           LacksTile level index some (nobodys_between (Tile level index 256) n) below
       lacked_between path (LacksEnd n is) = LacksEnd (nobodys_part path is n) is
@@ -177,6 +179,13 @@ module _ {S : Type 0} (may : S → Path → Option (List ℕ) → Type 0) (faile
 
     pub lacked_second : (path : Path) → IsLacked digest log may y z b path → IsLacked digest log may x z a path
     lacked_second path l = lacked_between so also also x y z z p q (asks_same may failed asked also z) a b g path l
+
+    pub nobodys_first : (path : Path) → IsNobodysFile digest log may x y a path → IsNobodysFile digest log may x z a path
+    nobodys_first path n = nobodys_between so so also x x y z (asks_same may failed asked so x) p q a a same path n
+
+    pub or_nobodys_second : (path : Path) → StandsOrNobodys digest log may y z b c path → StandsOrNobodys digest log may x z a c path
+    or_nobodys_second path (inl there) = inl (stands_earlier digest log a b c path g there)
+    or_nobodys_second path (inr n) = inr (nobodys_between so also also x y z z p q (asks_same may failed asked also z) a b g path n)
 
     pub below_first : (level index : ℕ) → GoesBelow digest log may x y a b level index → GoesBelow digest log may x z a c level index
     below_first level index s path below = elim (s path below) [
@@ -322,6 +331,19 @@ bundle_stands digest log index x w bundle tile path below = elim (below_bundle i
   | inl is ↦ subst (λ q. RecordsStands x w q (true_bytes digest log q)) (sym is) tile
   | inr is ↦ subst (λ q. RecordsStands x w q (true_bytes digest log q)) (sym is) bundle
 ]
+
+-- nobody has the bundle
+pub bundle_lacked : (digest : List ℕ → List ℕ) (log : List (List ℕ)) {S : Type 0} (may : S → Path → Option (List ℕ) → Type 0)
+    (old new : Places S) (x w : Option (List Put)) (index : ℕ) → IsNobodysFile digest log may old new x (Entries index 256) →
+    StandsOrNobodys digest log may old new x w (Tile 0 index 256) → GoesBelow digest log may old new x w 0 index
+bundle_lacked digest log may old new x w index bundle tile path below =
+    elim (below_bundle index path below) [
+      | inl is ↦ elim tile [
+        | inl there ↦ inl (subst (λ q. RecordsStands x w q (true_bytes digest log q)) (sym is) there)
+        | inr n ↦ inr (LacksLeafTile index (subst (IsNobodysFile digest log may old new x) (sym is) n) bundle is)
+      ]
+      | inr is ↦ inr (LacksBundle index (subst (IsNobodysFile digest log may old new x) (sym is) bundle) is)
+    ]
 
 -- ---- the partial bundle
 
@@ -531,7 +553,9 @@ module _ {S : Type 0} (may : S → Path → Option (List ℕ) → Type 0) (diges
   }
 
   lacked_begun : (a : Option (List Put)) (path : Path) → IsLacked digest log may y z a path → IsLacked digest log may x z a path
-  lacked_begun a path (LacksBundle index n below) = LacksBundle index (nobodys_begun a (Entries index 256) n) below
+  lacked_begun a path (LacksBundle index n is) = LacksBundle index (nobodys_begun a path n) is
+  lacked_begun a path (LacksLeafTile index n bundle is) =
+      LacksLeafTile index (nobodys_begun a path n) (nobodys_begun a (Entries index 256) bundle) is
   lacked_begun a path (LacksTile level index some n below) =
       LacksTile level index some (nobodys_begun a (Tile level index 256) n) below
   lacked_begun a path (LacksEnd n is) = LacksEnd (part_begun a path n) is

@@ -3,16 +3,20 @@ use Rattle.std.proofs.Common.{◌≡◌, ◌≢◌, ◌⊎◌, ℕ, ◌+◌, ◌
 use Rattle.std.proofs.Common.{inl, inr, Option, Some, None, refl, sym, ap, subst, ◌∙◌, arith, length-append}
 use Rattle.std.proofs.lemmas.Nat.{mul-le}
 use Rattle.std.proofs.lemmas.List.{length-map}
-use Rattle.std.proofs.lemmas.List.Elements.{All-append, All-cons, All-nil}
+use Rattle.std.specs.FinSet as set
+use Rattle.std.specs.List.{Contains}
+use Rattle.std.proofs.lemmas.List.Elements.{All-append, All-cons, All-contains, All-nil, Contains-append_cases, Contains-append_left}
 use Rattle.tlog_shape.proofs.Levels.{level_positive}
 use Rattle.tlog_hash.specs.Rows.{level_row, part}
-use Rattle.tlog_hash.specs.Tree.{leaf_hash}
+use Rattle.tlog_hash.specs.Tree.{joins, leaf_hash, strings}
 use Rattle.tlog_tiles.specs.Bundle.{IsBundle, bundle_text}
 use Rattle.tlog_tiles.specs.Row.{IsRow, row_text}
 use Rattle.tlog_tiles.specs.declared.paths.Path.{Path}
 use Rattle.tlog_tiles.specs.declared.paths.Path.TheVariants.{Checkpoint, Tile, Entries}
 use Rattle.tlog_tiles.specs.Tiles.{IsTileWithin, IsWithin}
+use Rattle.node_store.specs.Strings.{NoClash}
 use Rattle.mirror_model.specs.Strings.{IsDigest}
+use Rattle.mirror_model.proofs.StringSets.{has_from_listed, listed_from_has, no_clash_within}
 use Rattle.mirror_sources.specs.Recorded.{AddsToRecord, KeepsRecord}
 use Rattle.mirror_folders.specs.Shelf.{HasPut, Put, RecordsRead, Stands}
 use Rattle.mirror_sources.specs.Files.{full_of, width_named}
@@ -21,15 +25,18 @@ use Rattle.log_reader.specs.Verified.{Verifies}
 use Rattle.log_reader.specs.declared.verify.FullFile.TheVariants as kind
 use Rattle.copy_places.specs.PlaceGets.{AsksPlaces}
 use Rattle.copy_places.specs.declared.places.Places.{Places}
+use Rattle.log_reader.proofs.TrueReads.{row_is_true}
 use Rattle.copy_places.proofs.Asking.{asks_then}
+use Rattle.copy_places.proofs.Giving.{given_before}
 use Rattle.copy_follow.specs.Growing.{IsKnown, IsNewFile, IsRowBrought, empty_tip}
-use Rattle.copy_follow.specs.Repaired.{CountsPuts, GaveWay, Mends, RecordsHad}
+use Rattle.copy_follow.specs.Repaired.{AreFullsClear, AreLeafTilesClear, CountsPuts, GaveWay, IsClearLog, IsTreeClear, Mends, PutsTrue, RecordsHad}
 use Rattle.copy_follow.specs.Suffices.{IsTileHash, IsTileRow}
-use Rattle.copy_follow.specs.Taken.{FilesAreClear, IsLeafTile, MayTake}
+use Rattle.copy_follow.specs.Taken.{FilesAreClear, IsLeafTile, IsRowClear, MayTake, PutsTaken, WasPut}
 use Rattle.copy_follow.proofs.Growth.{adds_then, gathers_none, kept_adds, kept_same}
-use Rattle.copy_follow.proofs.OnePlace.{puts_also, puts_none, puts_then}
+use Rattle.copy_follow.proofs.OnePlace.{clear_later, puts_also, puts_none, puts_then}
 use Rattle.copy_follow.proofs.Spared.{bundle_true, tile_true}
 use Rattle.copy_follow.proofs.TileRows.{place_of}
+use Rattle.copy_follow.proofs.TrueRows.{row_within}
 
 -- ---- counting
 
@@ -160,6 +167,71 @@ module _ (digest : List ℕ → List ℕ) (hash : IsDigest digest) (log : List (
           true_bundle index bytes v.is_row.entries b true.1 (omega (arith, fits)),
           λ text text_is. true_tile 0 index (omega arith) text row text_is count true.0,
         )
+
+  pub leaf_tile_found : (may : Path → List ℕ → Type 0) → AreLeafTilesClear digest log may → (index : ℕ) (value bytes : List ℕ)
+      (row : List (List ℕ)) → may (Tile 0 index 256) bytes → Verifies digest kind.Tile value bytes row →
+      IsTileHash digest log 0 index value → IsNewFile digest 0 log (Tile 0 index 256, bytes)
+  leaf_tile_found may clear index value bytes row taken v is =
+      true_tile 0 index (omega arith) bytes row v.is_row.text v.is_row.count
+      (tile_true digest hash log 0 index value bytes row v is (clear index bytes row taken v.is_row))
+
+-- ---- full files that may be taken while true files are put
+
+pub fulls_clear : (digest : List ℕ → List ℕ) (log : List (List ℕ)) (may : Path → List ℕ → Type 0) → IsTreeClear digest log →
+    IsClearLog digest log may → AreFullsClear digest log may
+fulls_clear digest log may tree clear = record { tree = tree; files = clear.files; leaf_tiles = clear.leaf_tiles }
+
+-- fewer strings do not clash either
+pub tree_clear : (digest : List ℕ → List ℕ) (log more : List (List ℕ)) → NoClash digest (set.from_list (strings digest log ++ more)) →
+    IsTreeClear digest log
+tree_clear digest log more clear =
+    let tree = strings digest log in
+    no_clash_within digest (set.from_list tree) (set.from_list (tree ++ more))
+    (λ q has. has_from_listed (tree ++ more) q (Contains-append_left tree more q (listed_from_has tree q has))) clear
+
+-- the strings of a row of the log
+row_clear : (digest : List ℕ → List ℕ) (log : List (List ℕ)) → IsTreeClear digest log → (index : ℕ) →
+    256 * index + 256 ≤ length log → IsRowClear digest log (level_row digest log 0 (256 * index) 256)
+row_clear digest log clear index fits =
+    let tree = strings digest log in
+    let more = joins digest (level_row digest log 0 (256 * index) 256) in
+    no_clash_within digest (set.from_list (tree ++ more)) (set.from_list tree)
+    (λ q has. has_from_listed tree q (elim (Contains-append_cases tree more q (listed_from_has (tree ++ more) q has)) [
+      | inl there ↦ there
+      | inr joined ↦ row_within digest log 0 index (omega (arith, fits)) q joined
+    ])) clear
+
+module _ {S : Type 0} (may : S → Path → Option (List ℕ) → Type 0) (failed : S → ℕ) (asked : S → Option (List Path))
+    (so : Path → Type 0) (x y : Places S) (p : AsksPlaces may failed asked so x y) (digest : List ℕ → List ℕ) (hash : IsDigest digest)
+    (log : List (List ℕ)) where
+  leaf_tile_put : (a b : Option (List Put)) → PutsTrue digest log a b → IsTreeClear digest log →
+      AreLeafTilesClear digest log (MayTake may x a) → (index : ℕ) (bytes : List ℕ) (row : List (List ℕ)) →
+      WasPut b (Tile 0 index 256) bytes → IsRow 256 bytes row → IsRowClear digest log row
+  leaf_tile_put None b g tree clear index bytes row put is = clear index bytes row (inl tt) is
+  leaf_tile_put (Some us) None g tree clear index bytes row put is = absurd g.recorded
+  leaf_tile_put (Some us) (Some vs) g tree clear index bytes row put is =
+      let file : Put = (Tile 0 index 256, bytes) in
+      elim (Contains-append_cases us g.puts file (subst (λ (l : List Put). Contains l file) g.recorded put)) [
+        | inl old ↦ clear index bytes row (inl old) is
+        | inr new ↦
+            let true = All-contains (IsNewFile digest 0 log) g.puts file g.are_new new in
+            let within = true.within in
+            let fits = within.within in
+            subst (λ (r : List (List ℕ)). IsRowClear digest log r)
+            (sym (row_is_true digest hash log 0 index 256 bytes row true.bytes_are is))
+            (row_clear digest log tree index (omega (arith, fits)))
+      ]
+
+  pub fulls_later : (a b : Option (List Put)) → PutsTaken may x a b → PutsTrue digest log a b →
+      AreFullsClear digest log (MayTake may x a) → AreFullsClear digest log (MayTake may y b)
+  fulls_later a b t g c = record {
+    tree = c.tree;
+    files = clear_later may failed asked so x y p digest log a b t c.files;
+    leaf_tiles = λ index bytes row taken is. elim taken [
+      | inl put ↦ leaf_tile_put a b g c.tree c.leaf_tiles index bytes row put is
+      | inr given ↦ c.leaf_tiles index bytes row (inr (given_before may failed asked so x y (Tile 0 index 256) bytes p given)) is
+    ];
+  }
 
 -- ---- rows of which nothing is known before
 

@@ -8,6 +8,7 @@ use Rattle.copy_places.specs.declared.places.Places.{Places}
 use Rattle.copy_places.specs.PlaceGets.{AsksPlaces}
 use Rattle.copy_places.proofs.Asking.{asks_then, asks_weaker}
 use Rattle.copy_follow.specs.Asked.{IsEdgeBundleOrNew, MayBeAsked, IsNewFull, IsEdgeBundle}
+use Rattle.copy_follow.specs.Repaired.{IsFullFile}
 use Rattle.copy_places.specs.Asked.{IsEdgeTile, IsPathOrFull}
 
 pub end_is : (level index : ℕ) → (256 * index + 256) * 256 ^ level ≡ (index + 1) * 256 ^ (level + 1)
@@ -32,6 +33,13 @@ bundle_asked m index beyond path is =
       λ within.
           let upto : (256 * index + 256) * 1 ≤ m = within.within in absurd (omega (arith, upto, beyond)),
     )
+
+-- the same for a repair
+pub full_tile_asked : (level index : ℕ) (path : Path) → path ≡ Tile level index 256 → IsFullFile path
+full_tile_asked level index path is = subst IsFullFile (sym is) refl
+
+pub full_bundle_asked : (index : ℕ) (path : Path) → path ≡ Entries index 256 → IsFullFile path
+full_bundle_asked index path is = subst IsFullFile (sym is) refl
 
 pub edge_bundle_asked : (n index width : ℕ) → index ≡ edge_index_of n 0 → width ≡ width_of n 0 → 1 ≤ width → (path : Path) →
     IsPathOrFull (Entries index width) path → IsEdgeBundle n path

@@ -44,6 +44,13 @@ unfolding strings
 joins_within digest es y c =
     Contains-append_right (map (λ (x : List ℕ). 0 ∷ x) es) (joins digest (map (leaf_hash digest) es)) y c
 
+-- the strings of the folding of a full row of the log are strings of its tree
+pub row_within : (digest : List ℕ → List ℕ) (log : List (List ℕ)) (level index : ℕ) → (index + 1) * 256 ^ (level + 1) ≤ length log →
+    (y : List ℕ) → Contains (joins digest (level_row digest log level (256 * index) 256)) y → Contains (strings digest log) y
+row_within digest log level index fits y m =
+    let at = (full_row_joins digest log level index fits y).0 m in
+    subst (λ s. Contains (strings digest log) s) at.string_is (string_of_node digest log 0 at.node at.is)
+
 module _ (digest : List ℕ → List ℕ) (hash : IsDigest digest) (log others : List (List ℕ))
     (clean : NoClash digest (set.from_list (strings digest log ++ others))) where
   abbrev held : Strings

@@ -64,9 +64,11 @@ module _ (digest : List ℕ → List ℕ) (log : List (List ℕ)) {S : Type 0} (
       pub shelf : ¬ IsOwnPart before path (true_bytes digest log path)
       pub places : ArePartsAskedInVain path may old new (λ bytes. bytes ≡ true_bytes digest log path)
 
-    -- nobody has the file, or it is below a tile that nobody has. A tile of level 0 is made of its bundle
+    -- nobody has the file, or it is below a tile that nobody has. A tile of level 0 is made of its bundle too, so nobody has that
     pub data IsLacked (path : Path) : Type 0 where
-      LacksBundle : (index : ℕ) → IsNobodysFile (Entries index 256) → IsBelow 0 index path → IsLacked path
+      LacksBundle : (index : ℕ) → IsNobodysFile path → path ≡ Entries index 256 → IsLacked path
+      LacksLeafTile :
+          (index : ℕ) → IsNobodysFile path → IsNobodysFile (Entries index 256) → path ≡ Tile 0 index 256 → IsLacked path
       LacksTile :
           (level index : ℕ) → 1 ≤ level → IsNobodysFile (Tile level index 256) → IsBelow level index path → IsLacked path
       LacksEnd :
@@ -89,6 +91,10 @@ module _ (digest : List ℕ → List ℕ) (log : List (List ℕ)) {S : Type 0} (
       GoesOverAll = ((path : Path) → IsTreeFile (length log) path → IsHadOrLacked path) ⊎ IsEdgeLacked
 
       -- ---- only contracts of private functions cite what follows
+
+      -- the file is there at the end, or nobody has it
+      abbrev pub StandsOrNobodys : Path → Type 0
+      StandsOrNobodys path = RecordsStands before after path (true_bytes digest log path) ⊎ IsNobodysFile path
 
       -- each file below a full tile is there at the end, or lacked
       abbrev pub GoesBelow : ℕ → ℕ → Type 0

@@ -1,12 +1,14 @@
 -- A copy under its own checkpoint, whose missing and false files were put. Nothing of the shelf is taken as known but the checkpoint.
 use Rattle.std.specs.Prelude.{◌≡◌, ◌≢◌, ◌⊎◌, ⊤, ℕ, ◌+◌, ◌*◌, ◌^◌, ◌<◌, ◌≤◌, All, List, [], length, Option, Some, None, Result, Ok, Err, IsTrue, IsFalse}
 use Rattle.tlog_shape.specs.Edge.{edge_index_of, width_of}
-use Rattle.tlog_hash.specs.Tree.{mth}
+use Rattle.std.specs.FinSet as set
+use Rattle.tlog_hash.specs.Tree.{mth, strings}
 use Rattle.tlog_tiles.specs.declared.paths.Path.{Path}
 use Rattle.tlog_tiles.specs.declared.paths.Path.TheVariants.{Checkpoint, Tile, Entries}
 use Rattle.tlog_tiles.specs.Bundle.{IsBundle}
 use Rattle.tlog_tiles.specs.Row.{IsRow}
 use Rattle.tlog_tiles.specs.Tiles.{IsWithin}
+use Rattle.node_store.specs.Strings.{NoClash}
 use Rattle.mirror_model.specs.Heads.{IsHead}
 use Rattle.mirror_sources.specs.Files.{full_of, width_named}
 use Rattle.mirror_sources.specs.Honest.{true_bytes}
@@ -16,25 +18,29 @@ use Rattle.mirror_folders.specs.Holding.{IsMoment}
 use Rattle.log_reader.specs.EdgeRows.{Edge, RowIsTrue, edge_tile, row_at}
 use Rattle.log_reader.specs.Holding.{GoesOn, IsTreeFile}
 use Rattle.copy_places.specs.Giving.{IsFirstOf}
-use Rattle.copy_follow.specs.Asked.{IsNewFull}
 use Rattle.copy_follow.specs.declared.bring_fault.BringFault.{BringFault}
 use Rattle.copy_follow.specs.declared.bring_fault.BringFault.TheVariants as fault
 use Rattle.copy_follow.specs.Growing.{Obtains}
 use Rattle.copy_follow.specs.Moments.{InTheEnd}
 use Rattle.copy_follow.specs.Pruned.{IsPrunedCopy}
-use Rattle.copy_follow.specs.Taken.{AreEntriesClear, FilesAreClear, IsEdgeClear, PutsTaken}
+use Rattle.copy_follow.specs.Taken.{AreEntriesClear, FilesAreClear, IsEdgeClear, IsRowClear, PutsTaken}
 use Rattle.copy_places.specs.PlaceGets.{AsksEach, AsksPlaces}
 use Rattle.copy_places.specs.declared.places.Places.{Places}
 
--- a path that a repair of a copy of n entries may request: the checkpoint, a tile or bundle of the indices of the right edge, a full
--- bundle, or a full tile above level 0
+-- a path that a repair of a copy of n entries may request: the checkpoint, a tile or bundle of the indices of the right edge, or a full
+-- tile or bundle. A full tile of level 0 is requested only where nobody has its bundle
 abbrev pub IsOfEdge : ℕ → Path → Type 0
 IsOfEdge n Checkpoint = ⊤
 IsOfEdge n (Tile level index width) = index ≡ edge_index_of n level
 IsOfEdge n (Entries index width) = index ≡ edge_index_of n 0
 
+abbrev pub IsFullFile : Path → Type 0
+IsFullFile Checkpoint = ⊥
+IsFullFile (Tile level index width) = width ≡ 256
+IsFullFile (Entries index width) = width ≡ 256
+
 abbrev pub MayBeAskedToRepair : ℕ → Path → Type 0
-MayBeAskedToRepair n path = IsOfEdge n path ⊎ IsNewFull 0 path
+MayBeAskedToRepair n path = IsOfEdge n path ⊎ IsFullFile path
 
 -- ---- how many files were put
 
@@ -70,9 +76,15 @@ AreEndsClear digest log take =
     (index width : ℕ) (bytes : List ℕ) (entries : List (List ℕ)) → BeginsBundle take index bytes → IsBundle width bytes entries →
     AreEntriesClear digest log entries
 
+-- the same for each full tile of level 0 that may be taken. It is taken where nobody has its bundle
+abbrev pub AreLeafTilesClear : (List ℕ → List ℕ) → List (List ℕ) → (Path → List ℕ → Type 0) → Type 0
+AreLeafTilesClear digest log take =
+    (index : ℕ) (bytes : List ℕ) (row : List (List ℕ)) → take (Tile 0 index 256) bytes → IsRow 256 bytes row → IsRowClear digest log row
+
 -- the same for each file and for each edge that may be taken
 pub record IsClearLog (digest : List ℕ → List ℕ) (log : List (List ℕ)) (take : Path → List ℕ → Type 0) : Type 0 where
   pub files : FilesAreClear digest log take
+  pub leaf_tiles : AreLeafTilesClear digest log take
   pub ends : AreEndsClear digest log take
   pub edge : (edge : Edge) → IsEdgeCut take (length log) edge → IsEdgeClear digest log edge
 
@@ -173,6 +185,16 @@ module _ {S : Type 0} (may : S → Path → Option (List ℕ) → Type 0) (faile
         AsksEach may failed asked (MayBeAskedToRepair size) old new → AsksToRepair origin note old new
 
 -- ---- only contracts of private functions cite what follows
+
+-- no two different strings of the log's tree share a digest
+abbrev pub IsTreeClear : (List ℕ → List ℕ) → List (List ℕ) → Type 0
+IsTreeClear digest log = NoClash digest (set.from_list (strings digest log))
+
+-- nor of that tree and of a full file that may be taken
+pub record AreFullsClear (digest : List ℕ → List ℕ) (log : List (List ℕ)) (take : Path → List ℕ → Type 0) : Type 0 where
+  pub tree : IsTreeClear digest log
+  pub files : FilesAreClear digest log take
+  pub leaf_tiles : AreLeafTilesClear digest log take
 
 -- the fault after nobody had a file: Source if a place failed in this call, else NoFile
 abbrev pub IsLack : {S : Type 0} → Places S → BringFault → Type 0

@@ -9,15 +9,14 @@ ghost use Rattle.copy_places.specs.PlaceGets.{AsksPlaces};
 ghost use Rattle.log_reader.specs.Verified.{HasLeaves};
 ghost use Rattle.mirror_sources.specs.Recorded.{KeepsRecord};
 ghost use Rattle.mirror_model.specs.TrueLaws.{AreShort};
-ghost use Rattle.copy_follow.specs.Asked.{IsNewFull};
 ghost use Rattle.copy_follow.specs.Edges.{IsEdgeBrought};
 ghost use Rattle.copy_follow.specs.Faults.{CountsShelf};
 ghost use Rattle.copy_follow.specs.Growing.{IsKnown, empty_tip};
 ghost use Rattle.copy_follow.specs.Lacked.{GoesDown, GoesOverAll, IsEdgeNowhere, IsEndNowhere, IsHadOrLacked};
 ghost use Rattle.copy_follow.specs.Named.{NamesDamaged};
-ghost use Rattle.copy_follow.specs.Repaired.{AreEndsClear, BeginsBundle, CountsPuts, IsClearLog, IsEachHad, IsEdgeCut, IsEndHad, IsOfEdge, MayBeAskedToRepair, Mends, MendsEdgeTile, MendsEdgeTiles, PutsTrue};
+ghost use Rattle.copy_follow.specs.Repaired.{AreEndsClear, AreFullsClear, BeginsBundle, CountsPuts, IsClearLog, IsEachHad, IsEdgeCut, IsEndHad, IsFullFile, IsOfEdge, IsTreeClear, MayBeAskedToRepair, Mends, MendsEdgeTile, MendsEdgeTiles, PutsTrue};
 ghost use Rattle.copy_follow.specs.Suffices.{IsEdgeTrue, IsSpared};
-ghost use Rattle.copy_follow.specs.Taken.{FilesAreClear, MayTake};
+ghost use Rattle.copy_follow.specs.Taken.{MayTake};
 
 use crate::bring_fault::BringFault;
 use crate::edge_bundle::edge_bundle_on_shelf;
@@ -48,19 +47,19 @@ fn mend_levels<H: TreeHash, D: ReadableShelf, S: Source + Drop>(
     requires widths { HasWidths edge.now }
     ensures spared { IfErr result IsSpared }
     ensures counted { CountsShelf (D.failed shelf.old) (D.failed shelf.new) result }
-    ensures mends { Mends S.may_answer S.failed S.asked (IsNewFull 0) places.old places.new
+    ensures mends { Mends S.may_answer S.failed S.asked IsFullFile places.old places.new
         (D.puts shelf.old) (D.puts shelf.new) repaired.old.put repaired.new.put }
     ensures keeps { (log : List (List ℕ))
-        → FilesAreClear H.digest log (MayTake S.may_answer places.old (D.puts shelf.old))
+        → AreFullsClear H.digest log (MayTake S.may_answer places.old (D.puts shelf.old))
         → IsEdgeTrue H.digest log edge.now
         → PutsTrue H.digest log (D.puts shelf.old) (D.puts shelf.new) }
     ensures goes_on { IfOk result (λ all. (log : List (List ℕ)) → AreShort log
-        → FilesAreClear H.digest log (MayTake S.may_answer places.old (D.puts shelf.old))
+        → AreFullsClear H.digest log (MayTake S.may_answer places.old (D.puts shelf.old))
         → IsEdgeTrue H.digest log edge.now
         → GoesDown H.digest log S.may_answer places.old places.new (D.puts shelf.old)
         (D.puts shelf.new) 1) }
     ensures names { IfOk result (λ all. (log : List (List ℕ)) → AreShort log
-        → FilesAreClear H.digest log (MayTake S.may_answer places.old (D.puts shelf.old))
+        → AreFullsClear H.digest log (MayTake S.may_answer places.old (D.puts shelf.old))
         → IsEdgeTrue H.digest log edge.now
         → NamesDamaged H.digest log (D.puts shelf.old) repaired.old.damaged.items
         repaired.new.damaged.items) }
@@ -391,16 +390,16 @@ pub(crate) fn mend_all<H: TreeHash, D: ReadableShelf, S: Source + Drop>(
         (D.puts shelf.old) (D.puts shelf.new) }
     ensures keeps { (log : List (List ℕ))
         → IsClearLog H.digest log (MayTake S.may_answer places.old (D.puts shelf.old))
-        → IsEdgeTrue H.digest log edge.now
+        → IsTreeClear H.digest log → IsEdgeTrue H.digest log edge.now
         → PutsTrue H.digest log (D.puts shelf.old) (D.puts shelf.new) }
     ensures goes_on { IfOk result (λ all. (log : List (List ℕ)) → AreShort log
         → IsClearLog H.digest log (MayTake S.may_answer places.old (D.puts shelf.old))
-        → IsEdgeTrue H.digest log edge.now
+        → IsTreeClear H.digest log → IsEdgeTrue H.digest log edge.now
         → GoesOverAll H.digest log S.may_answer places.old places.new (D.puts shelf.old)
         (D.puts shelf.new)) }
     ensures names { IfOk result (λ all. (log : List (List ℕ)) → AreShort log
         → IsClearLog H.digest log (MayTake S.may_answer places.old (D.puts shelf.old))
-        → IsEdgeTrue H.digest log edge.now
+        → IsTreeClear H.digest log → IsEdgeTrue H.digest log edge.now
         → NamesDamaged H.digest log (D.puts shelf.old) repaired.old.damaged.items
         repaired.new.damaged.items) }
     ensures whole { IfOk result (λ all. IsTrue all

@@ -1,14 +1,14 @@
 //! Full tiles mended, with all files below them. A file that nobody has does not end the walk.
-ghost use Rattle.std.specs.Prelude.{◌≡◌, ◌+◌, ◌*◌, ◌^◌, ◌<◌, ◌≤◌, ℕ, List, IfErr, IfOk, IsTrue, length};
+ghost use Rattle.std.specs.Prelude.{◌≡◌, ◌+◌, ◌*◌, ◌^◌, ◌<◌, ◌≤◌, ℕ, List, IfErr, IfOk, IsTrue, OnOk, length};
+ghost use Rattle.tlog_tiles.specs.declared.paths.Path.TheVariants.{Tile};
 ghost use Rattle.mirror_model.specs.TrueLaws.{AreShort};
-ghost use Rattle.copy_follow.specs.Asked.{IsNewFull};
 ghost use Rattle.copy_follow.specs.Faults.{CountsShelf};
 ghost use Rattle.copy_follow.specs.Growing.{IsBrought, IsKnown, IsRowBrought, empty_tip};
-ghost use Rattle.copy_follow.specs.Lacked.{GoesAlong, GoesBelow};
+ghost use Rattle.copy_follow.specs.Lacked.{GoesAlong, GoesBelow, StandsOrNobodys};
 ghost use Rattle.copy_follow.specs.Named.{NamesDamaged};
-ghost use Rattle.copy_follow.specs.Repaired.{Mends, PutsTrue};
+ghost use Rattle.copy_follow.specs.Repaired.{AreFullsClear, IsFullFile, Mends, PutsTrue};
 ghost use Rattle.copy_follow.specs.Suffices.{IsSpared, IsTileHash, IsTileRow};
-ghost use Rattle.copy_follow.specs.Taken.{FilesAreClear, MayTake};
+ghost use Rattle.copy_follow.specs.Taken.{MayTake};
 
 use crate::bring_fault::BringFault;
 use crate::find::look_for;
@@ -29,7 +29,49 @@ pub(crate) fn both(first: bool, second: bool) -> bool
     first && second
 }
 
-// Mends a full bundle, and its tile of level 0. False: nobody has the bundle. The tree has `bundles` full bundles.
+// Mends a full tile of level 0 whose bundle nobody has.
+fn mend_leaf_tile<H: TreeHash, D: ReadableShelf, S: Source + Drop>(
+    alloc: Global,
+    shelf: &mut D,
+    places: &mut Places<S>,
+    index: u64,
+    hash: &Hash,
+    bundles: u64,
+    repaired: &mut Repaired,
+) -> Result<(), BringFault>
+    ensures spared { IfErr result IsSpared }
+    ensures counted { CountsShelf (D.failed shelf.old) (D.failed shelf.new) result }
+    ensures mends { Mends S.may_answer S.failed S.asked IsFullFile places.old places.new
+        (D.puts shelf.old) (D.puts shelf.new) repaired.old.put repaired.new.put }
+    ensures keeps { (log : List (List ℕ))
+        → AreFullsClear H.digest log (MayTake S.may_answer places.old (D.puts shelf.old))
+        → IsTileHash H.digest log 0 index hash.now
+        → PutsTrue H.digest log (D.puts shelf.old) (D.puts shelf.new) }
+    ensures goes_on { OnOk result ((log : List (List ℕ)) → AreShort log
+        → AreFullsClear H.digest log (MayTake S.may_answer places.old (D.puts shelf.old))
+        → IsTileHash H.digest log 0 index hash.now
+        → StandsOrNobodys H.digest log S.may_answer places.old places.new (D.puts shelf.old)
+        (D.puts shelf.new) (Tile 0 index 256)) }
+    ensures names { OnOk result ((log : List (List ℕ)) → AreShort log
+        → AreFullsClear H.digest log (MayTake S.may_answer places.old (D.puts shelf.old))
+        → IsTileHash H.digest log 0 index hash.now
+        → NamesDamaged H.digest log (D.puts shelf.old) repaired.old.damaged.items
+        repaired.new.damaged.items) }
+{
+    let tile = Path::Tile {
+        level: 0,
+        index,
+        width: 256,
+    };
+    match look_for::<H, D, S>(alloc, shelf, places, FullFile::Tile, &tile, hash, bundles) {
+        Ok(Some(found)) => mend(shelf, &tile, &found.bytes, repaired),
+        Ok(None) => note_lack(shelf, &tile, repaired),
+        Err(fault) => Err(fault),
+    }
+}
+
+// Mends a full bundle, and its tile of level 0, which is made of it, or is looked for where nobody has the bundle. False: nobody has the
+// bundle. The tree has `bundles` full bundles.
 fn mend_bundle<H: TreeHash, D: ReadableShelf, S: Source + Drop>(
     alloc: Global,
     shelf: &mut D,
@@ -42,19 +84,19 @@ fn mend_bundle<H: TreeHash, D: ReadableShelf, S: Source + Drop>(
     requires { (index + 1) * 256 ≤ 2 ^ 63 }
     ensures spared { IfErr result IsSpared }
     ensures counted { CountsShelf (D.failed shelf.old) (D.failed shelf.new) result }
-    ensures mends { Mends S.may_answer S.failed S.asked (IsNewFull 0) places.old places.new
+    ensures mends { Mends S.may_answer S.failed S.asked IsFullFile places.old places.new
         (D.puts shelf.old) (D.puts shelf.new) repaired.old.put repaired.new.put }
     ensures keeps { (log : List (List ℕ))
-        → FilesAreClear H.digest log (MayTake S.may_answer places.old (D.puts shelf.old))
+        → AreFullsClear H.digest log (MayTake S.may_answer places.old (D.puts shelf.old))
         → IsTileHash H.digest log 0 index hash.now
         → PutsTrue H.digest log (D.puts shelf.old) (D.puts shelf.new) }
     ensures goes_on { IfOk result (λ all. (log : List (List ℕ)) → AreShort log
-        → FilesAreClear H.digest log (MayTake S.may_answer places.old (D.puts shelf.old))
+        → AreFullsClear H.digest log (MayTake S.may_answer places.old (D.puts shelf.old))
         → IsTileHash H.digest log 0 index hash.now
         → GoesBelow H.digest log S.may_answer places.old places.new (D.puts shelf.old)
         (D.puts shelf.new) 0 index) }
     ensures names { IfOk result (λ all. (log : List (List ℕ)) → AreShort log
-        → FilesAreClear H.digest log (MayTake S.may_answer places.old (D.puts shelf.old))
+        → AreFullsClear H.digest log (MayTake S.may_answer places.old (D.puts shelf.old))
         → IsTileHash H.digest log 0 index hash.now
         → NamesDamaged H.digest log (D.puts shelf.old) repaired.old.damaged.items
         repaired.new.damaged.items) }
@@ -74,10 +116,16 @@ fn mend_bundle<H: TreeHash, D: ReadableShelf, S: Source + Drop>(
         bundles,
     ) {
         Ok(Some(found)) => found,
-        Ok(None) => match note_lack(shelf, &path, repaired) {
-            Ok(()) => return Ok(false),
-            Err(fault) => return Err(fault),
-        },
+        Ok(None) => {
+            match note_lack(shelf, &path, repaired) {
+                Ok(()) => {}
+                Err(fault) => return Err(fault),
+            }
+            match mend_leaf_tile::<H, D, S>(alloc, shelf, places, index, hash, bundles, repaired) {
+                Ok(()) => return Ok(false),
+                Err(fault) => return Err(fault),
+            }
+        }
         Err(fault) => return Err(fault),
     };
     let bytes = match write_row(alloc, &found.row) {
@@ -115,19 +163,19 @@ fn mend_tile<H: TreeHash, D: ReadableShelf, S: Source + Drop>(
     requires fits { (index + 1) * 256 ^ (level + 1) ≤ 2 ^ 63 }
     ensures spared { IfErr result IsSpared }
     ensures counted { CountsShelf (D.failed shelf.old) (D.failed shelf.new) result }
-    ensures mends { Mends S.may_answer S.failed S.asked (IsNewFull 0) places.old places.new
+    ensures mends { Mends S.may_answer S.failed S.asked IsFullFile places.old places.new
         (D.puts shelf.old) (D.puts shelf.new) repaired.old.put repaired.new.put }
     ensures keeps { (log : List (List ℕ))
-        → FilesAreClear H.digest log (MayTake S.may_answer places.old (D.puts shelf.old))
+        → AreFullsClear H.digest log (MayTake S.may_answer places.old (D.puts shelf.old))
         → IsTileHash H.digest log level index hash.now
         → PutsTrue H.digest log (D.puts shelf.old) (D.puts shelf.new) }
     ensures goes_on { IfOk result (λ all. (log : List (List ℕ)) → AreShort log
-        → FilesAreClear H.digest log (MayTake S.may_answer places.old (D.puts shelf.old))
+        → AreFullsClear H.digest log (MayTake S.may_answer places.old (D.puts shelf.old))
         → IsTileHash H.digest log level index hash.now
         → GoesBelow H.digest log S.may_answer places.old places.new (D.puts shelf.old)
         (D.puts shelf.new) level index) }
     ensures names { IfOk result (λ all. (log : List (List ℕ)) → AreShort log
-        → FilesAreClear H.digest log (MayTake S.may_answer places.old (D.puts shelf.old))
+        → AreFullsClear H.digest log (MayTake S.may_answer places.old (D.puts shelf.old))
         → IsTileHash H.digest log level index hash.now
         → NamesDamaged H.digest log (D.puts shelf.old) repaired.old.damaged.items
         repaired.new.damaged.items) }
@@ -190,19 +238,19 @@ pub(crate) fn mend_row<H: TreeHash, D: ReadableShelf, S: Source + Drop>(
     requires fits { (256 * index + length row.now) * 256 ^ level ≤ 2 ^ 63 }
     ensures spared { IfErr result IsSpared }
     ensures counted { CountsShelf (D.failed shelf.old) (D.failed shelf.new) result }
-    ensures mends { Mends S.may_answer S.failed S.asked (IsNewFull 0) places.old places.new
+    ensures mends { Mends S.may_answer S.failed S.asked IsFullFile places.old places.new
         (D.puts shelf.old) (D.puts shelf.new) repaired.old.put repaired.new.put }
     ensures keeps { (log : List (List ℕ))
-        → FilesAreClear H.digest log (MayTake S.may_answer places.old (D.puts shelf.old))
+        → AreFullsClear H.digest log (MayTake S.may_answer places.old (D.puts shelf.old))
         → IsTileRow H.digest log level index row.now
         → PutsTrue H.digest log (D.puts shelf.old) (D.puts shelf.new) }
     ensures goes_on { IfOk result (λ all. (log : List (List ℕ)) → AreShort log
-        → FilesAreClear H.digest log (MayTake S.may_answer places.old (D.puts shelf.old))
+        → AreFullsClear H.digest log (MayTake S.may_answer places.old (D.puts shelf.old))
         → IsTileRow H.digest log level index row.now
         → GoesAlong H.digest log S.may_answer places.old places.new (D.puts shelf.old)
         (D.puts shelf.new) level index (length row.now)) }
     ensures names { IfOk result (λ all. (log : List (List ℕ)) → AreShort log
-        → FilesAreClear H.digest log (MayTake S.may_answer places.old (D.puts shelf.old))
+        → AreFullsClear H.digest log (MayTake S.may_answer places.old (D.puts shelf.old))
         → IsTileRow H.digest log level index row.now
         → NamesDamaged H.digest log (D.puts shelf.old) repaired.old.damaged.items
         repaired.new.damaged.items) }

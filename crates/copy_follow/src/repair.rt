@@ -177,7 +177,8 @@ fn mend_noted<H: TreeHash, D: ReadableShelf, S: Source + Drop>(
 /// has a larger size. The rows of the edge have to lead to the checkpoint's root. A partial file is not missing where its full file stands
 /// and begins with its bytes. A false one is replaced there too.
 ///
-/// A file that nobody has stays as it is, and so does all below a tile that nobody has. The rest is repaired.
+/// A file that nobody has stays as it is, and so does all below a tile that nobody has. The rest is repaired. A full tile of level 0 is made of its bundle.
+/// Where nobody has that, the tile is looked for too.
 ///
 /// ```text
 /// let mut repaired = Repaired::new(alloc);

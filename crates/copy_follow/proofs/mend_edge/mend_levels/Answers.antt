@@ -1,17 +1,16 @@
 use Rattle.std.proofs.Common.{◌≡◌, ◌+◌, ◌-◌, ◌*◌, ◌^◌, ◌<◌, ◌≤◌, ℕ, List, length, refl, subst, sym, ap, ◌∙◌, arith}
 use Rattle.tlog_shape.specs.Edge.{edge_index_of, width_of}
 use Rattle.copy_places.proofs.Asking.{asks_same}
-use Rattle.copy_follow.specs.Asked.{IsNewFull}
 use Rattle.copy_follow.specs.Edges.{IsEdgeBrought}
 use Rattle.copy_follow.specs.Growing.{IsKnown, IsRowBrought, empty_tip}
 use Rattle.copy_follow.specs.Lacked.{GoesAlong, GoesDown}
+use Rattle.copy_follow.specs.Repaired.{IsFullFile}
 use Rattle.copy_follow.specs.Suffices.{IsTileRow}
 use Rattle.copy_follow.proofs.EdgeRows.{edge_first, edge_known, edge_step, row_fits}
 use Rattle.copy_follow.proofs.Growth.{gathers_none, gathers_then, kept_same}
 use Rattle.copy_follow.proofs.Lacking.{down_more}
-use Rattle.copy_follow.proofs.Mending.{mends_none, mends_then}
+use Rattle.copy_follow.proofs.Mending.{fulls_later, mends_none, mends_then}
 use Rattle.copy_follow.proofs.Naming.{names_none, names_then}
-use Rattle.copy_follow.proofs.OnePlace.{clear_later}
 use Rattle.copy_follow.proofs.Spared.{edge_row_true}
 use Rattle.copy_follow.proofs.mend_edge.mend_levels.Goals as goal
 
@@ -22,8 +21,8 @@ loop-done-init g c =
     let n = c.args.repaired.now.put in
     record {
       counted = refl;
-      mends = mends_none g.S.Source.may_answer g.S.Source.failed g.S.Source.asked (IsNewFull 0) p p x x n n
-          (asks_same g.S.Source.may_answer g.S.Source.failed g.S.Source.asked (IsNewFull 0) p) (kept_same x) refl;
+      mends = mends_none g.S.Source.may_answer g.S.Source.failed g.S.Source.asked IsFullFile p p x x n n
+          (asks_same g.S.Source.may_answer g.S.Source.failed g.S.Source.asked IsFullFile p) (kept_same x) refl;
       keeps = λ log clear is. gathers_none g.H.TreeHash.digest 0 log x x (kept_same x);
       whole = λ yes known is. edge_first g.H.TreeHash.digest empty_tip c.args.edge.now known c.requires.widths x c.requires.size is;
       goes_on = λ log short clear is level from upto. absurd (omega (arith, from, upto));
@@ -41,7 +40,7 @@ mend_row-requires-clause-fits g c =
 
 pub returns-in-Err-clause-mends : goal.returns-in-Err-clause-mends
 returns-in-Err-clause-mends g c =
-    mends_then g.S.Source.may_answer g.S.Source.failed g.S.Source.asked (IsNewFull 0) c.args.places.now c.loop-done.places
+    mends_then g.S.Source.may_answer g.S.Source.failed g.S.Source.asked IsFullFile c.args.places.now c.loop-done.places
     c.mend_row.new.places (g.D.Shelf.puts c.args.shelf.now) (g.D.Shelf.puts c.loop-done.shelf) (g.D.Shelf.puts c.mend_row.new.shelf)
     c.args.repaired.now.put c.loop-done.repaired.put c.mend_row.new.repaired.put c.loop-done.invariant.mends c.mend_row.ensures.mends
 
@@ -58,8 +57,8 @@ returns-in-Err-clause-keeps g c = λ log clear is.
     let there = edge_row_true digest g.met.H.TreeHash.digest_length log edge c.requires.widths is level (omega arith) in
     gathers_then digest 0 log log log x y z (c.loop-done.invariant.keeps log clear is)
     (c.mend_row.ensures.keeps log
-    (clear_later g.S.Source.may_answer g.S.Source.failed g.S.Source.asked (IsNewFull 0) c.args.places.now c.loop-done.places
-    c.loop-done.invariant.mends.asks digest log x y c.loop-done.invariant.mends.taken clear)
+    (fulls_later g.S.Source.may_answer g.S.Source.failed g.S.Source.asked IsFullFile c.args.places.now c.loop-done.places
+    c.loop-done.invariant.mends.asks digest g.met.H.TreeHash.digest_length log x y c.loop-done.invariant.mends.taken (c.loop-done.invariant.keeps log clear is) clear)
     (subst (λ i. IsTileRow digest log level i c.row.result.now) (sym at)
     (subst (λ (r : List (List ℕ)). IsTileRow digest log level (edge_index_of edge.size level) r) (sym c.row.ensures) there)))
 
@@ -75,15 +74,15 @@ loop-done-preserved g c =
     c.edge_index-index.ensures ∙ ap (λ n. edge_index_of n level) c.size.ensures in
     record {
       counted = c.in-Ok.ensures.counted ∙ c.loop-done.invariant.counted;
-      mends = mends_then g.S.Source.may_answer g.S.Source.failed g.S.Source.asked (IsNewFull 0) c.args.places.now c.loop-done.places
+      mends = mends_then g.S.Source.may_answer g.S.Source.failed g.S.Source.asked IsFullFile c.args.places.now c.loop-done.places
           c.mend_row.new.places x y z c.args.repaired.now.put c.loop-done.repaired.put c.mend_row.new.repaired.put
           c.loop-done.invariant.mends c.mend_row.ensures.mends;
       keeps = λ log clear is.
           let there = edge_row_true digest g.met.H.TreeHash.digest_length log edge c.requires.widths is level (omega arith) in
           gathers_then digest 0 log log log x y z (c.loop-done.invariant.keeps log clear is)
           (c.mend_row.ensures.keeps log
-          (clear_later g.S.Source.may_answer g.S.Source.failed g.S.Source.asked (IsNewFull 0) c.args.places.now c.loop-done.places
-          c.loop-done.invariant.mends.asks digest log x y c.loop-done.invariant.mends.taken clear)
+          (fulls_later g.S.Source.may_answer g.S.Source.failed g.S.Source.asked IsFullFile c.args.places.now c.loop-done.places
+          c.loop-done.invariant.mends.asks digest g.met.H.TreeHash.digest_length log x y c.loop-done.invariant.mends.taken (c.loop-done.invariant.keeps log clear is) clear)
           (subst (λ i. IsTileRow digest log level i c.row.result.now) (sym at)
           (subst (λ (r : List (List ℕ)). IsTileRow digest log level (edge_index_of edge.size level) r) (sym c.row.ensures) there)));
       whole = λ yes known is.
@@ -104,12 +103,12 @@ loop-done-preserved g c =
           let may = g.S.Source.may_answer in
           let failed = g.S.Source.failed in
           let asked = g.S.Source.asked in
-          let so = IsNewFull 0 in
+          let so = IsFullFile in
           let p = c.args.places.now in
           let q = c.loop-done.places in
           let r = c.mend_row.new.places in
           let m = c.loop-done.invariant.mends in
-          let still = clear_later may failed asked so p q m.asks digest log x y m.taken clear in
+          let still = fulls_later may failed asked so p q m.asks digest g.met.H.TreeHash.digest_length log x y m.taken (c.loop-done.invariant.keeps log clear is) clear in
           let there = edge_row_true digest g.met.H.TreeHash.digest_length log edge c.requires.widths is level (omega arith) in
           let placed = subst (λ i. IsTileRow digest log level i c.row.result.now) (sym at)
           (subst (λ (r : List (List ℕ)). IsTileRow digest log level (edge_index_of edge.size level) r) (sym c.row.ensures) there) in
@@ -128,8 +127,8 @@ loop-done-preserved g c =
           (c.loop-done.invariant.goes_on log short clear is) along);
       names = λ log short clear is.
           let m = c.loop-done.invariant.mends in
-          let still = clear_later g.S.Source.may_answer g.S.Source.failed g.S.Source.asked (IsNewFull 0) c.args.places.now
-          c.loop-done.places m.asks digest log x y m.taken clear in
+          let still = fulls_later g.S.Source.may_answer g.S.Source.failed g.S.Source.asked IsFullFile c.args.places.now
+          c.loop-done.places m.asks digest g.met.H.TreeHash.digest_length log x y m.taken (c.loop-done.invariant.keeps log clear is) clear in
           let there = edge_row_true digest g.met.H.TreeHash.digest_length log edge c.requires.widths is level (omega arith) in
           let placed = subst (λ i. IsTileRow digest log level i c.row.result.now) (sym at)
           (subst (λ (r : List (List ℕ)). IsTileRow digest log level (edge_index_of edge.size level) r) (sym c.row.ensures) there) in

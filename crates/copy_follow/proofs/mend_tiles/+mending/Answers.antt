@@ -5,17 +5,16 @@ use Rattle.tlog_tiles.specs.Row.{IsRow}
 use Rattle.tlog_tiles.specs.declared.paths.Path.TheVariants.{Tile}
 use Rattle.mirror_sources.specs.Recorded.{AddsToRecord, KeepsRecord}
 use Rattle.copy_places.proofs.Asking.{asks_same, asks_weaker, asks_then}
-use Rattle.copy_follow.specs.Asked.{IsNewFull}
 use Rattle.copy_follow.specs.Growing.{IsBrought, IsKnown, IsRowBrought, empty_tip}
 use Rattle.copy_follow.specs.Standing.{RecordsStands}
 use Rattle.copy_follow.specs.Suffices.{IsTileRow, IsTileHash}
-use Rattle.copy_follow.specs.Taken.{MayTake, FilesAreClear}
+use Rattle.copy_follow.specs.Repaired.{AreFullsClear, IsFullFile}
+use Rattle.copy_follow.specs.Taken.{MayTake}
 use Rattle.copy_follow.proofs.Earlier.{kept_then}
 use Rattle.copy_follow.proofs.Growth.{gathers_keep, gathers_none, gathers_then, kept_same}
-use Rattle.copy_follow.proofs.Mending.{mends_none, mends_put, mends_then, past_none, row_first, row_found, true_tile}
+use Rattle.copy_follow.proofs.Mending.{fulls_later, mends_none, mends_put, mends_then, past_none, row_first, row_found, true_tile}
 use Rattle.copy_follow.proofs.Naming.{names_at, names_lack, names_none, names_then}
-use Rattle.copy_follow.proofs.NewFulls.{tile_asked}
-use Rattle.copy_follow.proofs.OnePlace.{clear_later}
+use Rattle.copy_follow.proofs.NewFulls.{full_tile_asked}
 use Rattle.copy_follow.proofs.Spared.{child_true}
 use Rattle.copy_follow.proofs.TileRows.{child_small, row_fits, row_then, so_far_known, so_far_more, tile_brought}
 use Rattle.mirror_model.specs.TrueLaws.{AreShort}
@@ -31,8 +30,8 @@ mend_row-loop-i-init g t c =
     let n = c.args.repaired.now.put in
     record {
       counted = refl;
-      mends = mends_none g.S.Source.may_answer g.S.Source.failed g.S.Source.asked (IsNewFull 0) p p x x n n
-          (asks_same g.S.Source.may_answer g.S.Source.failed g.S.Source.asked (IsNewFull 0) p) (kept_same x) refl;
+      mends = mends_none g.S.Source.may_answer g.S.Source.failed g.S.Source.asked IsFullFile p p x x n n
+          (asks_same g.S.Source.may_answer g.S.Source.failed g.S.Source.asked IsFullFile p) (kept_same x) refl;
       keeps = λ log clear is. gathers_none g.H.TreeHash.digest 0 log x x (kept_same x);
       whole = λ yes known is. row_first c.args.level c.args.index g.H.TreeHash.digest c.args.row.now known x is;
       goes_on = λ log short clear is k lt. absurd (omega (arith, lt));
@@ -54,7 +53,7 @@ mend_row-overflow_add-index g t c =
 
 pub mend_row-returns-in-Err-clause-mends : goal.mend_row-returns-in-Err-clause-mends
 mend_row-returns-in-Err-clause-mends g t c =
-    mends_then g.S.Source.may_answer g.S.Source.failed g.S.Source.asked (IsNewFull 0) c.args.places.now c.loop-i.places
+    mends_then g.S.Source.may_answer g.S.Source.failed g.S.Source.asked IsFullFile c.args.places.now c.loop-i.places
     c.mend_tile.new.places (g.D.Shelf.puts c.args.shelf.now) (g.D.Shelf.puts c.loop-i.shelf) (g.D.Shelf.puts c.mend_tile.new.shelf)
     c.args.repaired.now.put c.loop-i.repaired.put c.mend_tile.new.repaired.put c.loop-i.invariant.mends c.mend_tile.ensures.mends
 
@@ -66,8 +65,8 @@ mend_row-returns-in-Err-clause-keeps g t c = λ log clear is.
     let z = g.D.Shelf.puts c.mend_tile.new.shelf in
     gathers_then digest 0 log log log x y z (c.loop-i.invariant.keeps log clear is)
     (c.mend_tile.ensures.keeps log
-    (clear_later g.S.Source.may_answer g.S.Source.failed g.S.Source.asked (IsNewFull 0) c.args.places.now c.loop-i.places
-    c.loop-i.invariant.mends.asks digest log x y c.loop-i.invariant.mends.taken clear)
+    (fulls_later g.S.Source.may_answer g.S.Source.failed g.S.Source.asked IsFullFile c.args.places.now c.loop-i.places
+    c.loop-i.invariant.mends.asks digest g.met.H.TreeHash.digest_length log x y c.loop-i.invariant.mends.taken (c.loop-i.invariant.keeps log clear is) clear)
     (child_true digest g.met.H.TreeHash.digest_length log c.args.level c.args.index c.loop-i.i c.args.row.now c.requires.above
     (omega arith) is))
 
@@ -79,14 +78,14 @@ mend_row-loop-i-preserved g t c =
     let z = g.D.Shelf.puts c.mend_tile.new.shelf in
     record {
       counted = c.in-Ok.ensures.counted ∙ c.loop-i.invariant.counted;
-      mends = mends_then g.S.Source.may_answer g.S.Source.failed g.S.Source.asked (IsNewFull 0) c.args.places.now c.loop-i.places
+      mends = mends_then g.S.Source.may_answer g.S.Source.failed g.S.Source.asked IsFullFile c.args.places.now c.loop-i.places
           c.mend_tile.new.places x y z c.args.repaired.now.put c.loop-i.repaired.put c.mend_tile.new.repaired.put
           c.loop-i.invariant.mends c.mend_tile.ensures.mends;
       keeps = λ log clear is.
           gathers_then digest 0 log log log x y z (c.loop-i.invariant.keeps log clear is)
           (c.mend_tile.ensures.keeps log
-          (clear_later g.S.Source.may_answer g.S.Source.failed g.S.Source.asked (IsNewFull 0) c.args.places.now c.loop-i.places
-          c.loop-i.invariant.mends.asks digest log x y c.loop-i.invariant.mends.taken clear)
+          (fulls_later g.S.Source.may_answer g.S.Source.failed g.S.Source.asked IsFullFile c.args.places.now c.loop-i.places
+          c.loop-i.invariant.mends.asks digest g.met.H.TreeHash.digest_length log x y c.loop-i.invariant.mends.taken (c.loop-i.invariant.keeps log clear is) clear)
           (child_true digest g.met.H.TreeHash.digest_length log c.args.level c.args.index c.loop-i.i c.args.row.now c.requires.above
           (omega arith) is));
       whole = λ yes known is.
@@ -107,12 +106,12 @@ mend_row-loop-i-preserved g t c =
           let may = g.S.Source.may_answer in
           let failed = g.S.Source.failed in
           let asked = g.S.Source.asked in
-          let so = IsNewFull 0 in
+          let so = IsFullFile in
           let p = c.args.places.now in
           let q = c.loop-i.places in
           let r = c.mend_tile.new.places in
           let m = c.loop-i.invariant.mends in
-          let still = clear_later may failed asked so p q m.asks digest log x y m.taken clear in
+          let still = fulls_later may failed asked so p q m.asks digest g.met.H.TreeHash.digest_length log x y m.taken (c.loop-i.invariant.keeps log clear is) clear in
           let child = child_true digest g.met.H.TreeHash.digest_length log c.args.level c.args.index c.loop-i.i c.args.row.now
           c.requires.above (omega arith) is in
           along_more may failed asked digest log so so p q r m.asks c.mend_tile.ensures.mends.asks x y z
@@ -125,7 +124,7 @@ mend_row-loop-i-preserved g t c =
           let asked = g.S.Source.asked in
           let p = c.args.places.now in
           let m = c.loop-i.invariant.mends in
-          let still = clear_later may failed asked (IsNewFull 0) p c.loop-i.places m.asks digest log x y m.taken clear in
+          let still = fulls_later may failed asked IsFullFile p c.loop-i.places m.asks digest g.met.H.TreeHash.digest_length log x y m.taken (c.loop-i.invariant.keeps log clear is) clear in
           let child = child_true digest g.met.H.TreeHash.digest_length log c.args.level c.args.index c.loop-i.i c.args.row.now
           c.requires.above (omega arith) is in
           names_then digest log x y c.args.repaired.now.damaged.items c.loop-i.repaired.damaged.items
@@ -152,10 +151,10 @@ mend_tile-returns-in-Ok-clause-mends g t c =
     let x = g.D.Shelf.puts c.args.shelf.now in
     let y = g.D.Shelf.puts c.look_for.new.shelf in
     let z = g.D.Shelf.puts c.note_lack.new.shelf in
-    let asks = asks_weaker may failed asked (λ p. p ≡ path) (IsNewFull 0)
-    (tile_asked 0 c.args.level c.args.index (omega arith) (past_none (c.args.level + 1) c.args.index)) c.args.places.now
+    let asks = asks_weaker may failed asked (λ p. p ≡ path) IsFullFile
+    (full_tile_asked c.args.level c.args.index) c.args.places.now
     c.look_for.new.places c.look_for.ensures.asks in
-    mends_none may failed asked (IsNewFull 0) c.args.places.now c.look_for.new.places x z c.args.repaired.now.put
+    mends_none may failed asked IsFullFile c.args.places.now c.look_for.new.places x z c.args.repaired.now.put
     c.note_lack.new.repaired.put asks (kept_then x y z c.look_for.ensures.same c.note_lack.ensures.same) c.note_lack.ensures.put
 
 pub mend_tile-returns-in-Err-note_lack-clause-mends : goal.mend_tile-returns-in-Err-note_lack-clause-mends
@@ -167,10 +166,10 @@ mend_tile-returns-in-Err-note_lack-clause-mends g t c =
     let x = g.D.Shelf.puts c.args.shelf.now in
     let y = g.D.Shelf.puts c.look_for.new.shelf in
     let z = g.D.Shelf.puts c.note_lack.new.shelf in
-    let asks = asks_weaker may failed asked (λ p. p ≡ path) (IsNewFull 0)
-    (tile_asked 0 c.args.level c.args.index (omega arith) (past_none (c.args.level + 1) c.args.index)) c.args.places.now
+    let asks = asks_weaker may failed asked (λ p. p ≡ path) IsFullFile
+    (full_tile_asked c.args.level c.args.index) c.args.places.now
     c.look_for.new.places c.look_for.ensures.asks in
-    mends_none may failed asked (IsNewFull 0) c.args.places.now c.look_for.new.places x z c.args.repaired.now.put
+    mends_none may failed asked IsFullFile c.args.places.now c.look_for.new.places x z c.args.repaired.now.put
     c.note_lack.new.repaired.put asks (kept_then x y z c.look_for.ensures.same c.note_lack.ensures.same) c.note_lack.ensures.put
 
 pub mend_tile-returns-in-Ok-clause-keeps : goal.mend_tile-returns-in-Ok-clause-keeps
@@ -194,10 +193,10 @@ mend_tile-returns-in-Err-clause-mends g t c =
     let asked = g.S.Source.asked in
     let path = Tile c.args.level c.args.index 256 in
     let n = c.args.repaired.now.put in
-    let asks = asks_weaker may failed asked (λ p. p ≡ path) (IsNewFull 0)
-    (tile_asked 0 c.args.level c.args.index (omega arith) (past_none (c.args.level + 1) c.args.index)) c.args.places.now
+    let asks = asks_weaker may failed asked (λ p. p ≡ path) IsFullFile
+    (full_tile_asked c.args.level c.args.index) c.args.places.now
     c.look_for.new.places c.look_for.ensures.asks in
-    mends_none may failed asked (IsNewFull 0) c.args.places.now c.look_for.new.places (g.D.Shelf.puts c.args.shelf.now)
+    mends_none may failed asked IsFullFile c.args.places.now c.look_for.new.places (g.D.Shelf.puts c.args.shelf.now)
     (g.D.Shelf.puts c.look_for.new.shelf) n n asks c.look_for.ensures.same refl
 
 pub mend_tile-returns-in-Err-clause-keeps : goal.mend_tile-returns-in-Err-clause-keeps
@@ -231,10 +230,10 @@ mend_tile-returns-in-Err-mend_row-clause-mends g t c =
     let n = c.args.repaired.now.put in
     let x = g.D.Shelf.puts c.args.shelf.now in
     let y = g.D.Shelf.puts c.look_for.new.shelf in
-    let asks = asks_weaker may failed asked (λ p. p ≡ path) (IsNewFull 0)
-    (tile_asked 0 c.args.level c.args.index (omega arith) (past_none (c.args.level + 1) c.args.index)) p q c.look_for.ensures.asks in
-    mends_then may failed asked (IsNewFull 0) p q c.mend_row.new.places x y (g.D.Shelf.puts c.mend_row.new.shelf) n n
-    c.mend_row.new.repaired.put (mends_none may failed asked (IsNewFull 0) p q x y n n asks c.look_for.ensures.same refl)
+    let asks = asks_weaker may failed asked (λ p. p ≡ path) IsFullFile
+    (full_tile_asked c.args.level c.args.index) p q c.look_for.ensures.asks in
+    mends_then may failed asked IsFullFile p q c.mend_row.new.places x y (g.D.Shelf.puts c.mend_row.new.shelf) n n
+    c.mend_row.new.repaired.put (mends_none may failed asked IsFullFile p q x y n n asks c.look_for.ensures.same refl)
     c.mend_row.ensures.mends
 
 pub mend_tile-returns-in-Err-mend_row-clause-keeps : goal.mend_tile-returns-in-Err-mend_row-clause-keeps
@@ -252,14 +251,14 @@ mend_tile-returns-in-Err-mend_row-clause-keeps g t c = λ log clear is.
     let x = g.D.Shelf.puts c.args.shelf.now in
     let y = g.D.Shelf.puts c.look_for.new.shelf in
     let z = g.D.Shelf.puts c.mend_row.new.shelf in
-    let asks = asks_weaker may failed asked (λ p. p ≡ path) (IsNewFull 0)
-    (tile_asked 0 level index (omega arith) (past_none (level + 1) index)) p q c.look_for.ensures.asks in
-    let m = mends_none may failed asked (IsNewFull 0) p q x y n n asks c.look_for.ensures.same refl in
-    let row = row_found digest g.met.H.TreeHash.digest_length log (MayTake may p x) clear level index (omega arith) c.args.hash.now
+    let asks = asks_weaker may failed asked (λ p. p ≡ path) IsFullFile
+    (full_tile_asked level index) p q c.look_for.ensures.asks in
+    let m = mends_none may failed asked IsFullFile p q x y n n asks c.look_for.ensures.same refl in
+    let row = row_found digest g.met.H.TreeHash.digest_length log (MayTake may p x) clear.files level index (omega arith) c.args.hash.now
     c.in-Ok-Some.found.bytes.items c.in-Ok-Some.found.row.items (rw c.in-Ok-Some.field-0-is at c.in-Ok-Some.ensures.taken)
     (rw c.in-Ok-Some.field-0-is at c.in-Ok-Some.ensures.found) is in
     gathers_then digest 0 log log log x y z (gathers_none digest 0 log x y c.look_for.ensures.same)
-    (c.mend_row.ensures.keeps log (clear_later may failed asked (IsNewFull 0) p q asks digest log x y m.taken clear)
+    (c.mend_row.ensures.keeps log (fulls_later may failed asked IsFullFile p q asks digest g.met.H.TreeHash.digest_length log x y m.taken (gathers_none digest 0 log x y c.look_for.ensures.same) clear)
     (subst (λ r. IsTileRow digest log level index r) (sym c.deref.ensures.value) row))
 
 pub mend_tile-returns-in-Ok-mend-clause-mends : goal.mend_tile-returns-in-Ok-mend-clause-mends
@@ -277,13 +276,13 @@ mend_tile-returns-in-Ok-mend-clause-mends g t c =
     let z = g.D.Shelf.puts c.mend_row.new.shelf in
     let w = g.D.Shelf.puts c.mend.new.shelf in
     let bytes = c.in-Ok-Some.found.bytes.items in
-    let asks = asks_weaker may failed asked (λ p. p ≡ path) (IsNewFull 0)
-    (tile_asked 0 c.args.level c.args.index (omega arith) (past_none (c.args.level + 1) c.args.index)) p q c.look_for.ensures.asks in
-    let m = mends_then may failed asked (IsNewFull 0) p q r x y z n n
-    c.mend_row.new.repaired.put (mends_none may failed asked (IsNewFull 0) p q x y n n asks c.look_for.ensures.same refl)
+    let asks = asks_weaker may failed asked (λ p. p ≡ path) IsFullFile
+    (full_tile_asked c.args.level c.args.index) p q c.look_for.ensures.asks in
+    let m = mends_then may failed asked IsFullFile p q r x y z n n
+    c.mend_row.new.repaired.put (mends_none may failed asked IsFullFile p q x y n n asks c.look_for.ensures.same refl)
     c.mend_row.ensures.mends in
     let puts = subst (λ b. (KeepsRecord z w) ⊎ (AddsToRecord z w ((path, b) ∷ []))) c.deref-2.ensures.value c.mend.ensures.puts in
-    mends_put may failed asked (IsNewFull 0) p r x z w n c.mend_row.new.repaired.put c.mend.new.repaired.put path bytes m puts
+    mends_put may failed asked IsFullFile p r x z w n c.mend_row.new.repaired.put c.mend.new.repaired.put path bytes m puts
     (inr (rw c.in-Ok-Some.field-0-is at c.in-Ok-Some.ensures.taken)) c.mend.ensures.counts
 
 pub mend_tile-returns-in-Ok-mend-clause-keeps : goal.mend_tile-returns-in-Ok-mend-clause-keeps
@@ -304,14 +303,14 @@ mend_tile-returns-in-Ok-mend-clause-keeps g t c = λ log clear is.
     let w = g.D.Shelf.puts c.mend.new.shelf in
     let bytes = c.in-Ok-Some.found.bytes.items in
     let found = rw c.in-Ok-Some.field-0-is at c.in-Ok-Some.ensures.found in
-    let asks = asks_weaker may failed asked (λ p. p ≡ path) (IsNewFull 0)
-    (tile_asked 0 level index (omega arith) (past_none (level + 1) index)) p q c.look_for.ensures.asks in
-    let m = mends_none may failed asked (IsNewFull 0) p q x y n n asks c.look_for.ensures.same refl in
-    let row = row_found digest g.met.H.TreeHash.digest_length log (MayTake may p x) clear level index (omega arith) c.args.hash.now
+    let asks = asks_weaker may failed asked (λ p. p ≡ path) IsFullFile
+    (full_tile_asked level index) p q c.look_for.ensures.asks in
+    let m = mends_none may failed asked IsFullFile p q x y n n asks c.look_for.ensures.same refl in
+    let row = row_found digest g.met.H.TreeHash.digest_length log (MayTake may p x) clear.files level index (omega arith) c.args.hash.now
     bytes c.in-Ok-Some.found.row.items (rw c.in-Ok-Some.field-0-is at c.in-Ok-Some.ensures.taken) found is in
     let puts = subst (λ b. (KeepsRecord z w) ⊎ (AddsToRecord z w ((path, b) ∷ []))) c.deref-2.ensures.value c.mend.ensures.puts in
     let below = gathers_then digest 0 log log log x y z (gathers_none digest 0 log x y c.look_for.ensures.same)
-    (c.mend_row.ensures.keeps log (clear_later may failed asked (IsNewFull 0) p q asks digest log x y m.taken clear)
+    (c.mend_row.ensures.keeps log (fulls_later may failed asked IsFullFile p q asks digest g.met.H.TreeHash.digest_length log x y m.taken (gathers_none digest 0 log x y c.look_for.ensures.same) clear)
     (subst (λ r. IsTileRow digest log level index r) (sym c.deref.ensures.value) row)) in
     gathers_then digest 0 log log log x z w below
     (gathers_keep digest 0 log z w (path, bytes) puts
@@ -333,13 +332,13 @@ mend_tile-returns-clause-mends g t c =
     let z = g.D.Shelf.puts c.mend_row.new.shelf in
     let w = g.D.Shelf.puts c.mend.new.shelf in
     let bytes = c.in-Ok-Some.found.bytes.items in
-    let asks = asks_weaker may failed asked (λ p. p ≡ path) (IsNewFull 0)
-    (tile_asked 0 c.args.level c.args.index (omega arith) (past_none (c.args.level + 1) c.args.index)) p q c.look_for.ensures.asks in
-    let m = mends_then may failed asked (IsNewFull 0) p q r x y z n n
-    c.mend_row.new.repaired.put (mends_none may failed asked (IsNewFull 0) p q x y n n asks c.look_for.ensures.same refl)
+    let asks = asks_weaker may failed asked (λ p. p ≡ path) IsFullFile
+    (full_tile_asked c.args.level c.args.index) p q c.look_for.ensures.asks in
+    let m = mends_then may failed asked IsFullFile p q r x y z n n
+    c.mend_row.new.repaired.put (mends_none may failed asked IsFullFile p q x y n n asks c.look_for.ensures.same refl)
     c.mend_row.ensures.mends in
     let puts = subst (λ b. (KeepsRecord z w) ⊎ (AddsToRecord z w ((path, b) ∷ []))) c.deref-2.ensures.value c.mend.ensures.puts in
-    mends_put may failed asked (IsNewFull 0) p r x z w n c.mend_row.new.repaired.put c.mend.new.repaired.put path bytes m puts
+    mends_put may failed asked IsFullFile p r x z w n c.mend_row.new.repaired.put c.mend.new.repaired.put path bytes m puts
     (inr (rw c.in-Ok-Some.field-0-is at c.in-Ok-Some.ensures.taken)) c.mend.ensures.counts
 
 pub mend_tile-returns-clause-keeps : goal.mend_tile-returns-clause-keeps
@@ -360,14 +359,14 @@ mend_tile-returns-clause-keeps g t c = λ log clear is.
     let w = g.D.Shelf.puts c.mend.new.shelf in
     let bytes = c.in-Ok-Some.found.bytes.items in
     let found = rw c.in-Ok-Some.field-0-is at c.in-Ok-Some.ensures.found in
-    let asks = asks_weaker may failed asked (λ p. p ≡ path) (IsNewFull 0)
-    (tile_asked 0 level index (omega arith) (past_none (level + 1) index)) p q c.look_for.ensures.asks in
-    let m = mends_none may failed asked (IsNewFull 0) p q x y n n asks c.look_for.ensures.same refl in
-    let row = row_found digest g.met.H.TreeHash.digest_length log (MayTake may p x) clear level index (omega arith) c.args.hash.now
+    let asks = asks_weaker may failed asked (λ p. p ≡ path) IsFullFile
+    (full_tile_asked level index) p q c.look_for.ensures.asks in
+    let m = mends_none may failed asked IsFullFile p q x y n n asks c.look_for.ensures.same refl in
+    let row = row_found digest g.met.H.TreeHash.digest_length log (MayTake may p x) clear.files level index (omega arith) c.args.hash.now
     bytes c.in-Ok-Some.found.row.items (rw c.in-Ok-Some.field-0-is at c.in-Ok-Some.ensures.taken) found is in
     let puts = subst (λ b. (KeepsRecord z w) ⊎ (AddsToRecord z w ((path, b) ∷ []))) c.deref-2.ensures.value c.mend.ensures.puts in
     let below = gathers_then digest 0 log log log x y z (gathers_none digest 0 log x y c.look_for.ensures.same)
-    (c.mend_row.ensures.keeps log (clear_later may failed asked (IsNewFull 0) p q asks digest log x y m.taken clear)
+    (c.mend_row.ensures.keeps log (fulls_later may failed asked IsFullFile p q asks digest g.met.H.TreeHash.digest_length log x y m.taken (gathers_none digest 0 log x y c.look_for.ensures.same) clear)
     (subst (λ r. IsTileRow digest log level index r) (sym c.deref.ensures.value) row)) in
     gathers_then digest 0 log log log x z w below
     (gathers_keep digest 0 log z w (path, bytes) puts
@@ -408,7 +407,7 @@ mend_tile-returns-then-level-eq0-clause-goes_on g t c =
     let x = g.D.Shelf.puts c.args.shelf.now in
     let y = g.D.Shelf.puts c.mend_bundle.new.shelf in
     subst (λ l. IfOk c.mend_bundle.result (λ all. (log : List (List ℕ)) → AreShort log →
-    FilesAreClear digest log (MayTake may p x) → IsTileHash digest log l c.args.index c.args.hash.now →
+    AreFullsClear digest log (MayTake may p x) → IsTileHash digest log l c.args.index c.args.hash.now →
     GoesBelow digest log may p c.mend_bundle.new.places x y l c.args.index)) zero c.mend_bundle.ensures.goes_on
 
 pub mend_tile-returns-in-Ok-clause-goes_on : goal.mend_tile-returns-in-Ok-clause-goes_on
@@ -433,7 +432,7 @@ mend_tile-returns-in-Ok-mend-clause-goes_on g t c = λ log short clear is.
     let may = g.S.Source.may_answer in
     let failed = g.S.Source.failed in
     let asked = g.S.Source.asked in
-    let so = IsNewFull 0 in
+    let so = IsFullFile in
     let digest = g.H.TreeHash.digest in
     let level = c.args.level in
     let index = c.args.index in
@@ -449,13 +448,13 @@ mend_tile-returns-in-Ok-mend-clause-goes_on g t c = λ log short clear is.
     let bytes = c.in-Ok-Some.found.bytes.items in
     let found = rw c.in-Ok-Some.field-0-is at c.in-Ok-Some.ensures.found in
     let some : 1 ≤ level = omega arith in
-    let asks = asks_weaker may failed asked (λ p. p ≡ path) so (tile_asked 0 level index (omega arith) (past_none (level + 1) index)) p q
+    let asks = asks_weaker may failed asked (λ p. p ≡ path) so (full_tile_asked level index) p q
     c.look_for.ensures.asks in
     let m = mends_none may failed asked so p q x y n n asks c.look_for.ensures.same refl in
-    let row = row_found digest g.met.H.TreeHash.digest_length log (MayTake may p x) clear level index (omega arith) c.args.hash.now
+    let row = row_found digest g.met.H.TreeHash.digest_length log (MayTake may p x) clear.files level index (omega arith) c.args.hash.now
     bytes c.in-Ok-Some.found.row.items (rw c.in-Ok-Some.field-0-is at c.in-Ok-Some.ensures.taken) found is in
     let placed = subst (λ r. IsTileRow digest log level index r) (sym c.deref.ensures.value) row in
-    let still = clear_later may failed asked so p q asks digest log x y m.taken clear in
+    let still = fulls_later may failed asked so p q asks digest g.met.H.TreeHash.digest_length log x y m.taken (gathers_none digest 0 log x y c.look_for.ensures.same) clear in
     let puts = subst (λ b. (KeepsRecord z w) ⊎ (AddsToRecord z w ((path, b) ∷ []))) c.deref-2.ensures.value c.mend.ensures.puts in
     let start = gathers_none digest 0 log x y c.look_for.ensures.same in
     let below = c.mend_row.ensures.keeps log still placed in
@@ -479,7 +478,7 @@ mend_tile-returns-then-level-eq0-clause-names g t c =
     let p = c.args.places.now in
     let x = g.D.Shelf.puts c.args.shelf.now in
     subst (λ l. IfOk c.mend_bundle.result (λ all. (log : List (List ℕ)) → AreShort log →
-    FilesAreClear digest log (MayTake g.S.Source.may_answer p x) → IsTileHash digest log l c.args.index c.args.hash.now →
+    AreFullsClear digest log (MayTake g.S.Source.may_answer p x) → IsTileHash digest log l c.args.index c.args.hash.now →
     NamesDamaged digest log x c.args.repaired.now.damaged.items c.mend_bundle.new.repaired.damaged.items)) zero
     c.mend_bundle.ensures.names
 
@@ -488,7 +487,7 @@ mend_tile-returns-in-Ok-mend-clause-names g t c = λ log short clear is.
     let may = g.S.Source.may_answer in
     let failed = g.S.Source.failed in
     let asked = g.S.Source.asked in
-    let so = IsNewFull 0 in
+    let so = IsFullFile in
     let digest = g.H.TreeHash.digest in
     let level = c.args.level in
     let index = c.args.index in
@@ -501,13 +500,13 @@ mend_tile-returns-in-Ok-mend-clause-names g t c = λ log short clear is.
     let z = g.D.Shelf.puts c.mend_row.new.shelf in
     let bytes = c.in-Ok-Some.found.bytes.items in
     let found = rw c.in-Ok-Some.field-0-is at c.in-Ok-Some.ensures.found in
-    let asks = asks_weaker may failed asked (λ p. p ≡ path) so (tile_asked 0 level index (omega arith) (past_none (level + 1) index)) p q
+    let asks = asks_weaker may failed asked (λ p. p ≡ path) so (full_tile_asked level index) p q
     c.look_for.ensures.asks in
     let m = mends_none may failed asked so p q x y n n asks c.look_for.ensures.same refl in
-    let row = row_found digest g.met.H.TreeHash.digest_length log (MayTake may p x) clear level index (omega arith) c.args.hash.now
+    let row = row_found digest g.met.H.TreeHash.digest_length log (MayTake may p x) clear.files level index (omega arith) c.args.hash.now
     bytes c.in-Ok-Some.found.row.items (rw c.in-Ok-Some.field-0-is at c.in-Ok-Some.ensures.taken) found is in
     let placed = subst (λ r. IsTileRow digest log level index r) (sym c.deref.ensures.value) row in
-    let still = clear_later may failed asked so p q asks digest log x y m.taken clear in
+    let still = fulls_later may failed asked so p q asks digest g.met.H.TreeHash.digest_length log x y m.taken (gathers_none digest 0 log x y c.look_for.ensures.same) clear in
     let start = gathers_none digest 0 log x y c.look_for.ensures.same in
     let below = c.mend_row.ensures.keeps log still placed in
     let new = true_tile digest g.met.H.TreeHash.digest_length log level index (omega arith) bytes c.in-Ok-Some.found.row.items

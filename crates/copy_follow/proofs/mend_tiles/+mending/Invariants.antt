@@ -1,13 +1,12 @@
 use Rattle.std.proofs.Common.{◌≡◌, ◌+◌, ◌*◌, ◌^◌, ℕ, List}
 use Rattle.std.specs.Prelude.{IsTrue}
-use Rattle.copy_follow.specs.Asked.{IsNewFull}
 use Rattle.copy_follow.specs.Growing.{IsKnown, IsRowBrought, empty_tip}
 use Rattle.mirror_model.specs.TrueLaws.{AreShort}
 use Rattle.copy_follow.specs.Lacked.{GoesAlong}
 use Rattle.copy_follow.specs.Named.{NamesDamaged}
-use Rattle.copy_follow.specs.Repaired.{Mends, PutsTrue}
+use Rattle.copy_follow.specs.Repaired.{AreFullsClear, IsFullFile, Mends, PutsTrue}
 use Rattle.copy_follow.specs.Suffices.{IsTileRow}
-use Rattle.copy_follow.specs.Taken.{FilesAreClear, MayTake}
+use Rattle.copy_follow.specs.Taken.{MayTake}
 use Rattle.copy_follow.proofs.mend_tiles.+mending.Given as goal
 
 abbrev pub decreases-mend_tile : goal.decreases-mend_tile
@@ -19,10 +18,10 @@ decreases-mend_row g l = 2 * l.level
 abbrev pub invariant-mend_row-loop-i : goal.invariant-mend_row-loop-i
 invariant-mend_row-loop-i g l = record {
   counted : g.D.Shelf.failed l.shelf ≡ g.D.Shelf.failed l.fn.shelf;
-  mends : Mends g.S.Source.may_answer g.S.Source.failed g.S.Source.asked (IsNewFull 0) l.fn.places l.places
+  mends : Mends g.S.Source.may_answer g.S.Source.failed g.S.Source.asked IsFullFile l.fn.places l.places
       (g.D.Shelf.puts l.fn.shelf) (g.D.Shelf.puts l.shelf) l.fn.repaired.put l.repaired.put;
   keeps : (log : List (List ℕ)) →
-      FilesAreClear g.H.TreeHash.digest log (MayTake g.S.Source.may_answer l.fn.places (g.D.Shelf.puts l.fn.shelf)) →
+      AreFullsClear g.H.TreeHash.digest log (MayTake g.S.Source.may_answer l.fn.places (g.D.Shelf.puts l.fn.shelf)) →
       IsTileRow g.H.TreeHash.digest log l.level l.index l.row →
       PutsTrue g.H.TreeHash.digest log (g.D.Shelf.puts l.fn.shelf) (g.D.Shelf.puts l.shelf);
   whole : IsTrue l.all → (known : List (List ℕ)) →
@@ -30,12 +29,12 @@ invariant-mend_row-loop-i g l = record {
       IsRowBrought g.H.TreeHash.digest empty_tip l.level l.index l.row known (g.D.Shelf.puts l.fn.shelf)
       (g.D.Shelf.puts l.shelf) l.i;
   goes_on : (log : List (List ℕ)) → AreShort log →
-      FilesAreClear g.H.TreeHash.digest log (MayTake g.S.Source.may_answer l.fn.places (g.D.Shelf.puts l.fn.shelf)) →
+      AreFullsClear g.H.TreeHash.digest log (MayTake g.S.Source.may_answer l.fn.places (g.D.Shelf.puts l.fn.shelf)) →
       IsTileRow g.H.TreeHash.digest log l.level l.index l.row →
       GoesAlong g.H.TreeHash.digest log g.S.Source.may_answer l.fn.places l.places (g.D.Shelf.puts l.fn.shelf)
       (g.D.Shelf.puts l.shelf) l.level l.index l.i;
   names : (log : List (List ℕ)) → AreShort log →
-      FilesAreClear g.H.TreeHash.digest log (MayTake g.S.Source.may_answer l.fn.places (g.D.Shelf.puts l.fn.shelf)) →
+      AreFullsClear g.H.TreeHash.digest log (MayTake g.S.Source.may_answer l.fn.places (g.D.Shelf.puts l.fn.shelf)) →
       IsTileRow g.H.TreeHash.digest log l.level l.index l.row →
       NamesDamaged g.H.TreeHash.digest log (g.D.Shelf.puts l.fn.shelf) l.fn.repaired.damaged.items l.repaired.damaged.items;
 }

@@ -3,9 +3,9 @@ use Rattle.std.specs.Prelude.{IsTrue}
 use Rattle.tlog_hash.proofs.Trees.{mth-none}
 use Rattle.copy_places.specs.PlaceGets.{AsksPlaces}
 use Rattle.copy_places.proofs.Asking.{asks_same, asks_then, asks_weaker}
-use Rattle.copy_follow.specs.Repaired.{HasLog, IsEachHad, IsOfEdge, MayBeAskedToRepair, IsClearLog}
+use Rattle.copy_follow.specs.Repaired.{HasLog, IsEachHad, IsOfEdge, MayBeAskedToRepair, IsClearLog, IsTreeClear}
 use Rattle.copy_follow.specs.Taken.{MayTake}
-use Rattle.copy_follow.proofs.Cuts.{clear_weaker, cut_edge_true, ok_weaker}
+use Rattle.copy_follow.proofs.Cuts.{clear_weaker, cut_edge_true, cut_tree_clear, ok_weaker}
 use Rattle.copy_follow.proofs.Growth.{gathers_none, gathers_then, kept_same}
 use Rattle.copy_follow.proofs.MendedFiles.{empty_log, had_log, log_then}
 use Rattle.copy_follow.proofs.Mending.{counts_none, counts_then}
@@ -110,11 +110,13 @@ returns-clause-keeps g c = λ log long root_is clear.
     let small = c.requires in
     let is = cut_edge_true digest g.met.H.TreeHash.digest_length log (MayTake may p x) clear c.args.size (omega (arith, small)) long
     c.args.root.now (sym root_is) c.in-Ok-Some.edge leads from in
+    let tree = cut_tree_clear digest g.met.H.TreeHash.digest_length log (MayTake may p x) clear c.args.size (omega (arith, small)) long
+    c.args.root.now (sym root_is) c.in-Ok-Some.edge leads from in
     gathers_then digest 0 log log log x y z (gathers_none digest 0 log x y c.look_for_edge.ensures.same)
     (c.mend_all.ensures.keeps log
     (clear_weaker digest log (MayTake may p x) (MayTake may q y)
     (λ path bytes h. taken_kept may failed asked (IsOfEdge c.args.size) p q x y path bytes c.look_for_edge.ensures.asks
-    c.look_for_edge.ensures.same h) clear) is)
+    c.look_for_edge.ensures.same h) clear) tree is)
 
 pub returns-clause-whole : goal.returns-clause-whole
 returns-clause-whole g c =
@@ -178,17 +180,19 @@ returns-clause-goes_on g c =
     let first = asks_weaker may failed asked (IsOfEdge size) so (λ path h. inl h) p q c.look_for_edge.ensures.asks in
     let second = subst (λ n. AsksPlaces may failed asked (MayBeAskedToRepair n) q r) leads.is_edge.size_is c.mend_all.ensures.asks in
     ok_weaker c.mend_all.result (λ all. (log : List (List ℕ)) → AreShort log → IsClearLog digest log (MayTake may q y) →
-    IsEdgeTrue digest log edge → GoesOverAll digest log may q r y z)
+    IsTreeClear digest log → IsEdgeTrue digest log edge → GoesOverAll digest log may q r y z)
     (λ all. (log : List (List ℕ)) → AreShort log → length log ≡ size → mth digest log ≡ root →
     IsClearLog digest log (MayTake may p x) → GoesOverAll digest log may p r x z)
     (λ all over log short long root_is clear.
     let is = cut_edge_true digest g.met.H.TreeHash.digest_length log (MayTake may p x) clear size (omega (arith, small)) long
     root (sym root_is) edge leads from in
+    let tree = cut_tree_clear digest g.met.H.TreeHash.digest_length log (MayTake may p x) clear size (omega (arith, small)) long
+    root (sym root_is) edge leads from in
     let still = clear_weaker digest log (MayTake may p x) (MayTake may q y)
     (λ path bytes h. taken_kept may failed asked (IsOfEdge size) p q x y path bytes c.look_for_edge.ensures.asks
     c.look_for_edge.ensures.same h) clear in
     over_between may failed asked digest log so so so p q r r first second (asks_same may failed asked so r) x y z z
-    c.look_for_edge.ensures.same (gathers_none digest 0 log z z (kept_same z)) (over log short still is)) c.mend_all.ensures.goes_on
+    c.look_for_edge.ensures.same (gathers_none digest 0 log z z (kept_same z)) (over log short still tree is)) c.mend_all.ensures.goes_on
 
 pub returns-then-size-eq0-clause-names : goal.returns-then-size-eq0-clause-names
 returns-then-size-eq0-clause-names g c =
@@ -224,14 +228,16 @@ returns-clause-names g c =
     let l = c.args.repaired.now.damaged.items in
     let m = c.mend_all.new.repaired.damaged.items in
     ok_weaker c.mend_all.result (λ all. (log : List (List ℕ)) → AreShort log → IsClearLog digest log (MayTake may q y) →
-    IsEdgeTrue digest log edge → NamesDamaged digest log y l m)
+    IsTreeClear digest log → IsEdgeTrue digest log edge → NamesDamaged digest log y l m)
     (λ all. (log : List (List ℕ)) → AreShort log → length log ≡ size → mth digest log ≡ root →
     IsClearLog digest log (MayTake may p x) → NamesDamaged digest log x l m)
     (λ all names log short long root_is clear.
     let is = cut_edge_true digest g.met.H.TreeHash.digest_length log (MayTake may p x) clear size (omega (arith, small)) long
     root (sym root_is) edge leads from in
+    let tree = cut_tree_clear digest g.met.H.TreeHash.digest_length log (MayTake may p x) clear size (omega (arith, small)) long
+    root (sym root_is) edge leads from in
     let still = clear_weaker digest log (MayTake may p x) (MayTake may q y)
     (λ path bytes h. taken_kept may failed asked (IsOfEdge size) p q x y path bytes c.look_for_edge.ensures.asks
     c.look_for_edge.ensures.same h) clear in
     names_then digest log x y l l m (gathers_none digest 0 log x y c.look_for_edge.ensures.same) (names_none digest log x l l refl)
-    (names log short still is)) c.mend_all.ensures.names
+    (names log short still tree is)) c.mend_all.ensures.names
