@@ -229,6 +229,7 @@ module _ (digest : List ℕ → List ℕ) where
             bundle_clear index width bytes entries
             (part_begins (λ path b. Contains files (path, b)) index width bytes part) is;
       };
+      leaf_tiles = λ index bytes row c is. tile_clear 0 index 256 bytes row c is;
       ends = bundle_clear;
       edge = edge_clear;
     }
