@@ -16,8 +16,8 @@ pub fn script_law<S: Source>()
     ensures clash { FilesAreClearOrClash }
 {}
 
-/// The script of a log is the note of its checkpoint, and all tiles and bundles that its entries determine. A place with this script is such
-/// a place, whatever the scripts of the others have.
+/// For each log there is a finite list of files with which a place is the honest one of `script_law`, whatever the lists of the others have:
+/// the note of its checkpoint, and all tiles and bundles that its entries determine. This list is the log's script.
 pub fn log_script_law()
     ensures suffices { LogScriptsSuffice }
     ensures whole { LogScriptsAreWhole }
