@@ -415,7 +415,8 @@ impl<S: Read + Write + Drop> Ahead<S> {
     pub(crate) fn answered<D: Dial<Stream = S>>(&mut self, dial: &mut D)
         ensures most { self.new.most ≡ self.old.most }
         ensures fair { self.new.fair ≤ self.old.fair + 1 }
-        ensures pace { IsAfterGood self.new.tempo.good self.old.tempo.interval self.new.tempo.interval }
+        ensures pace { IsAfterGood self.new.tempo.good self.old.tempo.interval
+            self.new.tempo.interval }
     {
         if self.tempo.answered(micros(dial.now())) && self.fair < self.most {
             self.fair += 1;
