@@ -130,6 +130,14 @@ pub trait ReadableShelf: Shelf {
         ensures failed { Self.failed self.new ≡ Self.failed self.old }
     {}
 
+    /// The caller read the file at the path, and it is true. So it is where a partial file gave way to a full one that begins with its bytes.
+    /// A shelf that reports progress counts it; this default does nothing. All that was put stays.
+    fn note_true(&mut self, _path: &Path)
+        ensures puts { Self.puts self.new ≡ Self.puts self.old }
+        ensures still { Self.flushes self.new ≡ Self.flushes self.old }
+        ensures failed { Self.failed self.new ≡ Self.failed self.old }
+    {}
+
     /// The first file that was noted as missing or false. None: there was none, or it was not kept.
     fn first_damaged(&self) -> Option<DamagedFile> {
         None
