@@ -101,8 +101,8 @@ fn put_damaged<D: ReadableShelf>(
     }
 }
 
-/// Puts the file, if the shelf lacks it or has other bytes there, and names it. A file that stands needs no flush, since a repair puts no
-/// checkpoint.
+/// Puts the file, if the shelf lacks it or has other bytes there, and names it. A file that stands is told to the shelf as true. It needs no
+/// flush, since a repair puts no checkpoint.
 pub(crate) fn mend<D: ReadableShelf>(
     shelf: &mut D,
     path: &Path,
@@ -123,7 +123,10 @@ pub(crate) fn mend<D: ReadableShelf>(
 {
     match damaged_at(shelf, path, bytes)? {
         Some(damaged) => put_damaged(shelf, path, bytes, damaged, repaired),
-        None => Ok(()),
+        None => {
+            shelf.note_true(path);
+            Ok(())
+        }
     }
 }
 
@@ -213,6 +216,7 @@ pub(crate) fn mend_partial<D: ReadableShelf>(
         (RecordsHad (D.puts shelf.old) (D.puts shelf.new) path.now bytes.now) }
 {
     if gave_way(shelf, path, bytes)? {
+        shelf.note_true(path);
         return Ok(());
     }
     mend(shelf, path, bytes, repaired)

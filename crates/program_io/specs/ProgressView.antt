@@ -6,14 +6,16 @@ use Rattle.program_io.specs.declared.task.Task.{Task}
 use Rattle.program_io.specs.ProgressText.{progress_text, line_of}
 
 -- the model of a `Progress`: the writer, the command, the number of all files if it is known, and
--- the counts of the work done. Its last part is the time from which the next line may be written,
--- in nanoseconds of the clock; None if nothing is reported
+-- the counts of the work done. Then the time from which the next line may be written,
+-- in nanoseconds of the clock; None if nothing is reported. And the length of the file that was
+-- read last
 pub record ProgressView (W : Type 0) : Type 0 where
   pub writer : W
   pub task : Task
   pub all : Option ℕ
   pub counts : Counts
   pub due : Option ℕ
+  pub last_len : ℕ
 
 -- a line may be written at that time
 abbrev pub IsDue : Option ℕ → ℕ → Type 0

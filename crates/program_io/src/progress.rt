@@ -1,5 +1,5 @@
 //! Reports of long work, and their times.
-ghost use Rattle.std.specs.Prelude.{◌≡◌, ◌↔◌, ℕ, List, None, Some, IfOk, IsTrue, OnErr, is_some, option_map};
+ghost use Rattle.std.specs.Prelude.{◌≡◌, ◌↔◌, ℕ, List, None, Some, IfOk, IsTrue, OnErr, is_some, length, option_map};
 ghost use Rattle.std.specs.Time.{instant_nanos};
 ghost use Rattle.byte_streams.specs.Streams.{AppendsPrefix};
 ghost use Rattle.program_io.specs.ProgressText.{with_file, line_of, grown_text, pulled_text};
@@ -55,7 +55,7 @@ impl<C: Clock + Drop, W: Write + Drop> Model for Progress<C, W> {
 
     ghost Value = { ProgressView W };
 
-    ghost view = { λ p. record { writer = p.writer; task = p.task; all = p.all; counts = p.counts; due = option_map instant_nanos p.due } };
+    ghost view = { λ p. record { writer = p.writer; task = p.task; all = p.all; counts = p.counts; due = option_map instant_nanos p.due; last_len = p.last_len } };
 }
 
 // Whether a line may be written at that time.
@@ -184,6 +184,7 @@ impl<C: Clock + Drop, W: Write + Drop> Progress<C, W> {
     /// The file's length is kept for `count_true`.
     pub fn expect_log(&mut self, path: &Path, bytes: &[u8])
         ensures counts { self.new.counts ≡ self.old.counts }
+        ensures last { self.new.last_len ≡ length bytes.now }
         ensures task { self.new.task ≡ self.old.task }
         ensures due { self.new.due ≡ self.old.due }
         ensures writer { self.new.writer ≡ self.old.writer }
@@ -221,11 +222,12 @@ impl<C: Clock + Drop, W: Write + Drop> Progress<C, W> {
         }
     }
 
-    /// Counts the file that a repair read last: it is true. It writes a line if it is time. For another command nothing changes.
-    pub fn count_true(&mut self) {
-        if self.task == Task::Repair {
-            self.count(self.last_len);
-        }
+    /// Counts the file that was read last, which is true, and writes a line if it is time.
+    pub fn count_true(&mut self)
+        ensures counted { self.new.counts ≡ with_file self.old.counts self.old.last_len }
+        ensures recorded { ReportsOnce W.contents self.old self.new }
+    {
+        self.count(self.last_len);
     }
 
     /// Reports the result of a pull, at any time: from the size of the largest checkpoint that was held to the size of the

@@ -1,9 +1,11 @@
 //! A counting shelf.
-ghost use Rattle.std.specs.Prelude.{◌≡◌, OnOk, Some, length};
+ghost use Rattle.std.specs.Prelude.{◌≡◌, IfOk, IfSome, OnOk, Some, length, option_map};
 ghost use Rattle.tlog_tiles.specs.declared.paths.Path.TheVariants.{Checkpoint};
-ghost use Rattle.mirror_folders.specs.Shelf.{RecordsPut, CountsFailures};
+ghost use Rattle.mirror_folders.specs.Shelf.{RecordsPut, RecordsRead, CountsFailures};
+ghost use Rattle.mirror_sources.specs.Recorded.{KeepsRecord};
 ghost use Rattle.mirror_folders.specs.Flushes.{FlushesAll, SecuresAtOk};
 ghost use Rattle.program_io.specs.Counting.{CountsPut};
+ghost use Rattle.program_io.specs.ProgressText.{with_file};
 
 use crate::folders::CountedFolders;
 use crate::progress::Progress;
@@ -14,9 +16,9 @@ use std::io::Write;
 use std::time::Clock;
 use tlog_tiles::Path;
 
-/// A shelf that puts onto another shelf, and counts each file that is put, and its bytes. For a repair it also counts each file that was
-/// read and that the repair relies on. In contracts, the files that were put, the files to flush and the failures are those of the inner
-/// shelf (`counted_shelf_law`). If the inner shelf is one for folders with names, so is this one.
+/// A shelf that puts onto another shelf, and counts each file that is put or noted as true, and its bytes: a file that is noted is the one
+/// that was read last. In contracts, the files that were put, the files to flush and the failures are those of the inner shelf
+/// (`counted_shelf_law`). If the inner shelf is one for folders with names, so is this one.
 ///
 /// ```text
 /// let mut shelf = CountingShelf::new(DirShelf::new(&rt, alloc, "log"), progress);
@@ -72,9 +74,7 @@ impl<S: Shelf + Drop, C: Clock + Drop, W: Write + Drop> Shelf for CountingShelf<
     }
 
     fn flush_before_checkpoint(&mut self, path: &Path) -> Result<(), ShelfError> {
-        self.shelf.flush_before_checkpoint(path)?;
-        self.progress.count_true();
-        Ok(())
+        self.shelf.flush_before_checkpoint(path)
     }
 
     fn failures(&self) -> u64 {
@@ -94,7 +94,16 @@ impl<S: Shelf + Drop, C: Clock + Drop, W: Write + Drop> Shelf for CountingShelf<
 
 impl<S: ReadableShelf + Drop, C: Clock + Drop, W: Write + Drop> ReadableShelf
     for CountingShelf<S, C, W> {
-    fn read(&mut self, path: &Path) -> Result<Option<Vec<u8>>, ShelfError> {
+    fn read(&mut self, path: &Path) -> Result<Option<Vec<u8>>, ShelfError>
+        ensures answer { IfOk result (λ found. RecordsRead (S.puts self.old.shelf) path.now
+            (option_map (λ v. v.items) found)) }
+        ensures same { KeepsRecord (S.puts self.old.shelf) (S.puts self.new.shelf) }
+        ensures still { S.flushes self.new.shelf ≡ S.flushes self.old.shelf }
+        ensures counted { CountsFailures (S.failed self.old.shelf) (S.failed self.new.shelf)
+            result }
+        ensures length { IfOk result (λ found. IfSome found
+            (λ bytes. self.new.progress.last_len ≡ length bytes.items)) }
+    {
         let found = self.shelf.read(path)?;
         if let Some(bytes) = &found {
             self.progress.expect_log(path, bytes);
@@ -104,6 +113,17 @@ impl<S: ReadableShelf + Drop, C: Clock + Drop, W: Write + Drop> ReadableShelf
 
     fn note_damaged(&mut self, path: &Path) {
         self.shelf.note_damaged(path);
+    }
+
+    fn note_true(&mut self, path: &Path)
+        ensures puts { S.puts self.new.shelf ≡ S.puts self.old.shelf }
+        ensures still { S.flushes self.new.shelf ≡ S.flushes self.old.shelf }
+        ensures failed { S.failed self.new.shelf ≡ S.failed self.old.shelf }
+        ensures counts { self.new.progress.counts ≡ with_file self.old.progress.counts
+            self.old.progress.last_len }
+    {
+        self.shelf.note_true(path);
+        self.progress.count_true();
     }
 
     fn first_damaged(&self) -> Option<DamagedFile> {
