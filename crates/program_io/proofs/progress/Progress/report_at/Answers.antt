@@ -13,6 +13,7 @@ returns g c =
       all = inside.all;
       counts = inside.counts;
       due = option_map instant_nanos c.next_due-self-inside.result;
+      last_len = inside.last_len;
     } in
     subst (λ (t : ProgressView _). ReportsAt g.W.Write.contents (instant_nanos c.args.now) t new) c.self.view_is
     (record {
