@@ -19,3 +19,8 @@ longest_file = 16_777_472
 -- the error of the system says that there is no file at a path, or that a plain file blocks the way to it
 abbrev pub SaysMissing : Error → Type 0
 SaysMissing e = (error_kind e ≡ NotFound) ⊎ (error_kind e ≡ NotADirectory)
+
+-- a folder as a source: the bytes of its path, and the number of gets that failed
+pub record FolderSource : Type 0 where
+  pub folder : List ℕ
+  pub failures : ℕ

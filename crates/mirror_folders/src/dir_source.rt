@@ -1,5 +1,7 @@
 //! A folder as a source.
-ghost use Rattle.std.specs.Prelude.{◌≡◌};
+ghost use Rattle.std.specs.Prelude.{◌≡◌, IfOk, option_map};
+ghost use Rattle.mirror_folders.specs.Places.{longest_file};
+ghost use Rattle.mirror_sources.specs.Source.{CountsGet, IsShortAnswer};
 
 use crate::failed::FailedFile;
 use crate::place::count_failure;
@@ -12,8 +14,8 @@ use std::marker::Model;
 use tlog_tiles::Path;
 
 /// A folder as a source: the path of a file is the folder's path, a slash, and the text of its path in the log. No
-/// contract says which files a folder holds. Contracts see that an answer has at most 16,777,472 bytes, those of the
-/// longest bundle, and the number of gets that failed.
+/// contract says which files a folder holds. Contracts see the folder's path, which no get changes, that an answer has at
+/// most 16,777,472 bytes, those of the longest bundle, and the number of gets that failed.
 ///
 /// ```text
 /// let mut source = DirSource::new(&rt, rt.alloc(), "log");
@@ -35,17 +37,18 @@ pub struct DirSource<'a, R: Files> {
 }
 
 impl<'a, R: Files> Model for DirSource<'a, R> {
-    ghost use Rattle.std.specs.Prelude.{ℕ};
+    ghost use Rattle.mirror_folders.specs.Places.{FolderSource};
 
-    ghost Value = { ℕ };
+    ghost Value = { FolderSource };
 
-    ghost view = { λ a. a.failures };
+    ghost view = { λ a. record { folder = a.folder.now; failures = a.failures } };
 }
 
 impl<'a, R: Files> DirSource<'a, R> {
     /// The folder with that path. No get has failed. It takes no memory.
     pub fn new(files: &'a R, alloc: Global, folder: &'a str) -> Self
-        ensures { result ≡ 0 }
+        ensures folder { result.folder ≡ folder.now }
+        ensures failures { result.failures ≡ 0 }
     {
         DirSource {
             files,
@@ -63,14 +66,16 @@ impl<'a, R: Files> DirSource<'a, R> {
 }
 
 impl<'a, R: Files> Source for DirSource<'a, R> {
-    ghost use Rattle.mirror_sources.specs.Source.{IsShortAnswer};
-    ghost use Rattle.mirror_folders.specs.Places.{longest_file};
-
     ghost may_answer = { λ _ _ answer. IsShortAnswer longest_file answer };
 
-    ghost failed = { λ s. s };
+    ghost failed = { λ s. s.failures };
 
-    fn get(&mut self, path: &Path) -> Result<Option<Vec<u8>>, SourceFault> {
+    fn get(&mut self, path: &Path) -> Result<Option<Vec<u8>>, SourceFault>
+        ensures answer { IfOk result
+            (λ bytes. IsShortAnswer longest_file (option_map (λ v. v.items) bytes)) }
+        ensures counted { CountsGet self.old.failures self.new.failures result }
+        ensures folder { self.new.folder ≡ self.old.folder }
+    {
         match read_file(self.files, self.alloc, self.folder, path) {
             Ok(found) => Ok(found),
             Err(error) => {
