@@ -4,6 +4,7 @@ use Rattle.std.specs.Prelude.{Some, None, All, Any, codes, length}
 use Rattle.std.specs.Str.Parse.{IsNumeral, digits_value}
 use Rattle.httparse.specs.Grammar.{ResponseHead, status_code}
 use Rattle.mirror_client.specs.Reply.{Field, fields_of, HasReply, IsAnyCase}
+use Rattle.mirror_client.specs.Site.{HostAndPrefix}
 
 -- ---- what a server names
 
@@ -54,15 +55,17 @@ WaitIs None before left None = left ≡ 0
 
 -- ---- a run
 
--- a source over connections as a contract sees it: the gets that failed, the seconds that its waits take at most, and
--- those that are left of these
+-- a source over connections as a contract sees it: the site of its files, the gets that failed, the seconds that its
+-- waits take at most, and those that are left of these
 pub record Asking : Type 0 where
+  pub site : HostAndPrefix
   pub failures : ℕ
   pub wait : ℕ
   pub left : ℕ
 
--- a part of the seconds that were left may be spent
+-- the site stays, and a part of the seconds that were left may be spent
 pub record SpendsWait (old new : Asking) : Type 0 where
+  pub site : new.site ≡ old.site
   pub wait : new.wait ≡ old.wait
   pub left : new.left ≤ old.left
 

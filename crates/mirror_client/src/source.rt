@@ -68,7 +68,8 @@ impl<D: Dial + Drop> Model for HttpSource<D> {
 
     ghost Value = { Asking };
 
-    ghost view = { λ a. record { failures = a.failures; wait = a.patience.wait; left = a.patience.left } };
+    ghost view = { λ a. record { site = a.site; failures = a.failures;
+        wait = a.patience.wait; left = a.patience.left } };
 
     ghost invariant = { λ a. a.patience.left ≤ a.patience.wait };
 }
@@ -76,6 +77,7 @@ impl<D: Dial + Drop> Model for HttpSource<D> {
 impl<D: Dial + Drop> HttpSource<D> {
     /// A source of the files of that site, over connections that the dial opens, at that pace. It takes no memory.
     pub fn new(alloc: Global, site: Site, dial: D, pace: Pace) -> HttpSource<D>
+        ensures site { result.site ≡ site }
         ensures failures { result.failures ≡ 0 }
         ensures wait { result.wait ≡ min pace.wait MAX_WAIT }
         ensures left { result.left ≡ result.wait }
@@ -376,7 +378,10 @@ impl<D: Dial + Drop> Source for HttpSource<D> {
         }
     }
 
-    fn expect(&mut self, paths: &[Path]) {
+    fn expect(&mut self, paths: &[Path])
+        ensures counted { self.new.failures ≡ self.old.failures }
+        ensures waits { SpendsWait self.old self.new }
+    {
         self.keep_hint(paths);
         self.ahead
             .send(self.alloc, &self.site, &mut self.dial, paths);
