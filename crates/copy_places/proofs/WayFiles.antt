@@ -1,6 +1,6 @@
 -- The way down from the edge of the larger tree, step by step, and the files in memory for it.
 use Rattle.std.proofs.Common.{◌≡◌, ◌≢◌, inl, inr, ℕ, ◌+◌, ◌*◌, ◌/◌, ◌%◌, ◌^◌, ◌<◌, ◌≤◌, List, [], ◌∷◌, ◌++◌, All, length, get_or}
-use Rattle.std.proofs.Common.{Option, Some, None, OnOk, Ok, Err, Result, refl, sym, ap, subst, ◌∙◌, arith}
+use Rattle.std.proofs.Common.{Option, Some, None, refl, sym, ap, subst, ◌∙◌, arith}
 use Rattle.std.specs.List.{AllByRecursion, Contains}
 use Rattle.std.proofs.Math.Nat.{div-mul-le_self}
 use Rattle.std.proofs.lemmas.Bool.{cases_lt}
@@ -29,7 +29,7 @@ use Rattle.log_reader.proofs.FalseFiles.{shown_below}
 use Rattle.log_reader.proofs.Truths.{of_way, true_way}
 use Rattle.copy_places.specs.EndTiles.{AnswersStay}
 use Rattle.copy_places.specs.declared.end_tiles.EndTile.{EndTile}
-use Rattle.copy_places.proofs.ShelfRows.{record_before}
+use Rattle.mirror_folders.proofs.PartialFiles.{record_before}
 use Rattle.copy_places.proofs.AskingEnds.{kept_later}
 use Rattle.copy_places.specs.Nobodys.{IsFileOf, IsNobodys, IsReadInVain, IsRowNobodys, LacksRow}
 use Rattle.copy_places.specs.ReadFiles.{IsRead}

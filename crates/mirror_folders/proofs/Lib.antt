@@ -10,3 +10,4 @@ pub mod Standing
 pub mod FoundOnce
 pub mod PathLists
 pub mod Totals
+pub mod PartialFiles

@@ -1,4 +1,5 @@
 pub mod Shelf
+pub mod Partial
 pub mod Flushes
 pub mod Places
 pub mod Files
