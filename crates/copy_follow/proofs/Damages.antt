@@ -21,13 +21,15 @@ use Rattle.log_reader.proofs.Prefixes.{true_rows_lead}
 use Rattle.copy_follow.specs.Pruned.{IsPrunedCopy}
 use Rattle.copy_follow.specs.Damaged.{HasOtherRoot, HasWrongBundle, HasWrongEdge, HasWrongRow, IsBundleWrong, IsDamaged, IsEdgeWrong, IsNoHead, IsRowWrong, IsTipWrong}
 use Rattle.copy_follow.specs.Faults.{BlamesFrom, BlamesPlaces, IsOfNoPlace}
-use Rattle.copy_follow.specs.Found.{IsEdgeRead, RecordsPartial}
+use Rattle.mirror_folders.specs.Partial.{IsReadPartial}
+use Rattle.copy_follow.specs.Found.{IsEdgeRead}
 use Rattle.copy_follow.specs.Growing.{Tip}
 use Rattle.copy_follow.specs.declared.bring_fault.BringFault.{BringFault}
 use Rattle.copy_follow.specs.declared.bring_fault.BringFault.TheVariants.{CopyDamaged, CopyInUse}
 use Rattle.copy_places.specs.declared.places.Places.{Places}
 use Rattle.copy_follow.proofs.Earlier.{kept_then}
-use Rattle.copy_follow.proofs.ShelfReads.{edge_before, partial_before}
+use Rattle.mirror_folders.proofs.PartialFiles.{partial_before}
+use Rattle.copy_follow.proofs.ShelfReads.{edge_before}
 use Rattle.copy_follow.proofs.PrunedFiles.{copies_are_pruned}
 use Rattle.copy_follow.proofs.TipReads.{edge_file, file_read, note_read, row_read, stands_has}
 
@@ -69,8 +71,8 @@ module _ (digest : List ℕ → List ℕ) (hash : IsDigest digest) (origin note 
       let width = width_of n 0 in
       let bytes = bundle_bytes entries index width in
       let some : 1 ≤ width = subst (λ k. 1 ≤ width_of k 0) r.size_is w.some in
-      let read : RecordsPartial (Some held) (Entries index width) w.found =
-      subst (λ k. RecordsPartial (Some held) (Entries (edge_index_of k 0) (width_of k 0)) w.found) r.size_is w.found_is in
+      let read : IsReadPartial (Some held) (Entries index width) w.found =
+      subst (λ k. IsReadPartial (Some held) (Entries (edge_index_of k 0) (width_of k 0)) w.found) r.size_is w.found_is in
       let found : w.found ≡ Some bytes = file_read digest hash origin note entries held copy (Entries index width) w.found
       (edge_file digest hash origin note entries held copy 0 some) read in
       let whole : 256 * index + width ≡ n = hashes_of n 0 ∙ omega arith in
@@ -125,7 +127,7 @@ row_wrong_before x y n level k w = record {
   upto = w.upto;
   some = w.some;
   found = w.found;
-  found_is = partial_before x y _ w.found k w.found_is;
+  found_is = partial_before x y k _ w.found w.found_is;
   no_row = w.no_row;
 }
 
@@ -139,20 +141,20 @@ bundle_wrong_before : (x y : Option (List Put)) (digest : List ℕ → List ℕ)
 bundle_wrong_before x y digest edge k w = record {
   some = w.some;
   found = w.found;
-  found_is = partial_before x y _ w.found k w.found_is;
+  found_is = partial_before x y k _ w.found w.found_is;
   no_leaves = w.no_leaves;
 }
 
 -- the bundle that was read is wrong
 pub bundle_wrong : (digest : List ℕ → List ℕ) (x : Option (List Put)) (edge : Edge) (index width : ℕ) (row : List (List ℕ))
     (given : Option (Vec ℕ Global)) → index ≡ edge_index_of edge.size 0 → width ≡ width_of edge.size 0 → row ≡ row_at edge 0 →
-    1 ≤ width → RecordsPartial x (Entries index width) (option_map (λ v. v.items) given) →
+    1 ≤ width → IsReadPartial x (Entries index width) (option_map (λ v. v.items) given) →
     IfSome given (λ b. HasLeaves digest width b.items row → ⊥) → IsBundleWrong digest x edge
 bundle_wrong digest x edge index width row given at wide row_is some read other = record {
   some = omega (arith, some, wide);
   found = option_map (λ v. v.items) given;
-  found_is = subst (λ k. RecordsPartial x (Entries k (width_of edge.size 0)) (option_map (λ v. v.items) given)) at
-      (subst (λ k. RecordsPartial x (Entries index k) (option_map (λ v. v.items) given)) wide read);
+  found_is = subst (λ k. IsReadPartial x (Entries k (width_of edge.size 0)) (option_map (λ v. v.items) given)) at
+      (subst (λ k. IsReadPartial x (Entries index k) (option_map (λ v. v.items) given)) wide read);
   no_leaves = by_answer given (subst (λ k. IfSome given (λ b. HasLeaves digest k b.items (row_at edge 0) → ⊥)) wide
       (subst (λ (r : List (List ℕ)). IfSome given (λ b. HasLeaves digest width b.items r → ⊥)) row_is other));
 }

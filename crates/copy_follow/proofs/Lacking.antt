@@ -41,7 +41,7 @@ use Rattle.copy_places.proofs.Giving.{edge_weaker}
 use Rattle.copy_places.proofs.InVain.{files_between, files_weaker, parts_between, parts_weaker}
 use Rattle.copy_places.proofs.TruePlaces.{place_between}
 use Rattle.copy_follow.specs.Damaged.{IsEdgeWrong}
-use Rattle.copy_follow.specs.Found.{RecordsPartial}
+use Rattle.mirror_folders.specs.Partial.{IsOfRead, IsReadPartial}
 use Rattle.copy_follow.specs.Growing.{IsBelow, IsNewFile}
 use Rattle.copy_follow.specs.Lacked.{AtOkOrLack, GoesAlong, GoesBelow, GoesDown, GoesOverAll, IsEdgeLacked, IsEdgeNowhere, IsEndNowhere, IsFoundNowhere, IsHadOrLacked, IsLacked, IsNobodysFile, IsNobodysPart, IsOwnPart, IsRecorded, LacksBundle, LacksEnd, LacksLeafTile, LacksTile, LeadsNowhere, StandsOrNobodys}
 use Rattle.copy_follow.specs.Repaired.{IsLack, PutsTrue, RecordsHad}
@@ -83,14 +83,20 @@ none_there None path b has not_so = tt
 none_there (Some xs) path b has not_so = λ there. false≢true (sym not_so ∙ has.1 there)
 
 -- the same for a partial file
-pub no_part : (x : Option (List Put)) (path : Path) (bytes : List ℕ) → RecordsPartial x path None → IsRecorded x path bytes → ⊥
-no_part None path bytes read there = there
-no_part (Some xs) path bytes read there = read.0 (stands_has xs path bytes there)
+pub no_part : (x : Option (List Put)) (path : Path) (bytes : List ℕ) → IsReadPartial x path None → IsRecorded x path bytes → ⊥
+no_part x path bytes h there = by h.own h.read h.gives
+  where
+    by : (own : Option (List ℕ)) → RecordsRead x path own → IsOfRead x path own None → ⊥
+    by None read gives = none_recorded x path bytes read there
+    by (Some own) read gives = absurd (cc gives)
 
-pub one_part : (x : Option (List Put)) (path : Path) (bytes read : List ℕ) → RecordsPartial x path (Some read) →
-    IsRecorded x path bytes → read ≡ bytes
-one_part None path bytes read at there = absurd there
-one_part (Some xs) path bytes read at there = stands_one xs path read bytes (at.0 (stands_has xs path bytes there)) there
+pub one_part : (x : Option (List Put)) (path : Path) (bytes found : List ℕ) → IsReadPartial x path (Some found) →
+    IsRecorded x path bytes → found ≡ bytes
+one_part x path bytes found h there = by h.own h.read h.gives
+  where
+    by : (own : Option (List ℕ)) → RecordsRead x path own → IsOfRead x path own (Some found) → found ≡ bytes
+    by None read gives = absurd (none_recorded x path bytes read there)
+    by (Some own) read gives = let same : found ≡ own = cc gives in same ∙ one_recorded x path bytes own read there
 
 -- ---- while true files are put
 

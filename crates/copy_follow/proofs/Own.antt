@@ -13,19 +13,18 @@ use Rattle.tlog_tiles.proofs.RowLemmas.{row_one}
 use Rattle.mirror_sources.specs.Files.{full_of}
 use Rattle.mirror_folders.specs.Shelf.{Put, RecordsRead}
 use Rattle.log_reader.specs.EdgeRows.{Edge, LeadsTo, row_at}
-use Rattle.copy_places.specs.FoundRows.{AreFoundRows, IsFoundRow, IsFullCut, IsRowIn}
+use Rattle.mirror_folders.specs.Partial.{IsCutOfRead, IsFullCut, IsReadCut}
+use Rattle.mirror_folders.proofs.PartialFiles.{cut_before, record_before}
+use Rattle.copy_places.specs.FoundRows.{AreFoundRows, IsFoundRow, IsRowIn}
 use Rattle.copy_places.specs.Giving.{IsEdgeFrom, IsRowFrom, PartOf}
 use Rattle.copy_places.specs.Mixes.{HaveNoMix, IsMixOf, IsOfEither, given_at}
-use Rattle.copy_places.specs.ShelfRows.{IsCutOfRead, IsReadCut}
 use Rattle.copy_places.specs.declared.mix.GivenRows.{GivenRows}
 use Rattle.copy_places.proofs.FoundRows.{row_weaker}
-use Rattle.copy_places.proofs.ShelfRows.{cut_before, record_before}
 use Rattle.mirror_sources.specs.Recorded.{KeepsRecord}
 use Rattle.copy_follow.specs.Lacked.{IsRecorded, LeadsNowhere}
 use Rattle.copy_follow.specs.Taken.{WasPut}
-use Rattle.copy_follow.proofs.Growth.{kept_same}
 use Rattle.copy_follow.proofs.Lacking.{none_recorded, one_recorded}
-use Rattle.copy_follow.proofs.ShelfReads.{part_cut, part_put}
+use Rattle.copy_follow.proofs.ShelfReads.{cut_put, part_put}
 
 none_row : (row : List (List ℕ)) → length row ≡ 0 → row ≡ []
 none_row [] h = refl
@@ -110,14 +109,6 @@ module _ (puts : Option (List Put)) (path : Path) where
       by (Some other) read gives =
           cut_one full bytes cut found (subst (λ (b : List ℕ). IsFullCut path b found)
           (one_recorded puts (full_of path) full other read there) gives)
-
-  pub cut_put : (bytes : List ℕ) → IsReadCut puts path (Some bytes) → PartOf (WasPut puts) path bytes
-  cut_put bytes h = by h.full h.read h.gives
-    where
-      by : (read : Option (List ℕ)) → RecordsRead puts (full_of path) read → IsCutOfRead puts path read (Some bytes) →
-          PartOf (WasPut puts) path bytes
-      by None read gives = absurd (cc gives)
-      by (Some full) read gives = part_cut puts puts path full bytes (kept_same puts) read gives
 
 -- ---- all rows
 

@@ -20,7 +20,11 @@ use Rattle.mirror_model.specs.Strings.{IsDigest}
 use Rattle.mirror_model.proofs.HeadNotes.{head_once}
 use Rattle.mirror_folders.specs.Shelf.{HasPut, Put, Stands}
 use Rattle.mirror_folders.proofs.Standing.{put_has}
-use Rattle.copy_follow.specs.Found.{IsBundleRead, IsEdgeRead, IsRowRead, IsTipRead, RecordsPartial}
+use Rattle.mirror_sources.specs.Files.{full_of}
+use Rattle.mirror_folders.specs.Partial.{IsCutOfRead, IsFullCut, IsOfRead, IsReadPartial}
+use Rattle.log_reader.specs.Holding.{GoesOn}
+use Rattle.copy_places.proofs.Cutting.{cut_true, true_cut}
+use Rattle.copy_follow.specs.Found.{IsBundleRead, IsEdgeRead, IsRowRead, IsTipRead}
 use Rattle.copy_follow.specs.Pruned.{HasGivenWay, IsPrunedCopy}
 use Rattle.copy_follow.proofs.PrunedFiles.{copies_are_pruned, file_within}
 use Rattle.log_reader.specs.Holding.{IsTreeFile}
@@ -94,22 +98,48 @@ module _ (digest : List ℕ → List ℕ) (hash : IsDigest digest) (origin note 
       (subst (λ b. IsHead b origin size root) (note_read bytes there) head) copy.is_head).size_is
 
   stands_read : (path : Path) (bytes : List ℕ) (found : Option (List ℕ)) → Stands held path bytes →
-      RecordsPartial (Some held) path found → found ≡ Some bytes
-  stands_read path bytes None stands h = absurd (h.0 (stands_has held path bytes stands))
-  stands_read path bytes (Some other) stands h =
-      ap (λ (b : List ℕ). Some b) (stands_one held path other bytes (h.0 (stands_has held path bytes stands)) stands)
+      IsReadPartial (Some held) path found → found ≡ Some bytes
+  stands_read path bytes found stands h = by h.own h.read h.gives
+    where
+      by : (own : Option (List ℕ)) → RecordsRead (Some held) path own → IsOfRead (Some held) path own found → found ≡ Some bytes
+      by None read gives = absurd (read (stands_has held path bytes stands))
+      by (Some own) read gives = gives ∙ ap (λ (b : List ℕ). Some b) (stands_one held path own bytes read stands)
 
-  way_read : (path : Path) (found : Option (List ℕ)) → IsTreeFile n path → HasGivenWay digest entries held path →
-      RecordsPartial (Some held) path found → found ≡ Some (true_bytes digest entries path)
-  way_read path None file way h = h.1 digest hash entries copy.short (file_within n path file) way
-  way_read path (Some bytes) file way h = h.1 digest hash entries copy.short (file_within n path file) way
+  -- the file gave way to its full one, which was read
+  module _ (path : Path) (file : IsTreeFile n path) (way : HasGivenWay digest entries held path) where
+    way_cut : (full : List ℕ) → Stands held (full_of path) full → (found : Option (List ℕ)) → IsFullCut path full found →
+        found ≡ Some (true_bytes digest entries path)
+    way_cut full read found cut =
+        by found cut
+        (subst (GoesOn path (true_bytes digest entries path)) (stands_one held (full_of path) way.full full way.stands read) way.begins)
+      where
+        by : (o : Option (List ℕ)) → IsFullCut path full o → GoesOn path (true_bytes digest entries path) full →
+            o ≡ Some (true_bytes digest entries path)
+        by None none goes =
+            let cut = true_cut digest hash entries copy.short path full (file_within n path file) goes in
+            absurd (none (true_bytes digest entries path) cut)
+        by (Some part) is goes = ap (λ (b : List ℕ). Some b)
+            (cut_true digest hash entries copy.short path full part (file_within n path file) goes is)
+
+    way_full : (full found : Option (List ℕ)) → RecordsRead (Some held) (full_of path) full → IsCutOfRead (Some held) path full found →
+        found ≡ Some (true_bytes digest entries path)
+    way_full None found read gives = absurd (read (stands_has held (full_of path) way.full way.stands))
+    way_full (Some full) found read gives = way_cut full read found gives
+
+    way_read : (found : Option (List ℕ)) → IsReadPartial (Some held) path found → found ≡ Some (true_bytes digest entries path)
+    way_read found h = by h.own h.read h.gives
+      where
+        by : (own : Option (List ℕ)) → RecordsRead (Some held) path own → IsOfRead (Some held) path own found →
+            found ≡ Some (true_bytes digest entries path)
+        by None read gives = way_full gives.full found gives.read gives.gives
+        by (Some own) read gives = absurd (way.gone (stands_has held path own read))
 
   -- the bytes that are read at the path of a file are that file, also if it was replaced
-  pub file_read : (path : Path) (found : Option (List ℕ)) → IsTreeFile n path → RecordsPartial (Some held) path found →
+  pub file_read : (path : Path) (found : Option (List ℕ)) → IsTreeFile n path → IsReadPartial (Some held) path found →
       found ≡ Some (true_bytes digest entries path)
   file_read path found file h = elim (copy.files path file) [
     | inl stands ↦ stands_read path (true_bytes digest entries path) found stands h
-    | inr way ↦ way_read path found file way h
+    | inr way ↦ way_read path file way found h
   ]
 
   -- the partial tile and the partial bundle at the edge
@@ -118,7 +148,7 @@ module _ (digest : List ℕ → List ℕ) (hash : IsDigest digest) (origin note 
 
   row_true : (level : ℕ) (bytes : List ℕ) (row : List (List ℕ)) → IsRow (width_of n level) bytes row → level ≤ 7 →
       1 ≤ width_of n level →
-      RecordsPartial (Some held) (Tile level (edge_index_of n level) (width_of n level)) (Some bytes) →
+      IsReadPartial (Some held) (Tile level (edge_index_of n level) (width_of n level)) (Some bytes) →
       row ≡ level_row digest entries level (256 * edge_index_of n level) (width_of n level)
   row_true level bytes row is upto some there =
       let index = edge_index_of n level in

@@ -26,7 +26,8 @@ use Rattle.mirror_folders.proofs.Standing.{stands_more}
 use Rattle.copy_follow.specs.Copies.{IsCopy}
 use Rattle.log_reader.specs.EdgeRows.{Edge, hash_of_edge, row_at}
 use Rattle.copy_follow.specs.Edges.{BringsToEdge, IsCopyBrought, PutsNote}
-use Rattle.copy_follow.specs.Found.{IsBundleRead, IsEdgeRead, IsRowRead, IsTipRead, RecordsPartial}
+use Rattle.copy_follow.specs.Found.{IsBundleRead, IsEdgeRead, IsRowRead, IsTipRead}
+use Rattle.mirror_folders.specs.Partial.{IsReadPartial}
 use Rattle.copy_follow.specs.Growing.{Obtains, IsCutShort, IsKnown, IsNewFile, Tip, empty_tip}
 use Rattle.copy_follow.specs.Moments.{AtEachMoment, InTheEnd, IsBroughtTo, IsGrownCopy, KeepsCopy, PutsBeyond}
 use Rattle.copy_follow.specs.Pruned.{HadSize, IsPrunedCopy}
@@ -35,7 +36,8 @@ use Rattle.copy_follow.proofs.CopyMoments.{bringing_makes_copy, bringing_stays_c
 use Rattle.copy_follow.proofs.Growth.{adds_then, gathers_none, kept_adds, kept_same, left_none}
 use Rattle.copy_follow.proofs.Earlier.{kept_then}
 use Rattle.copy_follow.proofs.Roots.{brought_root}
-use Rattle.copy_follow.proofs.ShelfReads.{partial_before, row_before}
+use Rattle.mirror_folders.proofs.PartialFiles.{partial_before}
+use Rattle.copy_follow.proofs.ShelfReads.{row_before}
 use Rattle.copy_follow.proofs.TipReads.{stands_has, tip_read}
 use Rattle.mirror_model.specs.Strings.{IsDigest}
 
@@ -595,8 +597,8 @@ module _ (digest : List ℕ → List ℕ) (hash : IsDigest digest) (origin : Lis
       let last' = subst (λ n. IsBundleRead z n bundle) rows.size_is last in
       subst (λ b. IsBundleRead x size b) (sym bundle_is) (record {
         none = last'.none;
-        stands = λ some. partial_before x z (Entries (edge_index_of size 0) (width_of size 0)) (Some bundle)
-            (kept_then x y z kept kept') (last'.stands some);
+        stands = λ some. partial_before x z (kept_then x y z kept kept') (Entries (edge_index_of size 0) (width_of size 0))
+            (Some bundle) (last'.stands some);
       })
 
   pub tip_made : IsTipRead digest origin x tip
@@ -604,13 +606,13 @@ module _ (digest : List ℕ → List ℕ) (hash : IsDigest digest) (origin : Lis
 
 pub bundle_made : (x : Option (List Put)) (edge : Edge) (index width : ℕ) (given : Option (List ℕ)) (bytes : List ℕ) →
     index ≡ edge_index_of edge.size 0 → width ≡ width_of edge.size 0 → 1 ≤ width →
-    RecordsPartial x (Entries index width) given → given ≡ Some bytes → IsBundleRead x edge.size bytes
+    IsReadPartial x (Entries index width) given → given ≡ Some bytes → IsBundleRead x edge.size bytes
 bundle_made x edge index width given bytes index_is width_is some there is = record {
   none = λ e. absurd (omega (arith, e, width_is, some));
   stands = λ wide.
-      subst (λ k. RecordsPartial x (Entries k (width_of edge.size 0)) (Some bytes)) index_is
-      (subst (λ k. RecordsPartial x (Entries index k) (Some bytes)) width_is
-      (subst (λ a. RecordsPartial x (Entries index width) a) is there));
+      subst (λ k. IsReadPartial x (Entries k (width_of edge.size 0)) (Some bytes)) index_is
+      (subst (λ k. IsReadPartial x (Entries index k) (Some bytes)) width_is
+      (subst (λ a. IsReadPartial x (Entries index width) a) is there));
 }
 
 pub no_bundle : (x : Option (List Put)) (n : ℕ) (bytes : List ℕ) → bytes ≡ [] → width_of n 0 ≡ 0 →

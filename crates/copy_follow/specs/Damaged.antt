@@ -3,12 +3,13 @@ use Rattle.std.specs.Prelude.{◌≡◌, ◌≢◌, ℕ, ◌≤◌, List, Option
 use Rattle.tlog_shape.specs.Edge.{edge_index_of, width_of}
 use Rattle.tlog_tiles.specs.declared.paths.Path.TheVariants.{Checkpoint, Tile, Entries}
 use Rattle.tlog_tiles.specs.Row.{IsRow}
+use Rattle.mirror_folders.specs.Partial.{IsReadPartial}
 use Rattle.mirror_folders.specs.Shelf.{HasPut, Put, RecordsRead}
 use Rattle.mirror_model.specs.Heads.{IsHead}
 use Rattle.log_reader.specs.EdgeRows.{Edge, LeadsTo, hash_of_edge, row_at}
 use Rattle.log_reader.specs.Verified.{HasLeaves}
 use Rattle.copy_follow.specs.Copies.{IsCopy}
-use Rattle.copy_follow.specs.Found.{IsEdgeRead, RecordsPartial}
+use Rattle.copy_follow.specs.Found.{IsEdgeRead}
 use Rattle.copy_follow.specs.Pruned.{IsPrunedCopy}
 
 module _ (puts : Option (List Put)) (n : ℕ) where
@@ -17,7 +18,7 @@ module _ (puts : Option (List Put)) (n : ℕ) where
     pub upto : level ≤ 7
     pub some : 1 ≤ width_of n level
     pub found : Option (List ℕ)
-    pub found_is : RecordsPartial puts (Tile level (edge_index_of n level) (width_of n level)) found
+    pub found_is : IsReadPartial puts (Tile level (edge_index_of n level) (width_of n level)) found
     pub no_row : IfSome found (λ bytes. (row : List (List ℕ)) → ¬ IsRow (width_of n level) bytes row)
 
   module _ (digest : List ℕ → List ℕ) (root : List ℕ) where
@@ -30,7 +31,7 @@ module _ (puts : Option (List Put)) (n : ℕ) where
 pub record IsBundleWrong (digest : List ℕ → List ℕ) (puts : Option (List Put)) (edge : Edge) : Type 0 where
   pub some : 1 ≤ width_of edge.size 0
   pub found : Option (List ℕ)
-  pub found_is : RecordsPartial puts (Entries (edge_index_of edge.size 0) (width_of edge.size 0)) found
+  pub found_is : IsReadPartial puts (Entries (edge_index_of edge.size 0) (width_of edge.size 0)) found
   pub no_leaves : IfSome found (λ bytes. ¬ HasLeaves digest (width_of edge.size 0) bytes (row_at edge 0))
 
 module _ (digest : List ℕ → List ℕ) (origin : List ℕ) (puts : Option (List Put)) where

@@ -1,45 +1,26 @@
 -- The files of a copy's edge that were read. Only the contracts of private functions cite it.
-use Rattle.std.specs.Prelude.{◌≡◌, ⊤, ℕ, ◌≤◌, List, [], length, Option, Some, None, Result, IfErr, OnOk}
+use Rattle.std.specs.Prelude.{◌≡◌, ℕ, ◌≤◌, List, [], Option, Some, None, Result, IfErr, OnOk}
 use Rattle.tlog_shape.specs.Edge.{width_of, edge_index_of}
-use Rattle.tlog_tiles.specs.declared.paths.Path.{Path}
 use Rattle.tlog_tiles.specs.declared.paths.Path.TheVariants.{Checkpoint, Tile, Entries}
 use Rattle.tlog_tiles.specs.Row.{IsRow}
 use Rattle.mirror_sources.specs.Recorded.{KeepsRecord}
-use Rattle.mirror_folders.specs.Shelf.{HasPut, Put, Stands}
+use Rattle.mirror_folders.specs.Partial.{IsReadPartial}
+use Rattle.mirror_folders.specs.Shelf.{Put}
 use Rattle.copy_follow.specs.Copies.{IsCopy}
 use Rattle.log_reader.specs.EdgeRows.{Edge, row_at}
 use Rattle.copy_follow.specs.Growing.{IsKnown, Tip}
 use Rattle.copy_follow.specs.Moments.{CopyStays, IsBroughtTo, KeepsCopy}
-use Rattle.copy_follow.specs.Pruned.{HasGivenWay, IsPrunedCopy, LeavesPruned}
+use Rattle.copy_follow.specs.Pruned.{IsPrunedCopy, LeavesPruned}
 use Rattle.copy_places.specs.Giving.{PartOf}
 use Rattle.copy_follow.specs.Taken.{WasPut}
-use Rattle.mirror_model.specs.Strings.{IsDigest}
-use Rattle.mirror_model.specs.TrueLaws.{AreShort}
-use Rattle.mirror_sources.specs.Honest.{true_bytes}
-use Rattle.tlog_tiles.specs.Tiles.{IsWithin}
 use Rattle.mirror_folders.specs.Shelf.{RecordsRead}
-
--- if a partial file was replaced by its full file, its true bytes were cut from the full file
-abbrev pub CutsGivenWay : List Put → Path → Option (List ℕ) → Type 0
-CutsGivenWay puts path answer =
-    (digest : List ℕ → List ℕ) → IsDigest digest → (entries : List (List ℕ)) → AreShort entries →
-    IsWithin (length entries) path → HasGivenWay digest entries puts path →
-    answer ≡ Some (true_bytes digest entries path)
-
--- the answer is the content of the shelf at the path of a partial file, if something was put there. If not, it may be cut from
--- the full file
-abbrev pub RecordsPartial : Option (List Put) → Path → Option (List ℕ) → Type 0
-RecordsPartial None path answer = ⊤
-RecordsPartial (Some puts) path None = (¬ HasPut puts path) × CutsGivenWay puts path None
-RecordsPartial (Some puts) path (Some bytes) =
-    (HasPut puts path → Stands puts path bytes) × CutsGivenWay puts path (Some bytes)
 
 -- the row of a level of the edge of n entries is the shelf's, if the level has one
 pub record IsRowRead (puts : Option (List Put)) (n level : ℕ) (row : List (List ℕ)) : Type 0 where
   pub bytes : List ℕ
   pub is_row : IsRow (width_of n level) bytes row
   pub stands : 1 ≤ width_of n level →
-      RecordsPartial puts (Tile level (edge_index_of n level) (width_of n level)) (Some bytes)
+      IsReadPartial puts (Tile level (edge_index_of n level) (width_of n level)) (Some bytes)
   pub taken : 1 ≤ width_of n level →
       PartOf (WasPut puts) (Tile level (edge_index_of n level) (width_of n level)) bytes
 
@@ -51,7 +32,7 @@ pub record IsEdgeRead (puts : Option (List Put)) (n : ℕ) (edge : Edge) : Type 
 -- the bytes are the partial bundle at the edge of n entries, as it is on the shelf. Without such a bundle there are no bytes
 pub record IsBundleRead (puts : Option (List Put)) (n : ℕ) (bytes : List ℕ) : Type 0 where
   pub none : width_of n 0 ≡ 0 → bytes ≡ []
-  pub stands : 1 ≤ width_of n 0 → RecordsPartial puts (Entries (edge_index_of n 0) (width_of n 0)) (Some bytes)
+  pub stands : 1 ≤ width_of n 0 → IsReadPartial puts (Entries (edge_index_of n 0) (width_of n 0)) (Some bytes)
 
 module _ (digest : List ℕ → List ℕ) where
   -- the tip is read from the shelf: it is the tip of each copy that is there

@@ -25,11 +25,10 @@ ghost use Rattle.mirror_model.specs.TrueLaws.{AreShort};
 
 use crate::bring_fault::{BringFault, fault_of};
 use crate::keep::keep;
-use crate::shelf_files::read_partial;
 use crate::tip::CopyTip;
 use copy_places::{Places, accept_bundle, bundle_at_places};
 use log_reader::EdgeRows;
-use mirror_folders::ReadableShelf;
+use mirror_folders::{ReadableShelf, partial_on_shelf};
 use mirror_sources::Source;
 use std::alloc::Global;
 use tlog_hash::{Hash, TreeHash};
@@ -57,7 +56,7 @@ pub(crate) fn edge_bundle_on_shelf<H: TreeHash, D: ReadableShelf>(
         → IsRecorded (D.puts shelf.old) path.now bytes
         → ¬ HasLeaves H.digest (length row.now) bytes row.now)) }
 {
-    let Some(bytes) = read_partial(alloc, shelf, path)? else {
+    let Some(bytes) = partial_on_shelf(shelf, path)? else {
         return Ok(None);
     };
     match accept_bundle::<H>(alloc, row, Some(bytes))? {

@@ -16,16 +16,16 @@ ghost use Rattle.copy_follow.specs.Suffices.{IsNoLack};
 ghost use Rattle.copy_follow.specs.Taken.{MayTake};
 
 use crate::bring_fault::{BringFault, fault_of};
-use crate::shelf_files::read_partial;
 use copy_places::{Places, edge_at_places, lowest_edge_path, row_of};
 use log_reader::{EdgeRows, edge_path, leads_to};
-use mirror_folders::ReadableShelf;
+use mirror_folders::{ReadableShelf, partial_on_shelf};
 use mirror_sources::Source;
 use std::alloc::Global;
 use tlog_hash::{Hash, TreeHash};
 use tlog_shape::edge_width;
 
 // The row of a level on the shelf, empty if the level has none. None: the shelf lacks the row.
+#[tactic(auto, using(crate::proofs::ShelfReads::partial_put))]
 fn row_on_shelf<D: ReadableShelf>(
     alloc: Global,
     shelf: &mut D,
@@ -48,7 +48,7 @@ fn row_on_shelf<D: ReadableShelf>(
         return Ok(Some(Vec::new(alloc)));
     }
     let path = edge_path(size, level);
-    let Some(bytes) = read_partial(alloc, shelf, &path)? else {
+    let Some(bytes) = partial_on_shelf(shelf, &path)? else {
         return Ok(None);
     };
     match row_of(alloc, width, &bytes)? {

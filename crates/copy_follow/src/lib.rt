@@ -35,7 +35,6 @@ mod report;
 mod run;
 mod same;
 mod script_laws;
-mod shelf_files;
 mod tip;
 mod to_edge;
 mod turn;

@@ -1,14 +1,14 @@
 //! The edge files of a copy by its own files: each partial one, or what its full file begins with (C2SP tlog-tiles, "Partial Tiles").
-ghost use Rattle.std.specs.Prelude.{◌≡◌, ◌∷◌, ◌++◌, ◌≤◌, [], ℕ, List, IfErr, IfNone, IfOk, IfSome, OnOk, Some, length, option_map};
+ghost use Rattle.std.specs.Prelude.{◌≡◌, ◌∷◌, ◌++◌, ◌≤◌, [], ℕ, List, IfErr, IfNone, IfOk, IfSome, OnOk, length, option_map};
+ghost use Rattle.mirror_folders.specs.Partial.{IsReadCut};
 ghost use Rattle.mirror_folders.specs.Shelf.{RecordsRead};
 ghost use Rattle.mirror_sources.specs.Files.{full_of};
 ghost use Rattle.mirror_sources.specs.Recorded.{KeepsRecord};
 ghost use Rattle.tlog_tiles.specs.Cut.{IsFileCut};
 ghost use Rattle.log_reader.specs.EdgeRows.{LeadsTo};
 ghost use Rattle.log_reader.specs.Verified.{HasLeaves};
-ghost use Rattle.copy_places.specs.FoundRows.{AreFoundRows, IsFoundRow, IsRowIn};
+ghost use Rattle.copy_places.specs.FoundRows.{AreFoundRows, IsFoundRow};
 ghost use Rattle.copy_places.specs.Giving.{IsEdgeFrom, PartOf};
-ghost use Rattle.copy_places.specs.ShelfRows.{IsReadCut};
 ghost use Rattle.copy_follow.specs.Faults.{CountsShelf};
 ghost use Rattle.copy_follow.specs.Lacked.{IsRecorded, LeadsNowhere};
 ghost use Rattle.copy_follow.specs.Suffices.{IsSpared};
@@ -17,48 +17,11 @@ ghost use Rattle.copy_follow.specs.Taken.{WasPut};
 use crate::bring_fault::BringFault;
 use copy_places::{GivenRows, accept_bundle, edge_of_two, row_of};
 use log_reader::{EdgeRows, edge_path};
-use mirror_folders::ReadableShelf;
+use mirror_folders::{ReadableShelf, cut_on_shelf};
 use std::alloc::{AllocError, Global};
 use tlog_hash::{Hash, TreeHash};
 use tlog_shape::edge_width;
 use tlog_tiles::Path;
-
-// What the full file of a partial one begins with.
-fn cut_on_shelf<D: ReadableShelf>(
-    alloc: Global,
-    shelf: &mut D,
-    path: &Path,
-) -> Result<Option<Vec<u8>>, BringFault>
-    ensures spared { IfErr result IsSpared }
-    ensures counted { CountsShelf (D.failed shelf.old) (D.failed shelf.new) result }
-    ensures same { KeepsRecord (D.puts shelf.old) (D.puts shelf.new) }
-    ensures read { IfOk result (λ found. IsReadCut (D.puts shelf.old) path.now
-        (option_map (λ v. v.items) found)) }
-{
-    let Some(full) = shelf.read(&path.full())? else {
-        return Ok(None);
-    };
-    match path.cut(256, &full) {
-        Some(part) => match Vec::from_slice(alloc, part) {
-            Ok(bytes) => Ok(Some(bytes)),
-            Err(_) => Err(BringFault::OutOfMemory),
-        },
-        None => Ok(None),
-    }
-}
-
-// The row of that width in the bytes.
-fn row_in(alloc: Global, width: u32, bytes: &[u8]) -> Result<Option<Vec<Hash>>, BringFault>
-    ensures spared { IfErr result IsSpared }
-    ensures counted { (n : ℕ) → CountsShelf n n result }
-    ensures row { IfOk result (λ row. IsRowIn width (Some bytes.now)
-        (option_map (λ v. v.items) row)) }
-{
-    match row_of(alloc, width, bytes) {
-        Ok(row) => Ok(row),
-        Err(_) => Err(BringFault::OutOfMemory),
-    }
-}
 
 // The row of a level in its partial tile. A level without hashes has an empty row.
 fn part_row<D: ReadableShelf>(
@@ -78,8 +41,11 @@ fn part_row<D: ReadableShelf>(
     if width == 0 {
         return Ok(Some(Vec::new(alloc)));
     }
-    match shelf.read(&edge_path(size, level))? {
-        Some(bytes) => row_in(alloc, width, &bytes),
+    let Some(bytes) = shelf.read(&edge_path(size, level))? else {
+        return Ok(None);
+    };
+    match row_of(alloc, width, &bytes)? {
+        Some(row) => Ok(Some(row)),
         None => Ok(None),
     }
 }
@@ -102,10 +68,12 @@ fn cut_row<D: ReadableShelf>(
     if width == 0 {
         return Ok(Some(Vec::new(alloc)));
     }
-    match cut_on_shelf::<D>(alloc, shelf, &edge_path(size, level)) {
-        Ok(Some(bytes)) => row_in(alloc, width, &bytes),
-        Ok(None) => Ok(None),
-        Err(fault) => Err(fault),
+    let Some(bytes) = cut_on_shelf(shelf, &edge_path(size, level))? else {
+        return Ok(None);
+    };
+    match row_of(alloc, width, &bytes)? {
+        Some(row) => Ok(Some(row)),
+        None => Ok(None),
     }
 }
 
@@ -205,10 +173,7 @@ pub(crate) fn own_end<H: TreeHash, D: ReadableShelf>(
         → IsFileCut path.now 256 full bytes
         → ¬ HasLeaves H.digest (length row.now) bytes row.now)) }
 {
-    let given = match cut_on_shelf::<D>(alloc, shelf, path) {
-        Ok(given) => given,
-        Err(fault) => return Err(fault),
-    };
+    let given = cut_on_shelf(shelf, path)?;
     match accept_bundle::<H>(alloc, row, given) {
         Ok(found) => Ok(found),
         Err(_) => Err(BringFault::OutOfMemory),

@@ -11,11 +11,10 @@ ghost use Rattle.copy_follow.specs.Told.{IsSizeIn};
 
 use crate::bring_fault::BringFault;
 use crate::find_edge::edge_on_shelf;
-use crate::shelf_files::read_partial;
 use crate::tip::CopyTip;
 use copy_places::accept_bundle;
 use log_reader::{EdgeRows, head_of};
-use mirror_folders::ReadableShelf;
+use mirror_folders::{ReadableShelf, partial_on_shelf};
 use std::alloc::Global;
 use tlog_hash::TreeHash;
 use tlog_shape::edge_index;
@@ -45,7 +44,7 @@ fn bundle_on_shelf<H: TreeHash, D: ReadableShelf>(
         index: edge_index(edge.size(), 0),
         width: row.len() as u32,
     };
-    let given = read_partial(alloc, shelf, &path)?;
+    let given = partial_on_shelf(shelf, &path)?;
     match accept_bundle::<H>(alloc, row, given)? {
         Some(bytes) => Ok(bytes),
         None => Err(BringFault::CopyDamaged),

@@ -31,7 +31,8 @@ use Rattle.log_reader.proofs.TrueReads.{full_fits, full_folds, row_is_true, tile
 use Rattle.log_reader.proofs.Truths.{of_way, true_hashes, true_way}
 use Rattle.copy_places.specs.AskedEnds.{IsKeptInVain, IsSaidInVain}
 use Rattle.copy_places.specs.EndTiles.{IsKeptAnswer, said}
-use Rattle.copy_places.specs.FoundRows.{IsFullCut, IsRowIn}
+use Rattle.mirror_folders.specs.Partial.{IsFullCut}
+use Rattle.copy_places.specs.FoundRows.{IsRowIn}
 use Rattle.copy_places.specs.KeptRows.{IsCutOfSaid, IsKeptRow, IsOfSaid, LackMix}
 use Rattle.copy_places.specs.Mixes.{given_at}
 use Rattle.copy_places.specs.TrueAnswers.{IsRootOf}

@@ -1,42 +1,13 @@
 -- The edge rows on a shelf, which stayed as it was.
-use Rattle.std.proofs.Common.{ℕ, List, Option, Some, None, subst}
-use Rattle.tlog_tiles.specs.declared.paths.Path.{Path}
-use Rattle.mirror_sources.specs.Files.{full_of}
+use Rattle.std.proofs.Common.{ℕ, List, Option}
 use Rattle.mirror_sources.specs.Recorded.{KeepsRecord}
-use Rattle.mirror_folders.specs.Shelf.{Put, RecordsRead}
+use Rattle.mirror_folders.specs.Partial.{IsReadPartial}
+use Rattle.mirror_folders.specs.Shelf.{Put}
+use Rattle.mirror_folders.proofs.PartialFiles.{partial_before}
 use Rattle.copy_places.specs.FoundRows.{IsFoundRow}
-use Rattle.copy_places.specs.ShelfRows.{IsOfRead, IsReadCut, IsReadTile}
 use Rattle.copy_places.proofs.FoundRows.{row_weaker}
 
--- a file that is read later was there before
-pub record_before : (old new : Option (List Put)) → KeepsRecord old new → (path : Path) (found : Option (List ℕ)) →
-    RecordsRead new path found → RecordsRead old path found
-record_before None new kept path None read = tt
-record_before None new kept path (Some bytes) read = tt
-record_before (Some xs) None kept path found read = absurd kept
-record_before (Some xs) (Some ys) kept path found read = subst (λ (puts : List Put). RecordsRead (Some puts) path found) kept read
-
-module _ (old new : Option (List Put)) (kept : KeepsRecord old new) where
-  module _ (path : Path) (found : Option (List ℕ)) where
-    pub cut_before : IsReadCut new path found → IsReadCut old path found
-    cut_before h = record {
-      full = h.full;
-      read = record_before old new kept (full_of path) h.full h.read;
-      gives = h.gives;
-    }
-
-    of_before : (own : Option (List ℕ)) → IsOfRead new path own found → IsOfRead old path own found
-    of_before None h = cut_before h
-    of_before (Some bytes) h = h
-
-    tile_before : IsReadTile new path found → IsReadTile old path found
-    tile_before h = record {
-      own = h.own;
-      read = record_before old new kept path h.own h.read;
-      gives = of_before h.own h.gives;
-    }
-
-  pub shelf_row_before : (n level : ℕ) (row : Option (List (List ℕ))) → IsFoundRow (IsReadTile new) n level row →
-      IsFoundRow (IsReadTile old) n level row
-  shelf_row_before n level row h =
-      row_weaker (IsReadTile new) (IsReadTile old) (λ path found tile. tile_before path found tile) n level row h
+pub shelf_row_before : (old new : Option (List Put)) → KeepsRecord old new → (n level : ℕ) (row : Option (List (List ℕ))) →
+    IsFoundRow (IsReadPartial new) n level row → IsFoundRow (IsReadPartial old) n level row
+shelf_row_before old new kept n level row h =
+    row_weaker (IsReadPartial new) (IsReadPartial old) (partial_before old new kept) n level row h

@@ -29,7 +29,7 @@ use Rattle.log_reader.proofs.FalseFiles.{shown_below}
 use Rattle.log_reader.proofs.Truths.{of_way, true_way}
 use Rattle.copy_places.specs.EndTiles.{AnswersStay}
 use Rattle.copy_places.specs.declared.end_tiles.EndTile.{EndTile}
-use Rattle.copy_places.proofs.ShelfRows.{record_before}
+use Rattle.mirror_folders.proofs.PartialFiles.{record_before}
 use Rattle.copy_places.proofs.AskingEnds.{kept_later}
 use Rattle.copy_places.specs.Nobodys.{IsFileOf, IsNobodys, IsReadInVain, IsRowNobodys, LacksRow}
 use Rattle.copy_places.specs.ReadFiles.{IsRead}

@@ -1,17 +1,11 @@
 -- The edge rows in the partial tiles that are found somewhere (C2SP tlog-tiles, "Partial Tiles").
 use Rattle.std.specs.Prelude.{◌≡◌, ℕ, ◌≤◌, List, [], Option, Some, None}
 use Rattle.tlog_shape.specs.Edge.{edge_index_of, width_of}
-use Rattle.tlog_tiles.specs.Cut.{IsFileCut}
 use Rattle.tlog_tiles.specs.declared.paths.Path.{Path}
 use Rattle.tlog_tiles.specs.declared.paths.Path.TheVariants.{Tile}
 use Rattle.tlog_tiles.specs.Row.{IsRow}
 use Rattle.copy_places.specs.Mixes.{given_at}
 use Rattle.copy_places.specs.declared.mix.GivenRows.{GivenRows}
-
--- the bytes of a partial file, cut from a full one. None: it is no full file, or has no such part
-abbrev pub IsFullCut : Path → List ℕ → Option (List ℕ) → Type 0
-IsFullCut path full None = (part : List ℕ) → ¬ IsFileCut path 256 full part
-IsFullCut path full (Some part) = IsFileCut path 256 full part
 
 -- the row of that width in the bytes. None: there are no bytes, or they are no such row
 abbrev pub IsRowIn : ℕ → Option (List ℕ) → Option (List (List ℕ)) → Type 0

@@ -4,7 +4,7 @@ use Rattle.tlog_tiles.specs.Cut.{IsFileCut}
 use Rattle.tlog_tiles.specs.declared.paths.Path.{Path}
 use Rattle.mirror_sources.specs.Files.{full_of}
 use Rattle.copy_places.specs.Asked.{IsAskedInVain}
-use Rattle.copy_places.specs.FoundRows.{IsFullCut}
+use Rattle.mirror_folders.specs.Partial.{IsFullCut}
 use Rattle.copy_places.specs.declared.place.Place.{Place}
 use Rattle.copy_places.specs.declared.places.Places.{Places}
 

@@ -3,7 +3,8 @@ use Rattle.std.specs.Prelude.{◌≡◌, ℕ, List, Option, Some, None}
 use Rattle.tlog_tiles.specs.declared.paths.Path.{Path}
 use Rattle.mirror_sources.specs.Files.{full_of}
 use Rattle.copy_places.specs.EndTiles.{IsKeptAnswer, said}
-use Rattle.copy_places.specs.FoundRows.{AreFoundRows, IsFoundRow, IsFullCut}
+use Rattle.mirror_folders.specs.Partial.{IsFullCut}
+use Rattle.copy_places.specs.FoundRows.{AreFoundRows, IsFoundRow}
 use Rattle.copy_places.specs.Mixes.{HaveNoMix}
 use Rattle.copy_places.specs.declared.end_tiles.EndTile.{EndTile}
 use Rattle.copy_places.specs.declared.mix.GivenRows.{GivenRows}

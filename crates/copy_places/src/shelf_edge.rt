@@ -3,59 +3,20 @@ ghost use Rattle.std.specs.Prelude.{◌≡◌, ◌≤◌, IfErr, IfNone, IfOk, I
 ghost use Rattle.tlog_shape.specs.Edge.{width_of};
 ghost use Rattle.log_reader.specs.EdgeRows.{LeadsTo};
 ghost use Rattle.mirror_sources.specs.Recorded.{KeepsRecord};
+ghost use Rattle.mirror_folders.specs.Partial.{IsReadPartial};
 ghost use Rattle.copy_places.specs.Faults.{CountsAsk, IsOfShelf};
 ghost use Rattle.copy_places.specs.FoundRows.{AreFoundRows, IsFoundRow};
 ghost use Rattle.copy_places.specs.Mixes.{HaveWidths};
-ghost use Rattle.copy_places.specs.ShelfRows.{IsReadCut, IsReadTile, LacksEdge};
+ghost use Rattle.copy_places.specs.ShelfRows.{LacksEdge};
 
 use crate::ask_fault::AskFault;
 use crate::mix::{GivenRows, edge_of_two};
 use crate::row::row_of;
 use log_reader::{EdgeRows, edge_path};
-use mirror_folders::ReadableShelf;
+use mirror_folders::{ReadableShelf, partial_on_shelf};
 use std::alloc::Global;
 use tlog_hash::{Hash, TreeHash};
 use tlog_shape::edge_width;
-use tlog_tiles::Path;
-
-// The partial tile of that path, cut from the shelf's full tile.
-fn cut_on_shelf<D: ReadableShelf>(
-    alloc: Global,
-    shelf: &mut D,
-    path: &Path,
-) -> Result<Option<Vec<u8>>, AskFault>
-    ensures same { KeepsRecord (D.puts shelf.old) (D.puts shelf.new) }
-    ensures counted { CountsAsk (D.failed shelf.old) (D.failed shelf.new) result }
-    ensures sure { IfErr result IsOfShelf }
-    ensures read { IfOk result (λ found. IsReadCut (D.puts shelf.old) path.now
-        (option_map (λ v. v.items) found)) }
-{
-    let Some(full) = shelf.read(&path.full())? else {
-        return Ok(None);
-    };
-    match path.cut(256, &full) {
-        Some(part) => Ok(Some(Vec::from_slice(alloc, part)?)),
-        None => Ok(None),
-    }
-}
-
-// The bytes of a partial tile on the shelf, or else those that its full tile begins with.
-fn partial_on_shelf<D: ReadableShelf>(
-    alloc: Global,
-    shelf: &mut D,
-    path: &Path,
-) -> Result<Option<Vec<u8>>, AskFault>
-    ensures same { KeepsRecord (D.puts shelf.old) (D.puts shelf.new) }
-    ensures counted { CountsAsk (D.failed shelf.old) (D.failed shelf.new) result }
-    ensures sure { IfErr result IsOfShelf }
-    ensures read { IfOk result (λ found. IsReadTile (D.puts shelf.old) path.now
-        (option_map (λ v. v.items) found)) }
-{
-    match shelf.read(path)? {
-        Some(bytes) => Ok(Some(bytes)),
-        None => cut_on_shelf(alloc, shelf, path),
-    }
-}
 
 // The row of a level on the shelf, empty if the level has none. One that is lacking or false is not damaged: the logs may differ there.
 fn row_on_shelf<D: ReadableShelf>(
@@ -70,15 +31,14 @@ fn row_on_shelf<D: ReadableShelf>(
     ensures sure { IfErr result IsOfShelf }
     ensures wide { IfOk result (λ found. IfSome found
         (λ row. length row.items ≡ width_of size level)) }
-    ensures read { IfOk result (λ found. IsFoundRow (IsReadTile (D.puts shelf.old)) size level
+    ensures read { IfOk result (λ found. IsFoundRow (IsReadPartial (D.puts shelf.old)) size level
         (option_map (λ row. row.items) found)) }
 {
     let width = edge_width(size, level);
     if width == 0 {
         return Ok(Some(Vec::new(alloc)));
     }
-    let path = edge_path(size, level);
-    let Some(bytes) = partial_on_shelf(alloc, shelf, &path)? else {
+    let Some(bytes) = partial_on_shelf(shelf, &edge_path(size, level))? else {
         return Ok(None);
     };
     match row_of(alloc, width, &bytes)? {
@@ -97,7 +57,7 @@ fn rows_on_shelf<D: ReadableShelf>(
     ensures counted { CountsAsk (D.failed shelf.old) (D.failed shelf.new) result }
     ensures sure { IfErr result IsOfShelf }
     ensures wide { IfOk result (HaveWidths size) }
-    ensures read { IfOk result (AreFoundRows (IsReadTile (D.puts shelf.old)) size) }
+    ensures read { IfOk result (AreFoundRows (IsReadPartial (D.puts shelf.old)) size) }
 {
     let mut rows = Vec::new(alloc);
     for level in 0..8u32 {

@@ -1,8 +1,7 @@
 -- Partial files on a shelf, which stayed as it was.
-use Rattle.std.proofs.Common.{◌≡◌, ℕ, List, length, take, Option, Some, None, sym, ap, subst, ◌∙◌}
-use Rattle.tlog_tiles.specs.Cut.{IsFileCut, full_of}
+use Rattle.std.proofs.Common.{ℕ, List, Option, Some, None, subst}
+use Rattle.tlog_tiles.specs.Cut.{full_of}
 use Rattle.tlog_tiles.specs.declared.paths.Path.{Path}
-use Rattle.tlog_tiles.proofs.Cuts.{cuts_are_first}
 use Rattle.mirror_sources.specs.Recorded.{KeepsRecord}
 use Rattle.mirror_folders.specs.Partial.{IsOfRead, IsReadCut, IsReadPartial}
 use Rattle.mirror_folders.specs.Shelf.{Put, RecordsRead}

@@ -1,6 +1,6 @@
 use Rattle.mirror_folders.specs.Shelf.{RecordsRead}
 use Rattle.copy_places.specs.Mixes.{given_at}
-use Rattle.copy_places.specs.ShelfRows.{IsReadCut}
+use Rattle.mirror_folders.specs.Partial.{IsReadCut}
 use Rattle.copy_places.proofs.TrueAnswers.{none_weaker}
 use Rattle.copy_follow.proofs.Own.{edge_taken, found_wide, mix_nowhere}
 use Rattle.copy_follow.proofs.own_edge.own_edge.Goals as goal

@@ -3,7 +3,7 @@ use Rattle.std.specs.Prelude.{option_map}
 use Rattle.mirror_folders.specs.Shelf.{RecordsRead}
 use Rattle.log_reader.proofs.Kept.{kept_once, kept_twice}
 use Rattle.copy_places.specs.FoundRows.{AreFoundRows, IsFoundRow}
-use Rattle.copy_places.specs.ShelfRows.{IsReadCut}
+use Rattle.mirror_folders.specs.Partial.{IsReadCut}
 use Rattle.copy_places.specs.declared.mix.GivenRows.{GivenRows}
 use Rattle.copy_places.proofs.Mixing.{items_next}
 use Rattle.copy_follow.proofs.Own.{cut_row_before, part_before}

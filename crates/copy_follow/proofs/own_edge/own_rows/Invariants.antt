@@ -3,7 +3,7 @@ use Rattle.std.specs.Prelude.{option_map}
 use Rattle.mirror_folders.specs.Shelf.{RecordsRead}
 use Rattle.mirror_sources.specs.Recorded.{KeepsRecord}
 use Rattle.copy_places.specs.FoundRows.{IsFoundRow}
-use Rattle.copy_places.specs.ShelfRows.{IsReadCut}
+use Rattle.mirror_folders.specs.Partial.{IsReadCut}
 use Rattle.copy_follow.proofs.own_edge.own_rows.Given as goal
 
 -- the rows so far come from the shelf

@@ -47,24 +47,13 @@ returns-in-None-clause-damaged g c =
           (rw c.in-None.is at c.in_ok-bytes.ensures.none),
     )
 
-pub returns-in_err-given : goal.returns-in_err-given
-returns-in_err-given g c = record {
-  fault = err_exit _ c.from_residual.result c.in_err-given.field-0.0 c.from_residual.ensures c.in_err-given.ensures.fault;
-  counted = counted_exit c.from_residual.result c.in_err-given.field-0.0 c.from_residual.ensures (g.D.Shelf.failed c.args.shelf.now)
-      (g.D.Shelf.failed c.args.shelf.now) (g.D.Shelf.failed c.read_partial.new.shelf) refl c.in_err-given.ensures.counted;
-  damaged = err_exit _ c.from_residual.result c.in_err-given.field-0.0 c.from_residual.ensures (inr c.in_err-given.ensures.places);
-  same = c.read_partial.ensures.same;
-  still = c.read_partial.ensures.still;
-  bundle = IfOk-from_err c.from_residual.result _ c.from_residual.ensures.0;
-}
-
 pub returns-in_err-bytes : goal.returns-in_err-bytes
 returns-in_err-bytes g c = record {
   fault = err_exit _ c.from_residual-in_err-bytes.result OutOfMemory c.from_residual-in_err-bytes.ensures tt;
   counted = counted_exit c.from_residual-in_err-bytes.result OutOfMemory c.from_residual-in_err-bytes.ensures (g.D.Shelf.failed c.args.shelf.now)
-      (g.D.Shelf.failed c.read_partial.new.shelf) (g.D.Shelf.failed c.read_partial.new.shelf) c.in_ok-given.ensures.counted refl;
+      (g.D.Shelf.failed c.partial_on_shelf.new.shelf) (g.D.Shelf.failed c.partial_on_shelf.new.shelf) c.in_ok-given.ensures.counted refl;
   damaged = err_exit _ c.from_residual-in_err-bytes.result OutOfMemory c.from_residual-in_err-bytes.ensures (inr tt);
-  same = c.read_partial.ensures.same;
-  still = c.read_partial.ensures.still;
+  same = c.partial_on_shelf.ensures.same;
+  still = c.partial_on_shelf.ensures.still;
   bundle = IfOk-from_err c.from_residual-in_err-bytes.result _ c.from_residual-in_err-bytes.ensures.0;
 }

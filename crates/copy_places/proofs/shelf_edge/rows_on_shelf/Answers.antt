@@ -4,7 +4,7 @@ use Rattle.tlog_shape.specs.Edge.{width_of}
 use Rattle.log_reader.proofs.Kept.{kept_once, kept_twice}
 use Rattle.copy_places.specs.FoundRows.{AreFoundRows, IsFoundRow}
 use Rattle.copy_places.specs.Mixes.{given_at}
-use Rattle.copy_places.specs.ShelfRows.{IsReadTile}
+use Rattle.mirror_folders.specs.Partial.{IsReadPartial}
 use Rattle.copy_places.specs.declared.mix.GivenRows.{GivenRows}
 use Rattle.copy_places.proofs.RowsGiven.{some_mapped}
 use Rattle.copy_places.proofs.Mixing.{items_next}
@@ -37,7 +37,7 @@ loop-level-preserved g c =
           rows c.push.new.self.items row c.loop-level.level is inv.count inv.wide
           (some_mapped row (λ r. length r ≡ width_of c.args.size c.loop-level.level) c.in_ok-row.ensures.wide);
       read = items_next None
-          (λ k (o : Option (Vec (List ℕ) Global)). IsFoundRow (IsReadTile x) c.args.size k (option_map (λ r. r.items) o))
+          (λ k (o : Option (Vec (List ℕ) Global)). IsFoundRow (IsReadPartial x) c.args.size k (option_map (λ r. r.items) o))
           rows c.push.new.self.items row c.loop-level.level is inv.count inv.read
           (shelf_row_before x y inv.same c.args.size c.loop-level.level (option_map (λ r. r.items) row) c.in_ok-row.ensures.read);
     }
@@ -51,5 +51,5 @@ returns-clause-wide g c = λ level low.
 pub returns-clause-read : goal.returns-clause-read
 returns-clause-read g c =
     let past = c.loop-level-test.false in
-    subst (λ (given : GivenRows). AreFoundRows (IsReadTile (g.D.Shelf.puts c.args.shelf.now)) c.args.size given) (sym c.new.ensures)
+    subst (λ (given : GivenRows). AreFoundRows (IsReadPartial (g.D.Shelf.puts c.args.shelf.now)) c.args.size given) (sym c.new.ensures)
     (record { each = λ level low. c.loop-level.invariant.read level (omega (arith, low, past)) })

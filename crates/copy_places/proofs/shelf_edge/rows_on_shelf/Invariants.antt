@@ -3,7 +3,7 @@ use Rattle.std.specs.Prelude.{IfSome, option_map}
 use Rattle.tlog_shape.specs.Edge.{width_of}
 use Rattle.mirror_sources.specs.Recorded.{KeepsRecord}
 use Rattle.copy_places.specs.FoundRows.{IsFoundRow}
-use Rattle.copy_places.specs.ShelfRows.{IsReadTile}
+use Rattle.mirror_folders.specs.Partial.{IsReadPartial}
 use Rattle.copy_places.proofs.shelf_edge.rows_on_shelf.Given as goal
 
 -- the rows so far have the widths of their levels, and come from the shelf
@@ -14,6 +14,6 @@ invariant-loop-level g l = record {
   count : length l.rows.items ≡ l.level;
   wide : (k : ℕ) → k < l.level → IfSome (option_map (λ row. row.items) (get_or l.rows.items k None))
       (λ row. length row ≡ width_of l.size k);
-  read : (k : ℕ) → k < l.level → IsFoundRow (IsReadTile (g.D.Shelf.puts l.fn.shelf)) l.size k
+  read : (k : ℕ) → k < l.level → IsFoundRow (IsReadPartial (g.D.Shelf.puts l.fn.shelf)) l.size k
       (option_map (λ row. row.items) (get_or l.rows.items k None));
 }
