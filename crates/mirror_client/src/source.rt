@@ -68,8 +68,12 @@ impl<D: Dial + Drop> Model for HttpSource<D> {
 
     ghost Value = { Asking };
 
-    ghost view = { λ a. record { site = a.site; failures = a.failures;
-        wait = a.patience.wait; left = a.patience.left } };
+    ghost view = { λ a. record {
+      site = a.site;
+      failures = a.failures;
+      wait = a.patience.wait;
+      left = a.patience.left;
+    } };
 
     ghost invariant = { λ a. a.patience.left ≤ a.patience.wait };
 }
