@@ -1,11 +1,10 @@
 -- Requests for the files in which the two trees end, call after call.
-use Rattle.std.proofs.Common.{◌≡◌, ◌⊎◌, inl, inr, ℕ, ◌+◌, ◌<◌, ◌≤◌, List, Option, refl, sym, ap, subst, arith}
+use Rattle.std.proofs.Common.{◌≡◌, ◌⊎◌, inl, inr, ℕ, ◌+◌, ◌<◌, ◌≤◌, List, Option, sym, ap, subst, arith}
 use Rattle.std.specs.Prelude.{⊤}
 use Rattle.std.proofs.lemmas.Bool.{cases_lt}
 use Rattle.tlog_tiles.specs.declared.paths.Path.{Path}
-use Rattle.tlog_tiles.specs.declared.paths.Path.TheVariants.{Checkpoint, Tile, Entries}
+use Rattle.tlog_tiles.specs.declared.paths.Path.TheVariants.{Tile}
 use Rattle.tlog_shape.specs.Edge.{edge_index_of}
-use Rattle.mirror_sources.specs.Files.{full_of}
 use Rattle.copy_places.specs.Asked.{IsAskedInTurn}
 use Rattle.copy_places.specs.AskedEnds.{AsksEnds, IsEndSize, IsKeptInVain}
 use Rattle.copy_places.specs.AskedOnce.{AsksMore}
@@ -17,12 +16,6 @@ use Rattle.copy_places.specs.declared.places.Places.{Places}
 use Rattle.copy_places.proofs.Asking.{asks_same, asks_then, asks_weaker, turn_of, turn_one}
 use Rattle.copy_places.proofs.AskingOnce.{more_same, more_then}
 use Rattle.copy_places.proofs.KeptAnswers.{answer_later, answers_same, answers_then}
-
--- the full file of a file in which a tree ends is one too
-pub full_end : (sizes : ℕ × ℕ) (path : Path) → IsEndTile sizes path → IsEndTile sizes (full_of path)
-full_end sizes Checkpoint h = h
-full_end sizes (Tile level index width) h = h
-full_end sizes (Entries index width) h = (h.0, refl)
 
 pub tile_end : (sizes : ℕ × ℕ) (n level width : ℕ) → level ≤ 7 → (n ≡ sizes.0) ⊎ (n ≡ sizes.1) →
     IsEndTile sizes (Tile level (edge_index_of n level) width)
@@ -60,9 +53,6 @@ module _ {S : Type 0} (may : S → Path → Option (List ℕ) → Type 0) (faile
   ends_noted x y asks more is =
       ends_of (λ path. ⊥) x y asks more
       (subst (λ (e : EndTiles). AnswersStay x.ends.tiles.items e.tiles.items) (sym is) (answers_same x.ends.tiles.items))
-
-  pub still_end : (x y : Places S) → Ends x y → (path : Path) → IsEndTile x.ends.sizes path → IsEndTile y.ends.sizes path
-  still_end x y p path h = subst (λ sizes. IsEndTile sizes path) (sym p.asks.still.sizes_are) h
 
   pub still_size : (x y : Places S) → Ends x y → (n : ℕ) → IsEndSize x n → IsEndSize y n
   still_size x y p n h = subst (λ (sizes : ℕ × ℕ). (n ≡ sizes.0) ⊎ (n ≡ sizes.1)) (sym p.asks.still.sizes_are) h

@@ -67,25 +67,11 @@ module _ (digest : List ℕ → List ℕ) (root : List ℕ) where
   abbrev pub Leads : List TwoRows → Option (List ℕ) → List (List (List ℕ)) → Type 0
   Leads levels below rows = IsMixTo digest levels below root rows
 
-  pub end_mix : (levels : List TwoRows) (below : Option (List ℕ)) → length levels ≡ 0 → value_of digest below ≡ root →
-      Leads levels below []
-  end_mix [] below none is = record { mix = tt; leads = is }
-  end_mix (level ∷ levels) below none is = absurd (omega (arith, none))
-
   pub end_none : (levels : List TwoRows) (below : Option (List ℕ)) → length levels ≡ 0 → (value_of digest below ≡ root → ⊥) →
       (rows : List (List (List ℕ))) → Leads levels below rows → ⊥
   end_none [] below none other [] m = other m.leads
   end_none [] below none other (row ∷ rows) m = absurd m.mix
   end_none (level ∷ levels) below none other rows m = absurd (omega (arith, none))
-
-  pub one_mix : (levels rest : List TwoRows) (level : TwoRows) (row : List (List ℕ)) (below next : Option (List ℕ))
-      (rows all : List (List (List ℕ))) → levels ≡ level ∷ rest →
-      (row ≡ level.first.items) ⊎ (row ≡ level.second.items) → next ≡ hash_on_top digest below row → all ≡ row ∷ rows →
-      Leads rest next rows → Leads levels below all
-  one_mix levels rest level row below next rows all split of next_is all_is m =
-      subst (λ ls. Leads ls below all) (sym split)
-      (subst (λ rs. Leads (level ∷ rest) below rs) (sym all_is)
-      (record { mix = (of, m.mix); leads = subst (λ b. value_of digest (climb digest b rows) ≡ root) next_is m.leads }))
 
   abbrev pub NoneLeads : List TwoRows → Option (List ℕ) → Type 0
   NoneLeads levels below = (rows : List (List (List ℕ))) → Leads levels below rows → ⊥
@@ -104,20 +90,6 @@ module _ (digest : List ℕ → List ℕ) (root : List ℕ) where
       leads = subst (λ r. value_of digest (climb digest (hash_on_top digest below r) rows) ≡ root) is m.leads;
     })
   ]
-
-  pub no_mix : (levels rest : List TwoRows) (level : TwoRows) (below first second : Option (List ℕ)) → levels ≡ level ∷ rest →
-      first ≡ hash_on_top digest below level.first.items → second ≡ hash_on_top digest below level.second.items →
-      NoneLeads rest first → NoneLeads rest second → NoneLeads levels below
-  no_mix levels rest level below first second split first_is second_is p q =
-      subst (λ ls. NoneLeads ls below) (sym split)
-      (none_in rest level below (subst (NoneLeads rest) first_is p) (subst (NoneLeads rest) second_is q))
-
-  -- the two rows are the same
-  pub no_other : (levels rest : List TwoRows) (level : TwoRows) (below first : Option (List ℕ)) → levels ≡ level ∷ rest →
-      first ≡ hash_on_top digest below level.first.items → level.first.items ≡ level.second.items →
-      NoneLeads rest first → NoneLeads levels below
-  no_other levels rest level below first split first_is same p =
-      no_mix levels rest level below first first split first_is (first_is ∙ ap (hash_on_top digest below) same) p p
 
 -- ---- the mix of all levels
 

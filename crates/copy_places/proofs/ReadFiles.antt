@@ -1,9 +1,9 @@
 -- A source of files in memory fails only for a path that none of them has.
-use Rattle.std.proofs.Common.{◌≡◌, ◌≢◌, inl, inr, ℕ, ◌+◌, ◌/◌, ◌%◌, ◌<◌, ◌≤◌, ◌^◌, List, [], ◌∷◌, ◌++◌, get_or, length, map, Option, Some, None, refl, sym, ap, subst, ◌∙◌, arith}
+use Rattle.std.proofs.Common.{◌≡◌, ◌≢◌, inl, inr, ℕ, ◌+◌, ◌/◌, ◌%◌, ◌<◌, ◌≤◌, ◌^◌, List, [], ◌∷◌, ◌++◌, get_or, length, map, Some, refl, sym, ap, subst, ◌∙◌, arith}
 use Rattle.std.specs.List.{Contains}
 use Rattle.std.proofs.lemmas.List.Elements.{Contains-append_left, Contains-append_right}
 use Rattle.tlog_shape.specs.Edge.{edge_index_of}
-use Rattle.tlog_shape.proofs.Levels.{level_mono, level_positive}
+use Rattle.tlog_shape.proofs.Levels.{level_mono}
 use Rattle.tlog_tiles.specs.declared.paths.Path.{Path}
 use Rattle.tlog_tiles.specs.declared.paths.Path.TheVariants.{Checkpoint, Tile, Entries}
 use Rattle.std.proofs.Math.Nat.{div-eq_of_lt}
@@ -15,8 +15,7 @@ use Rattle.log_reader.specs.Ways.{Reader}
 use Rattle.log_reader.specs.Requested.{IsProofTile, RequestsOnly}
 use Rattle.mirror_sources.specs.Recorded.{KeepsRecord, one_more}
 use Rattle.mirror_sources.specs.Source.{File}
-use Rattle.copy_places.specs.Nobodys.{IsWanted}
-use Rattle.copy_places.specs.ReadFiles.{FailsUnread, IsThere, IsUnread, Reading}
+use Rattle.copy_places.specs.ReadFiles.{FailsUnread, IsThere, Reading}
 use Rattle.copy_places.specs.WayFiles.{HasWanted, IsLogOfEdge}
 use Rattle.copy_places.specs.declared.proof_files.ReadFile.{ReadFile}
 

@@ -1,5 +1,5 @@
 -- Forks of two candidates, and the lines that report them.
-use Rattle.std.proofs.Common.{◌≡◌, ◌≢◌, inl, inr, ℕ, ◌≤◌, List, ◌∷◌, take, drop, Option, None, OnOk, Ok, Err, Result, sym, subst, arith}
+use Rattle.std.proofs.Common.{◌≡◌, ◌≢◌, ℕ, ◌≤◌, List, ◌∷◌, take, drop, Option, OnOk, Ok, Err, Result, sym, subst}
 use Rattle.std.proofs.lemmas.List.Elements.{All-append, All-cons, All-drop, All-take}
 use Rattle.std.specs.List.{insert}
 use Rattle.tlog_proof.specs.declared.proof.Proof.{Proof}
@@ -21,26 +21,6 @@ module _ (digest : List ℕ → List ℕ) where
       subst (λ p. ShowsFork digest p (point_of line.large) line.proof) (same_point small line.small is.small_is)
       (subst (λ p. ShowsFork digest (point_of small) p line.proof) (same_point large line.large is.large_is)
       (subst (λ p. ShowsFork digest (point_of small) (point_of large) p) (sym is.proof_is) shown))
-
-  equal_shows : (a b : Candidate) (proof : Option Proof) → proof ≡ None → a.size.0 ≡ b.size.0 → a.root ≢ b.root →
-      ShowsFork digest (point_of a) (point_of b) proof
-  equal_shows a b proof none sizes roots =
-      subst (λ p. ShowsFork digest (point_of a) (point_of b) p) (sym none) (inl (sizes, roots))
-
-  -- two candidates that are a fork, the smaller one first
-  pub first_shows : (a b : Candidate) (proof : Option Proof) (line : ForkLine) → a.size.0 ≤ b.size.0 →
-      IsLine a b proof line → AreFork digest a b proof → ShowsLine digest line
-  first_shows a b proof line le is (inl shown) = line_shows a b proof line is shown.1
-  first_shows a b proof line le is (inr (inl other)) = absurd (omega (arith, le, other.0))
-  first_shows a b proof line le is (inr (inr equal)) =
-      line_shows a b proof line is (equal_shows a b proof equal.0 equal.1 equal.2)
-
-  pub second_shows : (a b : Candidate) (proof : Option Proof) (line : ForkLine) → b.size.0 ≤ a.size.0 →
-      IsLine b a proof line → AreFork digest a b proof → ShowsLine digest line
-  second_shows a b proof line le is (inl other) = absurd (omega (arith, le, other.0))
-  second_shows a b proof line le is (inr (inl shown)) = line_shows b a proof line is shown.1
-  second_shows a b proof line le is (inr (inr equal)) =
-      line_shows b a proof line is (equal_shows b a proof equal.0 (sym equal.1) (λ e. equal.2 (sym e)))
 
   pub insert_shows : (lines : List ForkLine) (at : ℕ) (line : ForkLine) → ShowsEach digest lines → ShowsLine digest line →
       ShowsEach digest (insert lines at line)

@@ -1,5 +1,5 @@
 -- The answers of a place that gives only true files. Only the contracts of private functions cite it.
-use Rattle.std.specs.Prelude.{◌≡◌, ℕ, ◌*◌, ◌≤◌, List, length, map, take, Option, Some, IsSomeAnd}
+use Rattle.std.specs.Prelude.{◌≡◌, ℕ, ◌*◌, ◌≤◌, List, length, map, take, Option, Some}
 use Rattle.tlog_shape.specs.Edge.{edge_index_of, width_of}
 use Rattle.tlog_hash.specs.Rows.{level_row, part}
 use Rattle.tlog_hash.specs.Tree.{leaf_hash, mth}
@@ -9,7 +9,6 @@ use Rattle.tlog_tiles.specs.Tiles.{IsWithin}
 use Rattle.mirror_model.specs.Strings.{IsDigest}
 use Rattle.mirror_model.specs.TrueLaws.{AreShort}
 use Rattle.mirror_sources.specs.Honest.{IsGone, true_bytes}
-use Rattle.log_reader.specs.EdgeRows.{Edge, row_at}
 use Rattle.copy_places.specs.TruePlaces.{IsTruePlace}
 use Rattle.copy_places.specs.declared.places.Places.{Places}
 
@@ -34,12 +33,6 @@ module _ {S : Type 0} (may : S → Path → Option (List ℕ) → Type 0) (old n
   abbrev pub FindsTrueRow : ℕ → ℕ → Option (List (List ℕ)) → Type 0
   FindsTrueRow n level found = OfTruePlace (λ digest entries. n ≤ length entries →
       found ≡ Some (level_row digest entries level (256 * edge_index_of n level) (width_of n level)))
-
-  -- the true edge of n entries was found
-  abbrev pub FindsTrueEdge : ℕ → Option Edge → Type 0
-  FindsTrueEdge n found = OfTruePlace (λ digest entries. n ≤ length entries →
-      IsSomeAnd found (λ edge. (level : ℕ) → level ≤ 7 →
-      row_at edge level ≡ level_row digest entries level (256 * edge_index_of n level) (width_of n level)))
 
 module _ (digest : List ℕ → List ℕ) (entries : List (List ℕ)) where
   -- the root is that of the first n of the entries

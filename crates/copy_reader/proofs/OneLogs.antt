@@ -92,6 +92,3 @@ module _ (digest : List ℕ → List ℕ) (hash : IsDigest digest) (entries othe
         (inr (record { index_is = omega (arith, whole, from, before); width_is = refl; some = omega (arith, whole, from, before) }))
         (omega (arith, whole, from, before))
   ]
-
-  pub one_log : entries ≡ others
-  one_log = same_items entries others (sym long) each_entry

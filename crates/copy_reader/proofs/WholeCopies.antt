@@ -21,7 +21,7 @@ use Rattle.log_reader.proofs.TrueReads.{source_later}
 use Rattle.copy_reader.specs.Copies.{IsRefused, OpensCopy}
 use Rattle.copy_reader.specs.Faults.{by_read, CountsRead}
 use Rattle.copy_reader.specs.ShelfSources.{ShelfMayAnswer}
-use Rattle.copy_reader.specs.WholeCopies.{GivesOr, HasFilesOf, IsDamaged, IsOfShelf, IsShelfFailure, IsWholeCopy, ReadsCopyLog, ReadsCopyOf}
+use Rattle.copy_reader.specs.WholeCopies.{GivesOr, HasFilesOf, IsOfShelf, IsShelfFailure, IsWholeCopy, ReadsCopyLog, ReadsCopyOf}
 use Rattle.copy_reader.specs.declared.fault.CopyFault.{CopyFault}
 use Rattle.copy_reader.specs.declared.fault.CopyFault.TheVariants as copy
 use Rattle.copy_reader.proofs.ShelfSources.{recorded_before}
@@ -135,9 +135,6 @@ module _ (digest : List ℕ → List ℕ) (x y : Option (List Put)) (kept : Keep
     checkpoint = λ answer t. w.checkpoint answer (recorded_before x y Checkpoint answer kept t);
     files = files_later entries w.files;
   }
-
-  pub damaged_before : (origin : List ℕ) → IsDamaged digest origin y → IsDamaged digest origin x
-  damaged_before origin d note entries w = d note entries (whole_later origin note entries w)
 
 -- ---- the opened checkpoint
 

@@ -1,4 +1,4 @@
-use Rattle.std.proofs.Common.{◌≡◌, ℕ, [], ◌∷◌, None, Option, Vec, List, Global, get_or, length, length-append, refl, ap, subst, sym, ◌∙◌, arith}
+use Rattle.std.proofs.Common.{◌≡◌, ℕ, [], ◌∷◌, None, Option, Vec, List, Global, length, length-append, refl, ap, subst, sym, ◌∙◌, arith}
 use Rattle.std.specs.Prelude.{IfSome, option_map}
 use Rattle.tlog_shape.specs.Edge.{width_of}
 use Rattle.log_reader.proofs.Kept.{kept_once, kept_twice}
