@@ -66,3 +66,4 @@ pub mod HonestForks
 pub mod HonestHeads
 pub mod ScriptExamples
 pub mod Looks
+pub mod Differing

@@ -1,4 +1,4 @@
--- The files of a copy's edge that were read. Only the contracts of private functions cite it.
+-- The files of a copy's edge that were read. Of these a public clause cites only IsTipRead.
 use Rattle.std.specs.Prelude.{◌≡◌, ℕ, ◌≤◌, List, [], Option, Some, None, Result, IfErr, OnOk}
 use Rattle.tlog_shape.specs.Edge.{width_of, edge_index_of}
 use Rattle.tlog_tiles.specs.declared.paths.Path.TheVariants.{Checkpoint, Tile, Entries}

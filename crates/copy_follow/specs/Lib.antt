@@ -3,6 +3,7 @@ pub mod Standing
 pub mod Growing
 pub mod Asked
 pub mod Conflicts
+pub mod Differing
 pub mod Copies
 pub mod Moments
 pub mod Pruned

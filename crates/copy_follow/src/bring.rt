@@ -13,6 +13,9 @@ ghost use Rattle.copy_follow.specs.Conflicts.{ConflictPutsNothing, IsNoConflict}
 ghost use Rattle.copy_follow.specs.Suffices.{IsSpared, IsTileHash, IsTileRow, IsTipOf, OneIsHonest};
 ghost use Rattle.copy_follow.specs.Taken.{PutsTaken};
 ghost use Rattle.copy_follow.specs.Growing.{IsKnown, BringsRow, BringsTile};
+ghost use Rattle.copy_follow.specs.Differing.{DiffersBy, IsShownHash};
+ghost use Rattle.log_reader.specs.EdgeRows.{Edge};
+ghost use Rattle.log_reader.specs.Ways.{IsShownRow};
 
 use crate::bring_fault::BringFault;
 use crate::find::find;
@@ -51,6 +54,8 @@ fn bring_bundle<H: TreeHash, D: ReadableShelf, S: Source + Drop>(
     ensures early { ConflictPutsNothing (index * 256) tip.now.size (D.puts shelf.old)
         (D.puts shelf.new) result }
     ensures empty { IfErr result (λ e. IsKnown H.digest tip.now 0 [] → IsNoConflict e) }
+    ensures differs { IfErr result (λ e. (larger : Edge)
+        → IsShownHash H.digest larger 0 index hash.now → DiffersBy H.digest larger tip.now e) }
     ensures brings { (known : List (List ℕ)) → IsKnown H.digest tip.now (index * 256) known
         → BringsTile H.digest tip.now 0 index hash.now known (D.puts shelf.old)
         (D.puts shelf.new) result }
@@ -125,6 +130,9 @@ fn bring_tile<H: TreeHash, D: ReadableShelf, S: Source + Drop>(
     ensures early { ConflictPutsNothing (index * 256 ^ (level + 1)) tip.now.size (D.puts shelf.old)
         (D.puts shelf.new) result }
     ensures empty { IfErr result (λ e. IsKnown H.digest tip.now 0 [] → IsNoConflict e) }
+    ensures differs { IfErr result (λ e. (larger : Edge)
+        → IsShownHash H.digest larger level index hash.now
+        → DiffersBy H.digest larger tip.now e) }
     ensures brings { (known : List (List ℕ))
         → IsKnown H.digest tip.now (index * 256 ^ (level + 1)) known
         → BringsTile H.digest tip.now level index hash.now known (D.puts shelf.old)
@@ -179,6 +187,9 @@ pub(crate) fn bring_row<H: TreeHash, D: ReadableShelf, S: Source + Drop>(
     ensures early { ConflictPutsNothing (index * 256 ^ (level + 1)) tip.now.size (D.puts shelf.old)
         (D.puts shelf.new) result }
     ensures empty { IfErr result (λ e. IsKnown H.digest tip.now 0 [] → IsNoConflict e) }
+    ensures differs { IfErr result (λ e. (larger : Edge)
+        → IsShownRow H.digest larger level index row.now
+        → DiffersBy H.digest larger tip.now e) }
     ensures brings { (known : List (List ℕ))
         → IsKnown H.digest tip.now (index * 256 ^ (level + 1)) known
         → BringsRow H.digest tip.now level index row.now known (D.puts shelf.old)

@@ -1,5 +1,5 @@
 //! A copy on a shelf, brought to a checkpoint.
-ghost use Rattle.std.specs.Prelude.{◌≡◌, ◌↔◌, ◌⊎◌, ◌<◌, ℕ, None, Some, [], IfErr, IfOk, IfSome, IsTrue, List, OnOk, length, option_map, take, ⊤};
+ghost use Rattle.std.specs.Prelude.{◌≡◌, ◌≢◌, ◌↔◌, ◌⊎◌, ◌<◌, ℕ, None, Some, [], IfErr, IfOk, IfSome, IsTrue, List, OnOk, length, option_map, take, ⊤};
 ghost use Rattle.tlog_hash.specs.Tree.{mth};
 ghost use Rattle.tlog_tiles.specs.declared.paths.Path.TheVariants.{Checkpoint};
 ghost use Rattle.mirror_model.specs.Heads.{IsHead};
@@ -29,7 +29,8 @@ ghost use Rattle.copy_follow.specs.Suffices.{IsNoLack, IsSpared, IsTipOf};
 ghost use Rattle.copy_places.specs.Giving.{IsEdgeFrom};
 ghost use Rattle.copy_follow.specs.Taken.{MayTake};
 ghost use Rattle.copy_places.specs.TrueAnswers.{IsRootOf};
-ghost use Rattle.copy_follow.specs.declared.bring_fault.BringFault.TheVariants.{CopyDamaged, CopyInUse};
+ghost use Rattle.copy_follow.specs.declared.bring_fault.BringFault.TheVariants.{Contradiction, CopyDamaged, CopyInUse};
+ghost use Rattle.copy_follow.specs.Differing.{IsConflictOf, IsExplained};
 ghost use Rattle.copy_follow.specs.Growing.{IsKnown};
 ghost use Rattle.copy_follow.specs.Told.{AreSizesIn, IsOfFiles};
 ghost use Rattle.copy_follow.specs.Moments.{CopyStays, IsBroughtTo, KeepsCopy};
@@ -124,6 +125,8 @@ fn put_empty<H: TreeHash, D: ReadableShelf>(
     ensures conflict { IfErr result (λ e. IsConflict e → KeepsRecord (D.puts shelf.old)
         (D.puts shelf.new)) }
     ensures honest { IfErr result (λ e. candidate.now.root ≡ mth H.digest [] → IsSpared e) }
+    ensures differs { IfErr result (λ e. IsConflict e → (e ≡ Contradiction)
+        × (candidate.now.root ≢ H.digest [])) }
     ensures brings { BringsFromTip H.digest origin.now candidate.now.note.now tip.now
         (D.puts shelf.old) (D.puts shelf.new) result }
     ensures flushed { OnOk result (IsFlushedFirst
@@ -160,6 +163,8 @@ fn bring_larger<H: TreeHash, D: ReadableShelf, S: Source + Drop>(
         candidate.now.size candidate.now.root
         → IsTipOf H.digest tip.now (take candidate.now.size entries) → IsSpared e) }
     ensures empty { IfErr result (λ e. IsKnown H.digest tip.now 0 [] → IsNoConflict e) }
+    ensures differs { IfErr result (λ e. IsConflict e
+        → IsConflictOf H.digest tip.now candidate.now.size candidate.now.root e) }
     ensures brings { BringsFromTip H.digest origin.now candidate.now.note.now tip.now
         (D.puts shelf.old) (D.puts shelf.new) result }
     ensures flushed { OnOk result (IsFlushedFirst
@@ -199,6 +204,8 @@ fn bring_from<H: TreeHash, D: ReadableShelf, S: Source + Drop>(
         → IsTipOf H.digest tip.now (take candidate.now.size entries) → IsSpared e) }
     ensures empty { IfErr result (λ e. IsKnown H.digest tip.now 0 [] → IsConflict e
         → IsFalseEmpty H.digest candidate.now.size candidate.now.root) }
+    ensures differs { IfErr result (λ e. IsConflict e
+        → IsConflictOf H.digest tip.now candidate.now.size candidate.now.root e) }
     ensures brings { BringsFromTip H.digest origin.now candidate.now.note.now tip.now
         (D.puts shelf.old) (D.puts shelf.new) result }
     ensures flushed { OnOk result (IsFlushedFirst
@@ -281,6 +288,8 @@ pub fn bring_copy<H: TreeHash, D: ReadableShelf, S: Source + Drop>(
         (D.puts shelf.new)) }
     ensures conflicts { IfErr result (λ e. IsConflict e
         → HasConflict H.digest origin.now note.now (D.puts shelf.old)) }
+    ensures explained { IfErr result (λ e. IsConflict e
+        → IsExplained H.digest origin.now note.now (D.puts shelf.old) e) }
     ensures ends { IfErr result (λ e. IsConflict e
         → AreEnds H.digest origin.now note.now (D.puts shelf.old) places.new.ends.sizes) }
     ensures sizes { IfErr result (λ e. IsOfFiles e → AreSizesIn origin.now

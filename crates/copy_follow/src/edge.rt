@@ -15,6 +15,7 @@ ghost use Rattle.copy_follow.specs.Taken.{PutsTaken};
 ghost use Rattle.copy_follow.specs.Growing.{IsKnown};
 ghost use Rattle.log_reader.specs.EdgeRows.{HasWidths};
 ghost use Rattle.copy_follow.specs.Edges.{BringsEdge};
+ghost use Rattle.copy_follow.specs.Differing.{DiffersBy};
 
 use crate::bring::bring_row;
 use crate::bring_fault::BringFault;
@@ -53,6 +54,7 @@ pub(crate) fn bring_levels<H: TreeHash, D: ReadableShelf, S: Source + Drop>(
     ensures none { edge_index_of edge.now.size 0 * 256 ≤ tip.now.size
         → OnOk result (KeepsRecord (D.puts shelf.old) (D.puts shelf.new)) }
     ensures empty { IfErr result (λ e. IsKnown H.digest tip.now 0 [] → IsNoConflict e) }
+    ensures differs { IfErr result (DiffersBy H.digest edge.now tip.now) }
     ensures brings { (known : List (List ℕ)) → IsKnown H.digest tip.now 0 known
         → BringsEdge H.digest tip.now edge.now known (D.puts shelf.old) (D.puts shelf.new) result }
     ensures secured { OnOk result (Secures (IsNewInEdge tip.now.size edge.now.size 1)

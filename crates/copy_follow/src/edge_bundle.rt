@@ -16,6 +16,7 @@ ghost use Rattle.copy_follow.specs.Growing.{IsKnown};
 ghost use Rattle.copy_follow.specs.Lacked.{IsRecorded};
 ghost use Rattle.log_reader.specs.EdgeRows.{HasWidths};
 ghost use Rattle.copy_follow.specs.Edges.{BringsEdgeBundle};
+ghost use Rattle.copy_follow.specs.Differing.{DiffersBy};
 ghost use Rattle.copy_places.specs.TruePlaces.{HasTruePlace};
 ghost use Rattle.copy_follow.specs.Suffices.{IsEdgeTrue, IsNoLack, IsSpared, IsTipOf, OneIsHonest};
 ghost use Rattle.copy_places.specs.Giving.{PartOf};
@@ -126,6 +127,7 @@ pub(crate) fn bring_edge_bundle<H: TreeHash, D: ReadableShelf, S: Source + Drop>
         (D.puts shelf.old)
         (D.puts shelf.new) result }
     ensures empty { IfErr result (λ e. IsKnown H.digest tip.now 0 [] → IsNoConflict e) }
+    ensures differs { IfErr result (DiffersBy H.digest edge.now tip.now) }
     ensures brings { (known : List (List ℕ)) → IsKnown H.digest tip.now
         (edge_index_of edge.now.size 0 * 256) known
         → BringsEdgeBundle H.digest tip.now.size edge.now known (D.puts shelf.old)

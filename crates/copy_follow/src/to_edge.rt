@@ -12,6 +12,7 @@ ghost use Rattle.copy_places.specs.PlaceGets.{AsksPlaces};
 ghost use Rattle.copy_follow.specs.Growing.{IsKnown};
 ghost use Rattle.log_reader.specs.EdgeRows.{HasWidths, RowIsTrue};
 ghost use Rattle.copy_follow.specs.Edges.{BringsToEdge, PutsEdgeTile, PutsEdgeTiles};
+ghost use Rattle.copy_follow.specs.Differing.{DiffersBy};
 ghost use Rattle.copy_follow.specs.Suffices.{IsEdgeTrue, IsSpared, IsTipOf, OneIsHonest};
 
 use crate::bring_fault::BringFault;
@@ -126,6 +127,7 @@ pub(crate) fn bring_to_edge<H: TreeHash, D: ReadableShelf, S: Source + Drop>(
     ensures early { ConflictPutsNothing 0 tip.now.size (D.puts shelf.old)
         (D.puts shelf.new) result }
     ensures empty { IfErr result (λ e. IsKnown H.digest tip.now 0 [] → IsNoConflict e) }
+    ensures differs { IfErr result (DiffersBy H.digest edge.now tip.now) }
     ensures brings { (known : List (List ℕ)) → IsKnown H.digest tip.now 0 known
         → BringsToEdge H.digest tip.now edge.now note.now known (D.puts shelf.old)
         (D.puts shelf.new) result }

@@ -32,6 +32,9 @@ use Rattle.std.proofs.Common.{OnOk}
 use Rattle.mirror_folders.specs.Flushes.{Secures}
 use Rattle.copy_follow.specs.Secured.{IsNewBelow, IsNewInRow}
 use Rattle.copy_follow.proofs.Secured.{after_still, ok_weaker, row_first, row_more, tile_secured}
+use Rattle.log_reader.specs.Ways.{AreHashesOf, IsShownRow}
+use Rattle.copy_follow.specs.Differing.{IsShownHash}
+use Rattle.copy_follow.proofs.Differing.{child_shown, differs_none, other_row, under_shown}
 use Rattle.copy_follow.proofs.bring.+tiles.Goals as goal
 
 pub bring_row-returns-in_default-clause-brings : goal.bring_row-returns-in_default-clause-brings
@@ -588,3 +591,42 @@ bring_tile-returns-clause-secured g t c =
     (subst (λ n. Secures (IsNewInRow m level index n) w y) long c.in_ok-bring_row.ensures.secured) in
     ok_weaker c.keep.result (λ tile. tile_secured m level index some x y (flushes c.keep.new.shelf) row tile)
     c.keep.ensures.secured
+
+-- ---- what differs
+
+pub bring_row-returns-in_default-clause-differs : goal.bring_row-returns-in_default-clause-differs
+bring_row-returns-in_default-clause-differs g t c = λ larger s.
+    other_row g.H.TreeHash.digest larger c.args.tip.now c.args.level c.args.index c.args.row.now
+    (rw c.in_default.is at c.first_new.ensures.none) s (rw c.in_default.is at c.first_new.ensures.differs)
+
+pub bring_row-returns-in_err-bring_tile-clause-differs : goal.bring_row-returns-in_err-bring_tile-clause-differs
+bring_row-returns-in_err-bring_tile-clause-differs g t c =
+    err_exit _ c.from_residual.result c.in_err-bring_tile.field-0.0 c.from_residual.ensures (λ larger s.
+    c.in_err-bring_tile.ensures.differs larger (child_shown g.H.TreeHash.digest larger c.args.level c.args.index c.loop-i.i
+    c.args.row.now c.requires.above c.requires.width (omega arith) s))
+
+pub bring_tile-returns-in_err-found-clause-differs : goal.bring_tile-returns-in_err-found-clause-differs
+bring_tile-returns-in_err-found-clause-differs g t c =
+    err_exit _ c.from_residual.result c.in_err-found.field-0.0 c.from_residual.ensures (λ larger s.
+    differs_none g.H.TreeHash.digest larger c.args.tip.now c.in_err-found.field-0.0 c.in_err-found.ensures.fault)
+
+pub bring_tile-returns-in_err-bring_row-clause-differs : goal.bring_tile-returns-in_err-bring_row-clause-differs
+bring_tile-returns-in_err-bring_row-clause-differs g t c =
+    let digest = g.H.TreeHash.digest in
+    let v = c.in_ok-found.ensures.found in
+    let hashes : AreHashesOf 256 c.in_ok-found.found.row.items = record { count = v.is_row.count; sizes = v.is_row.sizes } in
+    err_exit _ c.from_residual-in_err-bring_row.result c.in_err-bring_row.field-0.0 c.from_residual-in_err-bring_row.ensures (λ larger s.
+    c.in_err-bring_row.ensures.differs larger
+    (subst (λ (r : List (List ℕ)). IsShownRow digest larger c.args.level c.args.index r) (sym c.deref.ensures.value)
+    (under_shown digest larger c.args.level c.args.index c.args.hash.now c.in_ok-found.found.row.items hashes v.folds s)))
+
+pub bring_tile-returns-then-level-eq0-clause-differs : goal.bring_tile-returns-then-level-eq0-clause-differs
+bring_tile-returns-then-level-eq0-clause-differs g t c =
+    let zero : c.args.level ≡ 0 = omega arith in
+    err_weaker c.bring_bundle.result _ _ (λ e so larger s.
+    so larger (subst (λ l. IsShownHash g.H.TreeHash.digest larger l c.args.index c.args.hash.now) zero s)) c.bring_bundle.ensures.differs
+
+pub bring_tile-returns-clause-differs : goal.bring_tile-returns-clause-differs
+bring_tile-returns-clause-differs g t c =
+    err_weaker c.keep.result IsNoConflict _ (λ e h larger s. differs_none g.H.TreeHash.digest larger c.args.tip.now e h)
+    c.keep.ensures.fault

@@ -1,5 +1,5 @@
-use Rattle.std.proofs.Common.{◌*◌, rules, ◌≡◌, ◌⊎◌, inl, inr, ◌∷◌, [], ℕ, List, IsFalse, length, take, subst, refl, sym, ap, ◌∙◌, arith}
-use Rattle.tlog_shape.specs.Edge.{edge_index_of}
+use Rattle.std.proofs.Common.{◌*◌, rules, ◌≡◌, ◌⊎◌, inl, inr, ◌∷◌, [], ℕ, List, IsFalse, length, take, get_or, subst, refl, sym, ap, ◌∙◌, arith}
+use Rattle.tlog_shape.specs.Edge.{edge_index_of, width_of}
 use Rattle.tlog_tiles.specs.Row.{row_text}
 use Rattle.tlog_tiles.specs.declared.paths.Path.TheVariants.{Entries, Tile}
 use Rattle.mirror_sources.specs.Recorded.{KeepsRecord, AddsToRecord}
@@ -24,6 +24,9 @@ use Rattle.copy_follow.specs.Faults.{BlamesPlaces, IsOfNoPlace}
 use Rattle.copy_follow.specs.Faults.{CountsFault}
 use Rattle.std.proofs.Common.{Err}
 use Rattle.copy_follow.proofs.Secured.{after_still, bundle_secured, ok_weaker}
+use Rattle.log_reader.specs.Verified.{HasLeaves}
+use Rattle.log_reader.specs.Ways.{IsShownRow}
+use Rattle.copy_follow.proofs.Differing.{differs_none, leaf_hashes, other_row, row_start, under_shown}
 use Rattle.copy_follow.proofs.bring.bring_bundle.Goals as goal
 
 pub returns-in-Err-clause-brings : goal.returns-in-Err-clause-brings
@@ -311,3 +314,53 @@ returns-clause-secured g c =
     (flushes c.keep.new.shelf) c.find.ensures.still c.in-Ok-keep.ensures.secured in
     ok_weaker c.keep-2.result (λ tile. bundle_secured c.args.tip.now.size index (flushes c.args.shelf.now)
     (flushes c.keep.new.shelf) (flushes c.keep-2.new.shelf) bundle tile) c.keep-2.ensures.secured
+
+-- ---- what differs
+
+pub returns-in-Err-clause-differs : goal.returns-in-Err-clause-differs
+returns-in-Err-clause-differs g c = λ larger s.
+    differs_none g.H.TreeHash.digest larger c.args.tip.now c.in-Err.fault c.in-Err.ensures.fault
+
+pub returns-in_default-clause-differs : goal.returns-in_default-clause-differs
+returns-in_default-clause-differs g c = λ larger s.
+    let digest = g.H.TreeHash.digest in
+    let row = c.in-Ok.found.row.items in
+    let v = c.in-Ok.ensures.found in
+    let hashes = leaf_hashes digest g.met.H.TreeHash.digest_length c.in-Ok.found.bytes.items row v.is_row in
+    let shown = under_shown digest larger 0 c.args.index c.args.hash.now row hashes v.folds s in
+    other_row digest larger c.args.tip.now 0 c.args.index c.deref.result.now (rw c.in_default.is at c.first_new.ensures.none)
+    (subst (λ (r : List (List ℕ)). IsShownRow digest larger 0 c.args.index r) (sym c.deref.ensures.value) shown)
+    (rw c.in_default.is at c.first_new.ensures.differs)
+
+pub returns-then-not-goes_on-clause-differs : goal.returns-then-not-goes_on-clause-differs
+returns-then-not-goes_on-clause-differs g c = λ larger s.
+    let digest = g.H.TreeHash.digest in
+    let row = c.in-Ok.found.row.items in
+    let v = c.in-Ok.ensures.found in
+    let no : IsFalse c.goes_on.result = search rules in
+    let at = c.goes_on.ensures.other no in
+    let hashes = leaf_hashes digest g.met.H.TreeHash.digest_length c.in-Ok.found.bytes.items row v.is_row in
+    let shown = under_shown digest larger 0 c.args.index c.args.hash.now row hashes v.folds s in
+    let there = subst (λ (r : List (List ℕ)). take (width_of c.args.tip.now.size 0) r ≡ get_or c.args.tip.now.rows 0 []) c.deref.ensures.value
+    (row_start c.args.tip.now 0 c.args.index c.in-Some._first c.deref.result.now at (rw c.in-Some.is at c.first_new.ensures.first)) in
+    let leaves = subst (λ (n : ℕ). HasLeaves digest n c.in-Ok.found.bytes.items row) (sym hashes.count) v.is_row in
+    record {
+      row = row;
+      bytes = c.deref-2.result.now;
+      shown = subst (λ i. IsShownRow digest larger 0 i row) at shown;
+      begins = there;
+      leaves = subst (λ (b : List ℕ). HasLeaves digest (length row) b row) (sym c.deref-2.ensures.value) leaves;
+      other = c.goes_on.ensures.differs no;
+    }
+
+pub returns-in-Err-write_row-clause-differs : goal.returns-in-Err-write_row-clause-differs
+returns-in-Err-write_row-clause-differs g c = λ larger s. tt
+
+pub returns-in-Err-keep-clause-differs : goal.returns-in-Err-keep-clause-differs
+returns-in-Err-keep-clause-differs g c = λ larger s.
+    differs_none g.H.TreeHash.digest larger c.args.tip.now c.in-Err-keep.fault c.in-Err-keep.ensures.fault
+
+pub returns-clause-differs : goal.returns-clause-differs
+returns-clause-differs g c =
+    err_weaker c.keep-2.result IsNoConflict _ (λ e h larger s. differs_none g.H.TreeHash.digest larger c.args.tip.now e h)
+    c.keep-2.ensures.fault

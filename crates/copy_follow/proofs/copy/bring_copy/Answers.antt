@@ -31,6 +31,7 @@ use Rattle.copy_follow.proofs.Telling.{tip_files}
 use Rattle.copy_places.proofs.Answered.{answered_begun}
 use Rattle.copy_follow.specs.Secured.{IsNewFileOf}
 use Rattle.copy_follow.proofs.Secured.{flushed_after}
+use Rattle.copy_follow.proofs.Differing.{explained}
 use Rattle.copy_follow.proofs.copy.bring_copy.Goals as goal
 
 pub returns-in_err-head-clause-whole : goal.returns-in_err-head-clause-whole
@@ -442,3 +443,18 @@ returns-in-Ok-done-clause-flushed g c =
       flushed = flushed_after (IsNewFileOf c.in-Ok.tip.size head.0) (flushes c.args.shelf.now) (flushes c.read_found.new.shelf)
           (flushes c.bring_from-done.new.shelf) c.read_found.ensures.still c.in-Ok-done.ensures.flushed;
     }
+
+-- ---- what differs
+
+pub returns-in-Err-clause-explained : goal.returns-in-Err-clause-explained
+returns-in-Err-clause-explained g c = λ conflict. no_conflict c.in-Err.fault _ c.in-Err.ensures.fault conflict
+
+pub returns-in-Err-done-clause-explained : goal.returns-in-Err-done-clause-explained
+returns-in-Err-done-clause-explained g c = λ conflict.
+    explained g.H.TreeHash.digest c.args.origin.now c.args.note.now (g.D.Shelf.puts c.args.shelf.now) c.in-Ok.tip c.in-Some.head.0
+    c.in-Some.head.1 c.in-Err-done.fault c.in-Ok.ensures.tip (rw c.in-Some.is at c.in_ok-head.ensures.found)
+    (c.in-Err-done.ensures.differs conflict)
+
+pub returns-in_err-head-clause-explained : goal.returns-in_err-head-clause-explained
+returns-in_err-head-clause-explained g c =
+    err_exit _ c.from_residual.result OutOfMemory c.from_residual.ensures (λ no. absurd no)

@@ -11,6 +11,7 @@ use Rattle.copy_follow.proofs.Earlier.{no_conflict}
 use Rattle.copy_follow.proofs.EmptyTips.{false_empty}
 use Rattle.copy_places.proofs.AskingOnce.{once_same}
 use Rattle.std.specs.Prelude.{⊤}
+use Rattle.copy_follow.specs.Differing.{OfEmpty}
 use Rattle.copy_follow.proofs.copy.bring_from.Goals as goal
 
 pub returns-clause-brings : goal.returns-clause-brings
@@ -55,3 +56,10 @@ returns-clause-once g c =
 pub returns-clause-asks : goal.returns-clause-asks
 returns-clause-asks g c =
     asks_same g.S.Source.may_answer g.S.Source.failed g.S.Source.asked (MayBeAsked c.args.tip.now.size c.args.candidate.now.size) c.args.places.now
+
+-- ---- what differs
+
+pub returns-then-is_none-clause-differs : goal.returns-then-is_none-clause-differs
+returns-then-is_none-clause-differs g c =
+    let none : c.args.candidate.now.size ≡ 0 = omega arith in
+    err_weaker c.put_empty.result _ _ (λ e so conflict. OfEmpty (none, (so conflict).1) (so conflict).0) c.put_empty.ensures.differs

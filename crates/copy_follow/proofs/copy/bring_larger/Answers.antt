@@ -21,6 +21,8 @@ use Rattle.std.proofs.Common.{inr}
 use Rattle.mirror_folders.specs.Flushes.{IsFlushedFirst}
 use Rattle.copy_follow.specs.Secured.{IsNewFileOf}
 use Rattle.copy_follow.proofs.Secured.{flushed_after, ok_weaker}
+use Rattle.copy_follow.proofs.Earlier.{no_conflict}
+use Rattle.copy_follow.specs.Differing.{OfTree}
 use Rattle.copy_follow.proofs.copy.bring_larger.Goals as goal
 
 pub returns-in-Err-clause-brings : goal.returns-in-Err-clause-brings
@@ -162,3 +164,13 @@ returns-clause-flushed g c =
     (flushes c.args.shelf.now) y w c.find_new_edge.ensures.still
     (subst (λ n. IsFlushedFirst (IsNewFileOf m n) y w) c.in-Ok.ensures.leads.is_edge.size_is done))
     c.bring_to_edge-done.ensures.flushed
+
+-- ---- what differs
+
+pub returns-in-Err-clause-differs : goal.returns-in-Err-clause-differs
+returns-in-Err-clause-differs g c = λ conflict. no_conflict c.in-Err.fault _ c.in-Err.ensures.fault conflict
+
+pub returns-clause-differs : goal.returns-clause-differs
+returns-clause-differs g c =
+    err_weaker c.bring_to_edge-done.result _ _ (λ e so conflict. OfTree c.in-Ok.edge c.in-Ok.ensures.leads so)
+    c.bring_to_edge-done.ensures.differs

@@ -13,6 +13,9 @@ use Rattle.copy_follow.proofs.WholeMoments.{empty_ends, empty_whole, ends_later,
 use Rattle.std.proofs.Common.{◌≤◌, subst, arith}
 use Rattle.mirror_folders.specs.Flushes.{FlushesAll}
 use Rattle.copy_follow.proofs.Secured.{none_flushed, ok_weaker}
+use Rattle.copy_follow.specs.Conflicts.{IsNoConflict}
+use Rattle.copy_follow.proofs.Earlier.{no_conflict}
+use Rattle.copy_follow.proofs.Spared.{err_weaker}
 use Rattle.copy_follow.proofs.copy.put_empty.Goals as goal
 
 pub returns-then-not-is_empty_root-clause-brings : goal.returns-then-not-is_empty_root-clause-brings
@@ -74,3 +77,9 @@ returns-clause-flushed g c =
     let le : c.args.candidate.now.size ≤ c.args.tip.now.size = omega arith in
     ok_weaker c.put_last.result (λ last. none_flushed c.args.tip.now.size c.args.candidate.now.size le
     (flushes c.args.shelf.now) z (subst (λ q. FlushesAll q z) c.expect_new.ensures.still last)) c.put_last.ensures.flushed
+
+-- ---- what differs
+
+pub returns-clause-differs : goal.returns-clause-differs
+returns-clause-differs g c =
+    err_weaker c.put_last.result IsNoConflict _ (λ e h conflict. no_conflict e _ h conflict) c.put_last.ensures.fault

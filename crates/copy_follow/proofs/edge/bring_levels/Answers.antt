@@ -22,6 +22,8 @@ use Rattle.tlog_shape.specs.Edge.{width_of}
 use Rattle.mirror_folders.specs.Flushes.{Secures}
 use Rattle.copy_follow.specs.Secured.{IsNewInEdge, IsNewInRow}
 use Rattle.copy_follow.proofs.Secured as secured
+use Rattle.log_reader.specs.Ways.{IsShownRow}
+use Rattle.copy_follow.proofs.Differing.{edge_shown}
 use Rattle.copy_follow.proofs.edge.bring_levels.Goals as goal
 
 pub loop-done-init : goal.loop-done-init
@@ -251,3 +253,18 @@ returns-clause-secured g c =
     let end : 8 - c.loop-done.done ≡ 1 = omega arith in
     subst (λ k. Secures (IsNewInEdge c.args.tip.now.size c.args.edge.now.size k) (g.D.Shelf.flushes c.args.shelf.now)
     (g.D.Shelf.flushes c.loop-done.shelf)) end c.loop-done.invariant.secured
+
+-- ---- what differs
+
+pub returns-in_err-bring_row-clause-differs : goal.returns-in_err-bring_row-clause-differs
+returns-in_err-bring_row-clause-differs g c =
+    let digest = g.H.TreeHash.digest in
+    let edge = c.args.edge.now in
+    let level = 7 - c.loop-done.done in
+    let at : c.edge_index-index.result ≡ edge_index_of edge.size level =
+    c.edge_index-index.ensures ∙ ap (λ n. edge_index_of n level) c.size.ensures in
+    err_exit _ c.from_residual.result c.in_err-bring_row.field-0.0 c.from_residual.ensures
+    (c.in_err-bring_row.ensures.differs edge
+    (subst (λ k. IsShownRow digest edge level k c.row.result.now) (sym at)
+    (subst (λ (r : List (List ℕ)). IsShownRow digest edge level (edge_index_of edge.size level) r) (sym c.row.ensures)
+    (edge_shown digest edge level (omega arith)))))

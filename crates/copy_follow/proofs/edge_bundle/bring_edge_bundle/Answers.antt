@@ -28,6 +28,8 @@ use Rattle.copy_follow.specs.Conflicts.{IsNoConflict}
 use Rattle.copy_follow.specs.Faults.{BlamesPlaces, IsOfNoPlace}
 use Rattle.std.proofs.Common.{Err}
 use Rattle.copy_follow.proofs.Secured.{after_still, no_bundle, ok_weaker, one_bundle}
+use Rattle.log_reader.specs.Ways.{IsShownRow}
+use Rattle.copy_follow.proofs.Differing.{differs_none, edge_shown, other_row, row_some}
 use Rattle.copy_follow.proofs.edge_bundle.bring_edge_bundle.Goals as goal
 
 pub returns-then-is_empty-clause-brings : goal.returns-then-is_empty-clause-brings
@@ -293,3 +295,51 @@ returns-clause-secured g c =
     ok_weaker c.keep.result (λ kept. one_bundle n path same (flushes c.args.shelf.now) (flushes c.keep.new.shelf)
     (after_still (λ p. p ≡ path) (flushes c.args.shelf.now) (flushes c.find_edge_bundle.new.shelf) (flushes c.keep.new.shelf)
     c.find_edge_bundle.ensures.still kept)) c.keep.ensures.secured
+
+-- ---- what differs
+
+pub returns-then-is_none-clause-differs : goal.returns-then-is_none-clause-differs
+returns-then-is_none-clause-differs g c =
+    let digest = g.H.TreeHash.digest in
+    let edge = c.args.edge.now in
+    let at : c.edge_index-index.result ≡ edge_index_of edge.size 0 =
+    c.edge_index-index.ensures ∙ ap (λ n. edge_index_of n 0) c.size.ensures in
+    let none : IsNone c.first_new.result = search rules in
+    other_row digest edge c.args.tip.now 0 c.edge_index-index.result c.row-row.result.now
+    (of_none c.first_new.result none c.first_new.ensures.none)
+    (subst (λ k. IsShownRow digest edge 0 k c.row-row.result.now) (sym at)
+    (subst (λ (r : List (List ℕ)). IsShownRow digest edge 0 (edge_index_of edge.size 0) r) (sym c.row-row.ensures)
+    (edge_shown digest edge 0 (omega arith))))
+    (of_none c.first_new.result none c.first_new.ensures.differs)
+
+pub returns-in-Err-clause-differs : goal.returns-in-Err-clause-differs
+returns-in-Err-clause-differs g c =
+    differs_none g.H.TreeHash.digest c.args.edge.now c.args.tip.now c.in-Err.fault c.in-Err.ensures.fault
+
+pub returns-then-not-goes_on-clause-differs : goal.returns-then-not-goes_on-clause-differs
+returns-then-not-goes_on-clause-differs g c =
+    let digest = g.H.TreeHash.digest in
+    let edge = c.args.edge.now in
+    let tip = c.args.tip.now in
+    let index = c.edge_index-index.result in
+    let row = c.row-row.result.now in
+    let at : index ≡ edge_index_of edge.size 0 = c.edge_index-index.ensures ∙ ap (λ n. edge_index_of n 0) c.size.ensures in
+    let no : IsFalse c.goes_on.result = search rules in
+    let some : ¬ IsNone c.first_new.result = search rules in
+    let there = c.goes_on.ensures.other no in
+    let shown : IsShownRow digest edge 0 index row = subst (λ k. IsShownRow digest edge 0 k row) (sym at)
+    (subst (λ (r : List (List ℕ)). IsShownRow digest edge 0 (edge_index_of edge.size 0) r) (sym c.row-row.ensures)
+    (edge_shown digest edge 0 (omega arith))) in
+    record {
+      row = row;
+      bytes = c.deref.result.now;
+      shown = subst (λ k. IsShownRow digest edge 0 k row) there shown;
+      begins = row_some tip 0 index row c.first_new.result some there c.first_new.ensures.first;
+      leaves = subst (λ (b : List ℕ). HasLeaves digest (length row) b row) (sym c.deref.ensures.value) c.in-Ok.ensures.found;
+      other = c.goes_on.ensures.differs no;
+    }
+
+pub returns-clause-differs : goal.returns-clause-differs
+returns-clause-differs g c =
+    err_weaker c.keep.result IsNoConflict _ (λ e h. differs_none g.H.TreeHash.digest c.args.edge.now c.args.tip.now e h)
+    c.keep.ensures.fault

@@ -20,6 +20,7 @@ use Rattle.copy_follow.specs.Conflicts.{IsNoConflict}
 use Rattle.copy_follow.specs.Faults.{CountsFault}
 use Rattle.std.proofs.Common.{Err, subst}
 use Rattle.copy_follow.proofs.Secured.{all_flushed, ok_weaker}
+use Rattle.copy_follow.proofs.Differing.{differs_none}
 use Rattle.copy_follow.proofs.to_edge.bring_to_edge.Goals as goal
 
 pub returns-in-Err-bring_edge_bundle-clause-brings : goal.returns-in-Err-bring_edge_bundle-clause-brings
@@ -239,3 +240,20 @@ returns-clause-flushed g c =
     (flushes c.args.shelf.now) (flushes c.bring_levels.new.shelf) (flushes c.bring_edge_bundle.new.shelf)
     (flushes c.put_edge_tiles.new.shelf) (flushes c.put_last.new.shelf) c.in-Ok.ensures.secured
     c.in-Ok-bring_edge_bundle.ensures.secured c.in-Ok-put_edge_tiles.ensures.secured last) c.put_last.ensures.flushed
+
+-- ---- what differs
+
+pub returns-in-Err-clause-differs : goal.returns-in-Err-clause-differs
+returns-in-Err-clause-differs g c = c.in-Err.ensures.differs
+
+pub returns-in-Err-bring_edge_bundle-clause-differs : goal.returns-in-Err-bring_edge_bundle-clause-differs
+returns-in-Err-bring_edge_bundle-clause-differs g c = c.in-Err-bring_edge_bundle.ensures.differs
+
+pub returns-in-Err-put_edge_tiles-clause-differs : goal.returns-in-Err-put_edge_tiles-clause-differs
+returns-in-Err-put_edge_tiles-clause-differs g c =
+    differs_none g.H.TreeHash.digest c.args.edge.now c.args.tip.now c.in-Err-put_edge_tiles.fault c.in-Err-put_edge_tiles.ensures.fault
+
+pub returns-clause-differs : goal.returns-clause-differs
+returns-clause-differs g c =
+    err_weaker c.put_last.result IsNoConflict _ (λ e h. differs_none g.H.TreeHash.digest c.args.edge.now c.args.tip.now e h)
+    c.put_last.ensures.fault
