@@ -2,7 +2,7 @@
 use Rattle.std.proofs.Common.{◌≡◌, ◌⊎◌, ℕ, ◌+◌, ◌*◌, ◌/◌, ◌^◌, ◌<◌, ◌≤◌, List, [], ◌∷◌, length, take, Option, refl, sym, ap, subst, ◌∙◌, arith}
 use Rattle.std.proofs.lemmas.List.{nil_from_length}
 use Rattle.tlog_shape.specs.Edge.{edge_index_of, width_of}
-use Rattle.tlog_hash.specs.Rows.{level_row, part}
+use Rattle.tlog_hash.specs.Rows.{level_row}
 use Rattle.tlog_tiles.specs.Bundle.{bundle_text}
 use Rattle.tlog_tiles.specs.declared.paths.Path.{Path}
 use Rattle.tlog_tiles.specs.declared.paths.Path.TheVariants.{Entries}

@@ -24,7 +24,7 @@ use Rattle.mirror_folders.specs.FileLaws.{IsWidestIn}
 use Rattle.mirror_folders.specs.Shelf.{Put, RecordsHas, RecordsNone, RecordsRead}
 use Rattle.mirror_folders.proofs.AllFiles.{files_are_all}
 use Rattle.mirror_folders.proofs.Standing.{stands_more}
-use Rattle.log_reader.specs.EdgeRows.{Edge, HasWidths, edge_tile, row_at}
+use Rattle.log_reader.specs.EdgeRows.{Edge, HasWidths, row_at}
 use Rattle.log_reader.specs.Holding.{IsTreeFile}
 use Rattle.log_reader.specs.Verified.{HasLeaves, Verifies}
 use Rattle.log_reader.specs.declared.verify.FullFile.{FullFile}
@@ -43,7 +43,7 @@ use Rattle.copy_places.proofs.TruePlaces.{place_between}
 use Rattle.copy_follow.specs.Damaged.{IsEdgeWrong}
 use Rattle.mirror_folders.specs.Partial.{IsOfRead, IsReadPartial}
 use Rattle.copy_follow.specs.Growing.{IsBelow, IsNewFile}
-use Rattle.copy_follow.specs.Lacked.{AtOkOrLack, GoesAlong, GoesBelow, GoesDown, GoesOverAll, IsEdgeLacked, IsEdgeNowhere, IsEndNowhere, IsFoundNowhere, IsHadOrLacked, IsLacked, IsNobodysFile, IsNobodysPart, IsOwnPart, IsRecorded, LacksBundle, LacksEnd, LacksLeafTile, LacksTile, LeadsNowhere, StandsOrNobodys}
+use Rattle.copy_follow.specs.Lacked.{AtOkOrLack, GoesAlong, GoesBelow, GoesDown, GoesOverAll, IsEdgeNowhere, IsEndNowhere, IsFoundNowhere, IsHadOrLacked, IsLacked, IsNobodysFile, IsNobodysPart, IsOwnPart, IsRecorded, LacksBundle, LacksEnd, LacksLeafTile, LacksTile, LeadsNowhere, StandsOrNobodys}
 use Rattle.copy_follow.specs.Repaired.{IsLack, PutsTrue, RecordsHad}
 use Rattle.copy_follow.specs.Standing.{RecordsStands}
 use Rattle.copy_follow.specs.Suffices.{IsEdgeTrue, IsSpared, IsTileHash}

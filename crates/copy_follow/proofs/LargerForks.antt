@@ -1,13 +1,11 @@
 -- A larger candidate that contradicts the copy is in a fork line.
-use Rattle.std.proofs.Common.{◌≡◌, ◌⊎◌, inl, inr, ℕ, ◌^◌, ◌<◌, List, length, get_or, take, drop, Option, Some, sym, subst, ap, ◌∙◌, arith, take-append-drop}
+use Rattle.std.proofs.Common.{◌≡◌, ◌⊎◌, inl, inr, ℕ, ◌^◌, ◌<◌, List, length, get_or, take, drop, Option, sym, subst, ◌∙◌, arith, take-append-drop}
 use Rattle.std.proofs.lemmas.List.Elements.{All-contains}
-use Rattle.tlog_hash.specs.Tree.{mth}
 use Rattle.tlog_tiles.specs.declared.paths.Path.{Path}
 use Rattle.mirror_model.specs.Forks.{IsPrefix, Point}
 use Rattle.mirror_model.specs.Strings.{IsDigest}
 use Rattle.copy_places.specs.Agreeing.{Agrees}
 use Rattle.copy_places.specs.Answered.{MustGive, MustGivePart}
-use Rattle.copy_places.specs.Candidates.{point_of}
 use Rattle.copy_places.specs.Forks.{HasPoint}
 use Rattle.copy_places.specs.Requests.{AsksAny}
 use Rattle.copy_places.specs.declared.places.Places.{Places}

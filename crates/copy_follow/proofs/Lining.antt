@@ -1,24 +1,24 @@
 -- The rule of lines, candidate after candidate.
-use Rattle.std.proofs.Common.{◌≡◌, ◌≢◌, ◌⊎◌, inl, inr, ℕ, ◌+◌, ◌<◌, ◌≤◌, false, List, [], ◌∷◌, ◌++◌, length, get_or, take, All, Contains, Option, Some, None, refl, sym, ap, subst, ◌∙◌, arith, Result, Ok, Err, IfSome, OnOk, Ordering, Less, nat_cmp, length-take}
+use Rattle.std.proofs.Common.{◌≡◌, ◌≢◌, ◌⊎◌, inl, inr, ℕ, ◌+◌, ◌<◌, ◌≤◌, false, List, [], ◌∷◌, ◌++◌, length, get_or, take, All, Contains, Option, Some, None, refl, sym, ap, subst, ◌∙◌, arith, Result, Ok, Err, OnOk, Ordering, Less, nat_cmp, length-take}
 use Rattle.std.specs.Cmp.Lexicographic.{slice_cmp}
 use Rattle.std.specs.List.{AllByRecursion}
 use Rattle.std.specs.List.Sorted.{IsSorted, IsStrictlySortedBy}
 use Rattle.std.specs.Ordering.{is_gt, ordering_then}
 use Rattle.std.proofs.lemmas.Cmp.{by_ranked, ranked}
 use Rattle.std.proofs.lemmas.List.{get_or-take, take_all, take_more}
-use Rattle.std.proofs.lemmas.List.Elements.{All-append, All-cons, All-contains, All-head, All-nil, All-push, All-tail, All-weaker, Contains-append_left, Contains-append_right, Contains-get_or, Contains-push, recursion_from_All}
+use Rattle.std.proofs.lemmas.List.Elements.{All-cons, All-contains, All-head, All-nil, All-push, All-tail, All-weaker, Contains-append_left, Contains-append_right, Contains-get_or, Contains-push, recursion_from_All}
 use Rattle.copy_places.specs.Adding.{AddsFork, IsForkLine}
 use Rattle.mirror_model.specs.Forks.{point_cmp}
 use Rattle.copy_places.specs.Candidates.{IsOnePoint, IsSame, point_of, turn_cmp}
-use Rattle.copy_places.specs.Lines.{AreLines, HasCandidate, HasSmallFirst, IsFirstOrListed, IsInSomeLine, IsListed, KeepsLines, fork_line_cmp}
+use Rattle.copy_places.specs.Lines.{AreLines, HasCandidate, HasSmallFirst, IsInSomeLine, IsListed, KeepsLines, fork_line_cmp}
 use Rattle.copy_places.specs.Shown.{AreFork, ShowsEach, ShowsLine}
 use Rattle.copy_places.specs.declared.candidate.Candidate.{Candidate}
 use Rattle.copy_places.specs.declared.fork_line.ForkLine.{ForkLine}
 use Rattle.copy_places.proofs.LineLists.{kept_itself, kept_then, lines_kept}
 use Rattle.copy_places.proofs.Lines.{lines_added, lines_none}
-use Rattle.copy_places.proofs.Points.{one_back, one_then}
+use Rattle.copy_places.proofs.Points.{one_back}
 use Rattle.copy_follow.specs.Lining.{AddsBeside, AddsEqual, AddsToCopy, AloneAreOne, HasEqual, HasLeft, IsBeside, IsEqualAbove, IsLeastOrIn}
-use Rattle.copy_follow.specs.Rule.{ExceedsCopy, HasLine, IsEqualLine, IsLeastOf, IsLeft, copy_point, larger_cmp}
+use Rattle.copy_follow.specs.Rule.{ExceedsCopy, IsEqualLine, IsLeastOf, IsLeft, copy_point, larger_cmp}
 use Rattle.copy_follow.specs.TurnsTaken.{IsLargerThan, IsLineUpTo, IsNextOf, IsRepeat}
 use Rattle.copy_follow.proofs.OfCopy.{all_added, of_added}
 use Rattle.copy_follow.proofs.Taken.{in_some_line, within_added}

@@ -10,7 +10,7 @@ use Rattle.copy_places.specs.declared.place.Place.{Place}
 use Rattle.copy_places.specs.declared.places.Places.{Places}
 use Rattle.copy_places.specs.Adding.{AddsFork}
 use Rattle.copy_places.specs.Candidates.{IsOnePoint}
-use Rattle.copy_places.specs.Lines.{AreLines, IsFirstOrListed, IsListed, KeepsLines}
+use Rattle.copy_places.specs.Lines.{IsFirstOrListed, IsListed, KeepsLines}
 use Rattle.copy_places.specs.Requests.{AsksAny, PlaceFails}
 use Rattle.copy_places.specs.Shown.{AreFork, ShowsEach}
 use Rattle.copy_places.specs.declared.candidate.Candidate.{Candidate}
@@ -20,13 +20,12 @@ use Rattle.copy_places.proofs.Lines.{lines_added}
 use Rattle.copy_places.proofs.Points.{one_back}
 use Rattle.copy_places.proofs.Requests.{any_same, fails_then}
 use Rattle.copy_follow.specs.Looking.{AddsForks, LooksOn}
-use Rattle.copy_follow.specs.Blame.{CountsFollow, CountsFollowFault}
 use Rattle.copy_follow.specs.Taken.{WasPut}
 use Rattle.mirror_sources.specs.Recorded.{KeepsRecord}
-use Rattle.copy_follow.specs.Ending.{EndsAt, EndsRun, IsFirstFault, KeepsFault}
+use Rattle.copy_follow.specs.Ending.{EndsRun}
 use Rattle.copy_follow.specs.OneHonestRun.{HasReached, HasSize, IsHonestFirst, IsHonestListed, IsOfShelfOrMemory, TurnsReach}
 use Rattle.copy_follow.specs.RunStanding.{IsCopyOfRun, IsHeadOf}
-use Rattle.copy_follow.specs.TurnsTaken.{HasTaken, HasTakenRun, IsLineOfRun, IsLineUpTo, IsOneOf}
+use Rattle.copy_follow.specs.TurnsTaken.{HasTaken, HasTakenRun, IsLineOfRun, IsOneOf}
 use Rattle.copy_follow.specs.Turning.{IsRunFrom, ShowsTurn}
 use Rattle.copy_follow.specs.declared.follow_fault.FollowFault.{FollowFault}
 use Rattle.copy_follow.specs.declared.follow_fault.FollowFault.TheVariants as fault
@@ -87,15 +86,6 @@ module _ (digest : List ℕ → List ℕ) where
       OnOk r (AddsForks digest copy all old new)
   adds_held (Ok t) copy held all old new is h = subst (λ o. AddsForks digest o all old new) (sym is) h
   adds_held (Err e) copy held all old new is h = tt
-
-  -- the facts after a turn that ended with a fork
-  pub adds_turn : {T E : Type 0} (r : Result T E) (held c : Candidate) (t : Outcome) (old new : List ForkLine) →
-      ShowsTurn digest (Some held) c t →
-      OnOk r ((digest : List ℕ → List ℕ) → ShowsTurn digest (Some held) c t →
-      AddsForks digest (Some held) (c ∷ []) old new) →
-      OnOk r (AddsForks digest (Some held) (c ∷ []) old new)
-  adds_turn (Ok u) held c t old new shows h = h digest shows
-  adds_turn (Err e) held c t old new shows h = tt
 
   -- the run looks on
   pub looks_on : (run next : Run) → next.copy ≡ run.copy → next.had ≡ run.had → next.first_fault ≡ run.first_fault →

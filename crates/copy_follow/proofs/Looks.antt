@@ -1,16 +1,15 @@
 -- A fault of the copy, by a second look at its checkpoint.
-use Rattle.std.proofs.Common.{◌≡◌, ◌⊎◌, inl, inr, ℕ, ◌<◌, List, [], ◌∷◌, length, arith, take, All, Contains, Option, Some, None, Result, Ok, Err, IfErr, option_map, refl, sym, ap, subst, ◌∙◌}
+use Rattle.std.proofs.Common.{◌≡◌, ◌⊎◌, inl, inr, ℕ, ◌<◌, List, [], ◌∷◌, length, arith, take, All, Option, Some, None, Result, Ok, Err, IfErr, option_map, refl, sym, subst, ◌∙◌}
 use Rattle.std.proofs.lemmas.List.Elements.{All-contains}
 use Rattle.tlog_tiles.specs.declared.paths.Path.TheVariants.{Checkpoint}
 use Rattle.mirror_folders.specs.Shelf.{Put, RecordsRead}
-use Rattle.copy_places.specs.Candidates.{IsSame, note_of}
-use Rattle.copy_places.specs.Lines.{IsFirst, IsFirstOrListed, IsListed}
+use Rattle.copy_places.specs.Candidates.{note_of}
 use Rattle.copy_places.specs.declared.candidate.Candidate.{Candidate}
 use Rattle.copy_places.specs.declared.candidate_fault.CandidateFault.{CandidateFault}
 use Rattle.copy_places.specs.declared.candidate_fault.CandidateFault.TheVariants as none
 use Rattle.copy_follow.specs.Blame.{of_candidates}
 use Rattle.copy_follow.specs.Ending.{EndsRun, IsFaultOf, KeepsFault}
-use Rattle.copy_follow.specs.Looks.{EndsByLook, EndsLooking, EndsTurns, IsHeldOf, IsLookedAt}
+use Rattle.copy_follow.specs.Looks.{EndsByLook, EndsLooking, EndsTurns, IsHeldOf}
 use Rattle.copy_follow.specs.RunStanding.{IsFoundCopy}
 use Rattle.copy_follow.specs.TurnsTaken.{HasTakenRun, IsGrown, IsOneOf}
 use Rattle.copy_follow.specs.declared.follow_fault.FollowFault.{FollowFault}

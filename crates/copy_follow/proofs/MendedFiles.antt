@@ -6,8 +6,8 @@ use Rattle.std.proofs.Math.Nat.{div-eq_of_lt}
 use Rattle.tlog_shape.proofs.Levels.{level_positive}
 use Rattle.std.proofs.lemmas.Bool.{cases_eq, cases_lt}
 use Rattle.std.proofs.lemmas.Nat.{mul-le}
-use Rattle.std.proofs.lemmas.List.{append-nil, append_cancel_left, length-append}
-use Rattle.std.proofs.lemmas.List.Elements.{All-append, All-contains, All-nil, Contains-append_cases, Contains-append_left, Contains-append_right}
+use Rattle.std.proofs.lemmas.List.{append_cancel_left, length-append}
+use Rattle.std.proofs.lemmas.List.Elements.{All-contains, All-nil, Contains-append_cases, Contains-append_left, Contains-append_right}
 use Rattle.tlog_shape.specs.Edge.{edge_index_of, width_of}
 use Rattle.tlog_hash.specs.Rows.{level_row}
 use Rattle.tlog_hash.specs.Tree.{mth}
@@ -23,7 +23,6 @@ use Rattle.mirror_sources.specs.Honest.{true_bytes}
 use Rattle.mirror_sources.specs.Recorded.{AddsToRecord, KeepsRecord}
 use Rattle.mirror_folders.specs.Shelf.{HasPut, Put, RecordsRead, Stands}
 use Rattle.mirror_folders.specs.FileLaws.{IsWidestIn}
-use Rattle.mirror_folders.specs.Holding.{IsMoment}
 use Rattle.mirror_folders.proofs.AllFiles.{files_are_all}
 use Rattle.mirror_folders.proofs.Standing.{stands_more}
 use Rattle.log_reader.specs.EdgeRows.{Edge, HasWidths, LeadsTo, RowIsTrue, edge_tile, row_at}
@@ -33,11 +32,10 @@ use Rattle.mirror_model.specs.TrueLaws.{AreShort}
 use Rattle.copy_places.proofs.Prefixes.{level_row_front, within_more}
 use Rattle.copy_follow.specs.Edges.{IsEdgeBrought}
 use Rattle.copy_follow.specs.Growing.{IsBelow, IsKnown, IsNewFile, Obtains, empty_tip}
-use Rattle.copy_follow.specs.Moments.{InTheEnd}
-use Rattle.copy_follow.specs.Pruned.{HasGivenWay, IsPrunedCopy}
+use Rattle.copy_follow.specs.Pruned.{HasGivenWay}
 use Rattle.copy_follow.specs.Repaired.{AreEdgeTilesHad, GaveWay, HasCopy, HasLog, IsEachHad, IsEdgeTileHad, IsEndHad, IsRepaired, MendsEdgeTile, MendsEdgeTiles, PutsTrue, RecordsHad, RepairKeepsTrue}
 use Rattle.copy_follow.specs.Standing.{RecordsStands}
-use Rattle.copy_follow.proofs.Below.{below_within, records_earlier, stands_gathered}
+use Rattle.copy_follow.proofs.Below.{below_within, stands_gathered}
 use Rattle.copy_follow.proofs.EdgeRows.{above_within}
 use Rattle.copy_follow.proofs.Finishing.{IsUnder, full_under, partial_at}
 use Rattle.copy_follow.proofs.Growth.{gathers_keep, gathers_none, gathers_then, kept_adds, kept_same}

@@ -1,5 +1,5 @@
 -- Files mended one after another: how many were put, from where they were taken, and that they are true.
-use Rattle.std.proofs.Common.{◌≡◌, ◌≢◌, ◌⊎◌, ℕ, ◌+◌, ◌*◌, ◌^◌, ◌<◌, ◌≤◌, max, List, [], ◌∷◌, ◌++◌, length, All}
+use Rattle.std.proofs.Common.{◌≡◌, ◌≢◌, ◌⊎◌, ℕ, ◌+◌, ◌*◌, ◌^◌, ◌<◌, ◌≤◌, max, List, [], ◌∷◌, ◌++◌, length}
 use Rattle.std.proofs.Common.{inl, inr, Option, Some, None, refl, sym, ap, subst, ◌∙◌, arith, length-append}
 use Rattle.std.proofs.lemmas.Nat.{mul-le}
 use Rattle.std.proofs.lemmas.List.{length-map}
@@ -29,7 +29,7 @@ use Rattle.log_reader.proofs.TrueReads.{row_is_true}
 use Rattle.copy_places.proofs.Asking.{asks_then}
 use Rattle.copy_places.proofs.Giving.{given_before}
 use Rattle.copy_follow.specs.Growing.{IsKnown, IsNewFile, IsRowBrought, empty_tip}
-use Rattle.copy_follow.specs.Repaired.{AreFullsClear, AreLeafTilesClear, CountsPuts, GaveWay, IsClearLog, IsTreeClear, Mends, PutsTrue, RecordsHad}
+use Rattle.copy_follow.specs.Repaired.{AreFullsClear, AreLeafTilesClear, CountsPuts, IsClearLog, IsTreeClear, Mends, PutsTrue, RecordsHad}
 use Rattle.copy_follow.specs.Suffices.{IsTileHash, IsTileRow}
 use Rattle.copy_follow.specs.Taken.{FilesAreClear, IsLeafTile, IsRowClear, MayTake, PutsTaken, WasPut}
 use Rattle.copy_follow.proofs.Growth.{adds_then, gathers_none, kept_adds, kept_same}
@@ -260,11 +260,3 @@ had_way (Some xs) (Some ys) (Some zs) path bytes full part none kept read last b
   stands = subst (λ (l : List Put). Stands l (full_of path) full) (sym last) read;
   begins = begins;
 })
-
-pub had_kept : (a b c : Option (List Put)) (path : Path) (bytes : List ℕ) → RecordsHad a b path bytes → KeepsRecord b c →
-    RecordsHad a c path bytes
-had_kept None b c path bytes h kept = tt
-had_kept (Some xs) None c path bytes h kept = absurd h
-had_kept (Some xs) (Some ys) None path bytes h kept = absurd kept
-had_kept (Some xs) (Some ys) (Some zs) path bytes h kept =
-    subst (λ (l : List Put). Stands l path bytes ⊎ GaveWay l path bytes) (sym kept) h

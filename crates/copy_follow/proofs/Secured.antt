@@ -1,13 +1,13 @@
 -- The files that are flushed before the checkpoint, as a copy is brought.
-use Rattle.std.proofs.Common.{◌≡◌, ◌≢◌, ◌⊎◌, ℕ, ◌+◌, ◌-◌, ◌*◌, ◌/◌, ◌^◌, ◌<◌, ◌≤◌, List, Option, Result, Ok, Err, OnOk, length, refl, sym, ap, subst, ◌∙◌, arith, inl, inr}
+use Rattle.std.proofs.Common.{◌≡◌, ◌≢◌, ◌⊎◌, ℕ, ◌+◌, ◌-◌, ◌*◌, ◌/◌, ◌^◌, ◌<◌, ◌≤◌, List, Option, Result, Ok, Err, OnOk, refl, sym, ap, subst, ◌∙◌, arith, inl, inr}
 use Rattle.std.proofs.lemmas.Bool.{cases_lt}
 use Rattle.tlog_shape.specs.Edge.{width_of, edge_index_of}
 use Rattle.tlog_tiles.specs.declared.paths.Path.{Path}
 use Rattle.tlog_tiles.specs.declared.paths.Path.TheVariants.{Checkpoint, Tile, Entries}
 use Rattle.tlog_tiles.specs.Tiles.{IsWithin}
-use Rattle.mirror_folders.specs.FileLaws.{IsFileOf, IsWidestIn}
+use Rattle.mirror_folders.specs.FileLaws.{IsWidestIn}
 use Rattle.mirror_folders.specs.Flushes.{Flushes, FlushesAll, IsFlushedFirst, Secures}
-use Rattle.mirror_folders.proofs.Securing.{loses_none, secures_fewer, secures_join, secures_then, then_secures}
+use Rattle.mirror_folders.proofs.Securing.{loses_none, secures_fewer, secures_join, then_secures}
 use Rattle.copy_places.proofs.Prefixes.{within_more}
 use Rattle.copy_follow.specs.Growing.{IsBelow, Tip}
 use Rattle.copy_follow.specs.Secured.{IsLastBundle, IsNewBelow, IsNewFileOf, IsNewInEdge, IsNewInRow, IsNewLast, IsNewLastBelow}

@@ -4,17 +4,16 @@ use Rattle.std.specs.List.Sorted.{IsSorted}
 use Rattle.std.proofs.lemmas.Bool.{cases_lt}
 use Rattle.std.proofs.lemmas.List.{nil_from_length, take_all}
 use Rattle.std.proofs.lemmas.List.Elements.{All-append, All-contains, All-weaker, Contains-append_left, Contains-append_right, Contains-get_or}
-use Rattle.copy_places.specs.Lines.{AreLines, HasCandidate, HasSmallFirst, IsFirstOrListed, IsInLine, IsInSomeLine, KeepsLines}
+use Rattle.copy_places.specs.Lines.{AreLines, HasCandidate, HasSmallFirst, IsFirstOrListed, IsInSomeLine, KeepsLines}
 use Rattle.copy_places.specs.Candidates.{IsOnePoint, turn_cmp}
 use Rattle.copy_places.specs.Shown.{ShowsEach, ShowsLine}
 use Rattle.copy_places.specs.declared.candidate.Candidate.{Candidate}
 use Rattle.copy_places.specs.declared.fork_line.ForkLine.{ForkLine}
 use Rattle.copy_places.proofs.LineLists.{lines_kept}
-use Rattle.copy_places.proofs.Points.{one_back, one_of_same, one_then}
 use Rattle.copy_follow.specs.Lining.{AddsToCopy, AloneAreOne, HasEqual, HasLeft, IsBeside, IsEqualAbove, IsLeastOrIn}
 use Rattle.copy_follow.specs.Rule.{ExceedsCopy, FollowsRule, HasLine, HasOneRoot, IsEqualLine, IsLeastOf, IsLeft, IsOfCopy, copy_point}
 use Rattle.copy_follow.specs.Says.{AgreesWithCopy, IsBehind, IsUnderCopy, SettlesEach}
-use Rattle.copy_follow.specs.TurnsTaken.{HasTaken, IsAgreed, IsBeyond, IsLargerThan, IsLineOfRun, IsLineUpTo, IsOneOf, IsReported}
+use Rattle.copy_follow.specs.TurnsTaken.{HasTaken, IsAgreed, IsBeyond, IsLargerThan, IsLineOfRun, IsLineUpTo, IsOneOf}
 use Rattle.copy_follow.specs.declared.report.Followed.{Followed}
 use Rattle.copy_follow.proofs.Lining.{larger_than, lines_join, one_least}
 use Rattle.copy_follow.proofs.OfCopy.{of_end}

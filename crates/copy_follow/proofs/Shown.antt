@@ -5,10 +5,8 @@ use Rattle.tlog_proof.specs.declared.proof.Proof.{Proof}
 use Rattle.copy_places.specs.Shown.{AreFork, ShowsEach}
 use Rattle.copy_places.specs.declared.candidate.Candidate.{Candidate}
 use Rattle.copy_places.specs.declared.fork_line.ForkLine.{ForkLine}
-use Rattle.copy_follow.specs.Turning.{ShowsTurn}
 use Rattle.copy_follow.specs.declared.report.Followed.{Followed}
 use Rattle.copy_follow.specs.declared.run.Run.{Run}
-use Rattle.copy_follow.specs.declared.run.Outcome.{Outcome}
 
 module _ (digest : List ℕ → List ℕ) where
   -- a candidate of the copy's size or without entries, whose root is not the one that it has to have
@@ -24,11 +22,6 @@ module _ (digest : List ℕ → List ℕ) where
         let same : candidate.size.0 ≡ copy.size.0 = omega (arith, le, ge) in
         inr (inr (refl, sym same, λ e. other (sym e ∙ sym (as_copy same))))
   ]
-
-  -- the turn of a candidate if there is a copy
-  pub turn_beside : (copy : Option Candidate) (held candidate : Candidate) (t : Outcome) → copy ≡ Some held →
-      ShowsTurn digest (Some held) candidate t → ShowsTurn digest copy candidate t
-  turn_beside copy held candidate t is h = subst (λ o. ShowsTurn digest o candidate t) (sym is) h
 
   -- the lines of a report
   pub reported_forks : (run : Run) {E : Type 0} (r : Result Followed E) →

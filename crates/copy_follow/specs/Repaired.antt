@@ -7,7 +7,6 @@ use Rattle.tlog_tiles.specs.declared.paths.Path.{Path}
 use Rattle.tlog_tiles.specs.declared.paths.Path.TheVariants.{Checkpoint, Tile, Entries}
 use Rattle.tlog_tiles.specs.Bundle.{IsBundle}
 use Rattle.tlog_tiles.specs.Row.{IsRow}
-use Rattle.tlog_tiles.specs.Tiles.{IsWithin}
 use Rattle.node_store.specs.Strings.{NoClash}
 use Rattle.mirror_model.specs.Heads.{IsHead}
 use Rattle.mirror_sources.specs.Files.{full_of, width_named}

@@ -1,5 +1,5 @@
 -- The facts about the candidates that had their turn.
-use Rattle.std.specs.Prelude.{◌≡◌, ◌≢◌, ◌⊎◌, ℕ, ◌-◌, ◌<◌, ◌≤◌, List, [], ◌∷◌, ◌++◌, All, Contains, IfSome, Option, None, Some, ⊤, slice_index_or}
+use Rattle.std.specs.Prelude.{◌≡◌, ◌≢◌, ◌⊎◌, ℕ, ◌-◌, ◌<◌, ◌≤◌, List, [], ◌∷◌, ◌++◌, All, IfSome, Option, None, Some, ⊤, slice_index_or}
 use Rattle.copy_places.specs.Agreeing.{Agrees}
 use Rattle.copy_places.specs.Candidates.{IsOnePoint, IsSame, note_of, point_of}
 use Rattle.copy_places.specs.Adding.{AddsFork}

@@ -2,8 +2,6 @@ use Rattle.std.proofs.Common.{Some, arith}
 use Rattle.copy_places.specs.Lines.{IsInSomeLine}
 use Rattle.copy_places.proofs.Requests.{any_same}
 use Rattle.copy_follow.specs.Told.{HasReason}
-use Rattle.copy_follow.proofs.Looked.{counts_later}
-use Rattle.copy_follow.proofs.Looking.{adds_turn}
 use Rattle.copy_follow.proofs.Telling.{shown_or}
 use Rattle.copy_follow.proofs.again.look_at.Goals as goal
 

@@ -1,7 +1,6 @@
 use Rattle.std.proofs.Common.{Some, arith, refl, sym, ◌∙◌}
 use Rattle.log_reader.proofs.Kept.{kept_once, kept_twice}
 use Rattle.copy_places.proofs.Requests.{any_same, any_then}
-use Rattle.copy_follow.proofs.Looked.{counts_later}
 use Rattle.copy_follow.proofs.Looking.{adds_none, adds_then}
 use Rattle.copy_follow.proofs.Telling.{told_step}
 use Rattle.copy_follow.proofs.again.look_each.Goals as goal

@@ -1,7 +1,5 @@
-use Rattle.std.proofs.Common.{arith, subst, sym, []}
-use Rattle.std.proofs.lemmas.List.Elements.{Contains-get_or}
-use Rattle.copy_follow.specs.Lining.{AddsEqual}
-use Rattle.copy_follow.proofs.Lining.{equal_all, equal_first, equal_then}
+use Rattle.std.proofs.Common.{arith, []}
+use Rattle.copy_follow.proofs.Lining.{equal_all, equal_then}
 use Rattle.copy_follow.proofs.lines.equal_lines.Goals as goal
 
 pub loop-candidate-preserved : goal.loop-candidate-preserved

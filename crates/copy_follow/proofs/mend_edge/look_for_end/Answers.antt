@@ -1,6 +1,5 @@
-use Rattle.std.proofs.Common.{refl, inr, subst, sym, length}
+use Rattle.std.proofs.Common.{refl, inr, subst, length}
 use Rattle.tlog_shape.specs.Edge.{edge_index_of}
-use Rattle.tlog_tiles.specs.declared.paths.Path.TheVariants.{Entries}
 use Rattle.copy_places.specs.Asked.{IsPathOrFull}
 use Rattle.copy_places.specs.Giving.{MayGive}
 use Rattle.copy_places.proofs.Asking.{asks_same, asks_then, asks_weaker}

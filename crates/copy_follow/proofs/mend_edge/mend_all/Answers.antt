@@ -1,4 +1,4 @@
-use Rattle.std.proofs.Common.{[], List, ℕ, ◌∙◌, inl, inr, refl, sym, ◌<◌, ◌≤◌, length, subst, arith}
+use Rattle.std.proofs.Common.{[], ℕ, ◌∙◌, inl, inr, refl, sym, ◌<◌, ◌≤◌, length, subst, arith}
 use Rattle.copy_places.proofs.Asking.{asks_then, asks_weaker}
 use Rattle.copy_follow.specs.Growing.{empty_tip}
 use Rattle.copy_follow.specs.Repaired.{IsFullFile, IsOfEdge, MayBeAskedToRepair, RecordsHad}

@@ -1,7 +1,7 @@
-use Rattle.std.proofs.Common.{◌∙◌, subst, sym, length}
+use Rattle.std.proofs.Common.{◌∙◌, length}
 use Rattle.tlog_hash.specs.Tree.{mth}
 use Rattle.mirror_model.proofs.HeadNotes.{head_once}
-use Rattle.copy_follow.specs.Repaired.{AsksFiles, AsksNothing, IsClearLog, MayBeAskedToRepair}
+use Rattle.copy_follow.specs.Repaired.{AsksFiles, AsksNothing, MayBeAskedToRepair}
 use Rattle.copy_follow.specs.Taken.{MayTake}
 use Rattle.copy_follow.proofs.Begun.{asks_begun, begun_then}
 use Rattle.copy_follow.proofs.Cuts.{clear_weaker, taken_begun}

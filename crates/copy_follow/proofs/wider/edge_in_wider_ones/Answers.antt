@@ -1,8 +1,7 @@
-use Rattle.std.proofs.Common.{rules, ◌≡◌, ◌<◌, length, sym, subst, arith}
+use Rattle.std.proofs.Common.{◌≡◌, ◌<◌}
 use Rattle.copy_places.proofs.Asking.{asks_same, asks_then}
 use Rattle.copy_places.specs.Giving.{MayGive}
 use Rattle.copy_places.proofs.Giving.{given_before}
-use Rattle.tlog_shape.specs.Edge.{edge_index_of}
 use Rattle.copy_follow.specs.Repaired.{IsOfEdge}
 use Rattle.copy_follow.proofs.Cuts.{edge_weaker}
 use Rattle.copy_follow.proofs.wider.edge_in_wider_ones.Goals as goal

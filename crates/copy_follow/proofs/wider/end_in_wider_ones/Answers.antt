@@ -1,4 +1,4 @@
-use Rattle.std.proofs.Common.{rules, ◌≡◌, ◌<◌, length, sym, subst, arith}
+use Rattle.std.proofs.Common.{◌≡◌, ◌<◌}
 use Rattle.copy_places.proofs.Asking.{asks_same, asks_then}
 use Rattle.copy_places.specs.Giving.{MayGive}
 use Rattle.copy_places.proofs.Giving.{given_before}
