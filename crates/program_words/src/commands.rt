@@ -20,7 +20,7 @@ pub mod take;
 use crate::parts::{CopyArgs, StateArgs};
 
 /// The version of the program, for `-V` and `--version`.
-pub const VERSION: &str = "0.9.0";
+pub const VERSION: &str = "0.9.1";
 
 /// The help of the program, for `-h` and `--help`.
 pub const PROGRAM: &str = "\
