@@ -1,7 +1,7 @@
 //! A folder as a source.
-ghost use Rattle.std.specs.Prelude.{◌≡◌, IfOk, option_map};
+ghost use Rattle.std.specs.Prelude.{◌≡◌, IfOk, None, option_map};
 ghost use Rattle.mirror_folders.specs.Places.{longest_file};
-ghost use Rattle.mirror_sources.specs.Source.{CountsGet, IsShortAnswer};
+ghost use Rattle.mirror_sources.specs.Source.{CountsGet, IsShortAnswer, RecordsGet, StaysWithin};
 
 use crate::failed::FailedFile;
 use crate::place::count_failure;
@@ -73,6 +73,9 @@ impl<'a, R: Files> Source for DirSource<'a, R> {
     fn get(&mut self, path: &Path) -> Result<Option<Vec<u8>>, SourceFault>
         ensures answer { IfOk result
             (λ bytes. IsShortAnswer longest_file (option_map (λ v. v.items) bytes)) }
+        ensures later { StaysWithin (λ _ answer. IsShortAnswer longest_file answer)
+            (λ _ answer. IsShortAnswer longest_file answer) }
+        ensures recorded { RecordsGet None None path.now result }
         ensures counted { CountsGet self.old.failures self.new.failures result }
         ensures folder { self.new.folder ≡ self.old.folder }
     {
