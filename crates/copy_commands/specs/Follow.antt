@@ -1,19 +1,19 @@
 -- The command `follow`: the meaning of each answer for the places, the given note, the folder of the copy, the output and the evidence.
-use Rattle.std.specs.Prelude.{◌≡◌, ◌⊎◌, ℕ, List, [], Option, None, Result, Ok, Err, IsFalse, IsTrue, map, option_map, ⊤}
+use Rattle.std.specs.Prelude.{◌≡◌, ◌⊎◌, ℕ, List, [], Option, Result, Ok, Err, IsFalse, IsTrue, option_map}
 use Rattle.signed_note.specs.Keys.{Key}
 use Rattle.tlog_tiles.specs.declared.paths.Path.{Path}
 use Rattle.copy_places.specs.declared.places.Places.{Places}
 use Rattle.copy_follow.specs.declared.repaired.Repaired.{Repaired}
 use Rattle.program_words.specs.declared.commands.follow.Follow.{Follow as FollowWords}
 use Rattle.program_copies.specs.Following.{RunsFollow}
-use Rattle.program_copies.specs.Places.{MayAnswerAny, SeenPlace}
 use Rattle.program_copies.specs.Repairing.{RunsRepair}
 use Rattle.program_copies.specs.declared.follow_fault.FollowRunFault.{FollowRunFault}
 use Rattle.program_copies.specs.declared.repair_fault.RepairRunFault.{RepairRunFault}
 use Rattle.program_io.specs.Moment.{Moment}
 use Rattle.program_io.specs.Origins.{RefusesOrigin}
 use Rattle.program_io.specs.Performing.{DoesNothing}
-use Rattle.copy_commands.specs.Places.{name_of, names_of}
+use Rattle.program_io.specs.Places.{World}
+use Rattle.copy_commands.specs.Places.{ArePlacesOf}
 use Rattle.copy_commands.specs.declared.place_fault.PlaceRunFault.{PlaceRunFault}
 use Rattle.copy_commands.specs.declared.place_fault.PlaceRunFault.TheVariants.{Follow, OutOfMemory, Origin, Repair}
 
@@ -49,13 +49,12 @@ module _ (digest : List ℕ → List ℕ) {S : Type 0} (may : S → Path → Opt
   AnswersAmong c (Err (Repair fault)) = IsTrue c.repair × RepairsAmong c (Err fault)
   AnswersAmong c (Err other) = ⊥
 
-module _ (digest : List ℕ → List ℕ) (keys : List Key) (old new : Moment) where
-  -- the places that the words name were followed, each and in their order, with this answer. A place of the system may answer anything, and
-  -- records nothing but its failures
+module _ (world : World) (digest : List ℕ → List ℕ) (keys : List Key) (old new : Moment) where
+  -- the places that the words name, each of them and in order, were followed with this answer
   pub record FollowsOne (c : FollowWords) (answer : Result ℕ PlaceRunFault) : Type 0 where
-    pub places : Places SeenPlace
-    pub named : names_of places ≡ map name_of c.places.items
-    pub among : AnswersAmong digest MayAnswerAny (λ place. place.failures) (λ place. None) keys old new places c answer
+    pub places : Places world.Place
+    pub are : ArePlacesOf world.at c.places.items places.list.items
+    pub among : AnswersAmong digest world.may world.failed world.asked keys old new places c answer
 
   abbrev pub DoesFollow : FollowWords → Result ℕ PlaceRunFault → Type 0
   DoesFollow c (Ok status) = FollowsOne c (Ok status)

@@ -15,8 +15,8 @@ use tlog_proof::Ask;
 use tlog_tiles::Path;
 
 /// The answer of a command from the answer of a reporter on a copy. For a proof request, the reason can name its numbers.
-pub(crate) fn asked<R, F: RunFiles, D: RunFolders, I, O, E>(
-    env: &Env<'_, '_, '_, '_, R, F, D, I, O, E>,
+pub(crate) fn asked<R, F: RunFiles, D: RunFolders, P, I, O, E>(
+    env: &Env<'_, '_, '_, '_, R, F, D, P, I, O, E>,
     copy: &CopyArgs<'_>,
     ask: Option<Ask>,
     answer: Result<u8, CopyAskFault>,
@@ -33,8 +33,8 @@ pub(crate) fn asked<R, F: RunFiles, D: RunFolders, I, O, E>(
     }
 }
 
-fn why_of<R, F: RunFiles, D: RunFolders, I, O, E>(
-    env: &Env<'_, '_, '_, '_, R, F, D, I, O, E>,
+fn why_of<R, F: RunFiles, D: RunFolders, P, I, O, E>(
+    env: &Env<'_, '_, '_, '_, R, F, D, P, I, O, E>,
     copy: &CopyArgs<'_>,
     ask: Option<Ask>,
     fault: CopyAskFault,
@@ -57,8 +57,8 @@ fn why_of<R, F: RunFiles, D: RunFolders, I, O, E>(
 }
 
 // The thing that a fault of a copy is about: the origin, or a file of its folder.
-fn why_of_copy<R, F: RunFiles, D: RunFolders, I, O, E>(
-    env: &Env<'_, '_, '_, '_, R, F, D, I, O, E>,
+fn why_of_copy<R, F: RunFiles, D: RunFolders, P, I, O, E>(
+    env: &Env<'_, '_, '_, '_, R, F, D, P, I, O, E>,
     folder: &str,
     fault: CopyFault,
 ) -> Option<Why> {

@@ -2,32 +2,27 @@
 ghost use Rattle.std.specs.Prelude.{◌≡◌, map};
 ghost use Rattle.std.specs.Result.{result_map_both};
 ghost use Rattle.sha2.specs.Sha256.{sha256};
-ghost use Rattle.program_io.specs.Envs.{IsSameEnv, moment};
+ghost use Rattle.program_io.specs.Envs.{IsSameEnv, moment, world};
 ghost use Rattle.program_io.specs.Performing.{Stays, Performs};
 ghost use Rattle.copy_commands.specs.PlaceFaults.{IsLate};
 ghost use Rattle.copy_commands.specs.Audit.{AnswersPlace, DoesAudit};
-ghost use Rattle.copy_commands.specs.Places.{name_of};
 ghost use Rattle.program_copies.specs.Audits.{BlamesRun, RunsAudit};
 
-use crate::any::{FailingPlace, watched};
 use crate::place_fault::{PlaceError, PlaceRunFault};
-use crate::places::source_of;
 use copy_reader::AuditFault;
 use mirror_sources::Source;
 use program_copies::{AuditRunFault, run_audit};
 use program_io::places::{of_edge, of_file, of_refused, of_source, place_name};
 use program_io::why::{Why, of_origin};
 use program_io::{
-    CountingSource, Env, Failing, Progress, RunFiles, RunFolders, StandardError, Task,
-    WatchedSource, check_origin, print_waited,
+    CountingSource, Env, Failing, Progress, RunFiles, RunFolders, RunPlaces, StandardError, Task,
+    WatchedPlace, WatchedSource, check_origin, print_waited,
 };
 use program_words::Place;
 use program_words::commands::audit::Audit;
 use signed_note::Verifier;
 use std::alloc::Global;
-use std::fs::Files;
 use std::io::{Read, Write};
-use std::net::{Net, TcpStream};
 use std::rt::Clock;
 use tlog_hash::Sha256Tree;
 use tlog_tiles::Path;
@@ -37,34 +32,17 @@ use tlog_tiles::Path;
 /// # Errors
 ///
 /// `BadOrigin` before anything is read; then those of `run_audit`.
-pub fn run<R, F: RunFiles, D: RunFolders, I: Read, O: Write, E: Write>(
-    env: &mut Env<'_, '_, '_, '_, R, F, D, I, O, E>,
+pub fn run<R, F: RunFiles, D: RunFolders, P: RunPlaces, I: Read, O: Write, E: Write>(
+    env: &mut Env<'_, '_, '_, '_, R, F, D, P, I, O, E>,
     keys: &[Box<dyn Verifier>],
     audit: &Audit<'_>,
 ) -> Result<u8, PlaceError>
 where
-    R: Files + Clock + Eprint + Net<Stream = TcpStream>,
+    R: Clock + Eprint,
     ensures same { IsSameEnv env.old env.new }
-    ensures does { Performs DoesAudit IsLate Stays sha256 (map (λ k. key k) keys.now)
-        (moment F.puts D.held D.puts I.remaining O.contents env.old)
-        (moment F.puts D.held D.puts I.remaining O.contents env.new) audit.now result }
-{
-    let net = env.rt;
-    audit_over(env, keys, audit, net)
-}
-
-// The same over this net.
-fn audit_over<R, F: RunFiles, D: RunFolders, I: Read, O: Write, E: Write, N>(
-    env: &mut Env<'_, '_, '_, '_, R, F, D, I, O, E>,
-    keys: &[Box<dyn Verifier>],
-    audit: &Audit<'_>,
-    net: N,
-) -> Result<u8, PlaceError>
-where
-    R: Files + Clock + Eprint,
-    N: Net<Stream = TcpStream> + Clock + Clone + Drop,
-    ensures same { IsSameEnv env.old env.new }
-    ensures does { Performs DoesAudit IsLate Stays sha256 (map (λ k. key k) keys.now)
+    ensures does { Performs
+        (DoesAudit (world P.at P.Place.may_answer P.Place.asked P.Place.failed env.old)) IsLate
+        Stays sha256 (map (λ k. key k) keys.now)
         (moment F.puts D.held D.puts I.remaining O.contents env.old)
         (moment F.puts D.held D.puts I.remaining O.contents env.new) audit.now result }
 {
@@ -75,30 +53,30 @@ where
             return Err(PlaceError::new(PlaceRunFault::Origin(fault), why));
         }
     }
-    match source_of(env.rt, &net, env.alloc, &audit.place, audit.pace) {
+    match env.places.open(env.alloc, &audit.place, audit.pace) {
         Ok(source) => audit_any(env, keys, audit, source),
         Err(_) => Err(PlaceError::new(PlaceRunFault::OutOfMemory, None)),
     }
 }
 
-// Audits the place of that source, which has to be the place of the words.
-fn audit_any<R, F: RunFiles, D: RunFolders, I: Read, O: Write, E: Write, S: FailingPlace + Drop>(
-    env: &mut Env<'_, '_, '_, '_, R, F, D, I, O, E>,
+// Audits that place.
+fn audit_any<R, F: RunFiles, D: RunFolders, P, I: Read, O: Write, E: Write, S>(
+    env: &mut Env<'_, '_, '_, '_, R, F, D, P, I, O, E>,
     keys: &[Box<dyn Verifier>],
     audit: &Audit<'_>,
     source: S,
 ) -> Result<u8, PlaceError>
 where
     R: Clock + Eprint,
+    S: WatchedPlace + Failing + Drop,
     ensures same { IsSameEnv env.old env.new }
     ensures stays { Stays (moment F.puts D.held D.puts I.remaining O.contents env.old)
         (moment F.puts D.held D.puts I.remaining O.contents env.new) }
-    ensures does { S.name source ≡ name_of audit.now.place
-        → AnswersPlace sha256 S.name S.may_answer S.asked S.failed (map (λ k. key k) keys.now)
+    ensures does { AnswersPlace sha256 S.may_answer S.asked S.failed (map (λ k. key k) keys.now)
         (moment F.puts D.held D.puts I.remaining O.contents env.old)
         (moment F.puts D.held D.puts I.remaining O.contents env.new) source audit.now result }
 {
-    let source = watched(env.alloc, source);
+    let source = WatchedSource::new(env.alloc, source);
     let (answer, source) = audit_source(env.rt, env.alloc, audit, keys, source, env.output);
     write_waited(env.alloc, audit, source.source.waited(), env.errors);
     audited(env.alloc, audit, source, answer)

@@ -16,8 +16,8 @@ use std::io::{Read, Write};
 /// # Errors
 ///
 /// Those of `run_check`.
-pub fn run<R, F: RunFiles, D: RunFolders, I: Read, O: Write, E: Write>(
-    env: &mut Env<'_, '_, '_, '_, R, F, D, I, O, E>,
+pub fn run<R, F: RunFiles, D: RunFolders, P, I: Read, O: Write, E: Write>(
+    env: &mut Env<'_, '_, '_, '_, R, F, D, P, I, O, E>,
     keys: &[Box<dyn Verifier>],
 ) -> Result<u8, ReportError>
     ensures same { IsSameEnv env.old env.new }

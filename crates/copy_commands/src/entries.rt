@@ -23,8 +23,8 @@ use tlog_hash::Sha256Tree;
 /// # Errors
 ///
 /// `BadOrigin` before anything is read; then those of `entries_of_copy`.
-pub fn run<R, F: RunFiles, D: RunFolders, I: Read, O: Write, E: Write>(
-    env: &mut Env<'_, '_, '_, '_, R, F, D, I, O, E>,
+pub fn run<R, F: RunFiles, D: RunFolders, P, I: Read, O: Write, E: Write>(
+    env: &mut Env<'_, '_, '_, '_, R, F, D, P, I, O, E>,
     keys: &[Box<dyn Verifier>],
     entries: &CopyEntries<'_>,
 ) -> Result<u8, ReportError>
@@ -53,8 +53,8 @@ pub fn run<R, F: RunFiles, D: RunFolders, I: Read, O: Write, E: Write>(
 }
 
 // The answer of the command from the answer of the writer.
-fn written<R, F: RunFiles, D: RunFolders, I, O, E>(
-    env: &Env<'_, '_, '_, '_, R, F, D, I, O, E>,
+fn written<R, F: RunFiles, D: RunFolders, P, I, O, E>(
+    env: &Env<'_, '_, '_, '_, R, F, D, P, I, O, E>,
     entries: &CopyEntries<'_>,
     answer: Result<(), CopyEntriesFault>,
 ) -> Result<u8, ReportError>
@@ -69,8 +69,8 @@ fn written<R, F: RunFiles, D: RunFolders, I, O, E>(
     }
 }
 
-fn why_of<R, F: RunFiles, D: RunFolders, I, O, E>(
-    env: &Env<'_, '_, '_, '_, R, F, D, I, O, E>,
+fn why_of<R, F: RunFiles, D: RunFolders, P, I, O, E>(
+    env: &Env<'_, '_, '_, '_, R, F, D, P, I, O, E>,
     entries: &CopyEntries<'_>,
     fault: CopyEntriesFault,
 ) -> Option<Why> {

@@ -2,7 +2,7 @@
 ghost use Rattle.std.specs.Prelude.{[], ◌≡◌, map};
 ghost use Rattle.std.specs.Result.{result_map_both};
 ghost use Rattle.sha2.specs.Sha256.{sha256};
-ghost use Rattle.program_io.specs.Envs.{IsSameEnv, moment};
+ghost use Rattle.program_io.specs.Envs.{IsSameEnv, moment, world};
 ghost use Rattle.program_io.specs.Performing.{MayLeave, Performs};
 ghost use Rattle.copy_commands.specs.PlaceFaults.{IsLate};
 ghost use Rattle.copy_commands.specs.Follow.{AnswersAmong, DoesFollow};
@@ -13,13 +13,14 @@ use copy_follow::{BringFault, FollowFault, Repaired};
 use copy_places::{ForkLine, Places};
 use mirror_sources::Source;
 use program_copies::{
-    FollowRunFault, Following, Hold, RepairFault, RepairRunFault, SystemHold, WatchedPlace,
-    follow_why, run_follow, run_repair,
+    FollowRunFault, Following, Hold, RepairFault, RepairRunFault, SystemHold, follow_why,
+    run_follow, run_repair,
 };
 use program_io::served::of_note;
 use program_io::why::{FailedStreams, Why, of_folder, of_named, of_origin, print_why};
 use program_io::{
-    Env, RunFiles, RunFolders, Task, check_origin, print_waited, system_reason, write_front,
+    Env, RunFiles, RunFolders, RunPlaces, Task, WatchedPlace, check_origin, print_waited,
+    system_reason, write_front,
 };
 use program_words::commands::follow::Follow;
 use signed_note::Verifier;
@@ -27,8 +28,6 @@ use std::alloc::Global;
 use std::fs::{File, Files};
 use std::io;
 use std::io::{Read, Write};
-use std::net::{Net, TcpStream};
-use std::rt::Clock;
 use tlog_hash::Sha256Tree;
 use tlog_tiles::Path;
 
@@ -39,34 +38,17 @@ use tlog_tiles::Path;
 /// # Errors
 ///
 /// `BadOrigin` before anything is read; then those of `run_follow`, or of `run_repair` with `--repair`.
-pub fn run<R, F: RunFiles, D: RunFolders, I: Read, O: Write, E: Write>(
-    env: &mut Env<'_, '_, '_, '_, R, F, D, I, O, E>,
+pub fn run<R, F: RunFiles, D: RunFolders, P: RunPlaces, I: Read, O: Write, E: Write>(
+    env: &mut Env<'_, '_, '_, '_, R, F, D, P, I, O, E>,
     keys: &[Box<dyn Verifier>],
     follow: &Follow<'_>,
-) -> Result<u8, PlaceError>
-where
-    R: Files<File = File> + Clock + Net<Stream = TcpStream>,
-    ensures same { IsSameEnv env.old env.new }
-    ensures does { Performs DoesFollow IsLate MayLeave sha256 (map (λ k. key k) keys.now)
-        (moment F.puts D.held D.puts I.remaining O.contents env.old)
-        (moment F.puts D.held D.puts I.remaining O.contents env.new) follow.now result }
-{
-    let net = env.rt;
-    follow_over(env, keys, follow, net)
-}
-
-// The same over this net.
-fn follow_over<R, F: RunFiles, D: RunFolders, I: Read, O: Write, E: Write, N>(
-    env: &mut Env<'_, '_, '_, '_, R, F, D, I, O, E>,
-    keys: &[Box<dyn Verifier>],
-    follow: &Follow<'_>,
-    net: N,
 ) -> Result<u8, PlaceError>
 where
     R: Files<File = File>,
-    N: Net<Stream = TcpStream> + Clock + Clone + Drop,
     ensures same { IsSameEnv env.old env.new }
-    ensures does { Performs DoesFollow IsLate MayLeave sha256 (map (λ k. key k) keys.now)
+    ensures does { Performs
+        (DoesFollow (world P.at P.Place.may_answer P.Place.asked P.Place.failed env.old)) IsLate
+        MayLeave sha256 (map (λ k. key k) keys.now)
         (moment F.puts D.held D.puts I.remaining O.contents env.old)
         (moment F.puts D.held D.puts I.remaining O.contents env.new) follow.now result }
 {
@@ -77,15 +59,24 @@ where
             return Err(PlaceError::new(PlaceRunFault::Origin(fault), why));
         }
     }
-    match places_of(env.rt, &net, env.alloc, &follow.places, follow.pace) {
+    match places_of(&env.places, env.alloc, &follow.places, follow.pace) {
         Ok(places) => follow_among(env, keys, follow, places),
         Err(_) => Err(PlaceError::new(PlaceRunFault::OutOfMemory, None)),
     }
 }
 
 // Follows these places.
-fn follow_among<R, F: RunFiles, D: RunFolders, I: Read, O: Write, E: Write, S: WatchedPlace + Drop>(
-    env: &mut Env<'_, '_, '_, '_, R, F, D, I, O, E>,
+fn follow_among<
+    R,
+    F: RunFiles,
+    D: RunFolders,
+    P,
+    I: Read,
+    O: Write,
+    E: Write,
+    S: WatchedPlace + Drop,
+>(
+    env: &mut Env<'_, '_, '_, '_, R, F, D, P, I, O, E>,
     keys: &[Box<dyn Verifier>],
     follow: &Follow<'_>,
     mut places: Places<S>,
@@ -132,13 +123,14 @@ fn repair_or_follow<
     R,
     F: RunFiles,
     D: RunFolders,
+    P,
     I: Read,
     O: Write,
     E: Write,
     S: Source + Drop,
     L: Hold,
 >(
-    env: &mut Env<'_, '_, '_, '_, R, F, D, I, O, E>,
+    env: &mut Env<'_, '_, '_, '_, R, F, D, P, I, O, E>,
     keys: &[Box<dyn Verifier>],
     follow: &Follow<'_>,
     places: &mut Places<S>,
@@ -205,8 +197,8 @@ fn lacked_of<S: Source + Drop>(places: Places<S>, repaired: &Repaired) -> Option
 }
 
 // The answer of the command, with the thing that a fault is about.
-fn followed<R, F: RunFiles, D: RunFolders, I, O, E>(
-    env: &Env<'_, '_, '_, '_, R, F, D, I, O, E>,
+fn followed<R, F: RunFiles, D: RunFolders, P, I, O, E>(
+    env: &Env<'_, '_, '_, '_, R, F, D, P, I, O, E>,
     follow: &Follow<'_>,
     lacked: Option<Path>,
     answer: Result<u8, PlaceRunFault>,
@@ -223,8 +215,8 @@ fn followed<R, F: RunFiles, D: RunFolders, I, O, E>(
 }
 
 // The thing that a fault is about.
-fn why_of<R, F: RunFiles, D: RunFolders, I, O, E>(
-    env: &Env<'_, '_, '_, '_, R, F, D, I, O, E>,
+fn why_of<R, F: RunFiles, D: RunFolders, P, I, O, E>(
+    env: &Env<'_, '_, '_, '_, R, F, D, P, I, O, E>,
     follow: &Follow<'_>,
     lacked: Option<Path>,
     fault: &PlaceRunFault,
@@ -237,8 +229,8 @@ fn why_of<R, F: RunFiles, D: RunFolders, I, O, E>(
 }
 
 // The thing that a fault of a run with a repair is about.
-fn why_of_repair<R, F: RunFiles, D: RunFolders, I, O, E>(
-    env: &Env<'_, '_, '_, '_, R, F, D, I, O, E>,
+fn why_of_repair<R, F: RunFiles, D: RunFolders, P, I, O, E>(
+    env: &Env<'_, '_, '_, '_, R, F, D, P, I, O, E>,
     follow: &Follow<'_>,
     lacked: Option<Path>,
     fault: RepairRunFault,
@@ -255,8 +247,8 @@ fn why_of_repair<R, F: RunFiles, D: RunFolders, I, O, E>(
 }
 
 // The thing that a fault of the repair is about: a file of the folder, or the folder.
-fn why_of_unrepaired<R, F: RunFiles, D: RunFolders, I, O, E>(
-    env: &Env<'_, '_, '_, '_, R, F, D, I, O, E>,
+fn why_of_unrepaired<R, F: RunFiles, D: RunFolders, P, I, O, E>(
+    env: &Env<'_, '_, '_, '_, R, F, D, P, I, O, E>,
     follow: &Follow<'_>,
     lacked: Option<Path>,
     fault: RepairFault,
@@ -279,8 +271,8 @@ fn why_of_unrepaired<R, F: RunFiles, D: RunFolders, I, O, E>(
 }
 
 // The thing that a fault of a run is about: a named file, the given note, a file of the folder, or the folder.
-fn why_of_run<R, F: RunFiles, D: RunFolders, I, O, E>(
-    env: &Env<'_, '_, '_, '_, R, F, D, I, O, E>,
+fn why_of_run<R, F: RunFiles, D: RunFolders, P, I, O, E>(
+    env: &Env<'_, '_, '_, '_, R, F, D, P, I, O, E>,
     follow: &Follow<'_>,
     lacked: Option<Path>,
     fault: FollowRunFault,
@@ -300,8 +292,8 @@ fn why_of_run<R, F: RunFiles, D: RunFolders, I, O, E>(
 }
 
 // The thing that a fault of the copy or of its places is about.
-fn why_of_copy<R, F: RunFiles, D: RunFolders, I, O, E>(
-    env: &Env<'_, '_, '_, '_, R, F, D, I, O, E>,
+fn why_of_copy<R, F: RunFiles, D: RunFolders, P, I, O, E>(
+    env: &Env<'_, '_, '_, '_, R, F, D, P, I, O, E>,
     folder: &str,
     lacked: Option<Path>,
     fault: FollowFault,

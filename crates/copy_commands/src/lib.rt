@@ -5,7 +5,6 @@
 //! ```
 #![tactic(auto)]
 
-mod any;
 mod asking;
 mod audit;
 mod check;

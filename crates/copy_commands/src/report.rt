@@ -22,8 +22,8 @@ use std::rt::Clock;
 /// # Errors
 ///
 /// Those of the command, each with the thing that it is about. After a late one (`IsLate`) text may have been written.
-pub fn run_report<R, F: RunFiles, D: RunFolders, I: Read, O: Write, E: Write>(
-    env: &mut Env<'_, '_, '_, '_, R, F, D, I, O, E>,
+pub fn run_report<R, F: RunFiles, D: RunFolders, P, I: Read, O: Write, E: Write>(
+    env: &mut Env<'_, '_, '_, '_, R, F, D, P, I, O, E>,
     keys: &[Box<dyn Verifier>],
     command: &ReportCommand<'_>,
 ) -> Result<u8, ReportError>

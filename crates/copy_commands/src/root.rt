@@ -18,8 +18,8 @@ use tlog_hash::Sha256Tree;
 /// # Errors
 ///
 /// Those of `run_root`.
-pub fn run<R, F: RunFiles, D: RunFolders, I: Read, O: Write, E: Write>(
-    env: &mut Env<'_, '_, '_, '_, R, F, D, I, O, E>,
+pub fn run<R, F: RunFiles, D: RunFolders, P, I: Read, O: Write, E: Write>(
+    env: &mut Env<'_, '_, '_, '_, R, F, D, P, I, O, E>,
     keys: &[Box<dyn Verifier>],
     root: &Root,
 ) -> Result<u8, ReportError>

@@ -43,8 +43,8 @@ use tlog_hash::Sha256Tree;
 /// - `PortFault` if the port cannot be opened;
 /// - `WriteFault` if the line with the port cannot be written;
 /// - `PortFault` if a connection cannot be accepted.
-pub fn run<R, F: RunFiles, D: RunFolders, I: Read, O: Write, E: Write>(
-    env: &mut Env<'_, '_, '_, '_, R, F, D, I, O, E>,
+pub fn run<R, F: RunFiles, D: RunFolders, P, I: Read, O: Write, E: Write>(
+    env: &mut Env<'_, '_, '_, '_, R, F, D, P, I, O, E>,
     keys: &[Box<dyn Verifier>],
     serve: &CopyServe<'_>,
 ) -> Result<u8, ReportError>

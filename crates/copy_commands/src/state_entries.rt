@@ -25,8 +25,8 @@ use tlog_mirror::Mirror;
 /// # Errors
 ///
 /// In this order: those of `open_state`, and those of `entries_of_state`.
-pub fn run<R, F: RunFiles, D: RunFolders, I: Read, O: Write, E: Write>(
-    env: &mut Env<'_, '_, '_, '_, R, F, D, I, O, E>,
+pub fn run<R, F: RunFiles, D: RunFolders, P, I: Read, O: Write, E: Write>(
+    env: &mut Env<'_, '_, '_, '_, R, F, D, P, I, O, E>,
     keys: &[Box<dyn Verifier>],
     entries: &Entries<'_>,
 ) -> Result<u8, ReportError>

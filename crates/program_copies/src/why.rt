@@ -3,14 +3,13 @@ ghost use Rattle.std.specs.Prelude.{IfOk, OnOk, string_bytes};
 ghost use Rattle.program_io.specs.FileWhy.{IsWhyLine};
 ghost use Rattle.program_copies.specs.Whys.{AreWhyLines};
 
-use crate::place::{Answered, FailedAt, WatchedPlace};
 use base64::engine::general_purpose::STANDARD;
 use copy_places::{ForkLine, Place, Places, Wrong, WrongFile};
 use log_reader::open_head;
 use mirror_client::Reason;
 use mirror_folders::{DamagedFile, ReadableShelf};
 use mirror_model::TakeFault;
-use program_io::{system_reason, why_line};
+use program_io::{Answered, FailedAt, WatchedPlace, system_reason, why_line};
 use signed_note::Verifier;
 use std::alloc::{AllocError, Global};
 use tlog_hash::Hash;

@@ -19,3 +19,4 @@ pub mod Exchanges
 pub mod FaultLines
 pub mod Whys
 pub mod PlaceWords
+pub mod Places

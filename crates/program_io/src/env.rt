@@ -3,16 +3,16 @@ ghost use Rattle.std.specs.Prelude.{◌≡◌};
 
 use std::alloc::Global;
 
-/// The environment of a command: the runtime, named files, folders by their names, and borrowed standard streams. The command
-/// borrows it as a whole.
+/// The environment of a command: the runtime, named files, folders by their names, places, and borrowed standard streams. The
+/// command borrows it as a whole.
 ///
 /// ```text
-/// let mut env = Env { rt: &rt, alloc, files, folders, input, output, errors };
+/// let mut env = Env { rt: &rt, alloc, files, folders, places, input, output, errors };
 /// run(&mut env, &words)? // 0, or 3 for no
 /// env.files                   // as the command left them
 /// ```
 #[derive(Drop)]
-pub struct Env<'r, 'i, 'o, 'e, R, F, D, I, O, E> {
+pub struct Env<'r, 'i, 'o, 'e, R, F, D, P, I, O, E> {
     /// The runtime.
     pub rt: &'r R,
     /// The allocator.
@@ -21,6 +21,8 @@ pub struct Env<'r, 'i, 'o, 'e, R, F, D, I, O, E> {
     pub files: F,
     /// The folders of logs that the words name.
     pub folders: D,
+    /// What opens the places that the words name.
+    pub places: P,
     /// Standard input.
     pub input: &'i mut I,
     /// Standard output.
@@ -29,15 +31,28 @@ pub struct Env<'r, 'i, 'o, 'e, R, F, D, I, O, E> {
     pub errors: &'e mut E,
 }
 
-impl<'r, 'i, 'o, 'e, R, F: Drop, D: Drop, I, O, E> Env<'r, 'i, 'o, 'e, R, F, D, I, O, E> {
-    /// Drops the files and folders. The streams do not change.
+impl<'r, 'i, 'o, 'e, R, F: Drop, D: Drop, P: Drop, I, O, E> Env<
+    'r,
+    'i,
+    'o,
+    'e,
+    R,
+    F,
+    D,
+    P,
+    I,
+    O,
+    E,
+> {
+    /// Drops the files, folders and places. The streams do not change.
     pub fn let_go(self)
-        ensures input { self.exit.1.1.1.1.0.now ≡ self.entry.input.now }
-        ensures output { self.exit.1.1.1.1.1.0.now ≡ self.entry.output.now }
+        ensures input { self.exit.1.1.1.1.1.0.now ≡ self.entry.input.now }
+        ensures output { self.exit.1.1.1.1.1.1.0.now ≡ self.entry.output.now }
     {
         let Env {
             files,
             folders,
+            places,
             input: _input,
             output: _output,
             errors: _errors,
@@ -45,5 +60,6 @@ impl<'r, 'i, 'o, 'e, R, F: Drop, D: Drop, I, O, E> Env<'r, 'i, 'o, 'e, R, F, D, 
         } = self;
         drop(files);
         drop(folders);
+        drop(places);
     }
 }

@@ -12,6 +12,7 @@ use Rattle.program_words.specs.declared.fault.CommandFault.{CommandFault}
 use Rattle.program_words.specs.declared.reading.Line.{Line}
 use Rattle.program_library.specs.Commands.{IsDoable, IsWriteFault}
 use Rattle.program_io.specs.Moment.{Moment}
+use Rattle.program_io.specs.Places.{World}
 use Rattle.program_io.specs.Performing.{Ends}
 use Rattle.program_library.specs.Runs.{AreKeyBytes, FailsAtKeys, FindsKeys, ReadsKeyLines}
 use Rattle.program_library.specs.Runs.{Runs, RunsKeyed, no_lines}
@@ -44,9 +45,9 @@ keys_missed printed words name fault has finds = absurd finds
 pub nothing_done : (now : Option (List ℕ)) (fault : RunFault) → Ends IsWriteFault now now (Err fault)
 nothing_done now fault = record { status = tt; quiet = λ other. keeps_itself now }
 
-module _ (digest : List ℕ → List ℕ) (now : Moment) (words : List (List ℕ)) where
+module _ (world : World) (digest : List ℕ → List ℕ) (now : Moment) (words : List (List ℕ)) where
   pub keys_lack : (fault : RunFault) → FailsAtKeys now.files words fault →
-      RunsKeyed digest words now now (Err fault)
+      RunsKeyed world digest words now now (Err fault)
   keys_lack fault finds =
       inl record {
         fault = fault;
@@ -58,13 +59,13 @@ module _ (digest : List ℕ → List ℕ) (now : Moment) (words : List (List ℕ
       }
 
   pub lines_lack : (bytes : List ℕ) (fault : KeyFileFault) → AreKeyBytes now.files words bytes →
-      ReadsKeys bytes (no_lines fault) → RunsKeyed digest words now now (Err (KeyLines fault))
+      ReadsKeys bytes (no_lines fault) → RunsKeyed world digest words now now (Err (KeyLines fault))
   lines_lack bytes fault are_bytes reads =
       keys_lack (KeyLines fault) record { bytes = bytes; are_bytes = are_bytes; reads = reads }
 
   -- the key file was not read, or has a line that is no key
   pub keys_refused : (name : Option (List ℕ)) (fault : RunFault) → ReadsKeyFile words (Ok name) →
-      ReadsKeyLines now.files name (Err fault) → RunsKeyed digest words now now (Err fault)
+      ReadsKeyLines now.files name (Err fault) → RunsKeyed world digest words now now (Err fault)
   keys_refused name (KeyFile fault) has finds =
       keys_lack (KeyFile fault) (keys_missed now.files words name (KeyFile fault) has finds)
   keys_refused name (KeyLines fault) has lacks =
@@ -75,7 +76,7 @@ module _ (digest : List ℕ → List ℕ) (now : Moment) (words : List (List ℕ
   -- the key file has keys, and the words are those of no command
   pub words_refused : (name : Option (List ℕ)) (bytes : List ℕ) (joined : List KeyLine) (fault : CommandFault) →
       ReadsKeyFile words (Ok name) → Reads words (Err fault) → ReadsKeyLines now.files name (Ok (bytes, joined)) →
-      RunsKeyed digest words now now (Err (Command fault))
+      RunsKeyed world digest words now now (Err (Command fault))
   words_refused name bytes joined fault has reads finds = inr record {
     bytes = bytes;
     lines = finds.1.lines;
@@ -94,8 +95,8 @@ module _ (digest : List ℕ → List ℕ) (now : Moment) (words : List (List ℕ
   }
 
 -- a run under an equal list of keys
-pub runs_under : (digest : List ℕ → List ℕ) (keys all : List Key) (key_bytes : List ℕ) (words : List (List ℕ))
+pub runs_under : (world : World) (digest : List ℕ → List ℕ) (keys all : List Key) (key_bytes : List ℕ) (words : List (List ℕ))
     (old new : Moment) (answer : Result ℕ RunFault) → keys ≡ all →
-    Runs digest keys key_bytes words old new answer → Runs digest all key_bytes words old new answer
-runs_under digest keys all key_bytes words old new answer same runs =
-    subst (λ (ks : List Key). Runs digest ks key_bytes words old new answer) same runs
+    Runs world digest keys key_bytes words old new answer → Runs world digest all key_bytes words old new answer
+runs_under world digest keys all key_bytes words old new answer same runs =
+    subst (λ (ks : List Key). Runs world digest ks key_bytes words old new answer) same runs

@@ -4,6 +4,7 @@ use Rattle.signed_note.specs.Keys.{Key}
 use Rattle.program_words.specs.declared.commands.Command.{Command as Order}
 use Rattle.program_words.specs.declared.commands.Command.TheVariants as order
 use Rattle.program_io.specs.Moment.{Moment}
+use Rattle.program_io.specs.Places.{World}
 use Rattle.state_commands.specs.Commands.{ExecutesState, IsStateDoable}
 use Rattle.copy_commands.specs.StateCommands.{ExecutesReport, IsReportDoable}
 use Rattle.copy_commands.specs.Commands.{ExecutesCopy}
@@ -32,10 +33,10 @@ abbrev pub By : {F : Type 0} → (F → RunFault) → (Result ℕ F → Type 0) 
 By {F} name Does (Ok status) = Does (Ok status)
 By {F} name Does (Err fault) = (was : F) × (fault ≡ name was) × Does (Err was)
 
--- the meaning of each answer of a command for the input, the named files and folders, if these record, and for the output
-module _ (digest : List ℕ → List ℕ) (keys : List Key) (key_bytes : List ℕ) (old new : Moment) where
+-- the meaning of each answer of a command for the input, the named files, folders and places, if these record, and for the output
+module _ (world : World) (digest : List ℕ → List ℕ) (keys : List Key) (key_bytes : List ℕ) (old new : Moment) where
   abbrev pub Executes : Order → Result ℕ RunFault → Type 0
   Executes (order.State c) = By State (ExecutesState key_bytes digest keys old new c)
   Executes (order.Report c) = By Report (ExecutesReport digest keys old new c)
   Executes (order.Copy c) = By Report (ExecutesCopy digest keys old new c)
-  Executes (order.Place c) = By Place (ExecutesPlace digest keys old new c)
+  Executes (order.Place c) = By Place (ExecutesPlace world digest keys old new c)

@@ -17,15 +17,16 @@ use Rattle.program_words.specs.LineReadings.{HasKeys, HasNoKeys, Reads, ReadsKey
 use Rattle.program_library.specs.declared.fault.RunFault.{RunFault}
 use Rattle.program_library.specs.declared.fault.RunFault.TheVariants.{Command, KeyFile, KeyLines}
 use Rattle.program_io.specs.Moment.{Moment}
+use Rattle.program_io.specs.Places.{World}
 use Rattle.program_library.specs.Commands.{Executes}
 
-module _ (digest : List ℕ → List ℕ) (keys : List Key) (key_bytes : List ℕ) (words : List (List ℕ))
-    (old new : Moment) where
+module _ (world : World) (digest : List ℕ → List ℕ) (keys : List Key) (key_bytes : List ℕ)
+    (words : List (List ℕ)) (old new : Moment) where
   -- the words are those of a command, and this is its answer
   pub record Obeys (answer : Result ℕ RunFault) : Type 0 where
     pub command : Order
     pub asked : AsksFor words command
-    pub done : Executes digest keys key_bytes old new command answer
+    pub done : Executes world digest keys key_bytes old new command answer
 
   -- the words are those of no command: the answer says so, nothing was written, and no file was changed
   pub record RefusesWords (answer : Result ℕ RunFault) : Type 0 where
@@ -116,7 +117,7 @@ ReadsKeyLines printed name (Err (KeyFile fault)) = FindsKeys printed name (Err (
 ReadsKeyLines printed name (Err (KeyLines fault)) = LacksLines printed name fault
 ReadsKeyLines printed name (Err other) = ⊥
 
-module _ (digest : List ℕ → List ℕ) (words : List (List ℕ)) (old new : Moment)
+module _ (world : World) (digest : List ℕ → List ℕ) (words : List (List ℕ)) (old new : Moment)
     (answer : Result ℕ RunFault) where
   -- no keys were found: the answer says so, nothing was written, and no file was changed
   pub record LacksKeys : Type 0 where
@@ -135,7 +136,7 @@ module _ (digest : List ℕ → List ℕ) (words : List (List ℕ)) (old new : M
     pub are_bytes : AreKeyBytes old.files words bytes
     pub are_lines : IsKeyFile bytes lines
     pub joins : JoinsPins lines joined
-    pub runs : Runs digest (map key_of joined) bytes words old new answer
+    pub runs : Runs world digest (map key_of joined) bytes words old new answer
 
   -- the meaning of the answer of a run that begins with the key file: no keys were found, or the run used its keys
   abbrev pub RunsKeyed : Type 0

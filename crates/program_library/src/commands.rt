@@ -5,7 +5,7 @@ use crate::fault::{Error, RunFault};
 use crate::keys::{Keys, key_lines};
 use crate::run_env::{RunEnv, WatchedEnv};
 use program_io::why::{FailedStreams, Why, print_why};
-use program_io::{Env, Failing, RunFiles, RunFolders};
+use program_io::{Env, Failing, RunFiles, RunFolders, RunPlaces};
 use program_words::Command;
 use signed_note::KeyLine;
 use std::alloc::Global;
@@ -14,14 +14,27 @@ use std::io::{Read, Write};
 use std::net::{Net, TcpListener, TcpStream};
 use std::rt::Clock;
 
-impl<'r, 'i, 'o, 'e, R, F: RunFiles, D: RunFolders, I: Read, O: Write, E: Write> RunEnv
-    for Env<'r, 'i, 'o, 'e, R, F, D, I, O, E>
+impl<
+    'r,
+    'i,
+    'o,
+    'e,
+    R,
+    F: RunFiles,
+    D: RunFolders,
+    P: RunPlaces,
+    I: Read,
+    O: Write,
+    E: Write,
+> RunEnv for Env<'r, 'i, 'o, 'e, R, F, D, P, I, O, E>
 where
     R: Files<File = File> + Clock + Eprint + Net<Stream = TcpStream, Listener = TcpListener>,
 {
-    ghost use Rattle.program_io.specs.Envs.{moment as moment_of};
+    ghost use Rattle.program_io.specs.Envs.{moment as moment_of, world as world_in};
 
     ghost moment = { moment_of F.puts D.held D.puts I.remaining O.contents };
+
+    ghost world = { world_in P.at P.Place.may_answer P.Place.asked P.Place.failed };
 
     ghost input = { λ env. env.input.ghost_name };
 
@@ -65,8 +78,8 @@ where
     }
 }
 
-impl<'r, 'i, 'o, 'e, R, F, D, I: Failing, O: Failing, E> WatchedEnv
-    for Env<'r, 'i, 'o, 'e, R, F, D, I, O, E> {
+impl<'r, 'i, 'o, 'e, R, F, D, P, I: Failing, O: Failing, E> WatchedEnv
+    for Env<'r, 'i, 'o, 'e, R, F, D, P, I, O, E> {
     fn failed_streams(&self) -> FailedStreams {
         FailedStreams {
             input: self.input.last_failed(),

@@ -5,13 +5,14 @@ ghost use Rattle.sha2.specs.Sha256.{sha256};
 ghost use Rattle.program_words.specs.Lines.{IsLine};
 ghost use Rattle.program_library.specs.Commands.{IsDoable, IsWriteFault};
 ghost use Rattle.program_io.specs.Moment.{on_system, seen_of};
+ghost use Rattle.program_io.specs.Places.{system_world, world_of};
 ghost use Rattle.program_io.specs.Performing.{Ends};
 ghost use Rattle.program_library.specs.Runs.{Runs};
 ghost use Rattle.program_io.specs.Performing.{IsStatus};
 
 use crate::{Error, Keys, RunEnv, RunFault, printed, refused, system_folders};
 use program_io::why::FailedStreams;
-use program_io::{Env, RunFiles, RunFolders, SystemFiles};
+use program_io::{Env, RunFiles, RunFolders, RunPlaces, SystemFiles, SystemPlaces};
 use program_words::{Line, read_line};
 use signed_note::Verifier;
 use std::alloc::Global;
@@ -44,7 +45,7 @@ pub fn run_words<R, I: Read, O: Write, E: Write>(
 ) -> Result<u8, RunFault>
 where
     R: Files<File = File> + Clock + Eprint + Net<Stream = TcpStream, Listener = TcpListener>,
-    ensures answer { Runs sha256 (map (λ k. key k) keys.now) key_bytes.now
+    ensures answer { Runs system_world sha256 (map (λ k. key k) keys.now) key_bytes.now
         (map string_bytes words.now)
         (on_system (I.remaining input.old) (O.contents output.old))
         (on_system (I.remaining input.new) (O.contents output.new)) result }
@@ -54,18 +55,28 @@ where
 {
     let files = SystemFiles::new(rt, alloc);
     let folders = system_folders(rt, alloc);
+    let places = SystemPlaces::new(rt, rt);
     run_words_on(
-        rt, alloc, files, folders, key_bytes, keys, words, input, output, errors,
+        rt, alloc, files, folders, places, key_bytes, keys, words, input, output, errors,
     )
 }
 
-// Runs the same over these files and folders, and drops them.
+// Runs the same over these files, folders and places, and drops them.
 #[allow(clippy::too_many_arguments)]
-fn run_words_on<R, F: RunFiles + Drop, D: RunFolders + Drop, I: Read, O: Write, E: Write>(
+fn run_words_on<
+    R,
+    F: RunFiles + Drop,
+    D: RunFolders + Drop,
+    P: RunPlaces + Drop,
+    I: Read,
+    O: Write,
+    E: Write,
+>(
     rt: &R,
     alloc: Global,
     files: F,
     folders: D,
+    places: P,
     key_bytes: &[u8],
     keys: &[Box<dyn Verifier>],
     words: &[String],
@@ -75,7 +86,8 @@ fn run_words_on<R, F: RunFiles + Drop, D: RunFolders + Drop, I: Read, O: Write, 
 ) -> Result<u8, RunFault>
 where
     R: Files<File = File> + Clock + Eprint + Net<Stream = TcpStream, Listener = TcpListener>,
-    ensures answer { (left : F) × (left_folders : D) × Runs sha256
+    ensures answer { (left : F) × (left_folders : D) × Runs
+        (world_of (P.at places) P.Place.may_answer P.Place.asked P.Place.failed) sha256
         (map (λ k. key k) keys.now) key_bytes.now (map string_bytes words.now)
         (seen_of F.puts D.held D.puts files folders (I.remaining input.old)
         (O.contents output.old))
@@ -90,6 +102,7 @@ where
         alloc,
         files,
         folders,
+        places,
         input,
         output,
         errors,
@@ -107,8 +120,8 @@ fn run_given<C: RunEnv>(
     words: &[String],
 ) -> Result<u8, RunFault>
     ensures same { (C.input env.new ≡ C.input env.old) × (C.output env.new ≡ C.output env.old)
-        × (C.errors env.new ≡ C.errors env.old) }
-    ensures answer { Runs sha256 (map (λ k. key k) keys.now) key_bytes.now
+        × (C.errors env.new ≡ C.errors env.old) × (C.world env.new ≡ C.world env.old) }
+    ensures answer { Runs (C.world env.old) sha256 (map (λ k. key k) keys.now) key_bytes.now
         (map string_bytes words.now) (C.moment env.old) (C.moment env.new) result }
     ensures status { IfOk result IsStatus }
     ensures quiet { IfErr result (λ fault. (¬ IsWriteFault fault)
@@ -133,8 +146,9 @@ fn obey<C: RunEnv>(
 ) -> Result<u8, Error>
     requires { IfOk line.command IsDoable }
     ensures same { (C.input env.new ≡ C.input env.old) × (C.output env.new ≡ C.output env.old)
-        × (C.errors env.new ≡ C.errors env.old) }
-    ensures runs { (words : List (List ℕ)) → IsLine words line.entry → Runs sha256
+        × (C.errors env.new ≡ C.errors env.old) × (C.world env.new ≡ C.world env.old) }
+    ensures runs { (words : List (List ℕ)) → IsLine words line.entry → Runs
+        (C.world env.old) sha256
         (map (λ k. key k) keys.now) key_bytes.now words (C.moment env.old)
         (C.moment env.new) result }
     ensures ends { Ends IsWriteFault (C.moment env.old).output (C.moment env.new).output result }

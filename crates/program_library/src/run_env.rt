@@ -15,10 +15,14 @@ pub trait RunEnv {
     ghost use Rattle.program_library.specs.Commands.{Executes, IsDoable, IsWriteFault};
     ghost use Rattle.program_io.specs.Performing.{Ends};
     ghost use Rattle.program_io.specs.Moment.{Moment};
+    ghost use Rattle.program_io.specs.Places.{World};
     ghost use Rattle.program_library.specs.Runs.{ReadsKeyLines};
 
     /// The parts that contracts see.
     ghost moment: { Self → Moment };
+
+    /// The places that it opens.
+    ghost world: { Self → World };
 
     /// Which streams it borrows.
     ghost input: { Self → ℕ };
@@ -47,15 +51,16 @@ pub trait RunEnv {
     fn run_command(&mut self, keys: &Keys<'_>, command: &Command<'_>) -> Result<u8, Error>
         requires { IsDoable command.now }
         ensures same { (input self.new ≡ input self.old) × (output self.new ≡ output self.old)
-            × (errors self.new ≡ errors self.old) }
-        ensures does { Executes sha256 (map (λ k. key k) keys.now.verifiers.now) keys.now.bytes.now
+            × (errors self.new ≡ errors self.old) × (world self.new ≡ world self.old) }
+        ensures does { Executes (world self.old) sha256
+            (map (λ k. key k) keys.now.verifiers.now) keys.now.bytes.now
             (moment self.old) (moment self.new) command.now result }
         ensures ends { Ends IsWriteFault (moment self.old).output (moment self.new).output result };
 
     /// Writes the line of `--why` to standard error, if the words ask for it and a thing is known.
     fn print_why(&mut self, asked: bool, why: Option<Why>, streams: FailedStreams)
         ensures same { (input self.new ≡ input self.old) × (output self.new ≡ output self.old)
-            × (errors self.new ≡ errors self.old) }
+            × (errors self.new ≡ errors self.old) × (world self.new ≡ world self.old) }
         ensures moment { moment self.new ≡ moment self.old };
 }
 

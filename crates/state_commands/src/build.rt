@@ -23,8 +23,8 @@ use tlog_hash::Sha256Tree;
 /// # Errors
 ///
 /// In this order: `NoSigningKey`, `BadOrigin`, those of `read_entries`, and those of the folder.
-pub fn run<R, F: RunFiles, D: RunFolders, I: Read, O: Write, E: Write>(
-    env: &mut Env<'_, '_, '_, '_, R, F, D, I, O, E>,
+pub fn run<R, F: RunFiles, D: RunFolders, P, I: Read, O: Write, E: Write>(
+    env: &mut Env<'_, '_, '_, '_, R, F, D, P, I, O, E>,
     key_bytes: &[u8],
     keys: &[Box<dyn Verifier>],
     build: &Build<'_>,

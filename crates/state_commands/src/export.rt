@@ -24,8 +24,8 @@ use tlog_hash::Sha256Tree;
 /// # Errors
 ///
 /// Those of `run_export`.
-pub fn run<R, F: RunFiles, D: RunFolders, I: Read, O: Write, E: Write>(
-    env: &mut Env<'_, '_, '_, '_, R, F, D, I, O, E>,
+pub fn run<R, F: RunFiles, D: RunFolders, P, I: Read, O: Write, E: Write>(
+    env: &mut Env<'_, '_, '_, '_, R, F, D, P, I, O, E>,
     keys: &[Box<dyn Verifier>],
     export: &Export<'_>,
 ) -> Result<u8, Error>
@@ -74,8 +74,8 @@ fn put_all<F: RunFiles, D: RunFolders>(
 /// # Errors
 ///
 /// Those of `run_update`.
-pub fn run_with_update<R, F: RunFiles, D: RunFolders, I: Read, O: Write, E: Write>(
-    env: &mut Env<'_, '_, '_, '_, R, F, D, I, O, E>,
+pub fn run_with_update<R, F: RunFiles, D: RunFolders, P, I: Read, O: Write, E: Write>(
+    env: &mut Env<'_, '_, '_, '_, R, F, D, P, I, O, E>,
     keys: &[Box<dyn Verifier>],
     update: &Export<'_>,
 ) -> Result<u8, Error>
@@ -120,8 +120,8 @@ fn put_new<F: RunFiles, D: RunFolders>(
 }
 
 // The thing that the fault is about: the state file, or the folder.
-fn why_of<R, F: RunFiles, D: RunFolders, I, O, E>(
-    env: &Env<'_, '_, '_, '_, R, F, D, I, O, E>,
+fn why_of<R, F: RunFiles, D: RunFolders, P, I, O, E>(
+    env: &Env<'_, '_, '_, '_, R, F, D, P, I, O, E>,
     export: &Export<'_>,
     fault: FolderFault,
 ) -> Option<Why> {

@@ -50,8 +50,8 @@ use std::rt::Clock;
 /// # Errors
 ///
 /// Those of the command, each with the thing that it is about. After a late one (`IsLate`) text may have been written.
-pub fn run<R, F: RunFiles, D: RunFolders, I: Read, O: Write, E: Write>(
-    env: &mut Env<'_, '_, '_, '_, R, F, D, I, O, E>,
+pub fn run<R, F: RunFiles, D: RunFolders, P, I: Read, O: Write, E: Write>(
+    env: &mut Env<'_, '_, '_, '_, R, F, D, P, I, O, E>,
     key_bytes: &[u8],
     keys: &[Box<dyn Verifier>],
     command: &StateCommand<'_>,

@@ -22,8 +22,8 @@ use tlog_mirror::MergeFault;
 /// # Errors
 ///
 /// Those of `run_merge`.
-pub fn run<R, F: RunFiles, D: RunFolders, I: Read, O: Write, E: Write>(
-    env: &mut Env<'_, '_, '_, '_, R, F, D, I, O, E>,
+pub fn run<R, F: RunFiles, D: RunFolders, P, I: Read, O: Write, E: Write>(
+    env: &mut Env<'_, '_, '_, '_, R, F, D, P, I, O, E>,
     keys: &[Box<dyn Verifier>],
     merge: &Merge<'_>,
 ) -> Result<u8, Error>

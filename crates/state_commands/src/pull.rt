@@ -56,8 +56,8 @@ use tlog_tiles::Path;
 ///
 /// In this order: `BadOrigin`, those of the state file, those of the pull, `FileFault` for the file to write,
 /// and `WriteFault`.
-pub fn run<R, F: RunFiles, D: RunFolders, I: Read, O: Write, E: Write>(
-    env: &mut Env<'_, '_, '_, '_, R, F, D, I, O, E>,
+pub fn run<R, F: RunFiles, D: RunFolders, P, I: Read, O: Write, E: Write>(
+    env: &mut Env<'_, '_, '_, '_, R, F, D, P, I, O, E>,
     keys: &[Box<dyn Verifier>],
     pull: &Pull<'_>,
 ) -> Result<u8, Error>

@@ -24,8 +24,8 @@ use tlog_mirror::TakeFault;
 /// # Errors
 ///
 /// Those of `run_take`.
-pub fn run<R, F: RunFiles, D: RunFolders, I: Read, O: Write, E: Write>(
-    env: &mut Env<'_, '_, '_, '_, R, F, D, I, O, E>,
+pub fn run<R, F: RunFiles, D: RunFolders, P, I: Read, O: Write, E: Write>(
+    env: &mut Env<'_, '_, '_, '_, R, F, D, P, I, O, E>,
     keys: &[Box<dyn Verifier>],
     take: &Take<'_>,
 ) -> Result<u8, Error>

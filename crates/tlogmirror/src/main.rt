@@ -6,7 +6,7 @@
 #![tactic(auto)]
 
 use byte_streams::WatchedStream;
-use program_io::SystemFiles;
+use program_io::{SystemFiles, SystemPlaces};
 use program_library::{Env, RunFault, ending_of, print_ending, run, system_folders};
 use program_words::CommandFault;
 use std::fs::File;
@@ -21,6 +21,7 @@ fn main(rt: HostRuntime) -> ExitCode {
         alloc: rt.alloc(),
         files: SystemFiles::new(&rt, rt.alloc()),
         folders: system_folders(&rt, rt.alloc()),
+        places: SystemPlaces::new(&rt, &rt),
         input: &mut WatchedStream::new(rt.reader()),
         output: &mut WatchedStream::new(io::writer(&rt)),
         errors: &mut rt.stderr(),

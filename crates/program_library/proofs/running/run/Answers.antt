@@ -11,7 +11,7 @@ run_line-answer-requires g c = line_doable (map string_bytes c.args.words.now) c
 pub returns-in-Ok-clause-same : goal.returns-in-Ok-clause-same
 returns-in-Ok-clause-same g c =
     let first = c.run_line-answer.ensures.same in
-    let last = c.printed.ensures.same in (last.0 ∙ first.0, last.1 ∙ first.1, last.2 ∙ first.2)
+    let last = c.printed.ensures.same in (last.0 ∙ first.0, last.1 ∙ first.1, last.2 ∙ first.2, last.3 ∙ first.3)
 
 pub returns-in-Ok-clause-answer : goal.returns-in-Ok-clause-answer
 returns-in-Ok-clause-answer g c =
@@ -27,7 +27,7 @@ returns-in-Ok-clause-quiet g c =
 
 pub returns-in-Err-clause-answer : goal.returns-in-Err-clause-answer
 returns-in-Err-clause-answer g c =
-    keys_lack _ _ (map string_bytes c.args.words.now) (Command c.in-Err.fault) c.in-Err.ensures.refused
+    keys_lack _ _ _ (map string_bytes c.args.words.now) (Command c.in-Err.fault) c.in-Err.ensures.refused
 
 pub returns-in-Err-clause-quiet : goal.returns-in-Err-clause-quiet
 returns-in-Err-clause-quiet g c = λ other. keeps_itself _

@@ -44,19 +44,19 @@ loop-line-preserved g c = (
 
 pub returns-in_default-clause-runs : goal.returns-in_default-clause-runs
 returns-in_default-clause-runs g c = λ words asks are joins.
-    rw c.no_memory.ensures (lines_lack _ _ words c.args.key_bytes.now OutOfMemory are tt)
+    rw c.no_memory.ensures (lines_lack _ _ _ words c.args.key_bytes.now OutOfMemory are tt)
 
 pub returns-in_default-push-clause-runs : goal.returns-in_default-push-clause-runs
 returns-in_default-push-clause-runs g c = λ words asks are joins.
-    rw c.no_memory-in_default-push.ensures (lines_lack _ _ words c.args.key_bytes.now OutOfMemory are tt)
+    rw c.no_memory-in_default-push.ensures (lines_lack _ _ _ words c.args.key_bytes.now OutOfMemory are tt)
 
 pub returns-in_default-new-clause-runs : goal.returns-in_default-new-clause-runs
 returns-in_default-new-clause-runs g c = λ words asks are joins.
-    rw c.no_memory-in_default-new.ensures (lines_lack _ _ words c.args.key_bytes.now OutOfMemory are tt)
+    rw c.no_memory-in_default-new.ensures (lines_lack _ _ _ words c.args.key_bytes.now OutOfMemory are tt)
 
 pub returns-in_default-push-2-clause-runs : goal.returns-in_default-push-2-clause-runs
 returns-in_default-push-2-clause-runs g c = λ words asks are joins.
-    rw c.no_memory-in_default-push-2.ensures (lines_lack _ _ words c.args.key_bytes.now OutOfMemory are tt)
+    rw c.no_memory-in_default-push-2.ensures (lines_lack _ _ _ words c.args.key_bytes.now OutOfMemory are tt)
 
 pub returns-clause-runs : goal.returns-clause-runs
 returns-clause-runs g c = λ words asks are joins. inr record {
@@ -66,7 +66,7 @@ returns-clause-runs g c = λ words asks are joins. inr record {
   are_bytes = are;
   are_lines = joins.are_lines;
   joins = joins.joins;
-  runs = runs_under sha256 _ (map key_of c.args.lines.items) c.args.key_bytes.now words _ _ c.run_command.result
+  runs = runs_under _ sha256 _ (map key_of c.args.lines.items) c.args.key_bytes.now words _ _ c.run_command.result
       (ap (map _) c.deref.ensures.value
       ∙ (all_boxes secret_key pinned_key _ (λ b x. refl) (λ b x. refl) c.loop-line.keys.items
       ∙ (none_left (map (key_in secret_key pinned_key) c.loop-line.keys.items) key_of

@@ -13,14 +13,14 @@ returns-in-Ok-asked-clause-runs g c = λ words is. c.run_keyed.ensures.runs word
 
 pub returns-in-Ok-clause-runs : goal.returns-in-Ok-clause-runs
 returns-in-Ok-clause-runs g c = λ words is. rw c.refused.ensures
-    (words_refused _ _ words _ c.in-Ok.bytes.items c.in-Ok.lines.items c.in-Err-asked.fault is.keys
+    (words_refused _ _ _ words _ c.in-Ok.bytes.items c.in-Ok.lines.items c.in-Err-asked.fault is.keys
     (rw c.in-Err-asked.is at is.command) c.in-Ok.ensures)
 
 pub returns-in-Ok-clause-ends : goal.returns-in-Ok-clause-ends
 returns-in-Ok-clause-ends g c = nothing_done _ _
 
 pub returns-clause-runs : goal.returns-clause-runs
-returns-clause-runs g c = λ words is. keys_refused _ _ words _ _ is.keys c.in-Err.ensures
+returns-clause-runs g c = λ words is. keys_refused _ _ _ words _ _ is.keys c.in-Err.ensures
 
 pub returns-clause-ends : goal.returns-clause-ends
 returns-clause-ends g c = nothing_done _ _

@@ -35,7 +35,7 @@ returns-in-Copy-clause-ends g c =
 pub returns-in-Place-clause-does : goal.returns-in-Place-clause-does
 returns-in-Place-clause-does g c =
     rw c.in-Place.is
-    (by_group Place (ExecutesPlace _ _ _ _ _) _ _ c.of_run-in-Place.ensures c.run_place-answer.ensures.does)
+    (by_group Place (ExecutesPlace _ _ _ _ _ _) _ _ c.of_run-in-Place.ensures c.run_place-answer.ensures.does)
 
 pub returns-in-Place-clause-ends : goal.returns-in-Place-clause-ends
 returns-in-Place-clause-ends g c =

@@ -1,6 +1,7 @@
 //! The places of a run: folders and servers, with their names from the command line.
 ghost use Rattle.std.specs.Prelude.{◌≡◌, ◌++◌, IfOk, false, string_bytes, true};
 
+use crate::failing::{Failed, Failing};
 use mirror_client::{Dial, FailedGet, HttpSource, Pace, Site};
 use mirror_folders::{DirSource, FailedFile};
 use mirror_sources::{Source, SourceFault};
@@ -12,8 +13,32 @@ use tlog_tiles::Path;
 // The files of a place.
 #[derive(Drop)]
 enum Kind<'a, R: Files, D: Dial + Drop> {
-    Folder(DirSource<'a, R>),
+    Folder(OwnFolder<'a, R>),
     Server(HttpSource<D>),
+}
+
+// A folder as a source, whose path is its own. A place of the words would else borrow them.
+#[derive(Drop)]
+struct OwnFolder<'a, R: Files> {
+    files: &'a R,
+    path: String,
+    last_failed: Option<FailedFile>,
+}
+
+impl<'a, R: Files> OwnFolder<'a, R> {
+    // Gets the file from the folder.
+    fn get(&mut self, alloc: Global, path: &Path) -> Result<Option<Vec<u8>>, SourceFault>
+        ensures { self.new.path ≡ self.old.path }
+    {
+        let mut source = DirSource::new(self.files, alloc, &self.path);
+        let answer = source.get(path);
+        let failed = source.last_failed();
+        drop(source);
+        if failed.is_some() {
+            self.last_failed = failed;
+        }
+        answer
+    }
 }
 
 /// The reason why a get from a place failed.
@@ -74,7 +99,7 @@ pub struct PlaceSource<'a, R: Files, D: Dial + Drop> {
 
 impl<'a, R: Files, D: Dial + Drop> Model for PlaceSource<'a, R, D> {
     ghost use Rattle.std.specs.Prelude.{string_bytes};
-    ghost use Rattle.program_copies.specs.Places.{SeenPlace};
+    ghost use Rattle.program_io.specs.Places.{SeenPlace};
 
     ghost Value = { SeenPlace };
 
@@ -119,7 +144,7 @@ impl<'a, R: Files, D: Dial + Drop> PlaceSource<'a, R, D> {
     /// # Errors
     ///
     /// `AllocError`: memory was refused.
-    pub fn of_folder(files: &'a R, alloc: Global, folder: &'a str) -> Result<Self, AllocError>
+    pub fn of_folder(files: &'a R, alloc: Global, folder: &str) -> Result<Self, AllocError>
         ensures { IfOk result (λ place. place ≡ record {
           name = record {
             is_server = false;
@@ -129,7 +154,11 @@ impl<'a, R: Files, D: Dial + Drop> PlaceSource<'a, R, D> {
         }) }
     {
         let name = String::from_str(alloc, folder)?;
-        let kind = Kind::Folder(DirSource::new(files, alloc, folder));
+        let kind = Kind::Folder(OwnFolder {
+            files,
+            path: String::from_str(alloc, folder)?,
+            last_failed: None,
+        });
         Ok(PlaceSource::new(alloc, name, false, kind))
     }
 
@@ -157,7 +186,7 @@ impl<'a, R: Files, D: Dial + Drop> PlaceSource<'a, R, D> {
         ensures { self.new ≡ self.old }
     {
         match &mut self.kind {
-            Kind::Folder(source) => source.get(path),
+            Kind::Folder(folder) => folder.get(self.alloc, path),
             Kind::Server(source) => source.get(path),
         }
     }
@@ -165,7 +194,7 @@ impl<'a, R: Files, D: Dial + Drop> PlaceSource<'a, R, D> {
     /// The reason why the last get failed; None if none failed, or if it was not kept.
     pub fn last_failed(&self) -> Option<FailedAt> {
         match &self.kind {
-            Kind::Folder(source) => match source.last_failed() {
+            Kind::Folder(folder) => match folder.last_failed {
                 Some(failed) => Some(FailedAt::File(failed)),
                 None => None,
             },
@@ -251,6 +280,16 @@ impl<'a, R: Files, D: Dial + Drop> WatchedPlace for PlaceSource<'a, R, D> {
         match &self.kind {
             Kind::Folder(_) => 0,
             Kind::Server(source) => source.waited(),
+        }
+    }
+}
+
+impl<'a, R: Files, D: Dial + Drop> Failing for PlaceSource<'a, R, D> {
+    fn last_failed(&self) -> Option<Failed> {
+        match PlaceSource::last_failed(self) {
+            Some(FailedAt::File(failed)) => Some(Failed::File(failed)),
+            Some(FailedAt::Get(failed)) => Some(Failed::Get(failed)),
+            None => None,
         }
     }
 }
