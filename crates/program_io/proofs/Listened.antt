@@ -1,12 +1,11 @@
 -- The line with the address at which connections are accepted, as `serve` answers for it.
-use Rattle.std.proofs.Common.{◌≡◌, ℕ, ◌+◌, ◌≤◌, ◌<◌, List, [], ◌∷◌, ◌++◌, Option, Result, Ok, Err, inl, inr, subst, sym, ap, ◌∙◌, arith}
+use Rattle.std.proofs.Common.{◌≡◌, ℕ, ◌+◌, ◌≤◌, ◌<◌, List, [], ◌∷◌, ◌++◌, Option, Result, Ok, Err, inr, subst, ap, ◌∙◌, arith}
 use Rattle.std.specs.Prelude.{codes}
 use Rattle.std.specs.Fmt.{decimal}
-use Rattle.std.specs.Io.KnownBytes.{Appends}
 use Rattle.std.specs.Net.Text.{ipv4_text}
 use Rattle.std.proofs.lemmas.Fmt.{decimal_digit, decimal_step}
-use Rattle.program_io.specs.Listening.{Listening, local}
-use Rattle.program_io.specs.Ports.{PrintsListening, PrintsPort, listening_text}
+use Rattle.program_io.specs.Listening.{Listening}
+use Rattle.program_io.specs.Ports.{PrintsListening, PrintsPort}
 use Rattle.program_io.specs.declared.port.ListenFault.{ListenFault}
 use Rattle.program_io.specs.declared.port.ListenFault.TheVariants.{OutOfMemory, PortFault, WriteFault}
 
