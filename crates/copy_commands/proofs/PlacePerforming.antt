@@ -1,6 +1,5 @@
 -- How a command over places ends, given the answer of its call. The answers of the commands cite one lemma each.
-use Rattle.std.proofs.Common.{◌≡◌, ◌⊎◌, inl, inr, ℕ, List, Option, Result, Ok, Err, IfErr, IfOk, Some, None, map, option_map, refl, subst}
-use Rattle.std.specs.Prelude.{⊤}
+use Rattle.std.proofs.Common.{◌≡◌, ◌⊎◌, inl, inr, ℕ, List, Option, Result, Ok, Err, subst}
 use Rattle.std.specs.Io.KnownBytes.{Keeps}
 use Rattle.std.specs.Result.{result_map_both}
 use Rattle.signed_note.specs.Keys.{Key}
@@ -16,7 +15,7 @@ use Rattle.program_copies.specs.declared.entries_fault.AuditRunFault.TheVariants
 use Rattle.program_words.specs.declared.commands.audit.Audit.{Audit as AuditWords}
 use Rattle.program_words.specs.declared.commands.follow.Follow.{Follow as FollowWords}
 use Rattle.program_io.specs.Moment.{Moment}
-use Rattle.program_io.specs.Performing.{IsStatus, MayLeave, Performs, Stays}
+use Rattle.program_io.specs.Performing.{MayLeave, Performs, Stays}
 use Rattle.program_io.specs.Places.{World}
 use Rattle.program_io.specs.PlaceWords.{words_of}
 use Rattle.copy_commands.specs.PlaceFaults.{IsLate}

@@ -1,5 +1,5 @@
 -- The places that the words of a command name.
-use Rattle.std.specs.Prelude.{◌≡◌, ℕ, List, [], ◌∷◌, None, ⊤}
+use Rattle.std.specs.Prelude.{◌≡◌, List, [], ◌∷◌, None, ⊤}
 use Rattle.copy_places.specs.declared.place.Place.{Place as Asked}
 use Rattle.program_words.specs.declared.place.Place.{Place}
 use Rattle.program_io.specs.PlaceWords.{PlaceWords, words_of}

@@ -16,7 +16,7 @@ pub fn printed<C: RunEnv>(
 ) -> Result<u8, RunFault>
     ensures answer { result ≡ answer }
     ensures same { (C.input env.new ≡ C.input env.old) × (C.output env.new ≡ C.output env.old)
-        × (C.errors env.new ≡ C.errors env.old) × (C.world env.new ≡ C.world env.old) }
+        × (C.errors env.new ≡ C.errors env.old) }
     ensures moment { C.moment env.new ≡ C.moment env.old }
 {
     match answer {

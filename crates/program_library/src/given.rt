@@ -120,7 +120,7 @@ fn run_given<C: RunEnv>(
     words: &[String],
 ) -> Result<u8, RunFault>
     ensures same { (C.input env.new ≡ C.input env.old) × (C.output env.new ≡ C.output env.old)
-        × (C.errors env.new ≡ C.errors env.old) × (C.world env.new ≡ C.world env.old) }
+        × (C.errors env.new ≡ C.errors env.old) }
     ensures answer { Runs (C.world env.old) sha256 (map (λ k. key k) keys.now) key_bytes.now
         (map string_bytes words.now) (C.moment env.old) (C.moment env.new) result }
     ensures status { IfOk result IsStatus }
@@ -146,7 +146,7 @@ fn obey<C: RunEnv>(
 ) -> Result<u8, Error>
     requires { IfOk line.command IsDoable }
     ensures same { (C.input env.new ≡ C.input env.old) × (C.output env.new ≡ C.output env.old)
-        × (C.errors env.new ≡ C.errors env.old) × (C.world env.new ≡ C.world env.old) }
+        × (C.errors env.new ≡ C.errors env.old) }
     ensures runs { (words : List (List ℕ)) → IsLine words line.entry → Runs
         (C.world env.old) sha256
         (map (λ k. key k) keys.now) key_bytes.now words (C.moment env.old)

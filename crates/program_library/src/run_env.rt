@@ -51,7 +51,7 @@ pub trait RunEnv {
     fn run_command(&mut self, keys: &Keys<'_>, command: &Command<'_>) -> Result<u8, Error>
         requires { IsDoable command.now }
         ensures same { (input self.new ≡ input self.old) × (output self.new ≡ output self.old)
-            × (errors self.new ≡ errors self.old) × (world self.new ≡ world self.old) }
+            × (errors self.new ≡ errors self.old) }
         ensures does { Executes (world self.old) sha256
             (map (λ k. key k) keys.now.verifiers.now) keys.now.bytes.now
             (moment self.old) (moment self.new) command.now result }
@@ -60,7 +60,7 @@ pub trait RunEnv {
     /// Writes the line of `--why` to standard error, if the words ask for it and a thing is known.
     fn print_why(&mut self, asked: bool, why: Option<Why>, streams: FailedStreams)
         ensures same { (input self.new ≡ input self.old) × (output self.new ≡ output self.old)
-            × (errors self.new ≡ errors self.old) × (world self.new ≡ world self.old) }
+            × (errors self.new ≡ errors self.old) }
         ensures moment { moment self.new ≡ moment self.old };
 }
 

@@ -30,7 +30,7 @@ use signed_note::{KeyFileFault, KeyLine, Verifier};
 /// With `--why`, one line on `errors` names the thing that the fault is about. It includes what the system said of a stream.
 pub fn run<C: RunEnv + WatchedEnv>(env: &mut C, words: &[String]) -> Result<u8, RunFault>
     ensures same { (C.input env.new ≡ C.input env.old) × (C.output env.new ≡ C.output env.old)
-        × (C.errors env.new ≡ C.errors env.old) × (C.world env.new ≡ C.world env.old) }
+        × (C.errors env.new ≡ C.errors env.old) }
     ensures answer { RunsKeyed (C.world env.old) sha256 (map string_bytes words.now)
         (C.moment env.old) (C.moment env.new) result }
     ensures status { IfOk result IsStatus }
@@ -52,7 +52,7 @@ pub fn run<C: RunEnv + WatchedEnv>(env: &mut C, words: &[String]) -> Result<u8, 
 fn run_line<C: RunEnv>(env: &mut C, line: Line<'_>) -> Result<u8, Error>
     requires { IfOk line.command IsDoable }
     ensures same { (C.input env.new ≡ C.input env.old) × (C.output env.new ≡ C.output env.old)
-        × (C.errors env.new ≡ C.errors env.old) × (C.world env.new ≡ C.world env.old) }
+        × (C.errors env.new ≡ C.errors env.old) }
     ensures runs { (words : List (List ℕ)) → IsLine words line.entry → RunsKeyed
         (C.world env.old) sha256 words (C.moment env.old) (C.moment env.new) result }
     ensures ends { Ends IsWriteFault (C.moment env.old).output (C.moment env.new).output result }
@@ -77,7 +77,7 @@ fn run_keyed<C: RunEnv>(
 ) -> Result<u8, Error>
     requires { IsDoable command.now }
     ensures same { (C.input env.new ≡ C.input env.old) × (C.output env.new ≡ C.output env.old)
-        × (C.errors env.new ≡ C.errors env.old) × (C.world env.new ≡ C.world env.old) }
+        × (C.errors env.new ≡ C.errors env.old) }
     ensures runs { (words : List (List ℕ)) → AsksFor words command.now
         → AreKeyBytes (C.moment env.old).files words key_bytes.now
         → JoinsLines key_bytes.now lines.items → RunsKeyed

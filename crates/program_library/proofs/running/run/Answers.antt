@@ -11,7 +11,7 @@ run_line-answer-requires g c = line_doable (map string_bytes c.args.words.now) c
 pub returns-in-Ok-clause-same : goal.returns-in-Ok-clause-same
 returns-in-Ok-clause-same g c =
     let first = c.run_line-answer.ensures.same in
-    let last = c.printed.ensures.same in (last.0 ∙ first.0, last.1 ∙ first.1, last.2 ∙ first.2, last.3 ∙ first.3)
+    let last = c.printed.ensures.same in (last.0 ∙ first.0, last.1 ∙ first.1, last.2 ∙ first.2)
 
 pub returns-in-Ok-clause-answer : goal.returns-in-Ok-clause-answer
 returns-in-Ok-clause-answer g c =
