@@ -20,3 +20,4 @@ pub mod FaultLines
 pub mod Whys
 pub mod PlaceWords
 pub mod Places
+pub mod PlaceKinds

@@ -78,7 +78,7 @@ pub trait WatchedPlace: Source {
 }
 
 /// A place of a run: a folder, or a server. It keeps its name, the reason why its first get failed, and its answer for the checkpoint.
-/// `follow_why` needs these to report what was wrong at the place. Contracts see its name and its number of failures, and state nothing about
+/// `follow_why` needs these to report what was wrong at the place. Contracts see the name that its folder or server has, and its number of failures, and state nothing about
 /// its answers.
 ///
 /// ```text
@@ -88,9 +88,8 @@ pub trait WatchedPlace: Source {
 #[derive(Drop)]
 pub struct PlaceSource<'a, R: Files, D: Dial + Drop> {
     alloc: Global,
-    // That of the folder; of a server its host with its port, and the prefix.
+    // That of the folder; of a server its host with its port, and the prefix. For `--why`: contracts see the kind's own.
     name: String,
-    is_server: bool,
     kind: Kind<'a, R, D>,
     failures: u64,
     first_failed: Option<FailedAt>,
@@ -98,15 +97,12 @@ pub struct PlaceSource<'a, R: Files, D: Dial + Drop> {
 }
 
 impl<'a, R: Files, D: Dial + Drop> Model for PlaceSource<'a, R, D> {
-    ghost use Rattle.std.specs.Prelude.{string_bytes};
     ghost use Rattle.program_io.specs.Places.{SeenPlace};
+    ghost use Rattle.program_io.specs.PlaceKinds.{kind_name};
 
     ghost Value = { SeenPlace };
 
-    ghost view = { λ a. record {
-      name = record { is_server = a.is_server; text = string_bytes a.name };
-      failures = a.failures;
-    } };
+    ghost view = { λ a. record { name = kind_name a.kind; failures = a.failures } };
 }
 
 // The name of a server.
@@ -119,26 +115,6 @@ fn server_name(alloc: Global, site: &Site) -> Result<String, AllocError>
 }
 
 impl<'a, R: Files, D: Dial + Drop> PlaceSource<'a, R, D> {
-    fn new(alloc: Global, name: String, is_server: bool, kind: Kind<'a, R, D>) -> Self
-        ensures { result ≡ record {
-          name = record {
-            is_server = is_server;
-            text = string_bytes name;
-          };
-          failures = 0;
-        } }
-    {
-        PlaceSource {
-            alloc,
-            name,
-            is_server,
-            kind,
-            failures: 0,
-            first_failed: None,
-            answered: Answered::Nothing,
-        }
-    }
-
     /// The folder with that path as a place. No get failed yet.
     ///
     /// # Errors
@@ -159,7 +135,14 @@ impl<'a, R: Files, D: Dial + Drop> PlaceSource<'a, R, D> {
             path: String::from_str(alloc, folder)?,
             last_failed: None,
         });
-        Ok(PlaceSource::new(alloc, name, false, kind))
+        Ok(PlaceSource {
+            alloc,
+            name,
+            kind,
+            failures: 0,
+            first_failed: None,
+            answered: Answered::Nothing,
+        })
     }
 
     /// The server of that site as a place, asked over connections that the dial opens, at that pace. No get failed yet.
@@ -178,7 +161,14 @@ impl<'a, R: Files, D: Dial + Drop> PlaceSource<'a, R, D> {
     {
         let name = server_name(alloc, &site)?;
         let kind = Kind::Server(HttpSource::new(alloc, site, dial, pace));
-        Ok(PlaceSource::new(alloc, name, true, kind))
+        Ok(PlaceSource {
+            alloc,
+            name,
+            kind,
+            failures: 0,
+            first_failed: None,
+            answered: Answered::Nothing,
+        })
     }
 
     // Gets the file from the folder or the server.
