@@ -15,9 +15,11 @@ pub(crate) struct KeyFile<'a, F: RunFiles> {
 }
 
 impl<'a, F: RunFiles> CopyKeys for KeyFile<'a, F> {
-    ghost use Rattle.copy_commands.specs.KeyFiles.{AreFileKeys};
+    ghost use Rattle.copy_commands.specs.KeyFiles.{AreFileKeys, FailsFileKeys};
 
     ghost are_keys = { λ file keys. AreFileKeys (F.puts file.files.now) file.name.now keys };
+
+    ghost may_fail = { λ file fault. FailsFileKeys (F.puts file.files.now) file.name.now fault };
 
     fn read_keys(&self, alloc: Global) -> Result<Vec<KeyLine>, KeysFault> {
         let bytes = match self.files.read(self.name) {

@@ -19,12 +19,13 @@ use Rattle.copy_reader.specs.declared.fault.CopyFault.{CopyFault}
 use Rattle.copy_reader.specs.declared.fault.CopyFault.TheVariants as copy
 use Rattle.copy_reader.proofs.WholeCopies.{files_later}
 use Rattle.program_copies.specs.Bodies.{HasResource, IsBodyAt, IsBodyGiven}
-use Rattle.program_copies.specs.CopyAnswers.{AnswersFromCopy, BlamesAnswer, BlamesBody, CountsAnswer, CountsMade, IsCopyReply}
+use Rattle.program_copies.specs.CopyAnswers.{AnswersFromCopy, BlamesAnswer, BlamesBody, BlamesKeys, CountsAnswer, CountsMade, IsCopyReply}
 use Rattle.program_copies.specs.CopyAnswers.{IsGiven, IsQuiet, KeepsLast, WritesError, WritesReply}
 use Rattle.program_copies.specs.CopyHeads.{CopyHead, IsCopyHead, IsLastOpened}
 use Rattle.program_copies.specs.Damages.{NamesAt}
 use Rattle.program_copies.specs.Faults.{by_body}
 use Rattle.program_copies.specs.GivenProofs.{HasLogAt}
+use Rattle.program_copies.specs.declared.keys.KeysFault.{KeysFault}
 use Rattle.program_copies.specs.declared.reply_fault.CopyAnswerFault.{CopyAnswerFault}
 use Rattle.program_copies.specs.declared.reply_fault.CopyAnswerFault.TheVariants.{Http, CopyDamaged, ShelfFault, Head, KeyFile}
 
@@ -127,11 +128,12 @@ last_opened AreKeys origin last new held (Some head) is (inr new_is) = elim is.2
 
 -- ---- the bytes that are written
 
-blamed : (digest : List ℕ → List ℕ) (AreKeys : List KeyLine → Type 0) (origin : List ℕ) (held : Option (List Put))
-    (request : Request) (fault other : CopyAnswerFault) → fault ≡ other →
-    BlamesAnswer digest AreKeys origin held request fault → BlamesAnswer digest AreKeys origin held request other
-blamed digest AreKeys origin held request fault other e blames =
-    subst (λ f. BlamesAnswer digest AreKeys origin held request f) e blames
+blamed : (digest : List ℕ → List ℕ) (AreKeys : List KeyLine → Type 0) (Lacks : KeysFault → Type 0) (origin : List ℕ)
+    (held : Option (List Put)) (request : Request) (fault other : CopyAnswerFault) → fault ≡ other →
+    BlamesAnswer digest AreKeys Lacks origin held request fault →
+    BlamesAnswer digest AreKeys Lacks origin held request other
+blamed digest AreKeys Lacks origin held request fault other e blames =
+    subst (λ f. BlamesAnswer digest AreKeys Lacks origin held request f) e blames
 
 counts_some : (T : Type 0) (a b : ℕ) (fault : CopyAnswerFault) → CountsMade {X = T} a b (Err fault) →
     (b ≡ a) ⊎ (b ≡ one_more a)
@@ -166,26 +168,48 @@ module _ {X : Type 0} (old new : Option (List ℕ)) (digest : List ℕ → List 
   answers_whole None request reply r asks is w = tt
   answers_whole (Some bytes) request reply r asks is w = whole bytes reply r (is bytes asks) w
 
-  module _ (request : Request) where
+  module _ (Lacks : KeysFault → Type 0) (request : Request) where
     error : (bytes : List ℕ) (fault : CopyAnswerFault) (r : Result X CopyAnswerFault) → IsRequestOf bytes request →
-        BlamesAnswer digest AreKeys origin held request fault → WritesError fault old new r →
+        BlamesAnswer digest AreKeys Lacks origin held request fault → WritesError fault old new r →
         AnswersFromCopy digest AreKeys last origin held bytes old new r
     error bytes fault (Ok x) asks blames w = absurd w
     error bytes fault (Err (Http ReadFault)) asks blames w = absurd w
     error bytes fault (Err (Http WriteFault)) asks blames w = (server_error, inr refl, w)
     error bytes fault (Err (Http OutOfMemory)) asks blames w = w
     error bytes fault (Err (CopyDamaged path)) asks blames w =
-        let b = blamed digest AreKeys origin held request fault (CopyDamaged path) w.0 blames in (w.1, b.0, request, asks, b.1)
+        let b = blamed digest AreKeys Lacks origin held request fault (CopyDamaged path) w.0 blames in (w.1, b.0, request, asks, b.1)
     error bytes fault (Err ShelfFault) asks blames w = w.1
-    error bytes fault (Err (Head why)) asks blames w = (w.1, blamed digest AreKeys origin held request fault (Head why) w.0 blames)
+    error bytes fault (Err (Head why)) asks blames w = (w.1, blamed digest AreKeys Lacks origin held request fault (Head why) w.0 blames)
     error bytes fault (Err (KeyFile why)) asks blames w = w.1
 
     pub answers_error : (known : Option (List ℕ)) (fault : CopyAnswerFault) (r : Result X CopyAnswerFault) →
         IfSome known (λ bytes. IsRequestOf bytes request) →
-        BlamesAnswer digest AreKeys origin held request fault → WritesError fault old new r →
+        BlamesAnswer digest AreKeys Lacks origin held request fault → WritesError fault old new r →
         IfSome known (λ bytes. AnswersFromCopy digest AreKeys last origin held bytes old new r)
     answers_error None fault r asks blames w = tt
     answers_error (Some bytes) fault r asks blames w = error bytes fault r asks blames w
+
+module _ {X : Type 0} (old new : Option (List ℕ)) (Lacks : KeysFault → Type 0) where
+  pub keys_whole : (reply : List ℕ) (r : Result X CopyAnswerFault) → WritesReply old new reply r →
+      IfErr r (BlamesKeys Lacks)
+  keys_whole reply (Ok x) w = tt
+  keys_whole reply (Err (Http fault)) w = tt
+  keys_whole reply (Err (CopyDamaged path)) w = tt
+  keys_whole reply (Err ShelfFault) w = tt
+  keys_whole reply (Err (Head fault)) w = tt
+  keys_whole reply (Err (KeyFile fault)) w = absurd w
+
+  pub keys_error : (digest : List ℕ → List ℕ) (AreKeys : List KeyLine → Type 0) (origin : List ℕ)
+      (held : Option (List Put)) (request : Request) (fault : CopyAnswerFault) (r : Result X CopyAnswerFault) →
+      BlamesAnswer digest AreKeys Lacks origin held request fault → WritesError fault old new r →
+      IfErr r (BlamesKeys Lacks)
+  keys_error digest AreKeys origin held request fault (Ok x) blames w = tt
+  keys_error digest AreKeys origin held request fault (Err (Http other)) blames w = tt
+  keys_error digest AreKeys origin held request fault (Err (CopyDamaged path)) blames w = tt
+  keys_error digest AreKeys origin held request fault (Err ShelfFault) blames w = tt
+  keys_error digest AreKeys origin held request fault (Err (Head why)) blames w = tt
+  keys_error digest AreKeys origin held request fault (Err (KeyFile why)) blames w =
+      blamed digest AreKeys Lacks origin held request fault (KeyFile why) w.0 blames
 
 module _ {X : Type 0} (old new : Option (List ℕ)) where
   pub quiet_whole : (reply : List ℕ) (r : Result X CopyAnswerFault) → WritesReply old new reply r →

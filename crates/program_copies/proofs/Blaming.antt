@@ -16,6 +16,7 @@ use Rattle.copy_reader.proofs.WholeCopies.{files_later}
 use Rattle.program_copies.specs.CopyAnswers.{BlamesAnswer, BlamesBody}
 use Rattle.program_copies.specs.CopyHeads.{CopyHead, IsCopyHead}
 use Rattle.program_copies.specs.Damages.{IsDamagedAt, IsDamagedBy}
+use Rattle.program_copies.specs.declared.keys.KeysFault.{KeysFault}
 use Rattle.program_copies.specs.declared.reply_fault.CopyAnswerFault.{CopyAnswerFault}
 use Rattle.program_copies.specs.declared.reply_fault.CopyAnswerFault.TheVariants.{Http, CopyDamaged, ShelfFault, Head, KeyFile}
 use Rattle.program_copies.proofs.Damages.{for_before}
@@ -59,12 +60,13 @@ module _ (digest : List ℕ → List ℕ) (AreKeys : List KeyLine → Type 0) (l
     damaged = for_before digest head.size head.root held after kept r path bad;
   })
 
-  pub blames_before : (head : Option CopyHead) → IsCopyHead AreKeys origin last held head → (fault : CopyAnswerFault) →
-      BlamesBody digest after head r fault → BlamesAnswer digest AreKeys origin held (Get r) fault
-  blames_before head is (Http ReadFault) h = absurd h
-  blames_before head is (Http WriteFault) h = absurd h
-  blames_before head is (Http OutOfMemory) h = tt
-  blames_before head is (CopyDamaged path) h = (damaged head is path h, named head is path h.1)
-  blames_before head is ShelfFault h = tt
-  blames_before head is (Head fault) h = absurd h
-  blames_before head is (KeyFile fault) h = absurd h
+  pub blames_before : (Lacks : KeysFault → Type 0) (head : Option CopyHead) → IsCopyHead AreKeys origin last held head →
+      (fault : CopyAnswerFault) → BlamesBody digest after head r fault →
+      BlamesAnswer digest AreKeys Lacks origin held (Get r) fault
+  blames_before Lacks head is (Http ReadFault) h = absurd h
+  blames_before Lacks head is (Http WriteFault) h = absurd h
+  blames_before Lacks head is (Http OutOfMemory) h = tt
+  blames_before Lacks head is (CopyDamaged path) h = (damaged head is path h, named head is path h.1)
+  blames_before Lacks head is ShelfFault h = tt
+  blames_before Lacks head is (Head fault) h = absurd h
+  blames_before Lacks head is (KeyFile fault) h = absurd h

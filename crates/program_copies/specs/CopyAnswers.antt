@@ -16,6 +16,7 @@ use Rattle.program_copies.specs.Bodies.{given_strings, IsBodyGiven}
 use Rattle.program_copies.specs.CopyHeads.{CopyHead, IsCopyHead, RefusesNow}
 use Rattle.program_copies.specs.Damages.{IsDamagedAt, IsDamagedBy}
 use Rattle.program_copies.specs.GivenProofs.{HasLogAt}
+use Rattle.program_copies.specs.declared.keys.KeysFault.{KeysFault}
 use Rattle.program_copies.specs.declared.reply_fault.CopyAnswerFault.{CopyAnswerFault}
 use Rattle.program_copies.specs.declared.reply_fault.CopyAnswerFault.TheVariants.{Http, CopyDamaged, ShelfFault, Head, KeyFile}
 
@@ -69,8 +70,9 @@ module _ (digest : List ℕ → List ℕ) (AreKeys : List KeyLine → Type 0) (l
       Appends old new server_error × RefusesNow AreKeys origin held fault
   AnswersFromCopy bytes old new (Err (KeyFile fault)) = Appends old new server_error
 
-module _ (digest : List ℕ → List ℕ) (AreKeys : List KeyLine → Type 0) (origin : List ℕ) (held : Option (List Put)) where
-  -- the reason why there is no reply to a request
+module _ (digest : List ℕ → List ℕ) (AreKeys : List KeyLine → Type 0) (Lacks : KeysFault → Type 0) (origin : List ℕ)
+    (held : Option (List Put)) where
+  -- the reason why there is no reply to a request. Only private contracts cite this
   abbrev pub BlamesAnswer : Request → CopyAnswerFault → Type 0
   BlamesAnswer request (Http ReadFault) = ⊥
   BlamesAnswer request (Http WriteFault) = ⊥
@@ -78,7 +80,15 @@ module _ (digest : List ℕ → List ℕ) (AreKeys : List KeyLine → Type 0) (o
   BlamesAnswer request (CopyDamaged path) = IsDamaged digest origin held × IsDamagedBy digest origin held request path
   BlamesAnswer request ShelfFault = ⊤
   BlamesAnswer request (Head fault) = RefusesNow AreKeys origin held fault
-  BlamesAnswer request (KeyFile fault) = ⊤
+  BlamesAnswer request (KeyFile fault) = Lacks fault
+
+-- KeyFile has its reason
+abbrev pub BlamesKeys : (KeysFault → Type 0) → CopyAnswerFault → Type 0
+BlamesKeys Lacks (Http fault) = ⊤
+BlamesKeys Lacks (CopyDamaged path) = ⊤
+BlamesKeys Lacks ShelfFault = ⊤
+BlamesKeys Lacks (Head fault) = ⊤
+BlamesKeys Lacks (KeyFile fault) = Lacks fault
 
 -- the shelf failed, or memory was refused
 abbrev pub IsReadFailure : CopyAnswerFault → Type 0

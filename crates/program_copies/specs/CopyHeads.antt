@@ -7,6 +7,7 @@ use Rattle.mirror_folders.specs.Shelf.{Put, RecordsRead}
 use Rattle.mirror_model.specs.Heads.{IsHead, IsOpenHead}
 use Rattle.mirror_model.specs.declared.fault.TakeFault.{TakeFault}
 use Rattle.copy_reader.specs.Copies.{RefusesCheckpoint}
+use Rattle.program_copies.specs.declared.keys.KeysFault.{KeysFault}
 
 -- a note, and the size and root in its text
 pub record CopyHead : Type 0 where
@@ -46,3 +47,11 @@ module _ (AreKeys : List KeyLine → Type 0) (origin : List ℕ) where
     -- the note that opened last after a call: the same, or one that opens now
     abbrev pub IsLastOpened : Option (List ℕ) → Type 0
     IsLastOpened new = (new ≡ last) ⊎ ((head : CopyHead) × (new ≡ Some head.note) × OpensNow head)
+
+-- the keys are needed: the checkpoint on the shelf is not the note that opened last
+abbrev pub NeedsKeys : Option (List ℕ) → Option (List Put) → Type 0
+NeedsKeys last held = (note : List ℕ) × RecordsRead held Checkpoint (Some note) × (¬ (last ≡ Some note))
+
+-- the keys are needed, and their reading may end so
+abbrev pub LacksKeys : (KeysFault → Type 0) → Option (List ℕ) → Option (List Put) → KeysFault → Type 0
+LacksKeys MayFail last held fault = NeedsKeys last held × MayFail fault

@@ -5,9 +5,9 @@ ghost use Rattle.byte_streams.specs.Streams.{TakesAtMost};
 ghost use Rattle.mirror_http.specs.Answered.{FailsBeforeHead, IsRequestOf};
 ghost use Rattle.mirror_http.specs.declared.request.Request.TheVariants as Request;
 ghost use Rattle.mirror_sources.specs.Recorded.{KeepsRecord};
-ghost use Rattle.program_copies.specs.CopyAnswers.{AnswersFromCopy, BlamesAnswer, BlamesBody, CountsAnswer, CountsMade, IsCopyReply, IsGiven, IsGivenFor, IsQuiet, KeepsLast, WritesError, WritesReply};
+ghost use Rattle.program_copies.specs.CopyAnswers.{AnswersFromCopy, BlamesAnswer, BlamesBody, BlamesKeys, CountsAnswer, CountsMade, IsCopyReply, IsGiven, IsGivenFor, IsQuiet, KeepsLast, WritesError, WritesReply};
 ghost use Rattle.program_copies.specs.Bodies.{IsBodyGiven};
-ghost use Rattle.program_copies.specs.CopyHeads.{IsLastOpened, copy_head};
+ghost use Rattle.program_copies.specs.CopyHeads.{IsLastOpened, LacksKeys, copy_head};
 
 use crate::body::copy_body;
 use crate::checkpoint::{keep_note, read_checkpoint};
@@ -76,7 +76,8 @@ fn body_from_copy<H: TreeHash, D: ReadableShelf, K: CopyKeys>(
 ) -> Result<Option<Vec<u8>>, CopyAnswerFault>
     ensures given { IfOk result (λ o. IsGiven H.digest (K.are_keys keys.now) kept.old origin.now
         (D.puts shelf.old) resource.now (option_map (λ body. body.items) o)) }
-    ensures blames { IfErr result (BlamesAnswer H.digest (K.are_keys keys.now) origin.now
+    ensures blames { IfErr result (BlamesAnswer H.digest (K.are_keys keys.now)
+        (LacksKeys (K.may_fail keys.now) kept.old (D.puts shelf.old)) origin.now
         (D.puts shelf.old) (Request.Get resource.now)) }
     ensures last { IsLastOpened (K.are_keys keys.now) origin.now kept.old kept.new }
     ensures same { KeepsRecord (D.puts shelf.old) (D.puts shelf.new) }
@@ -103,7 +104,8 @@ fn body_for<H: TreeHash, D: ReadableShelf, K: CopyKeys>(
 ) -> Result<Option<Vec<u8>>, CopyAnswerFault>
     ensures given { IfOk result (λ o. IsGivenFor H.digest (K.are_keys keys.now) kept.old
         origin.now (D.puts shelf.old) request.now (option_map (λ body. body.items) o)) }
-    ensures blames { IfErr result (BlamesAnswer H.digest (K.are_keys keys.now) origin.now
+    ensures blames { IfErr result (BlamesAnswer H.digest (K.are_keys keys.now)
+        (LacksKeys (K.may_fail keys.now) kept.old (D.puts shelf.old)) origin.now
         (D.puts shelf.old) request.now) }
     ensures last { IsLastOpened (K.are_keys keys.now) origin.now kept.old kept.new }
     ensures same { KeepsRecord (D.puts shelf.old) (D.puts shelf.new) }
@@ -129,7 +131,8 @@ fn reply_from_copy<H: TreeHash, D: ReadableShelf, K: CopyKeys>(
     ensures reply { IfOk result (λ reply. (bytes : List ℕ) → IsRequestOf bytes request.now
         → IsCopyReply H.digest (K.are_keys keys.now) kept.old origin.now (D.puts shelf.old)
         bytes reply.items) }
-    ensures blames { IfErr result (BlamesAnswer H.digest (K.are_keys keys.now) origin.now
+    ensures blames { IfErr result (BlamesAnswer H.digest (K.are_keys keys.now)
+        (LacksKeys (K.may_fail keys.now) kept.old (D.puts shelf.old)) origin.now
         (D.puts shelf.old) request.now) }
     ensures last { IsLastOpened (K.are_keys keys.now) origin.now kept.old kept.new }
     ensures same { KeepsRecord (D.puts shelf.old) (D.puts shelf.new) }
@@ -191,14 +194,14 @@ fn write_error<W: Write>(
 /// # Errors
 ///
 /// `Http` of `ReadFault`, `WriteFault` and `OutOfMemory`, as for `answer`. `CopyDamaged`: a needed file is missing, or does not verify up
-/// to the checkpoint's root. `ShelfFault`: a needed file cannot be read. `Head`: the checkpoint does not open. `KeyFile`: the keys cannot be
-/// read. At these four, `500 Internal Server Error` was written.
+/// to the checkpoint's root. `ShelfFault`: a needed file cannot be read. `Head`: the checkpoint does not open. `KeyFile`: it is not the
+/// one that opened last, and the keys cannot be read. At these four, `500 Internal Server Error` was written.
 ///
 /// # Examples
 ///
 /// `GET /tile/0/000.p/3 HTTP/1.1`, followed by an empty line, gets 96 bytes if the checkpoint has at least three entries, and 404 if it has
 /// fewer. It gets 500 if the checkpoint has three entries and the file is missing or false.
-#[tactic(auto, using(crate::proofs::Answering::answers_whole, crate::proofs::Answering::answers_error, crate::proofs::Answering::counts_whole, crate::proofs::Answering::counts_error, crate::proofs::Answering::quiet_whole, crate::proofs::Answering::quiet_error, crate::proofs::Answering::no_read_whole, crate::proofs::Answering::no_read_error))]
+#[tactic(auto, using(crate::proofs::Answering::answers_whole, crate::proofs::Answering::answers_error, crate::proofs::Answering::counts_whole, crate::proofs::Answering::counts_error, crate::proofs::Answering::quiet_whole, crate::proofs::Answering::quiet_error, crate::proofs::Answering::no_read_whole, crate::proofs::Answering::no_read_error, crate::proofs::Answering::keys_whole, crate::proofs::Answering::keys_error))]
 pub fn answer_from_copy<H: TreeHash, D: ReadableShelf, K: CopyKeys, R: Read, W: Write>(
     alloc: Global,
     shelf: &mut D,
@@ -212,6 +215,8 @@ pub fn answer_from_copy<H: TreeHash, D: ReadableShelf, K: CopyKeys, R: Read, W: 
         (K.are_keys keys.now) kept.old origin.now (D.puts shelf.old) bytes
         (W.contents writer.old) (W.contents writer.new) result) }
     ensures last { IsLastOpened (K.are_keys keys.now) origin.now kept.old kept.new }
+    ensures keys { IfErr result
+        (BlamesKeys (LacksKeys (K.may_fail keys.now) kept.old (D.puts shelf.old))) }
     ensures quiet { IfErr result (λ e. IsQuiet e
         → Keeps (W.contents writer.old) (W.contents writer.new)) }
     ensures limit { TakesAtMost MAX_REQUEST_LEN (R.remaining reader.old) (R.remaining reader.new) }

@@ -1,5 +1,5 @@
 //! The checkpoint of a copy.
-ghost use Rattle.std.specs.Prelude.{◌≡◌, ℕ, List, IfErr, IfOk, IsTrue, OnOk, Some, option_map};
+ghost use Rattle.std.specs.Prelude.{◌≡◌, ◌↔◌, ℕ, List, IfErr, IfOk, IsTrue, OnOk, Some, option_map};
 ghost use Rattle.mirror_folders.specs.Shelf.{RecordsRead};
 ghost use Rattle.mirror_model.specs.Heads.{IsHead};
 ghost use Rattle.mirror_http.specs.declared.request.Request.TheVariants as Request;
@@ -7,8 +7,8 @@ ghost use Rattle.mirror_http.specs.declared.resource.Resource.{Resource};
 ghost use Rattle.mirror_sources.specs.Recorded.{KeepsRecord};
 ghost use Rattle.tlog_tiles.specs.declared.paths.Path.TheVariants.{Checkpoint};
 ghost use Rattle.program_copies.specs.CopyAnswers.{BlamesAnswer, CountsMade, IsReadFailure};
-ghost use Rattle.program_copies.specs.CopyHeads.{HasOpened, IsCopyHead, OpensNow, copy_head};
-ghost use Rattle.program_copies.specs.NewHeads.{RefusesHead};
+ghost use Rattle.program_copies.specs.CopyHeads.{HasOpened, IsCopyHead, LacksKeys, OpensNow, copy_head};
+ghost use Rattle.program_copies.specs.NewHeads.{IsNewUnread, RefusesHead};
 
 use crate::keys::CopyKeys;
 use crate::opening::open_under;
@@ -23,7 +23,7 @@ use tlog_tiles::Path;
 
 // Whether the bytes are those of the note that opened last.
 fn is_last(last: &Option<Vec<u8>>, note: &[u8]) -> bool
-    ensures { IsTrue result → option_map (λ note. note.items) last.now ≡ Some note.now }
+    ensures { IsTrue result ↔ (option_map (λ note. note.items) last.now ≡ Some note.now) }
 {
     match last {
         Some(last) => last.as_slice() == note,
@@ -34,7 +34,7 @@ fn is_last(last: &Option<Vec<u8>>, note: &[u8]) -> bool
 // The size and root of the note that opened last.
 fn last_head(alloc: Global, origin: &str, note: &[u8]) -> Result<(u64, Hash), CopyAnswerFault>
     ensures head { IfOk result (λ head. IsHead note.now origin.now head.0 head.1) }
-    ensures refused { IfErr result (RefusesHead (λ keys. ⊥) origin.now note.now) }
+    ensures refused { IfErr result (RefusesHead (λ keys. ⊥) (λ fault. ⊥) origin.now note.now) }
 {
     match head_of(alloc, origin, note) {
         Ok(Some(head)) => Ok(head),
@@ -53,7 +53,8 @@ fn new_head<K: CopyKeys>(
 ) -> Result<(u64, Hash), CopyAnswerFault>
     ensures opens { IfOk result (λ head. OpensNow (K.are_keys keys.now) origin.now
         (copy_head note.now head.0 head.1)) }
-    ensures refused { IfErr result (RefusesHead (K.are_keys keys.now) origin.now note.now) }
+    ensures refused { IfErr result (RefusesHead (K.are_keys keys.now) (K.may_fail keys.now)
+        origin.now note.now) }
 {
     let lines = match keys.read_keys(alloc) {
         Ok(lines) => lines,
@@ -70,7 +71,7 @@ fn new_head<K: CopyKeys>(
 }
 
 // The size and root of a note, which opened last or opens now.
-#[tactic(auto, using(crate::proofs::OpenedHeads::head_opens, crate::proofs::OpenedHeads::no_keys))]
+#[tactic(auto, using(crate::proofs::OpenedHeads::head_opens, crate::proofs::OpenedHeads::no_keys, crate::proofs::OpenedHeads::new_unread))]
 fn head_in<K: CopyKeys>(
     alloc: Global,
     keys: &K,
@@ -81,7 +82,9 @@ fn head_in<K: CopyKeys>(
     ensures head { IfOk result (λ head. IsHead note.now origin.now head.0 head.1) }
     ensures opened { IfOk result (λ head. HasOpened (K.are_keys keys.now) origin.now
         (option_map (λ note. note.items) last.now) (copy_head note.now head.0 head.1)) }
-    ensures refused { IfErr result (RefusesHead (K.are_keys keys.now) origin.now note.now) }
+    ensures refused { IfErr result (RefusesHead (K.are_keys keys.now)
+        (IsNewUnread (K.may_fail keys.now) (option_map (λ note. note.items) last.now) note.now)
+        origin.now note.now) }
 {
     if is_last(last, note) {
         return last_head(alloc, origin, note);
@@ -119,8 +122,9 @@ pub(crate) fn read_checkpoint<D: ReadableShelf, K: CopyKeys>(
     ensures same { KeepsRecord (D.puts shelf.old) (D.puts shelf.new) }
     ensures counted { CountsMade (D.failed shelf.old) (D.failed shelf.new) result }
     ensures blames { (digest : List ℕ → List ℕ) (resource : Resource) → IfErr result
-        (BlamesAnswer digest (K.are_keys keys.now) origin.now (D.puts shelf.old)
-        (Request.Get resource)) }
+        (BlamesAnswer digest (K.are_keys keys.now)
+        (LacksKeys (K.may_fail keys.now) (option_map (λ note. note.items) last.now)
+        (D.puts shelf.old)) origin.now (D.puts shelf.old) (Request.Get resource)) }
 {
     let note = match read_note::<D>(shelf) {
         Ok(Some(note)) => note,

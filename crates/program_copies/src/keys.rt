@@ -33,11 +33,15 @@ impl fmt::Display for KeysFault {
 /// keys.read_keys(alloc)?   // the keys of the key file, as it is now
 /// ```
 pub trait CopyKeys {
-    ghost use Rattle.std.specs.Prelude.{IfOk, List};
+    ghost use Rattle.std.specs.Prelude.{IfErr, IfOk, List};
     ghost use Rattle.signed_note.specs.declared.key_line.KeyLine.{KeyLine};
+    ghost use Rattle.program_copies.specs.declared.keys.KeysFault.{KeysFault};
 
     /// The keys that a read may give.
     ghost are_keys: { Self → List KeyLine → Type 0 };
+
+    /// The faults at which a read may end.
+    ghost may_fail: { Self → KeysFault → Type 0 };
 
     /// The keys.
     ///
@@ -45,5 +49,6 @@ pub trait CopyKeys {
     ///
     /// `FileFault`: the key file cannot be read. `BadKeyLine`: a line is no key. `OutOfMemory`: memory was refused.
     fn read_keys(&self, alloc: Global) -> Result<Vec<KeyLine>, KeysFault>
-        ensures { IfOk result (λ keys. are_keys self.now keys.items) };
+        ensures keys { IfOk result (λ keys. are_keys self.now keys.items) }
+        ensures fault { IfErr result (may_fail self.now) };
 }

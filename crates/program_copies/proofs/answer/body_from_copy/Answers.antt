@@ -3,7 +3,8 @@ use Rattle.program_copies.proofs.Answering.{given_held, last_opened}
 use Rattle.program_copies.proofs.answer.body_from_copy.Goals as goal
 
 pub returns-in-Err-clause-blames : goal.returns-in-Err-clause-blames
-returns-in-Err-clause-blames g c = c.in-Err.ensures.blames g.H.TreeHash.digest c.args.resource.now
+returns-in-Err-clause-blames g c =
+    rw c.kept.view_is at (c.in-Err.ensures.blames g.H.TreeHash.digest c.args.resource.now)
 
 pub returns-clause-given : goal.returns-clause-given
 returns-clause-given g c =
