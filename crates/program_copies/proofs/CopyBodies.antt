@@ -9,7 +9,7 @@ use Rattle.tlog_tiles.specs.Tiles.{IsTileWithin}
 use Rattle.tlog_proof.specs.declared.proof.Ask.{Ask}
 use Rattle.node_store.specs.Strings.{NoClash}
 use Rattle.mirror_model.specs.Heads.{IsHead}
-use Rattle.mirror_model.specs.Served.{IsServedBundle, IsServedTile, Served}
+use Rattle.mirror_model.specs.Served.{Served}
 use Rattle.mirror_model.specs.Strings.{IsDigest}
 use Rattle.mirror_model.specs.View.{nothing, View}
 use Rattle.mirror_model.proofs.HeadNotes.{head_once}
@@ -28,8 +28,7 @@ use Rattle.program_copies.specs.Bodies.{AsksProof, body_strings, given_strings, 
 use Rattle.program_copies.specs.CopyAnswers.{IsGivenFor, strings_for}
 use Rattle.program_copies.specs.CopyHeads.{copy_head, CopyHead, IsCopyHead}
 use Rattle.program_copies.specs.CopyLaws.{copy_view, IsNoteOf}
-use Rattle.program_copies.specs.GivenFiles.{IsFileGiven}
-use Rattle.program_copies.specs.GivenProofs.{HasLogOf, IsProofGiven}
+use Rattle.program_copies.specs.GivenProofs.{IsProofGiven}
 use Rattle.program_copies.proofs.OneViews.{no_file, no_head, none_forks, none_status, one_forks, one_head, one_list, one_missing}
 use Rattle.program_copies.proofs.OneViews.{no_list, only_list}
 use Rattle.program_copies.proofs.OneViews.{one_served, one_size, one_status}

@@ -3,7 +3,7 @@ use Rattle.std.proofs.Common.{◌≡◌, ℕ, List, Option, Some, Result, Ok, Er
 use Rattle.signed_note.specs.declared.key_line.KeyLine.{KeyLine}
 use Rattle.tlog_tiles.specs.declared.paths.Path.TheVariants.{Checkpoint}
 use Rattle.mirror_folders.specs.Shelf.{Put, RecordsRead}
-use Rattle.mirror_model.specs.Heads.{IsHead, IsOpenHead}
+use Rattle.mirror_model.specs.Heads.{IsHead}
 use Rattle.mirror_http.specs.declared.fault.HttpFault.TheVariants.{ReadFault, WriteFault, OutOfMemory}
 use Rattle.mirror_http.specs.declared.request.Request.TheVariants.{Get}
 use Rattle.mirror_http.specs.declared.resource.Resource.{Resource}

@@ -1,12 +1,12 @@
 -- Files of evidence that are put one after another.
-use Rattle.std.proofs.Common.{◌≡◌, inl, inr, ℕ, ◌+◌, ◌<◌, List, [], ◌∷◌, ◌++◌, length, take, drop, get_or, Option, Some, None, Result, Ok, Err, Bool, true, false, refl, sym, ap, subst, ◌∙◌}
+use Rattle.std.proofs.Common.{◌≡◌, inl, ℕ, ◌+◌, ◌<◌, List, [], ◌∷◌, ◌++◌, length, take, drop, get_or, Option, Some, None, Result, Ok, Err, Bool, true, false, refl, sym, ap, subst, ◌∙◌}
 use Rattle.std.specs.List.{flat_map}
 use Rattle.std.proofs.lemmas.List.{append_assoc, flat_map_more, take_more, take-append-drop}
 use Rattle.std.proofs.lemmas.List.Concat.{flat_map-append}
 use Rattle.signed_note.specs.Keys.{Key}
 use Rattle.std.specs.Prelude.{◌↔◌, IsTrue}
 use Rattle.std.proofs.lemmas.Bool.{false≢true}
-use Rattle.program_io.specs.Named.{HasContents, NamedFile, RecordsFolder, RecordsReplace}
+use Rattle.program_io.specs.Named.{HasContents, NamedFile, RecordsFolder}
 use Rattle.program_io.specs.declared.file_fault.NamedFault.{NamedFault}
 use Rattle.program_io.specs.declared.file_fault.NamedFault.TheVariants as named
 use Rattle.program_copies.specs.Evidence.{EvidenceFile, LooksFor, PutsEach, PutsFiles, PutsFront, RecordsEach, Serves, StopsAt}
@@ -98,31 +98,6 @@ module _ (origin : List ℕ) (keys : List Key) where
   one_kept wanted (Some puts) (Err named.OutOfMemory) served flushed =
       record { front = []; rest = wanted ∷ []; files_are = refl; recorded = refl; stops = tt }
   one_kept wanted (Some puts) (Err named.FileFault) served flushed = absurd cc
-
-  -- no file serves, and one was put
-  pub one_put : {T : Type 0} (wanted : EvidenceFile) (old new : Option (List NamedFile)) (r : Result T NamedFault) →
-      LooksFor origin keys old wanted (Ok false) → RecordsReplace old new wanted.file r →
-      PutsFiles origin keys (wanted ∷ []) old new r
-  one_put wanted None new (Ok x) unserved put = tt
-  one_put wanted (Some puts) None (Ok x) unserved put = absurd put
-  one_put wanted (Some puts) (Some more) (Ok x) unserved put = (more, inr (unserved, put), refl)
-  one_put wanted None new (Err fault) unserved put =
-      record { front = []; rest = wanted ∷ []; files_are = refl; recorded = tt; stops = tt }
-  one_put wanted (Some puts) None (Err fault) unserved put = absurd put.0
-  one_put wanted (Some puts) (Some more) (Err named.OutOfMemory) unserved put =
-      record { front = []; rest = wanted ∷ []; files_are = refl; recorded = put.0; stops = tt }
-  one_put wanted (Some puts) (Some more) (Err named.FileFault) unserved put =
-      let wrong : Some puts ≡ None = put.1 in absurd cc
-
-  -- it is not known what stands there
-  pub one_stopped : (wanted : EvidenceFile) (old : Option (List NamedFile)) (fault : NamedFault) →
-      LooksFor origin keys old wanted (Err fault) → PutsFront origin keys (wanted ∷ []) old old fault
-  one_stopped wanted None fault looks =
-      record { front = []; rest = wanted ∷ []; files_are = refl; recorded = tt; stops = tt }
-  one_stopped wanted (Some puts) named.OutOfMemory looks =
-      record { front = []; rest = wanted ∷ []; files_are = refl; recorded = refl; stops = tt }
-  one_stopped wanted (Some puts) named.FileFault looks =
-      record { front = []; rest = wanted ∷ []; files_are = refl; recorded = refl; stops = looks }
 
 -- ---- the files of each fork in order
 

@@ -11,11 +11,9 @@ use Rattle.state_commands.specs.NoteFiles.{HasHeads, HeadNote, files_of}
 use Rattle.state_commands.specs.NoteTexts.{PutsHeads, PutsNotes, Reorders, WritesNotes, WritesThese, notes_put, notes_stopped}
 use Rattle.state_commands.specs.declared.work_fault.NotesFault.{NotesFault}
 use Rattle.state_commands.specs.declared.work_fault.NotesFault.TheVariants as notes
-use Rattle.state_commands.specs.Merges.{LeavesMerged, MakesMerged}
 use Rattle.state_commands.specs.declared.item.ItemFiles.{ItemFiles}
 use Rattle.state_commands.specs.declared.work_fault.TakeFilesFault.{TakeFilesFault}
 use Rattle.state_commands.specs.declared.work_fault.TakeFilesFault.TheVariants as taking
-use Rattle.state_commands.specs.declared.work_fault.MergeFilesFault.{MergeFilesFault}
 use Rattle.state_commands.specs.declared.work_fault.MergeFilesFault.TheVariants as merging
 
 -- In these lemmas the type of a failed answer is `Unit`: a fault says the same for each type.
@@ -30,16 +28,6 @@ module _ (digest : List ℕ → List ℕ) (origin : List ℕ) (keys : List Key) 
   left_untaken state files out (taking.Item fault) h kept = (h, kept)
   left_untaken state files out (taking.Take fault) h kept = (h, kept)
   left_untaken state files out (taking.Out fault) h kept = absurd h
-
-  -- the same for a merge
-  pub left_unmerged :
-      (first second out : List ℕ) (fault : MergeFilesFault) →
-      MakesMerged digest origin keys recorded first second (Err fault) → KeepsRecord recorded new →
-      LeavesMerged digest origin keys recorded first second {T = Unit {0}} out new (Err fault)
-  left_unmerged first second out (merging.First fault) h kept = (h, kept)
-  left_unmerged first second out (merging.Second fault) h kept = (h, kept)
-  left_unmerged first second out (merging.Merge fault) h kept = (h, kept)
-  left_unmerged first second out (merging.Out fault) h kept = absurd h
 
 module _ (digest : List ℕ → List ℕ) (origin : List ℕ) (keys : List Key) (recorded : Option (List NamedFile))
     (state : Option (List ℕ)) (files : ItemFiles) where

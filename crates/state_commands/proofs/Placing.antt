@@ -1,5 +1,5 @@
 -- A pull from a source that is at the place of the words.
-use Rattle.std.proofs.Common.{◌≡◌, ℕ, List, Option, None, Result, Err, inl, inr, refl}
+use Rattle.std.proofs.Common.{◌≡◌, ℕ, List, None, Result, Err, inl, inr, refl}
 use Rattle.signed_note.specs.Keys.{Key}
 use Rattle.mirror_model.specs.View.{View}
 use Rattle.mirror_sources.specs.Source.{IsShortAnswer}

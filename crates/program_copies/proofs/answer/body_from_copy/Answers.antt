@@ -1,4 +1,3 @@
-use Rattle.std.proofs.Common.{subst, sym, option_map}
 use Rattle.program_copies.proofs.Answering.{given_held, last_opened}
 use Rattle.program_copies.proofs.answer.body_from_copy.Goals as goal
 

@@ -1,4 +1,4 @@
-use Rattle.std.proofs.Common.{sym, ◌∙◌, ap, inl}
+use Rattle.std.proofs.Common.{sym, ◌∙◌, ap}
 use Rattle.program_io.specs.PlaceWords.{words_of}
 use Rattle.state_commands.proofs.Placing.{folder_read, nothing_read, server_read}
 use Rattle.state_commands.proofs.pull.from_place.Goals as goal
