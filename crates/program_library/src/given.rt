@@ -53,9 +53,36 @@ where
     ensures quiet { IfErr result (λ fault. (¬ IsWriteFault fault) → Keeps (O.contents output.old)
         (O.contents output.new)) }
 {
+    run_words_over(rt, rt, alloc, words, key_bytes, keys, input, output, errors)
+}
+
+// Runs the same over this net. Over any net it is checked much faster than over a reference to the runtime.
+#[allow(clippy::too_many_arguments)]
+fn run_words_over<R, N, I: Read, O: Write, E: Write>(
+    rt: &R,
+    net: N,
+    alloc: Global,
+    words: &[String],
+    key_bytes: &[u8],
+    keys: &[Box<dyn Verifier>],
+    input: &mut I,
+    output: &mut O,
+    errors: &mut E,
+) -> Result<u8, RunFault>
+where
+    R: Files<File = File> + Clock + Eprint + Net<Stream = TcpStream, Listener = TcpListener>,
+    N: Net<Stream = TcpStream> + Clock + Clone + Drop,
+    ensures answer { Runs system_world sha256 (map (λ k. key k) keys.now) key_bytes.now
+        (map string_bytes words.now)
+        (on_system (I.remaining input.old) (O.contents output.old))
+        (on_system (I.remaining input.new) (O.contents output.new)) result }
+    ensures status { IfOk result IsStatus }
+    ensures quiet { IfErr result (λ fault. (¬ IsWriteFault fault) → Keeps (O.contents output.old)
+        (O.contents output.new)) }
+{
     let files = SystemFiles::new(rt, alloc);
     let folders = system_folders(rt, alloc);
-    let places = SystemPlaces::new(rt, rt);
+    let places = SystemPlaces::new(rt, net);
     run_words_on(
         rt, alloc, files, folders, places, key_bytes, keys, words, input, output, errors,
     )
